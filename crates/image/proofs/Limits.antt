@@ -4,6 +4,7 @@ use Rattle.std.specs.Prelude.{◌==◌}
 use Rattle.std.specs.List.{list_any}
 use Rattle.std.proofs.lemmas.Bool.{or_from, ne_eqb}
 use Rattle.std.proofs.lemmas.List.{length-map}
+use Rattle.apex_types.specs.Versions.{third_limits}
 use Rattle.apex_types.specs.declared.row.WindowRow.{WindowRow}
 use Rattle.apex_types.specs.declared.limits.TheConstants.{MOST_PARTITIONS}
 use Rattle.module_meaning.specs.Table.{Partition}
@@ -30,7 +31,7 @@ rows_same (it ∷ its) = ap (λ (rows : List Partition). partition_view it.row �
 pub same_count : (its : List PartitionItem) → length (rows_of its) ≡ length its
 same_count its = length-map its (λ (it : PartitionItem). partition_view it.row)
 
-none_empty : (frame : ℕ) (before : List Item) (its : List PartitionItem) → EachBeside (IsItem frame) before (items_of its) → list_any (λ p. p.period == 0) (rows_of its) ≡ false
+none_empty : (frame : ℕ) (before : List Item) (its : List PartitionItem) → EachBeside (IsItem third_limits frame) before (items_of its) → list_any (λ p. p.period == 0) (rows_of its) ≡ false
 none_empty frame before [] h = refl
 none_empty frame before (it ∷ its) h =
     or_from (it.row.period == 0) _ (ne_eqb it.row.period 0 (λ e. omega (arith, e, h.0.partition.period.least))) (none_empty frame (before ++ item_of it ∷ []) its h.1)

@@ -4,6 +4,7 @@ use Rattle.std.specs.Prelude.{◌==◌, slice_get, nat_eq, find, flat_map, optio
 use Rattle.std.specs.List.{list_any}
 use Rattle.std.proofs.lemmas.Bool.{or_parts, and_parts, not-true, cases_lt, eqb-true, eqb-false, ne_eqb, cases_Bool}
 use Rattle.std.proofs.lemmas.Option.{slice_get-map}
+use Rattle.apex_types.specs.Versions.{third_limits}
 use Rattle.apex_types.specs.declared.identity.PortId.{PortId}
 use Rattle.apex_types.specs.declared.row.ChannelEnd.{ChannelEnd}
 use Rattle.apex_types.specs.declared.row.ChannelEnd.TheVariants as ends
@@ -59,14 +60,14 @@ abbrev pub name_in : Item → List ℕ
 name_in i = i.partition.name
 
 -- the names of items before them are others
-others_before : (frame : ℕ) (before items : List Item) → EachBeside (IsItem frame) before items → (k : ℕ) (a : Item) → slice_get before k ≡ Some a
+others_before : (frame : ℕ) (before items : List Item) → EachBeside (IsItem third_limits frame) before items → (k : ℕ) (a : Item) → slice_get before k ≡ Some a
     → (j : ℕ) (b : Item) → slice_get items j ≡ Some b → same (name_in a) (name_in b) ≡ false
 others_before frame before [] each k a e j b f = absurd (cc)
 others_before frame before (i ∷ is) each k a e zero b f =
     subst (λ (z : Item). same (name_in a) (name_in z) ≡ false) (same_some i b f) (any_at (λ it. same (name_in it) (name_in i)) before k a each.0.partition.fresh e)
 others_before frame before (i ∷ is) each k a e (suc j) b f = others_before frame (before ++ i ∷ []) is each.1 k a (get_front before (i ∷ []) k a e) j b f
 
-names_differ : (frame : ℕ) (before items : List Item) → EachBeside (IsItem frame) before items → (i j : ℕ) (a b : Item) → i < j → slice_get items i ≡ Some a → slice_get items j ≡ Some b → same (name_in a) (name_in b) ≡ false
+names_differ : (frame : ℕ) (before items : List Item) → EachBeside (IsItem third_limits frame) before items → (i j : ℕ) (a b : Item) → i < j → slice_get items i ≡ Some a → slice_get items j ≡ Some b → same (name_in a) (name_in b) ≡ false
 names_differ frame before [] each i j a b l e f = absurd (cc)
 names_differ frame before (x ∷ xs) each zero zero a b l e f = absurd (omega arith)
 names_differ frame before (x ∷ xs) each zero (suc j) a b l e f =

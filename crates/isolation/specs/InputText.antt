@@ -3,6 +3,7 @@ use Rattle.std.specs.Prelude.{◌≡◌, ℕ, ◌≤◌, ℤ, true, List, [], �
 use Rattle.std.specs.Fmt.{decimal, signed_decimal}
 use Rattle.std.specs.List.{join_with_byte}
 use Rattle.arrayvec.specs.ArrayVec.{ArrayVec}
+use Rattle.apex_types.specs.Versions.{third_limits}
 use Rattle.apex_types.specs.declared.limits.TheConstants.{MOST_TICKS}
 use Rattle.apex_types.specs.NameText.{is_name}
 use Rattle.apex_types.specs.declared.row.PortDirection.TheVariants as direction
@@ -76,4 +77,4 @@ AreInputs row before (l ∷ ls) = (before ≤ l.tick.0) × (l.tick.0 ≤ MOST_TI
 -- the names of a partition's row
 pub record HasNames (row : Partition) : Type 0 where
   pub name : is_name row.name ≡ true
-  pub ports : EachBeside IsPort [] row.ports
+  pub ports : EachBeside (IsPort third_limits) [] row.ports

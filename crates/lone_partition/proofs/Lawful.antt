@@ -4,6 +4,7 @@ use Rattle.std.specs.Prelude.{ℤ, ◌^◌}
 use Rattle.std.specs.Option.{option_map}
 use Rattle.std.proofs.lemmas.List.{length-map}
 use Rattle.std.proofs.lemmas.Option.{none-some, same_Some, slice_get-get_or}
+use Rattle.apex_types.specs.Versions.{third_limits}
 use Rattle.apex_types.specs.declared.cost.Costs.{Costs}
 use Rattle.apex_types.specs.declared.limits.TheConstants.{MOST_PARTITIONS, MOST_PORTS, MOST_TICKS}
 use Rattle.apex_types.specs.declared.row.BodyRow.{BodyRow}
@@ -39,7 +40,7 @@ routines_fit before [] h place row e = absurd (none-some row e)
 routines_fit before (r ∷ rows) h zero row e = subst IsFittingRoutine (same_Some r row e) (record { parameters = h.0.slots.least; frame = h.0.frame.least; limit = h.0.frame.most })
 routines_fit before (r ∷ rows) h (suc place) row e = routines_fit (before ++ r ∷ []) rows h.1 place row e
 
-section_fits : (unit : ℕ) (s : Section) → IsSection unit (section_of s) → IsFittingSection s
+section_fits : (unit : ℕ) (s : Section) → IsSection third_limits unit (section_of s) → IsFittingSection s
 section_fits unit s h = record { code = h.code.count.most; routines = routines_fit [] s.routines.items h.bodies.routines }
 
 at_most : (d : Option ℕ) → IsDuration d → IsAtMost MOST_TICKS (option_map ticks d)
@@ -57,12 +58,12 @@ short_port : (row : PortRow) (kind : PortKind) → IsPortKind kind → refresh_o
 short_port row (kinds.Sampling refresh) h = h.most
 short_port row (kinds.Queuing depth discipline) h = omega arith
 
-short_ports : (before rows : List PortRow) → EachBeside IsPort before rows → ports.AreShort rows
+short_ports : (before rows : List PortRow) → EachBeside (IsPort third_limits) before rows → ports.AreShort rows
 short_ports before [] h place row e = absurd (none-some row e)
 short_ports before (r ∷ rows) h zero row e = subst (λ (p : PortRow). refresh_of p.kind ≤ MOST_TICKS) (same_Some r row e) (short_port r r.kind h.0.kind)
 short_ports before (r ∷ rows) h (suc place) row e = short_ports (before ++ r ∷ []) rows h.1 place row e
 
-rows_fit : (frame : ℕ) (before : List Item) (i : PartitionItem) → IsPartition frame before (partition_of i.row) → IsSection i.row.period (section_of i.section) → AreWithinLimits i.row.ports.items i.section
+rows_fit : (frame : ℕ) (before : List Item) (i : PartitionItem) → IsPartition third_limits frame before (partition_of i.row) → IsSection third_limits i.row.period (section_of i.section) → AreWithinLimits i.row.ports.items i.section
 rows_fit frame before i r h = record {
   processes = h.bodies.process_count.most;
   times = all_short i.row.period [] i.section.processes.items h.bodies.processes;
@@ -74,13 +75,13 @@ rows_fit frame before i r h = record {
   refresh = short_ports [] i.row.ports.items r.ports;
 }
 
-item_fits : (frame : ℕ) (before : List Item) (i : PartitionItem) → IsPartition frame before (partition_of i.row) → IsSection i.row.period (section_of i.section) → IsFittingItem i
+item_fits : (frame : ℕ) (before : List Item) (i : PartitionItem) → IsPartition third_limits frame before (partition_of i.row) → IsSection third_limits i.row.period (section_of i.section) → IsFittingItem i
 item_fits frame before i r h = record {
   section = section_fits i.row.period i.section h;
   rows = rows_fit frame before i r h;
 }
 
-items_fit : (frame : ℕ) (before : List Item) (items : List PartitionItem) → EachBeside (IsItem frame) before (items_of items) → AreFittingItems items
+items_fit : (frame : ℕ) (before : List Item) (items : List PartitionItem) → EachBeside (IsItem third_limits frame) before (items_of items) → AreFittingItems items
 items_fit frame before [] h place item e = absurd (none-some item e)
 items_fit frame before (i ∷ items) h zero item e = subst IsFittingItem (same_Some i item e) (item_fits frame before i h.0.partition h.0.section)
 items_fit frame before (i ∷ items) h (suc place) item e = items_fit frame (before ++ item_of i ∷ []) items h.1 place item e

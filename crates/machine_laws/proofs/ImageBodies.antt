@@ -4,7 +4,9 @@ use Rattle.std.specs.Prelude.{◌&&◌, FitsSigned}
 use Rattle.std.specs.List.{flat_map}
 use Rattle.std.specs.Int.{w16, w32, w64}
 use Rattle.std.proofs.lemmas.Bool.{leb-true, le-leb, eqb-true}
-use Rattle.apex_types.specs.declared.limits.TheConstants.{GREATEST_PRIORITY, LEAST_STACK_WORDS, MOST_INSTRUCTIONS, MOST_PARAMETERS, MOST_PROCEDURES, MOST_PROCESSES, MOST_SLOTS, MOST_STACK_WORDS, MOST_TICKS}
+use Rattle.apex_types.specs.declared.limits.Limits.{Limits}
+use Rattle.machine_laws.proofs.VersionLimits.{AreBytes}
+use Rattle.apex_types.specs.declared.limits.TheConstants.{GREATEST_PRIORITY, LEAST_STACK_WORDS, MOST_INSTRUCTIONS, MOST_PARAMETERS, MOST_PROCEDURES, MOST_SLOTS, MOST_STACK_WORDS, MOST_TICKS}
 use Rattle.apex_types.specs.declared.row.RoutineRow.{RoutineRow}
 use Rattle.apex_types.specs.declared.row.BodyRow.{BodyRow}
 use Rattle.apex_types.specs.declared.row.ProcessRow.{ProcessRow}
@@ -190,13 +192,13 @@ handler_reads = record {
 
 -- ---- all bodies, the code and the section
 
-pub bodies_reads : (unit : ℕ) → Reads (bodies_at unit) bodies (AreBodies unit)
+pub bodies_reads : (limits : Limits) → limits.processes < 256 → (unit : ℕ) → Reads (bodies_at limits unit) bodies (AreBodies limits unit)
 unfolding bodies_at bodies
-bodies_reads unit = said (bodies_at unit) _ bodies _ (AreBodies unit)
+bodies_reads limits small unit = said (bodies_at limits unit) _ bodies _ (AreBodies limits unit)
     (first (list_at 0 MOST_PROCEDURES (λ _. routine_at)) _ (λ (b : Bodies). b.routines) (list routine) (λ b. list process b.processes ++ (body b.init ++ handler b.handler)) _ _
     (list_reads (λ _. routine_at) routine (λ _. IsRoutine) 0 MOST_PROCEDURES (lit< tt) (λ _. routine_reads))
-    (λ routines p. first (list_at 0 MOST_PROCESSES (process_at unit)) _ (λ (b : Bodies). b.processes) (list process) (λ b. body b.init ++ handler b.handler) _ _
-    (list_reads (process_at unit) process (IsProcess unit) 0 MOST_PROCESSES (lit< tt) (process_reads unit))
+    (λ routines p. first (list_at 0 limits.processes (process_at unit)) _ (λ (b : Bodies). b.processes) (list process) (λ b. body b.init ++ handler b.handler) _ _
+    (list_reads (process_at unit) process (IsProcess unit) 0 limits.processes (omega (arith, small)) (process_reads unit))
     (λ processes q. first body_at _ (λ (b : Bodies). b.init) body (λ b. handler b.handler) IsBody _
     body_reads
     (λ init r. last handler_at (λ handler. record { routines = routines; processes = processes; init = init; handler = handler }) (λ (b : Bodies). b.handler) handler IsHandler handler_reads (λ a. refl))
@@ -236,13 +238,13 @@ code_reads b = record {
       ∙ items_again (λ _. bytes_at 16) instruction (λ _ bytes. length bytes ≡ 16) (λ _. instruction_reads) xs [] rest good.instructions;
 }
 
-pub section_reads : (unit : ℕ) → Reads (section_at unit) section (IsSection unit)
+pub section_reads : (limits : Limits) → AreBytes limits → (unit : ℕ) → Reads (section_at limits unit) section (IsSection limits unit)
 unfolding section_at section
-section_reads unit = said (section_at unit) _ section _ (IsSection unit)
-    (first objects_at _ (λ (s : Section). objects_in s) objects (λ s. bodies (bodies_in s) ++ list instruction s.code) AreObjects _
-    objects_reads
-    (λ o p. first (bodies_at unit) _ (λ (s : Section). bodies_in s) bodies (λ s. list instruction s.code) (AreBodies unit) _
-    (bodies_reads unit)
+section_reads limits small unit = said (section_at limits unit) _ section _ (IsSection limits unit)
+    (first (objects_at limits) _ (λ (s : Section). objects_in s) objects (λ s. bodies (bodies_in s) ++ list instruction s.code) (AreObjects limits) _
+    (objects_reads limits small.words)
+    (λ o p. first (bodies_at limits unit) _ (λ (s : Section). bodies_in s) bodies (λ s. list instruction s.code) (AreBodies limits unit) _
+    (bodies_reads limits small.processes unit)
     (λ b q. last (code_at b) (λ code. record { initial = o.initial; semaphores = o.semaphores; events = o.events; buffers = o.buffers; blackboards = o.blackboards; routines = b.routines; processes = b.processes; init = b.init; handler = b.handler; code = code }) (λ (s : Section). s.code) (list instruction) (IsCode b) (code_reads b) (λ a. refl))
     (λ b s q g. ap bodies_in g.1))
     (λ o s p g. ap objects_in g.1.1))

@@ -8,6 +8,7 @@ pub mod ImageChoices
 pub mod ImageObjects
 pub mod ImageBodies
 pub mod ImageTables
+pub mod VersionLimits
 pub mod ImageLaws
 pub mod AcceptedTable
 pub mod KnownPorts

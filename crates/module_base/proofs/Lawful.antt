@@ -7,6 +7,7 @@ use Rattle.std.proofs.lemmas.List.{length-map}
 use Rattle.std.proofs.lemmas.List.Elements.{All-from_recursion}
 use Rattle.std.proofs.lemmas.Option.{none-some, same_Some, slice_get_read, slice_get_past, slice_get-map}
 use Rattle.arrayvec.specs.ArrayVec.{ArrayVec}
+use Rattle.apex_types.specs.Versions.{third_limits}
 use Rattle.apex_types.specs.Places.{place_of_number}
 use Rattle.apex_types.specs.declared.identity.PartitionId.{PartitionId}
 use Rattle.apex_types.specs.declared.identity.PortId.{PortId}
@@ -67,16 +68,16 @@ words_past image e p q items i place is known at same past =
 
 -- no port takes more words than a message has
 
-words_of_each : (before ports : List PortRow) (n : ℕ) → EachBeside IsPort before ports → words_of_port (slice_get ports n) ≤ MOST_WORDS
+words_of_each : (before ports : List PortRow) (n : ℕ) → EachBeside (IsPort third_limits) before ports → words_of_port (slice_get ports n) ≤ MOST_WORDS
 words_of_each before [] n h = omega arith
 words_of_each before (p ∷ ports) zero h = h.0.words.most
 words_of_each before (p ∷ ports) (suc n) h = words_of_each (before ++ p ∷ []) ports n h.1
 
-words_of_numbered : (ports : List PortRow) (n : ℕ) → EachBeside IsPort [] ports → words_of_port (at_number ports n) ≤ MOST_WORDS
+words_of_numbered : (ports : List PortRow) (n : ℕ) → EachBeside (IsPort third_limits) [] ports → words_of_port (at_number ports n) ≤ MOST_WORDS
 words_of_numbered ports zero h = omega arith
 words_of_numbered ports (suc n) h = words_of_each [] ports n h
 
-words_of_item : (frame : ℕ) (before items : List Item) (n port : ℕ) → EachBeside (IsItem frame) before items → words_of_partition (slice_get (map row_of_item items) n) port ≤ MOST_WORDS
+words_of_item : (frame : ℕ) (before items : List Item) (n port : ℕ) → EachBeside (IsItem third_limits frame) before items → words_of_partition (slice_get (map row_of_item items) n) port ≤ MOST_WORDS
 words_of_item frame before [] n port h = omega arith
 words_of_item frame before (it ∷ items) zero port h = words_of_numbered it.partition.ports port h.0.partition.ports
 words_of_item frame before (it ∷ items) (suc n) port h = words_of_item frame (before ++ it ∷ []) items n port h.1
@@ -104,11 +105,11 @@ pub long_arrival : (most : ℕ) (ws : List ℤ) → most ≤ MOST_WORDS → held
 long_arrival most ws few e = lt-leb (length ws) most (omega (arith, few, leb-false (length ws) 16 (cut (nat_le (length ws) 16) (message ws) e)))
 
 -- ---- the ports of a row
-few_words_each : (before ports : List PortRow) → EachBeside IsPort before ports → AllByRecursion (λ (x : PortRow). x.words ≤ MOST_WORDS) ports
+few_words_each : (before ports : List PortRow) → EachBeside (IsPort third_limits) before ports → AllByRecursion (λ (x : PortRow). x.words ≤ MOST_WORDS) ports
 few_words_each before [] h = tt
 few_words_each before (p ∷ ports) h = (h.0.words.most, few_words_each (before ++ p ∷ []) ports h.1)
 
-ports_of_item : (frame : ℕ) (before items : List Item) (n : ℕ) (it : Item) → EachBeside (IsItem frame) before items → slice_get items n ≡ Some it → HasPorts it.partition
+ports_of_item : (frame : ℕ) (before items : List Item) (n : ℕ) (it : Item) → EachBeside (IsItem third_limits frame) before items → slice_get items n ≡ Some it → HasPorts it.partition
 ports_of_item frame before [] n it h e = absurd cc
 ports_of_item frame before (x ∷ items) zero it h e =
     let is : x ≡ it = same_Some x it e in
