@@ -39,6 +39,7 @@ use Rattle.isolation.proofs.Steps.{same_some, starts_same}
 use Rattle.isolation.proofs.TakenLines.{accepted_from_device}
 use Rattle.isolation.proofs.TickSound.{tick_sound}
 use Rattle.isolation.proofs.Ways.{ports_in}
+use Rattle.machine_laws.proofs.Widened.{items_widened}
 
 -- ---- the facts of a lawful image about a partition's row
 names_in : (frame : ℕ) (before items : List Item) → EachBeside (IsItem third_limits frame) before items → (k : ℕ) (item : Item) → slice_get items k ≡ Some item → HasNames item.partition
@@ -48,7 +49,7 @@ names_in frame before (i ∷ is) each (suc k) item e = names_in frame (before ++
 
 item_names : (image : Image) → IsLawful image → (p : ℕ) (item : Item) → at_number image.items p ≡ Some item → HasNames item.partition
 item_names image lawful zero item e = absurd (cc)
-item_names image lawful (suc place) item e = names_in image.schedule.frame [] image.items lawful.limits.items place item e
+item_names image lawful (suc place) item e = names_in image.schedule.frame [] image.items (items_widened image lawful.limits) place item e
 
 -- its ports take 16 words at most
 are_short : (before rows : List PortRow) → EachBeside (IsPort third_limits) before rows → AreShort rows
@@ -61,7 +62,7 @@ row_short image lawful place row e = there (slice_get image.items place) refl (s
   where
     there : (o : Option Item) → slice_get image.items place ≡ o → option_map (λ (it : Item). it.partition) o ≡ Some row → AreShort row.ports
     there None k f = absurd (cc)
-    there (Some item) k f = subst (λ (r : Partition). AreShort r.ports) (same_some item.partition row f) (are_short [] item.partition.ports (names_in image.schedule.frame [] image.items lawful.limits.items place item k).ports)
+    there (Some item) k f = subst (λ (r : Partition). AreShort r.ports) (same_some item.partition row f) (are_short [] item.partition.ports (names_in image.schedule.frame [] image.items (items_widened image lawful.limits) place item k).ports)
 
 -- ---- the invariant of each partition
 -- the ports of the partition at a place

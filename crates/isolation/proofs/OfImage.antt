@@ -18,6 +18,7 @@ use Rattle.module_meaning.specs.Table.{is_in_same_partition, sends_to_itself, ha
 use Rattle.isolation.proofs.Messages.{found_passes}
 use Rattle.isolation.proofs.OwnMessages.{IsOf, NoneOf, AreLawful, with_number}
 use Rattle.isolation.proofs.Steps.{IsApart, AreApart, same_some}
+use Rattle.machine_laws.proofs.Widened.{items_widened}
 
 -- ---- lists
 pub any_at : {A : Type 0} (test : A → Bool) (xs : List A) (k : ℕ) (x : A) → list_any test xs ≡ false → slice_get xs k ≡ Some x → test x ≡ false
@@ -86,8 +87,8 @@ image_apart image lawful place item e = record {
   others = λ q other n f. let a = item_at image.items q other f in
       subst (λ (m : List ℕ). same (name_in item) m ≡ false) a.2
       (elim (cases_lt q place) [
-        | inl l ↦ same_turned (name_in a.0) (name_in item) (names_differ image.schedule.frame [] image.items lawful.limits.items q place a.0 item l a.1 e)
-        | inr g ↦ names_differ image.schedule.frame [] image.items lawful.limits.items place q item a.0 (above q n g) e a.1
+        | inl l ↦ same_turned (name_in a.0) (name_in item) (names_differ image.schedule.frame [] image.items (items_widened image lawful.limits) q place a.0 item l a.1 e)
+        | inr g ↦ names_differ image.schedule.frame [] image.items (items_widened image lawful.limits) place q item a.0 (above q n g) e a.1
       ]);
 }
   where

@@ -34,6 +34,7 @@ use Rattle.partition_base.specs.Sections.{IsFittingSection, engine_of_section}
 use Rattle.processor.specs.Fitting.{IsFittingRoutine, AreFitting}
 use Rattle.process_table_base.specs.Bounds.{IsAtMost, IsShort, AreShort}
 use Rattle.lone_partition.specs.Loading.{IsFittingItem, AreFittingItems}
+use Rattle.machine_laws.proofs.Widened.{items_widened, count_widened}
 
 routines_fit : (before rows : List RoutineRow) → EachBeside (λ _. IsRoutine) before rows → AreFitting rows
 routines_fit before [] h place row e = absurd (none-some row e)
@@ -87,10 +88,10 @@ items_fit frame before (i ∷ items) h zero item e = subst IsFittingItem (same_S
 items_fit frame before (i ∷ items) h (suc place) item e = items_fit frame (before ++ item_of i ∷ []) items h.1 place item e
 
 pub items_of_image_fit : (image : Image) → AreFittingItems image.partitions.items
-items_of_image_fit image = items_fit image.schedule.frame [] image.partitions.items image.lawful.limits.items
+items_of_image_fit image = items_fit image.schedule.frame [] image.partitions.items (items_widened (image_of image) image.lawful.limits)
 
 pub items_of_image_few : (image : Image) → length image.partitions.items ≤ MOST_PARTITIONS
-items_of_image_few image = let same = length-map image.partitions.items item_of in let most = image.lawful.limits.item_count.most in omega arith
+items_of_image_few image = let same = length-map image.partitions.items item_of in let most = (count_widened (image_of image) image.lawful.limits).most in omega arith
 
 -- the item at a place
 pub item_fits_here : (image : Image) (place : ℕ) (item : PartitionItem) → place < length image.partitions.items → item ≡ get_or image.partitions.items place item → IsFittingItem item

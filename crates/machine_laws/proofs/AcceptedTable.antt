@@ -6,7 +6,7 @@ use Rattle.std.proofs.lemmas.Bool.{not-false, ltb-false, or_parts, or_from, and_
 use Rattle.std.proofs.lemmas.List.{length-map}
 use Rattle.std.proofs.lemmas.List.Folds.{list_any-append}
 use Rattle.apex_types.specs.Versions.{third_limits}
-use Rattle.apex_types.specs.declared.version.ImageVersion.TheVariants.{Second}
+use Rattle.apex_types.specs.declared.version.ImageVersion.TheVariants.{Third}
 use Rattle.apex_types.specs.declared.limits.TheConstants.{MOST_CHANNELS, MOST_DEPTH, MOST_DESTINATIONS, MOST_FRAME_TICKS, MOST_PARTITIONS, MOST_PORTS, MOST_TICKS, MOST_WINDOWS, MOST_WORDS}
 use Rattle.apex_types.specs.NameText.{is_name}
 use Rattle.apex_types.specs.declared.row.PortRow.{PortRow}
@@ -310,7 +310,7 @@ few_ports frame (p ∷ ps) h =
 
 -- the image of a table whose partitions have become items
 abbrev pub image_of : Table → List Item → Image
-image_of t items = record { schedule = t.schedule; fault = t.fault; version = Second t.costs; items = items; channels = t.channels }
+image_of t items = record { schedule = t.schedule; fault = t.fault; version = Third t.costs; items = items; channels = t.channels }
 
 -- each window ends within the frame
 abbrev pub HaveRoom : Table → Type 0

@@ -3,7 +3,7 @@
 ghost use Rattle.std.specs.Prelude.{◌≡◌, ◌≤◌, ℕ, List, length, map, Ok, All};
 ghost use Rattle.apex_types.specs.Versions.{third_limits};
 ghost use Rattle.apex_types.specs.declared.identity.At.{At};
-ghost use Rattle.apex_types.specs.declared.version.ImageVersion.TheVariants.{Second};
+ghost use Rattle.apex_types.specs.declared.version.ImageVersion.TheVariants.{Third};
 ghost use Rattle.toml.specs.Data.{Members};
 ghost use Rattle.module_meaning.specs.Table.{Table, Partition};
 ghost use Rattle.machine_meaning.specs.Image.{Item};
@@ -24,7 +24,7 @@ pub fn accepted_table_is_within_limits()
         (record {
           schedule = t.schedule;
           fault = t.fault;
-          version = Second t.costs;
+          version = Third t.costs;
           items = items;
           channels = t.channels;
         }) }
@@ -39,7 +39,7 @@ pub fn accepted_table_is_lawful()
         (record {
           schedule = t.schedule;
           fault = t.fault;
-          version = Second t.costs;
+          version = Third t.costs;
           items = items;
           channels = t.channels;
         }) }

@@ -19,6 +19,7 @@ use Rattle.isolation.specs.Replays.{numbered}
 use Rattle.isolation.specs.Slices.{Slice, slice, slice_of}
 use Rattle.isolation.proofs.Law.{sliced}
 use Rattle.module_base.specs.Rows.{HasPorts}
+use Rattle.machine_laws.proofs.Widened.{items_widened}
 
 -- ---- what is found by a name
 
@@ -115,4 +116,4 @@ rows_have_ports frame before (i ∷ items) h zero item e =
 rows_have_ports frame before (i ∷ items) h (suc place) item e = rows_have_ports frame (before ++ item_of i ∷ []) items h.1 place item e
 
 pub has_ports : (image : code.Image) (place : ℕ) (item : PartitionItem) → slice_get image.partitions.items place ≡ Some item → HasPorts (partition_of item.row)
-has_ports image place item e = rows_have_ports image.schedule.frame [] image.partitions.items image.lawful.limits.items place item e
+has_ports image place item e = rows_have_ports image.schedule.frame [] image.partitions.items (items_widened (image_of image) image.lawful.limits) place item e

@@ -30,12 +30,13 @@ use Rattle.module_base.specs.Rows.{HasPorts}
 use Rattle.module_base.specs.Seen.{fitting}
 use Rattle.module_base.specs.declared.line.MessageWords.TheVariants as held
 use Rattle.module_base.specs.Views.{rows_in}
+use Rattle.machine_laws.proofs.Widened.{items_widened, count_widened}
 
 pub few_channels : (image : Image) → length image.channels.items ≤ MOST_CHANNELS
 few_channels image = let same = length-map image.channels.items channel_of in let most = image.lawful.limits.channel_count.most in omega arith
 
 pub few_partitions : (image : Image) → length image.partitions.items ≤ MOST_PARTITIONS
-few_partitions image = let same = length-map image.partitions.items item_of in let most = image.lawful.limits.item_count.most in omega arith
+few_partitions image = let same = length-map image.partitions.items item_of in let most = (count_widened (image_of image) image.lawful.limits).most in omega arith
 
 -- at the place that a number gives
 pub from_place : {A : Type 0} (xs : List A) (n place : ℕ) → place_of_number n ≡ Some place → at_number xs n ≡ slice_get xs place
@@ -84,7 +85,7 @@ words_of_item frame before (it ∷ items) (suc n) port h = words_of_item frame (
 
 words_of_row : (image : Image) (n port : ℕ) → words_of_partition (at_number (rows_in image) n) port ≤ MOST_WORDS
 words_of_row image zero port = omega arith
-words_of_row image (suc n) port = words_of_item image.schedule.frame [] (items_of image.partitions.items) n port image.lawful.limits.items
+words_of_row image (suc n) port = words_of_item image.schedule.frame [] (items_of image.partitions.items) n port (items_widened (image_of image) image.lawful.limits)
 
 few_words : (image : Image) (ends : List ChannelEnd) → words_of_ends (rows_in image) ends ≤ MOST_WORDS
 few_words image [] = omega arith
@@ -121,7 +122,7 @@ ports_of_item frame before (x ∷ items) (suc n) it h e = ports_of_item frame (b
 
 -- the row of each partition of a lawful image has its ports
 pub lawful_ports : (image : meant.Image) (n : ℕ) (it : Item) → IsLawful image → slice_get image.items n ≡ Some it → HasPorts it.partition
-lawful_ports image n it lawful e = ports_of_item image.schedule.frame [] image.items n it lawful.limits.items e
+lawful_ports image n it lawful e = ports_of_item image.schedule.frame [] image.items n it (items_widened image lawful.limits) e
 
 -- and so has the row of each partition of an image in the code
 pub row_ports : (image : Image) (n : ℕ) (it : PartitionItem) → slice_get image.partitions.items n ≡ Some it → HasPorts (partition_of it.row)
