@@ -25,6 +25,7 @@ use Rattle.machine_meaning.specs.MachineControl.{MachineControl}
 use Rattle.kernel_meaning.specs.Times.{ticks}
 use Rattle.machine_meaning.specs.MachineMeaning.{body_of_row, machine_row, section_engine, machine_member}
 use Rattle.kernel_meaning.specs.Fresh.{init_row, handler_row, no_control_for}
+use Rattle.image.specs.Views.{image_of}
 use Rattle.image.specs.declared.value.Image.{Image}
 use Rattle.image.specs.declared.item.PartitionItem.{PartitionItem}
 use Rattle.image.specs.Items.{item_of, items_of, partition_of, section_of}

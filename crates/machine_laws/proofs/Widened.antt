@@ -4,10 +4,8 @@ use Rattle.apex_types.specs.declared.limits.Limits.{Limits}
 use Rattle.apex_types.specs.declared.row.BlackboardRow.{BlackboardRow}
 use Rattle.apex_types.specs.declared.row.BufferRow.{BufferRow}
 use Rattle.apex_types.specs.declared.row.PortRow.{PortRow}
-use Rattle.apex_types.specs.declared.version.ImageVersion.{ImageVersion}
-use Rattle.apex_types.specs.declared.version.ImageVersion.TheVariants.{Third}
-use Rattle.apex_types.specs.Versions.{costs_of, limits_of, third_limits}
-use Rattle.machine_meaning.specs.Image.{Bodies, Image, Item, Objects}
+use Rattle.apex_types.specs.Versions.{limits_of, third_limits}
+use Rattle.machine_meaning.specs.Image.{Bodies, Image, Item, Objects, upgraded}
 use Rattle.machine_meaning.specs.ImageLimits.{IsFrom, EachBeside, IsBuffer, IsBlackboard, AreObjects, AreBodies, IsSection, IsPort, IsPartition, IsItem, IsWithinLimits, IsLawful}
 use Rattle.machine_meaning.specs.Section.{Section}
 use Rattle.module_meaning.specs.Table.{Partition}
@@ -75,10 +73,6 @@ items_widened image h = each_widened (IsItem (limits_of image.version) image.sch
 
 pub count_widened : (image : Image) → IsWithinLimits image → IsFrom 1 third_limits.partitions (length image.items)
 count_widened image h = record { least = h.item_count.least; most = omega (arith, h.item_count.most, (limits_narrow image.version).partitions) }
-
--- an image as one of the third version
-abbrev upgraded : Image → Image
-upgraded image = record image { version = Third (costs_of image.version) }
 
 pub upgraded_lawful : (image : Image) → IsLawful image → IsLawful (upgraded image)
 upgraded_lawful image h = record {
