@@ -62,6 +62,12 @@ pub const MOST_OBJECTS: u8 = 16;
 /// The greatest priority of a process; the least is 1.
 pub const GREATEST_PRIORITY: u8 = 239;
 
+/// The most levels of priority for which ready processes are listed: all that a byte numbers.
+pub const PRIORITY_LEVELS: u16 = 256;
+
+/// The bits of a word of marks, one for each level of priority or for each process.
+pub const MARK_BITS: u8 = 64;
+
 /// The greatest level of the preemption lock.
 pub const MOST_LOCK_LEVEL: u8 = 16;
 
@@ -131,8 +137,14 @@ pub const MOST_ACTIONS: usize = 2 * MOST_PROCESSES as usize + 4;
 /// The most words of the lines and the actions of a step.
 pub const MOST_OUT_WORDS: usize = MOST_WORDS * (MOST_EVENTS + MOST_ACTIONS);
 
+/// The bytes of an instruction in an image.
+pub const INSTRUCTION_BYTES: usize = 16;
+
 /// The most bytes of a word in a line: its digits, its sign and the space before it.
 pub const MOST_WORD_BYTES: usize = 21;
+
+/// The most bytes of an event besides the words of its message.
+pub const MOST_KIND_BYTES: usize = 64;
 
 /// The most bytes that a line has besides the words of a message: a tick, two names, and the event.
 pub const MOST_HEAD_BYTES: usize = 176;

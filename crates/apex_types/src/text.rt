@@ -3,11 +3,12 @@
 ghost use Rattle.std.specs.Prelude.{◌≡◌, ℕ, ◌+◌, ◌-◌, ◌*◌, ◌/◌, ◌%◌, ◌^◌, ◌<◌, ◌≤◌, List, [], ◌∷◌, ◌++◌, codes, length, All, OnErr, OnOk};
 ghost use Rattle.std.specs.Fmt.{signed_decimal};
 ghost use Rattle.std.specs.Io.KnownBytes.{Appends};
+ghost use Rattle.apex_types.specs.Line.{space};
 ghost use Rattle.arrayvec.specs.ArrayVec.{array_vec_len};
 ghost use Rattle.apex_types.specs.Line.{culprit_text, kind_text, line_of, partition_text, subject_text, text_of, thirteen_digits, words_text};
 ghost use Rattle.apex_types.specs.Line.{TakesBeginning};
 ghost use Rattle.apex_types.specs.Output.{event_of};
-ghost use Rattle.apex_types.specs.declared.limits.TheConstants.{MOST_LINE_BYTES, MOST_NAME_BYTES, MOST_WORD_BYTES, MOST_WORDS};
+ghost use Rattle.apex_types.specs.declared.limits.TheConstants.{MOST_KIND_BYTES, MOST_LINE_BYTES, MOST_NAME_BYTES, MOST_WORDS, MOST_WORD_BYTES};
 
 use crate::codes::{ErrorKind, Response, ReturnCode};
 use crate::event::{Event, LineKind, Subject};
@@ -284,7 +285,7 @@ fn push_culprit<const N: usize>(line: &mut ArrayVec<u8, N>, who: &Option<Subject
 
 fn push_word<const N: usize>(line: &mut ArrayVec<u8, N>, word: i64)
     requires { array_vec_len line.old + MOST_WORD_BYTES ≤ N }
-    ensures items { line.new.items ≡ line.old.items ++ 32 ∷ signed_decimal word }
+    ensures items { line.new.items ≡ line.old.items ++ space ∷ signed_decimal word }
     ensures len { array_vec_len line.new ≤ array_vec_len line.old + MOST_WORD_BYTES }
 {
     let mut buffer = itoa::Buffer::new();
@@ -356,12 +357,12 @@ fn push_error<const N: usize>(
 }
 
 fn push_kind<const N: usize>(line: &mut ArrayVec<u8, N>, kind: &LineKind, words: &[i64])
-    requires room { array_vec_len line.old + 64 + MOST_WORD_BYTES * MOST_WORDS ≤ N }
+    requires room { array_vec_len line.old + MOST_KIND_BYTES + MOST_WORD_BYTES * MOST_WORDS ≤ N }
     requires few { length words.now ≤ MOST_WORDS }
     ensures items { line.new.items
         ≡ line.old.items ++ kind_text (event_of kind.now words.now) }
     ensures len { array_vec_len line.new
-        ≤ array_vec_len line.old + 64 + MOST_WORD_BYTES * MOST_WORDS }
+        ≤ array_vec_len line.old + MOST_KIND_BYTES + MOST_WORD_BYTES * MOST_WORDS }
 {
     match kind {
         LineKind::State(who, state) => {

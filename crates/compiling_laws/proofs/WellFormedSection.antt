@@ -8,7 +8,7 @@ use Rattle.std.proofs.lemmas.List.{length-map, append-nil}
 use Rattle.std.proofs.lemmas.List.Sums.{sum_by-cons}
 use Rattle.std.proofs.lemmas.List.Folds.{list_any-append}
 use Rattle.apex_types.specs.Versions.{third_limits}
-use Rattle.apex_types.specs.declared.limits.TheConstants.{GREATEST_PRIORITY, LEAST_STACK_WORDS, MOST_INSTRUCTIONS, MOST_LOCALS, MOST_PARAMETERS, MOST_PROCESSES, MOST_STACK_WORDS, MOST_TICKS}
+use Rattle.apex_types.specs.declared.limits.TheConstants.{GREATEST_PRIORITY, INSTRUCTION_BYTES, LEAST_STACK_WORDS, MOST_INSTRUCTIONS, MOST_LOCALS, MOST_PARAMETERS, MOST_PROCESSES, MOST_STACK_WORDS, MOST_TICKS}
 use Rattle.apex_types.specs.NameText.{is_name}
 use Rattle.apex_types.specs.declared.denotation.Denotation.{Denotation}
 use Rattle.apex_types.specs.declared.row.ProcessRow.{ProcessRow}
@@ -193,7 +193,7 @@ process_count at (p ∷ ps) = ap suc (process_count (at + size_of_process p) ps)
 
 -- ---- the code
 
-sixteen_bytes : (is : List Instr) → AllByRecursion (λ bytes. length bytes ≡ 16) (map bytes_of is)
+sixteen_bytes : (is : List Instr) → AllByRecursion (λ bytes. length bytes ≡ INSTRUCTION_BYTES) (map bytes_of is)
 sixteen_bytes [] = tt
 sixteen_bytes (i ∷ is) = (refl, sixteen_bytes is)
 
@@ -233,7 +233,7 @@ code_lawful r small =
     record {
       count = record { least = omega (arith, size); most = omega (arith, size) };
       entries = and_from _ _ (and_from _ _ (and_from _ _ routines processes) init) handler;
-      instructions = each_beside (λ bytes. length bytes ≡ 16) [] _ (sixteen_bytes (code_of r));
+      instructions = each_beside (λ bytes. length bytes ≡ INSTRUCTION_BYTES) [] _ (sixteen_bytes (code_of r));
     }
 
 section_lawful : (ports : List PortRow) (period : ℕ) (p : written.Program) → names_hold ports p ≡ true → limits_hold ports p ≡ true → periods_hold period p ≡ true → All (FitsSigned w64) (resolve ports p).initial → Fits (resolve ports p) → IsSection third_limits period (section_of (resolve ports p))

@@ -4,6 +4,7 @@ use Rattle.std.specs.Prelude.{◌==◌, ◌&&◌, nat_le, nat_lt, if◌then◌el
 use Rattle.std.specs.Fmt.{decimal, signed_decimal}
 use Rattle.std.specs.List.{list_all}
 use Rattle.std.proofs.lemmas.Bool.{and_from, eq-eqb, lt-ltb, le-ltb, le-leb, cond-true, cond-false}
+use Rattle.apex_types.specs.Line.{space}
 use Rattle.apex_types.specs.Versions.{third_limits}
 use Rattle.apex_types.specs.declared.limits.TheConstants.{MOST_DEVICE_LINES, MOST_TICKS}
 use Rattle.apex_types.specs.NameText.{is_name}
@@ -104,7 +105,7 @@ module _ (row : Partition) (names : HasNames row) where
 
   line_again : (l : InputLine) → l.tick.0 ≤ MOST_TICKS → IsInput row l.input → line_of (input_body row l) ≡ Some (record { tick = l.tick.0; written = said row l.input })
   line_again l low h =
-      ap line_of_pieces (pieces_join 32 (decimal l.tick.0) (input_parts row l.input) (ink_is_free 32 (decimal l.tick.0) (omega arith) (decimal_ink l.tick.0 (omega (arith, low)))) (all_free 32 (input_parts row l.input) (omega arith) (parts_ink l.input h)))
+      ap line_of_pieces (pieces_join space (decimal l.tick.0) (input_parts row l.input) (ink_is_free space (decimal l.tick.0) (omega arith) (decimal_ink l.tick.0 (omega (arith, low)))) (all_free 32 (input_parts row l.input) (omega arith) (parts_ink l.input h)))
       ∙ ap (λ (o : Option ℕ). line_with o (written_of (input_parts row l.input))) (plain_again MOST_TICKS l.tick.0 (lit< tt) low)
       ∙ ap (λ (o : Option Written). line_with (Some l.tick.0) o) (written_again l.input h)
 

@@ -9,13 +9,13 @@ pub(crate) type Marks = [u64; 4];
 
 /// Sets the bit of a level if its list has any entry, and clears it otherwise.
 pub(crate) fn put(marks: &mut Marks, level: u8, any: bool)
-    ensures { (w b : ℕ) → b < 64
+    ensures { (w b : ℕ) → b < MARK_BITS
         → bit_at (slice_index marks.new w) b
-        ≡ (if 64 * w
+        ≡ (if MARK_BITS * w
         + b == level then (if any then 1 else 0) else bit_at (slice_index marks.old w) b) }
 {
-    let word = usize::from(level / 64);
-    let bit = 1 << (level % 64);
+    let word = usize::from(level / MARK_BITS);
+    let bit = 1 << (level % MARK_BITS);
     if any {
         marks[word] |= bit;
     } else {
@@ -32,7 +32,7 @@ pub(crate) fn first(marks: &Marks) -> Option<u8>
         word += 1;
     }
     if word < 4 {
-        Some(word as u8 * 64 + marks[word].trailing_zeros() as u8)
+        Some(word as u8 * MARK_BITS + marks[word].trailing_zeros() as u8)
     } else {
         None
     }

@@ -215,7 +215,7 @@ unfolding number_from
 number_small n test [] k h = absurd cc
 number_small n test (x ∷ xs) k h = number_first (test x) n (length xs) k (number_from (n + 1) test xs) (λ e. number_small (n + 1) test xs k e) h
 
-window_number_small : (ps : List PartitionText) (o : Option ℕ) → length ps ≤ MOST_PARTITIONS → ((k : ℕ) → o ≡ Some k → (1 ≤ k) × (k < 1 + length ps)) → unwrap_or o 0 < 256
+window_number_small : (ps : List PartitionText) (o : Option ℕ) → length ps ≤ MOST_PARTITIONS → ((k : ℕ) → o ≡ Some k → (1 ≤ k) × (k < 1 + length ps)) → unwrap_or o 0 < 2 ^ 8
 window_number_small ps None few h = omega arith
 window_number_small ps (Some k) few h = omega (arith, (h k refl).1)
 
@@ -251,13 +251,13 @@ port_or n o rest = elim o [ Some q ↦ Some (ends.Port (record { 0 = n }) (recor
 not_zero : (n : ℕ) → 1 ≤ n → (n == 0) ≡ false
 not_zero n h = ne_eqb n 0 (λ e. omega (arith, e))
 
-port_end : (n : ℕ) (o : Option ℕ) (rest : Option ChannelEnd) (e : ChannelEnd) → 1 ≤ n → n < 256 → ((q : ℕ) → o ≡ Some q → q < 256) → (rest ≡ Some e → IsEnd e) → port_or n o rest ≡ Some e → IsEnd e
+port_end : (n : ℕ) (o : Option ℕ) (rest : Option ChannelEnd) (e : ChannelEnd) → 1 ≤ n → n < 2 ^ 8 → ((q : ℕ) → o ≡ Some q → q < 2 ^ 8) → (rest ≡ Some e → IsEnd e) → port_or n o rest ≡ Some e → IsEnd e
 port_end n None rest e some few small others h = others h
 port_end n (Some q) rest e some few small others h =
     let is : ends.Port (record { 0 = n }) (record { 0 = q }) ≡ e = cc in
     subst IsEnd is (few, small q refl, and_left (n == 0) (q == 0) (not_zero n some))
 
-port_ends : (n : ℕ) (ps : List PartitionText) (text : List ℕ) (e : ChannelEnd) → 1 ≤ n → n + length ps ≤ 256 → AllByRecursion (λ (p : PartitionText). length p.ports ≤ MOST_PORTS) ps → port_from n ps text ≡ Some e → IsEnd e
+port_ends : (n : ℕ) (ps : List PartitionText) (text : List ℕ) (e : ChannelEnd) → 1 ≤ n → n + length ps ≤ 2 ^ 8 → AllByRecursion (λ (p : PartitionText). length p.ports ≤ MOST_PORTS) ps → port_from n ps text ≡ Some e → IsEnd e
 unfolding port_from
 port_ends n [] text e some few ports h = absurd cc
 port_ends n (p ∷ ps) text e some few ports h =

@@ -6,7 +6,7 @@ use Rattle.std.proofs.lemmas.List.{length-take, get_or-drop, get_or-take, get_or
 use Rattle.machine_meaning.specs.ImageReading.{Fault, Read, ◌>>=◌}
 
 abbrev pub IsBytes : List ℕ → Type 0
-IsBytes bytes = (i : ℕ) → get_or bytes i 0 < 256
+IsBytes bytes = (i : ℕ) → get_or bytes i 0 < 2 ^ 8
 
 pub IsBytes-drop : (n : ℕ) (bytes : List ℕ) → IsBytes bytes → IsBytes (drop n bytes)
 IsBytes-drop n bytes h i = rw get_or-drop (h (n + i))

@@ -31,7 +31,7 @@ semaphore_reads = said semaphore_at _ semaphore _ IsSemaphore
     (λ r g. record { value = g.0; maximum = g.1.0 })
     (λ r g. (g.value, (g.maximum, (tt, refl))))
 
-pub buffer_reads : (limits : Limits) → limits.words < 256 → Reads (buffer_at limits) buffer (IsBuffer limits)
+pub buffer_reads : (limits : Limits) → limits.words < 2 ^ 8 → Reads (buffer_at limits) buffer (IsBuffer limits)
 unfolding buffer_at buffer
 buffer_reads limits small = said (buffer_at limits) _ buffer _ (IsBuffer limits)
     (first (small_at 1 limits.words) _ (λ (r : BufferRow). r.words) u8 (λ r. u8 r.depth ++ u8 (discipline r.discipline)) (IsFrom 1 limits.words) _
@@ -45,7 +45,7 @@ buffer_reads limits small = said (buffer_at limits) _ buffer _ (IsBuffer limits)
     (λ r g. record { words = g.0; depth = g.1.0 })
     (λ r g. (g.words, (g.depth, (tt, refl))))
 
-pub blackboard_reads : (limits : Limits) → limits.words < 256 → Reads (blackboard_at limits) blackboard (IsBlackboard limits)
+pub blackboard_reads : (limits : Limits) → limits.words < 2 ^ 8 → Reads (blackboard_at limits) blackboard (IsBlackboard limits)
 unfolding blackboard_at blackboard
 blackboard_reads limits small = said (blackboard_at limits) _ blackboard _ (IsBlackboard limits)
     (last (small_at 1 limits.words) (λ words. record { words = words }) (λ (r : BlackboardRow). r.words) u8 (IsFrom 1 limits.words) (small_reads 1 limits.words small) (λ a. refl))
@@ -53,7 +53,7 @@ blackboard_reads limits small = said (blackboard_at limits) _ blackboard _ (IsBl
     (λ r g. record { words = g.0 })
     (λ r g. (g.words, refl))
 
-pub objects_reads : (limits : Limits) → limits.words < 256 → Reads (objects_at limits) objects (AreObjects limits)
+pub objects_reads : (limits : Limits) → limits.words < 2 ^ 8 → Reads (objects_at limits) objects (AreObjects limits)
 unfolding objects_at objects
 objects_reads limits small = said (objects_at limits) _ objects _ (AreObjects limits)
     (first (list_at 0 MOST_DATA_WORDS (λ _. word_at)) _ (λ (o : Objects). o.initial) (list i64) (λ o. list semaphore o.semaphores ++ (u8 o.events ++ (list buffer o.buffers ++ list blackboard o.blackboards))) _ _

@@ -130,7 +130,7 @@ kind_reads zero h = sampling_reads
 kind_reads (suc zero) h = queuing_reads
 kind_reads (suc (suc n)) h = absurd (omega (arith, h.most))
 
-pub port_reads : (limits : Limits) → limits.words < 256 → (before : List PortRow) → Reads (port_at limits before) port (IsPort limits before)
+pub port_reads : (limits : Limits) → limits.words < 2 ^ 8 → (before : List PortRow) → Reads (port_at limits before) port (IsPort limits before)
 unfolding port_at port
 port_reads limits small before = said (port_at limits before) _ port _ (IsPort limits before)
     (first (fresh_name_at (is_port before)) _ (λ (r : PortRow). r.name) name (λ r. u8 (port_kind r.kind) ++ (u8 (direction r.direction) ++ (u8 r.words ++ port_fields r.kind))) _ _
@@ -152,7 +152,7 @@ port_reads limits small before = said (port_at limits before) _ port _ (IsPort l
 
 -- ---- partitions
 
-pub partition_reads : (limits : Limits) → limits.words < 256 → (frame : ℕ) → frame < 2 ^ 32 → (before : List Item) → Reads (partition_at limits frame before) partition (IsPartition limits frame before)
+pub partition_reads : (limits : Limits) → limits.words < 2 ^ 8 → (frame : ℕ) → frame < 2 ^ 32 → (before : List Item) → Reads (partition_at limits frame before) partition (IsPartition limits frame before)
 unfolding partition_at partition
 partition_reads limits words frame small before = said (partition_at limits frame before) _ partition _ (IsPartition limits frame before)
     (first (fresh_name_at (is_partition before)) _ (λ (r : Partition). r.name) name (λ r. u32 r.period ++ (u32 r.duration ++ (health r.health ++ list port r.ports))) _ _
@@ -239,20 +239,20 @@ both_zero p q false b f g h = absurd cc
 between : (p q : ℕ) → (partition_of (end_between p q) ≡ p) × (port_of (end_between p q) ≡ q)
 between p q = ends_back p q ((p == 0) && (q == 0)) (both_zero p q (eqb p 0) (eqb q 0) (eqb-true p 0) (eqb-true q 0))
 
-end_good : (p q : ℕ) (b : Bool) → p < 256 → q < 256 → ((p == 0) && (q == 0)) ≡ b → IsEnd (cond b Device (Port (record { 0 = p }) (record { 0 = q })))
+end_good : (p q : ℕ) (b : Bool) → p < 2 ^ 8 → q < 2 ^ 8 → ((p == 0) && (q == 0)) ≡ b → IsEnd (cond b Device (Port (record { 0 = p }) (record { 0 = q })))
 end_good p q true a b h = tt
 end_good p q false a b h = (a, b, h)
 
-is_end : (e : ChannelEnd) → IsEnd e → (partition_of e < 256) × ((port_of e < 256) × (e ≡ end_between (partition_of e) (port_of e)))
+is_end : (e : ChannelEnd) → IsEnd e → (partition_of e < 2 ^ 8) × ((port_of e < 2 ^ 8) × (e ≡ end_between (partition_of e) (port_of e)))
 is_end Device good = (lit< tt, (lit< tt, refl))
 is_end (Port p q) good = (good.0, (good.1, rw (good.2) refl))
 
 pub end_reads : Reads channel_end_at channel_end IsEnd
 unfolding channel_end_at channel_end
 end_reads = said_where channel_end_at (λ e. u8 (partition_of e) ++ u8 (port_of e)) channel_end _ IsEnd
-    (first byte_at _ partition_of u8 (λ e. u8 (port_of e)) _ (λ p e. (port_of e < 256) × (e ≡ end_between p (port_of e)))
+    (first byte_at _ partition_of u8 (λ e. u8 (port_of e)) _ (λ p e. (port_of e < 2 ^ 8) × (e ≡ end_between p (port_of e)))
     byte_reads
-    (λ p small. last byte_at (λ q. end_between p q) port_of u8 (λ n. n < 256) byte_reads (λ q. (between p q).1))
+    (λ p small. last byte_at (λ q. end_between p q) port_of u8 (λ n. n < 2 ^ 8) byte_reads (λ q. (between p q).1))
     (λ p e small g. ap partition_of g.1 ∙ (between p (port_of e)).0))
     (elim [ Device ↦ λ g. refl | Port p q ↦ λ g. refl ])
     (λ e g. subst IsEnd (sym g.1.1) (end_good (partition_of e) (port_of e) ((partition_of e == 0) && (port_of e == 0)) g.0 g.1.0 refl))

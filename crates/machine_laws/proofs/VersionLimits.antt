@@ -8,9 +8,9 @@ use Rattle.apex_types.specs.Versions.{limits_of, third_limits}
 
 -- each fits a byte
 pub record AreBytes (limits : Limits) : Type 0 where
-  pub partitions : limits.partitions < 256
-  pub processes : limits.processes < 256
-  pub words : limits.words < 256
+  pub partitions : limits.partitions < 2 ^ 8
+  pub processes : limits.processes < 2 ^ 8
+  pub words : limits.words < 2 ^ 8
 
 pub limits_small : (v : ImageVersion) → AreBytes (limits_of v)
 limits_small First = record { partitions = lit< tt; processes = lit< tt; words = lit< tt }

@@ -3,7 +3,7 @@
 -- module table are kept.
 use Rattle.std.specs.Prelude.{◌≡◌, ℕ, ◌+◌, ◌<◌, ◌≤◌, ◌^◌, ◌-◌, true, false, ◌&&◌, ◌==◌, List, [], ◌∷◌, ◌++◌, length, max, Option, Some, None, FitsSigned}
 use Rattle.std.specs.Int.{w64}
-use Rattle.apex_types.specs.declared.limits.TheConstants.{GREATEST_PRIORITY, LEAST_STACK_WORDS, MOST_CHANNELS, MOST_DATA_WORDS, MOST_DEPTH, MOST_DESTINATIONS, MOST_FRAME_TICKS, MOST_INSTRUCTIONS, MOST_OBJECTS, MOST_PARAMETERS, MOST_PORTS, MOST_PROCEDURES, MOST_SEMAPHORE_VALUE, MOST_SLOTS, MOST_STACK_WORDS, MOST_TICKS, MOST_WINDOWS}
+use Rattle.apex_types.specs.declared.limits.TheConstants.{GREATEST_PRIORITY, INSTRUCTION_BYTES, LEAST_STACK_WORDS, MOST_CHANNELS, MOST_DATA_WORDS, MOST_DEPTH, MOST_DESTINATIONS, MOST_FRAME_TICKS, MOST_INSTRUCTIONS, MOST_OBJECTS, MOST_PARAMETERS, MOST_PORTS, MOST_PROCEDURES, MOST_SEMAPHORE_VALUE, MOST_SLOTS, MOST_STACK_WORDS, MOST_TICKS, MOST_WINDOWS}
 use Rattle.apex_types.specs.Versions.{limits_of}
 use Rattle.apex_types.specs.declared.limits.Limits.{Limits}
 use Rattle.apex_types.specs.declared.row.SemaphoreRow.{SemaphoreRow}
@@ -108,7 +108,7 @@ pub record AreBodies (limits : Limits) (unit : ℕ) (b : Bodies) : Type 0 where
 pub record IsCode (b : Bodies) (code : List (List ℕ)) : Type 0 where
   pub count : IsFrom 1 MOST_INSTRUCTIONS (length code)
   pub entries : enter_within (length code) b ≡ true
-  pub instructions : EachBeside (λ _ bytes. length bytes ≡ 16) [] code
+  pub instructions : EachBeside (λ _ bytes. length bytes ≡ INSTRUCTION_BYTES) [] code
 
 -- the result of compiling the source of a partition with the period `unit`
 pub record IsSection (limits : Limits) (unit : ℕ) (s : Section) : Type 0 where
@@ -145,7 +145,7 @@ pub record IsItem (limits : Limits) (frame : ℕ) (before : List Item) (it : Ite
 
 -- a window after those before it: it begins at or after the end of the last of them
 pub record IsWindow (before : List WindowRow) (row : WindowRow) : Type 0 where
-  pub partition : row.partition.0 < 256
+  pub partition : row.partition.0 < 2 ^ 8
   pub offset : row.offset < 2 ^ 32
   pub after : last_end before ≤ row.offset
   pub length : IsFrom 1 (2 ^ 32 - 1) row.length
@@ -153,7 +153,7 @@ pub record IsWindow (before : List WindowRow) (row : WindowRow) : Type 0 where
 -- A port's numbers are not both 0.
 abbrev pub IsEnd : ChannelEnd → Type 0
 IsEnd Device = Unit {0}
-IsEnd (Port p q) = (p.0 < 256) × (q.0 < 256) × (((p.0 == 0) && (q.0 == 0)) ≡ false)
+IsEnd (Port p q) = (p.0 < 2 ^ 8) × (q.0 < 2 ^ 8) × (((p.0 == 0) && (q.0 == 0)) ≡ false)
 
 -- a channel after those before it, with at least one destination
 pub record IsChannel (before : List Channel) (row : Channel) : Type 0 where

@@ -99,11 +99,11 @@ cut false m e = refl
 -- more words than a message has are too many for each channel
 pub long_message : (image : Image) (ends : List ChannelEnd) (ws : List ℤ) → held.TooMany ≡ fitting ws → nat_le (length ws) (words_of_ends (rows_in image) ends) ≡ false
 long_message image ends ws e =
-    lt-leb (length ws) (words_of_ends (rows_in image) ends) (omega (arith, few_words image ends, leb-false (length ws) 16 (cut (nat_le (length ws) 16) (message ws) e)))
+    lt-leb (length ws) (words_of_ends (rows_in image) ends) (omega (arith, few_words image ends, leb-false (length ws) MOST_WORDS (cut (nat_le (length ws) MOST_WORDS) (message ws) e)))
 
 -- so are they for a port of at most 16
 pub long_arrival : (most : ℕ) (ws : List ℤ) → most ≤ MOST_WORDS → held.TooMany ≡ fitting ws → nat_le (length ws) most ≡ false
-long_arrival most ws few e = lt-leb (length ws) most (omega (arith, few, leb-false (length ws) 16 (cut (nat_le (length ws) 16) (message ws) e)))
+long_arrival most ws few e = lt-leb (length ws) most (omega (arith, few, leb-false (length ws) MOST_WORDS (cut (nat_le (length ws) MOST_WORDS) (message ws) e)))
 
 -- ---- the ports of a row
 few_words_each : (before ports : List PortRow) → EachBeside (IsPort third_limits) before ports → AllByRecursion (λ (x : PortRow). x.words ≤ MOST_WORDS) ports

@@ -8,7 +8,7 @@ use Rattle.std.proofs.lemmas.Bool.{and_parts, leb-true}
 use Rattle.std.proofs.lemmas.Fmt.{length-decimal-le, length_signed_le}
 use Rattle.apex_types.specs.declared.limits.TheConstants.{MOST_LINE_BYTES, MOST_NAME_BYTES}
 use Rattle.apex_types.specs.CodeWords.{return_code_number, mode_word, state_word, error_word, level_word, level_of_response, action_word}
-use Rattle.apex_types.specs.Line.{thirteen_digits, partition_text, subject_text, culprit_text, words_text, kind_text, line_of}
+use Rattle.apex_types.specs.Line.{thirteen_digits, partition_text, subject_text, culprit_text, words_text, kind_text, line_of, space}
 use Rattle.apex_types.specs.NameText.{is_name, is_lower_case, is_name_byte}
 use Rattle.apex_types.specs.ServiceShape.{service_word}
 use Rattle.apex_types.specs.declared.codes.ErrorKind.{ErrorKind}
@@ -100,7 +100,7 @@ word_short (negsuc n) fits = length_signed_le 19 (negsuc n) (omega (arith, fits.
 
 words_short : (ws : List ℤ) → AreWords ws → length (words_text ws) ≤ 21 * length ws
 words_short [] good = omega arith
-words_short (w ∷ ws) good = omega (arith, word_short w good.0, words_short ws good.1, length-append (32 ∷ signed_decimal w) (words_text ws))
+words_short (w ∷ ws) good = omega (arith, word_short w good.0, words_short ws good.1, length-append (space ∷ signed_decimal w) (words_text ws))
 
 message_short : (ws : List ℤ) → IsMessage ws → length (words_text ws) ≤ 336
 message_short ws good = omega (arith, words_short ws good.fit, good.few)

@@ -2,7 +2,7 @@
 
 ghost use Rattle.std.specs.Prelude.{◌≡◌, ◌<◌, [], nat_lt};
 ghost use Rattle.std.specs.List.{list_all};
-ghost use Rattle.apex_types.specs.declared.limits.TheConstants.{MOST_PROCESSES};
+ghost use Rattle.apex_types.specs.declared.limits.TheConstants.{INSTRUCTION_BYTES, MOST_PROCESSES};
 ghost use Rattle.machine_meaning.specs.ImageReading.{is_process, fresh_name_at, duration_at, period_at, duration_of, is_infinite_or_multiple, routine_at, body_at, process_at, items_at, list_at, handler_at, bodies_at, enter_within, handler_enters, code_at, bytes_at};
 ghost use Rattle.image.specs.Views.{Gives, bodies_of};
 
@@ -267,7 +267,7 @@ fn enter_within(count: u32, bodies: &Bodies) -> bool
 }
 
 impl Row for [u8; 16] {
-    ghost reads = { λ _ _. bytes_at 16 };
+    ghost reads = { λ _ _. bytes_at INSTRUCTION_BYTES };
 
     #[tactic(auto, unfolding(machine_meaning::specs::ImageReading::bytes_at))]
     fn read<'a>(
