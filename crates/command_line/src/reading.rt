@@ -16,7 +16,7 @@ ghost use Rattle.command_line.specs.Told.{IsOfFailed};
 use crate::explaining::Note;
 use crate::refusal::Refusal;
 use image::{Image, load_image};
-use module::{PartitionCosts, RunFault};
+use module::{PartitionCosts, RunFault, upgrade};
 use std::alloc::{AllocError, Global};
 use streams::Files;
 
