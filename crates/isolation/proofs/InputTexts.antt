@@ -105,7 +105,7 @@ module _ (row : Partition) (names : HasNames row) where
 
   line_again : (l : InputLine) → l.tick.0 ≤ MOST_TICKS → IsInput row l.input → line_of (input_body row l) ≡ Some (record { tick = l.tick.0; written = said row l.input })
   line_again l low h =
-      ap line_of_pieces (pieces_join space (decimal l.tick.0) (input_parts row l.input) (ink_is_free space (decimal l.tick.0) (omega arith) (decimal_ink l.tick.0 (omega (arith, low)))) (all_free 32 (input_parts row l.input) (omega arith) (parts_ink l.input h)))
+      ap line_of_pieces (pieces_join space (decimal l.tick.0) (input_parts row l.input) (ink_is_free space (decimal l.tick.0) (omega arith) (decimal_ink l.tick.0 (omega (arith, low)))) (all_free space (input_parts row l.input) (omega arith) (parts_ink l.input h)))
       ∙ ap (λ (o : Option ℕ). line_with o (written_of (input_parts row l.input))) (plain_again MOST_TICKS l.tick.0 (lit< tt) low)
       ∙ ap (λ (o : Option Written). line_with (Some l.tick.0) o) (written_again l.input h)
 

@@ -1,5 +1,5 @@
 -- A program that is written is read as it.
-use Rattle.std.proofs.Common.{◌≡◌, ℕ, Bool, true, false, List, [], ◌∷◌, length, Option, Some, None, Ok, Err, refl, sym, ap, ◌∙◌}
+use Rattle.std.proofs.Common.{◌-◌, ◌≡◌, ℕ, Bool, true, false, List, [], ◌∷◌, length, Option, Some, None, Ok, Err, refl, sym, ap, ◌∙◌}
 use Rattle.std.specs.Prelude.{codes}
 use Rattle.apex_types.specs.declared.limits.TheConstants.{MOST_LEVELS}
 use Rattle.apex_types.specs.declared.codes.Discipline.{Discipline}

@@ -6,7 +6,7 @@ use Rattle.std.specs.Int.{w64}
 use Rattle.std.specs.List.{list_all}
 use Rattle.std.proofs.lemmas.Bool.{and_parts, leb-true}
 use Rattle.std.proofs.lemmas.Fmt.{length-decimal-le, length_signed_le}
-use Rattle.apex_types.specs.declared.limits.TheConstants.{MOST_LINE_BYTES, MOST_NAME_BYTES}
+use Rattle.apex_types.specs.declared.limits.TheConstants.{MOST_KIND_BYTES, MOST_LINE_BYTES, MOST_NAME_BYTES}
 use Rattle.apex_types.specs.CodeWords.{return_code_number, mode_word, state_word, error_word, level_word, level_of_response, action_word}
 use Rattle.apex_types.specs.Line.{thirteen_digits, partition_text, subject_text, culprit_text, words_text, kind_text, line_of, space}
 use Rattle.apex_types.specs.NameText.{is_name, is_lower_case, is_name_byte}
@@ -132,7 +132,7 @@ kind_short (event.Error error who response) good =
     omega (
       arith,
       spaced (codes "HM " ++ error_word error ++ codes " " ++ culprit_text who ++ codes " " ++ level_word (level_of_response response)) (action_word response) 95 30
-          (spaced (codes "HM " ++ error_word error ++ codes " " ++ culprit_text who) (level_word (level_of_response response)) 64 30
+          (spaced (codes "HM " ++ error_word error ++ codes " " ++ culprit_text who) (level_word (level_of_response response)) MOST_KIND_BYTES 30
           (spaced (codes "HM " ++ error_word error) (culprit_text who) 33 30 (sum (codes "HM ") (error_word error) 3 30 (lit≤ tt) (error_short error)) (culprit_short who good))
           (level_short response))
           (action_short response),

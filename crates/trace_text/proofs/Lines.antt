@@ -96,7 +96,7 @@ body_free e can =
 -- the line of an event that can be written is read as it
 pub body_again : (e : Event) → CanBeWritten e → event_in (body_of e) ≡ Some e
 body_again e can =
-    ap event_of (pieces_join space (thirteen_digits e.tick.0) (behind_tick e) (ink_is_free space (thirteen_digits e.tick.0) (omega arith) (tick_ink e can)) (all_free 32 (behind_tick e) (omega arith) (behind_ink e can)))
+    ap event_of (pieces_join space (thirteen_digits e.tick.0) (behind_tick e) (ink_is_free space (thirteen_digits e.tick.0) (omega arith) (tick_ink e can)) (all_free space (behind_tick e) (omega arith) (behind_ink e can)))
     ∙ ap (λ (o : Option Ticks). event_with o (partition_of (partition_text e.partition)) (kind_of (parts_of e.kind))) (tick_spells.again e.tick can.tick)
     ∙ ap (λ (o : Option (Option (List ℕ))). event_with (Some e.tick) o (kind_of (parts_of e.kind))) (partition_spells.again e.partition can.partition)
     ∙ ap (λ (o : Option EventKind). event_with (Some e.tick) (Some e.partition) o) (kind_again e.kind can.parts)

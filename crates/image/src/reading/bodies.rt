@@ -13,8 +13,8 @@ use crate::reading::numbers::{
 };
 use crate::reading::rows::{Row, list_at, rows_at};
 use apex_types::limits::{
-    GREATEST_PRIORITY, LEAST_STACK_WORDS, Limits, MOST_INSTRUCTIONS, MOST_PARAMETERS,
-    MOST_PROCEDURES, MOST_SLOTS, MOST_STACK_WORDS, MOST_TICKS,
+    GREATEST_PRIORITY, INSTRUCTION_BYTES, LEAST_STACK_WORDS, Limits, MOST_INSTRUCTIONS,
+    MOST_PARAMETERS, MOST_PROCEDURES, MOST_SLOTS, MOST_STACK_WORDS, MOST_TICKS,
 };
 use apex_types::{BodyRow, Name, Priority, ProcessRow, RoutineRow};
 use std::alloc::Global;
@@ -275,7 +275,7 @@ impl Row for [u8; 16] {
         _before: &[[u8; 16]],
         bytes: &'a [u8],
     ) -> Result<([u8; 16], &'a [u8]), ImageFault> {
-        match bytes.split_first_chunk::<16>() {
+        match bytes.split_first_chunk::<INSTRUCTION_BYTES>() {
             Some((instruction, rest)) => Ok((*instruction, rest)),
             None => Err(ImageFault::Truncated),
         }
