@@ -52,10 +52,10 @@ pub static SMALLEST_IMAGE: [u8; 164] = [
     0, 0, 0, 128, 0, 0, 0, 1, 0, 0, 0, 0,
 ];
 
-/// The image that is built of the smallest source: one of the second version, whose head has the
+/// The image that is built of the smallest source: one of the third version, whose head has the
 /// fifteen costs.
 pub static BUILT_IMAGE: [u8; 194] = [
-    65, 80, 54, 53, 51, 73, 77, 71, 2, 0, 128, 0, 0, 0, 0, 1, 0, 1, 0, 2, 0, 1, 0, 2, 0, 4, 0, 1,
+    65, 80, 54, 53, 51, 73, 77, 71, 3, 0, 128, 0, 0, 0, 0, 1, 0, 1, 0, 2, 0, 1, 0, 2, 0, 4, 0, 1,
     0, 1, 0, 1, 0, 3, 0, 2, 0, 8, 0, 6, 0, 4, 0, 4, 0, 1, 0, 0, 0, 1, 97, 128, 0, 0, 0, 128, 0, 0,
     0, 0, 0, 0, 0, 0, 0, 0, 0, 0, 0, 0, 0, 0, 0, 0, 0, 0, 0, 0, 0, 0, 0, 0, 0, 0, 0, 0, 0, 0, 0, 0,
     0, 0, 0, 0, 0, 16, 0, 0, 0, 0, 0, 1, 0, 4, 0, 0, 0, 0, 4, 0, 0, 0, 1, 0, 0, 0, 0, 0, 0, 0, 3,
