@@ -1,7 +1,9 @@
 -- How an output is kept: the words of all its lines and actions stand one after another in one list.
 use Rattle.std.specs.Prelude.{ℕ, ℤ, ◌+◌, ◌*◌, ◌≤◌, List, length, map, take, drop, All, vec_capacity}
 use Rattle.apex_types.specs.declared.limits.TheConstants.{MOST_ACTIONS, MOST_EVENTS, MOST_OUT_WORDS, MOST_WORDS}
+use Rattle.apex_types.specs.Actions.{Action}
 use Rattle.apex_types.specs.Output.{Output, action_of, event_of}
+use Rattle.apex_types.specs.declared.event.EventKind.{EventKind}
 use Rattle.apex_types.specs.declared.event.LineKind.{LineKind}
 use Rattle.apex_types.specs.declared.out.Out.TheInside as out
 use Rattle.apex_types.specs.declared.out.Part.{Part}

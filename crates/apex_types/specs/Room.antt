@@ -8,7 +8,7 @@ abbrev pub HasRoom : ℕ → ℕ → Output → Type 0
 HasRoom lines actions out = (length out.lines + lines ≤ MOST_EVENTS) × (length out.actions + actions ≤ MOST_ACTIONS)
 
 -- no line and no action yet
-abbrev pub IsEmpty : Out → Type 0
+abbrev pub IsEmpty : Output → Type 0
 IsEmpty out = (out.lines ≡ []) × (out.actions ≡ [])
 
 -- at most `lines` lines and at most `actions` actions were added

@@ -8,6 +8,7 @@ ghost use Rattle.arrayvec.specs.ArrayVec.{array_vec_len};
 ghost use Rattle.apex_types.specs.Line.{culprit_text, kind_text, line_of, partition_text, subject_text, text_of, thirteen_digits, words_text};
 ghost use Rattle.apex_types.specs.Line.{TakesBeginning};
 ghost use Rattle.apex_types.specs.Output.{event_of};
+ghost use Rattle.apex_types.specs.declared.event.EventKind.TheVariants as event;
 ghost use Rattle.apex_types.specs.declared.limits.TheConstants.{MOST_KIND_BYTES, MOST_LINE_BYTES, MOST_NAME_BYTES, MOST_WORDS, MOST_WORD_BYTES};
 
 use crate::codes::{ErrorKind, Response, ReturnCode};
@@ -323,7 +324,7 @@ fn push_return<const N: usize>(
 )
     requires { array_vec_len line.old + 70 + MOST_NAME_BYTES ≤ N }
     ensures items { line.new.items
-        ≡ line.old.items ++ kind_text (EventKind.Return who.now service code) }
+        ≡ line.old.items ++ kind_text (event.Return who.now service code) }
     ensures len { array_vec_len line.new ≤ array_vec_len line.old + 70 + MOST_NAME_BYTES }
 {
     let mut buffer = itoa::Buffer::new();
@@ -343,7 +344,7 @@ fn push_error<const N: usize>(
 )
     requires { array_vec_len line.old + 70 + MOST_NAME_BYTES ≤ N }
     ensures items { line.new.items
-        ≡ line.old.items ++ kind_text (EventKind.Error error who.now response) }
+        ≡ line.old.items ++ kind_text (event.Error error who.now response) }
     ensures len { array_vec_len line.new ≤ array_vec_len line.old + 70 + MOST_NAME_BYTES }
 {
     push_text(line, "HM ");
