@@ -13,10 +13,10 @@ abbrev pub part_of : List ℤ → Part → List ℤ
 part_of words p = take p.count (drop p.from words)
 
 abbrev pub lines_of : List ℤ → List (LineKind × Part) → List EventKind
-lines_of words ls = map (λ l. event_of l.0 (part_of words l.1)) ls
+lines_of words lines = map (λ l. event_of l.0 (part_of words l.1)) lines
 
 abbrev pub actions_of : List ℤ → List (ActionKind × Part) → List Action
-actions_of words as = map (λ a. action_of a.0 (part_of words a.1)) as
+actions_of words actions = map (λ a. action_of a.0 (part_of words a.1)) actions
 
 abbrev pub output_of : out.Inside → Output
 output_of o = record { lines = lines_of o.words.items o.lines.items; actions = actions_of o.words.items o.actions.items }

@@ -2,6 +2,7 @@
 
 ghost use Rattle.std.specs.Prelude.{◌≡◌, ◌<◌, ◌≤◌, ◌+◌, ◌++◌, [], ◌∷◌, pos, length};
 ghost use Rattle.apex_types.specs.Actions as action;
+ghost use Rattle.apex_types.specs.declared.event.EventKind.TheVariants as event;
 ghost use Rattle.apex_types.specs.Room.{HasRoom, Grows};
 ghost use Rattle.apex_types.specs.Runners.{place_of};
 ghost use Rattle.kernel_meaning.specs.Processes as meaning;
@@ -28,7 +29,7 @@ pub fn answer(
     requires outputs { length outputs.now ≤ 6 }
     requires room { HasRoom 1 1 out.old }
     ensures lines { out.new.lines
-        ≡ out.old.lines ++ EventKind.Return who service code ∷ [] }
+        ≡ out.old.lines ++ event.Return who service code ∷ [] }
     ensures actions { out.new.actions
         ≡ out.old.actions
         ++ action.Reply runner (message (pos (code_number code) ∷ outputs.now))
@@ -42,7 +43,7 @@ pub fn answer(
 pub fn refuse(runner: Runner, who: Subject, service: Service, code: ReturnCode, out: &mut Out)
     requires room { HasRoom 1 1 out.old }
     ensures lines { out.new.lines
-        ≡ out.old.lines ++ EventKind.Return who service code ∷ [] }
+        ≡ out.old.lines ++ event.Return who service code ∷ [] }
     ensures actions { out.new.actions
         ≡ out.old.actions
         ++ action.Reply runner (message (pos (code_number code) ∷ step.zeros service))
