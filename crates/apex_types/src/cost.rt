@@ -146,7 +146,23 @@ impl Costs {
         ensures { result ≡ from_order costs.now }
     {
         match costs {
-            [literal, scalar, array, add, mul, div, logic, branch, jump, call, ret, create, message, service, end] => Costs {
+            [
+                literal,
+                scalar,
+                array,
+                add,
+                mul,
+                div,
+                logic,
+                branch,
+                jump,
+                call,
+                ret,
+                create,
+                message,
+                service,
+                end,
+            ] => Costs {
                 literal: *literal,
                 scalar: *scalar,
                 array: *array,

@@ -124,7 +124,7 @@ impl Out {
         ensures { self.new
             ≡ record self.old {
               actions = self.old.actions
-              ++ action_of (ActionKind.Reply runner) (code ∷ outputs.now) ∷ [];
+                  ++ action_of (ActionKind.Reply runner) (code ∷ outputs.now) ∷ [];
             } }
     {
         let code = add(&mut self.words, &[code]);

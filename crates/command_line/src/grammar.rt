@@ -141,7 +141,11 @@ fn upgrade<'a>(alloc: Global) -> Result<Command<'a>, AllocError>
         .about("Writes an image again as one of the newest version, which runs as before")
         .after_help("Example: mb upgrade old.image new.image")
         .arg(required_word(alloc, "OLD", "The file of an image of any version"))?
-        .arg(required_word(alloc, "NEW", "The file that the upgraded image is written to"))
+        .arg(required_word(
+            alloc,
+            "NEW",
+            "The file that the upgraded image is written to",
+        ))
 }
 
 /// A command on one partition of an image.

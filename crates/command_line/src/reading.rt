@@ -161,11 +161,7 @@ fn load(alloc: Global, bytes: &[u8]) -> Result<Image, RunFault>
 }
 
 /// The image in the file of that name, upgraded.
-pub fn upgrade_named<F: Files>(
-    alloc: Global,
-    name: &str,
-    files: &mut F,
-) -> Result<Vec<u8>, Refusal>
+pub fn upgrade_named<F: Files>(alloc: Global, name: &str, files: &mut F) -> Result<Vec<u8>, Refusal>
     ensures upgraded { IfOk result
         (λ bytes. IsUpgradedIn (F.contents files.old) name.now bytes.items) }
     ensures refused { IfErr result (λ r. IsNotLoaded (F.contents files.old) name.now r) }

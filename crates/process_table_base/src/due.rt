@@ -87,14 +87,20 @@ impl ProcessTable {
         self.put_row(Runner::Process(process), &row_now);
         let error = ErrorKind::DeadlineMissed;
         if free > 0 {
-            out.tell(LineKind::Error(error, Some(row.who), Response::Handler), &[]);
+            out.tell(
+                LineKind::Error(error, Some(row.who), Response::Handler),
+                &[],
+            );
             out.act(ActionKind::Queue(error, process), &[]);
             Treated {
                 free: free - 1,
                 clears: None,
             }
         } else {
-            out.tell(LineKind::Error(error, Some(row.who), Response::Partition(action)), &[]);
+            out.tell(
+                LineKind::Error(error, Some(row.who), Response::Partition(action)),
+                &[],
+            );
             Treated {
                 free: 0,
                 clears: mode_of_action(action),

@@ -7,8 +7,8 @@ ghost use Rattle.image.specs.Views.{Gives};
 use crate::fault::ImageFault;
 use crate::reading::numbers::u16_at;
 use crate::reading::rows::{Row, rows_at};
-use apex_types::{COST_KEYS, Costs, FIRST_VERSION, ImageVersion, SECOND_VERSION, TickCost};
 use apex_types::limits::Limits;
+use apex_types::{COST_KEYS, Costs, FIRST_VERSION, ImageVersion, SECOND_VERSION, TickCost};
 use std::alloc::Global;
 
 impl Row for TickCost {
@@ -31,7 +31,12 @@ impl Row for TickCost {
 fn costs_at(alloc: Global, bytes: &[u8]) -> Result<(Costs, &[u8]), ImageFault>
     ensures { Gives (λ x. (x.0, x.1.now)) result (costs_at bytes.now) }
 {
-    let (costs, rest) = rows_at::<TickCost>(alloc, ImageVersion::First.limits(), COST_KEYS as u32, bytes)?;
+    let (costs, rest) = rows_at::<TickCost>(
+        alloc,
+        ImageVersion::First.limits(),
+        COST_KEYS as u32,
+        bytes,
+    )?;
     Ok((Costs::from_order(&costs), rest))
 }
 

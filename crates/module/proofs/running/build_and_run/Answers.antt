@@ -10,7 +10,7 @@ returns-in-Ok-run-clause-isolated g c =
     let sources = map (λ s. s.now) c.args.sources.now in
     let built : IsImageOf c.args.table.now sources c.as_slice.result.now = subst (IsImageOf c.args.table.now sources) (sym c.as_slice.ensures.value) c.in-Ok.ensures.image in
     let means : Means c.args.table.now sources c.args.devices.now c.args.ticks (g.S.Sink.taken c.args.sink.now) (g.S.Sink.taken c.run.new.sink) (Ok tt) =
-        run_means c.args.table.now sources c.as_slice.result.now c.args.devices.now c.args.ticks _ _ (Ok tt) built c.in-Ok-run.ensures.trace in
+    run_means c.args.table.now sources c.as_slice.result.now c.args.devices.now c.args.ticks _ _ (Ok tt) built c.in-Ok-run.ensures.trace in
     sources_isolated c.args.table.now sources c.args.devices.now c.args.ticks _ _ (Ok tt) means
 
 pub returns-in-Ok-run-clause-trace : goal.returns-in-Ok-run-clause-trace
