@@ -1,22 +1,23 @@
 -- How an output is kept: the words of all its lines and actions stand one after another in one list.
-use Rattle.std.specs.Prelude.{ℕ, ℤ, ◌+◌, ◌*◌, ◌≤◌, List, length, map, take, drop, All, vec_capacity}
+use Rattle.std.specs.Prelude.{ℕ, ℤ, ◌+◌, ◌*◌, ◌≤◌, List, length, map, take, drop, vec_capacity}
+use Rattle.std.specs.List.{AllByRecursion}
 use Rattle.apex_types.specs.declared.limits.TheConstants.{MOST_ACTIONS, MOST_EVENTS, MOST_OUT_WORDS, MOST_WORDS}
 use Rattle.apex_types.specs.Actions.{Action}
 use Rattle.apex_types.specs.Output.{Output, action_of, event_of}
 use Rattle.apex_types.specs.declared.event.EventKind.{EventKind}
-use Rattle.apex_types.specs.declared.event.LineKind.{LineKind}
 use Rattle.apex_types.specs.declared.out.Out.TheInside as out
+use Rattle.apex_types.specs.declared.out.Act.{Act}
+use Rattle.apex_types.specs.declared.out.Line.{Line}
 use Rattle.apex_types.specs.declared.out.Part.{Part}
-use Rattle.apex_types.specs.declared.process.ActionKind.{ActionKind}
 
 abbrev pub part_of : List ℤ → Part → List ℤ
 part_of words p = take p.count (drop p.from words)
 
-abbrev pub lines_of : List ℤ → List (LineKind × Part) → List EventKind
-lines_of words lines = map (λ l. event_of l.0 (part_of words l.1)) lines
+abbrev pub lines_of : List ℤ → List Line → List EventKind
+lines_of words lines = map (λ (l : Line). event_of l.kind (part_of words l.part)) lines
 
-abbrev pub actions_of : List ℤ → List (ActionKind × Part) → List Action
-actions_of words actions = map (λ a. action_of a.0 (part_of words a.1)) actions
+abbrev pub actions_of : List ℤ → List Act → List Action
+actions_of words acts = map (λ (a : Act). action_of a.kind (part_of words a.part)) acts
 
 abbrev pub output_of : out.Inside → Output
 output_of o = record { lines = lines_of o.words.items o.lines.items; actions = actions_of o.words.items o.actions.items }
@@ -28,8 +29,8 @@ pub record IsPart (count : ℕ) (p : Part) : Type 0 where
 
 -- each line and each action has its part of the words, and there is memory for all that may come
 pub record HasWords (o : out.Inside) : Type 0 where
-  pub lines : All (λ l. IsPart (length o.words.items) l.1) o.lines.items
-  pub actions : All (λ a. IsPart (length o.words.items) a.1) o.actions.items
+  pub lines : AllByRecursion (λ (l : Line). IsPart (length o.words.items) l.part) o.lines.items
+  pub actions : AllByRecursion (λ (a : Act). IsPart (length o.words.items) a.part) o.actions.items
   pub few : length o.words.items ≤ MOST_WORDS * (length o.lines.items + length o.actions.items)
   pub line_room : MOST_EVENTS ≤ vec_capacity o.lines
   pub action_room : MOST_ACTIONS ≤ vec_capacity o.actions

@@ -20,12 +20,26 @@ struct Part {
     count: u32,
 }
 
+/// A line, with the place of the words of its message.
+#[derive(Clone, Copy)]
+struct Line {
+    kind: LineKind,
+    part: Part,
+}
+
+/// An action, with the place of its words.
+#[derive(Clone, Copy)]
+struct Act {
+    kind: ActionKind,
+    part: Part,
+}
+
 /// The lines of a step, and its actions. A contract sees the events and the actions with their
 /// words; they stand one after another in one list, so that a line and an action are small.
 #[derive(Drop)]
 pub struct Out {
-    lines: Vec<(LineKind, Part)>,
-    actions: Vec<(ActionKind, Part)>,
+    lines: Vec<Line>,
+    actions: Vec<Act>,
     words: Vec<i64>,
 }
 
@@ -103,7 +117,7 @@ impl Out {
             ≡ record self.old { lines = self.old.lines ++ event_of kind words.now ∷ [] } }
     {
         let part = add(&mut self.words, words);
-        let _ = self.lines.push((kind, part));
+        let _ = self.lines.push(Line { kind, part });
     }
 
     /// Adds an action, with its words.
@@ -114,7 +128,7 @@ impl Out {
             ≡ record self.old { actions = self.old.actions ++ action_of kind words.now ∷ [] } }
     {
         let part = add(&mut self.words, words);
-        let _ = self.actions.push((kind, part));
+        let _ = self.actions.push(Act { kind, part });
     }
 
     /// Adds the answer to a service call: the code, then the outputs.
@@ -133,7 +147,10 @@ impl Out {
             from: code.from,
             count: 1 + outputs.count,
         };
-        let _ = self.actions.push((ActionKind::Reply(runner), part));
+        let _ = self.actions.push(Act {
+            kind: ActionKind::Reply(runner),
+            part,
+        });
     }
 
     /// The line at `place`, from 0, and the words of its message.
@@ -142,8 +159,8 @@ impl Out {
             ≡ slice_get self.now.lines place }
         ensures few { IfSome result (λ l. length l.1.now ≤ MOST_WORDS) }
     {
-        let (kind, part) = self.lines.get(place)?;
-        Some((kind, words_at(&self.words, *part)))
+        let line = self.lines.get(place)?;
+        Some((&line.kind, words_at(&self.words, line.part)))
     }
 
     /// The action at `place`, from 0, and its words.
@@ -152,7 +169,7 @@ impl Out {
             ≡ slice_get self.now.actions place }
         ensures few { IfSome result (λ a. length a.1.now ≤ MOST_WORDS) }
     {
-        let (kind, part) = self.actions.get(place)?;
-        Some((*kind, words_at(&self.words, *part)))
+        let act = self.actions.get(place)?;
+        Some((act.kind, words_at(&self.words, act.part)))
     }
 }
