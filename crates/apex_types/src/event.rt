@@ -73,6 +73,14 @@ pub fn copied(message: &Words) -> Words
     copy
 }
 
+/// Replaces the words of a message. Just so many words are written as the message gets.
+pub fn refill(message: &mut Words, words: &Words)
+    ensures { message.new ≡ words.now }
+{
+    message.clear();
+    message.try_extend_from_slice(words.as_slice()).unwrap();
+}
+
 /// A message of these words.
 pub fn message_of(words: &[i64]) -> Words
     requires { length words.now ≤ MOST_WORDS }

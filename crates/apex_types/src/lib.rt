@@ -32,7 +32,7 @@ pub use codes::{
 pub use cost::{COST_KEYS, Costs, TickCost, UNKNOWN_COST};
 pub use denotation::{Denotation, ObjectKind};
 pub use device::{DeviceFault, DeviceInput, DeviceLine};
-pub use event::{Event, EventKind, Events, LineKind, Subject, Words, copied, message_of};
+pub use event::{Event, EventKind, Events, LineKind, Subject, Words, copied, message_of, refill};
 pub use identity::{
     At, ChannelIndex, ListKey, Moment, PartitionId, PortId, Priority, ProcessIndex, Runner, Ticks,
 };

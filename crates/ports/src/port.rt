@@ -10,6 +10,7 @@ use apex_types::{Discipline, Moment, PortDirection, PortKind, PortRow, Ticks, Wo
 use circular_buffer::HeapCircularBuffer;
 use std::alloc::{AllocError, Global};
 use std::marker::Model;
+use sync_objects_base::append;
 
 /// A port, with memory for its messages. A contract sees it as the port of the definitions.
 #[derive(Drop)]
@@ -196,7 +197,7 @@ impl Port {
         ensures { self.new ≡ meaning.with_sample self.old message }
     {
         self.messages.clear();
-        let _ = self.messages.try_push_back(message);
+        append(&mut self.messages, &message);
     }
 
     /// Sets the tick in which its message arrived.
@@ -232,7 +233,7 @@ impl Port {
         requires { length self.old.messages < meaning.depth_of self.old.row.kind }
         ensures { self.new ≡ meaning.with_message self.old message }
     {
-        let _ = self.messages.try_push_back(message);
+        append(&mut self.messages, &message);
     }
 
     /// Takes the first message.

@@ -23,7 +23,7 @@ use crate::request::Request;
 use crate::table::ProcessTable;
 use apex_types::{
     ActionKind, ArrayPlace, Entry, ListKey, MOST_RUNNERS, Out, ProcessIndex, ProcessStatus,
-    ReturnCode, Runner, Wait, Waiting, Words, copied,
+    ReturnCode, Runner, Wait, Waiting, Words, copied, refill,
 };
 use links::Entries;
 
@@ -32,7 +32,7 @@ fn put_message(handed: &mut Vec<Words>, process: ProcessIndex, message: Words)
     ensures { handed.new.items ≡ slice_set handed.old.items process.0 message }
 {
     if let Some(place) = handed.get_mut(usize::from(process.0)) {
-        *place = message;
+        refill(place, &message);
     }
 }
 

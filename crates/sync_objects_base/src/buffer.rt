@@ -4,6 +4,7 @@ ghost use Rattle.std.specs.Prelude.{◌≡◌, ◌<◌, ◌≤◌, ◌++◌, [],
 ghost use Rattle.kernel_meaning.specs.Objects as meaning;
 ghost use Rattle.sync_objects_base.specs.Status.{buffer_status};
 
+use crate::messages::append;
 use apex_types::{BufferRow, Words};
 use circular_buffer::HeapCircularBuffer;
 use std::alloc::{AllocError, Global};
@@ -71,7 +72,7 @@ impl Buffer {
         requires { length self.old.messages < self.old.row.depth }
         ensures { self.new ≡ record self.old { messages = self.old.messages ++ message ∷ [] } }
     {
-        let _ = self.messages.try_push_back(message);
+        append(&mut self.messages, &message);
     }
 
     /// Takes the first message.
