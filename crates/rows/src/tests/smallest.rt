@@ -1,7 +1,7 @@
 //! The smallest source: its image, byte for byte.
 
-use super::shelf::{Shelf, expect_command};
-use super::texts::{BUILT_IMAGE, SMALLEST_IMAGE, SMALLEST_SOURCES, TABLE};
+use super::shelf::{Shelf, expect_command, smallest_shelf};
+use super::texts::{BUILT_IMAGE, SMALLEST_IMAGE, SMALLEST_SOURCES, SMALLEST_TRACE, TABLE};
 
 #[test]
 fn its_image(rt: HostRuntime) {
@@ -15,6 +15,21 @@ fn its_image(rt: HostRuntime) {
     expect_command(&rt, rt.alloc(), &mut shelf, &words, built);
     let image = shelf.image.expect(&rt, "no image");
     assert_eq!(rt; image.as_slice(), BUILT_IMAGE.as_slice());
+}
+
+/// Its image of the first version is upgraded to that which is built now, and that one to itself.
+#[test]
+fn its_upgrade(rt: HostRuntime) {
+    let mut shelf = smallest_shelf(&rt, rt.alloc());
+    let words = ["mb", "upgrade", "image", "image"];
+    let upgraded = (0, "upgraded 194 bytes\n", "");
+    for _ in 0..2 {
+        expect_command(&rt, rt.alloc(), &mut shelf, &words, upgraded);
+        let image = shelf.image.as_deref().expect(&rt, "no image");
+        assert_eq!(rt; image, BUILT_IMAGE.as_slice());
+    }
+    let words = ["mb", "run", "image", "devices", "128"];
+    expect_command(&rt, rt.alloc(), &mut shelf, &words, (0, SMALLEST_TRACE, ""));
 }
 
 #[test]
