@@ -44,7 +44,7 @@ fn step_member<E: Executor>(
     ensures member { let x = member_of E.Executor partition.old mem.old in
         member_of E.Executor partition.new mem.new
         ≡ with_world x (step_of moment.at step.now x).world }
-    ensures lines { trace.new.text.items
+    ensures lines { trace.new.text
         ≡ text_of (step_of moment.at step.now (member_of E.Executor partition.old mem.old)).lines }
 {
     trace.clear();
