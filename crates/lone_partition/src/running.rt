@@ -68,9 +68,18 @@ impl LonePartition {
             surroundings,
             mut partition,
             mut memory,
+            mut trace,
         } = self;
         let mem = memory.lend(ONLY_PART);
-        run_alone(&surroundings, &mut partition, mem, inputs, ticks, sink)
+        run_alone(
+            &surroundings,
+            &mut partition,
+            mem,
+            inputs,
+            ticks,
+            &mut trace,
+            sink,
+        )
     }
 }
 

@@ -28,5 +28,5 @@ returns c =
     let here : slice_get items (number - 1) ≡ Some item = search (rules, slice_get-get_or) in
     let surroundings = c.in_ok-surroundings.ensures ∙ ap (λ (rows : List PortRow). surroundings_of (machine_module image).plan number rows) c.deref.ensures.value in
     let member = ap (λ (m : List Space). member_of machine partition (only_part m)) c.in_ok-memory.ensures ∙ c.in_ok-partition.ensures.member
-        ∙ ap (λ (costs : Costs). machine_member costs (view c.in_ok-fixed.fixed) (item_of item).partition.ports (item_of item).section) c.costs.ensures in
+    ∙ ap (λ (costs : Costs). machine_member costs (view c.in_ok-fixed.fixed) (item_of item).partition.ports (item_of item).section) c.costs.ensures in
     alone_is image number (item_of item) (around c.in_ok-surroundings.surroundings) (member_of machine partition (only_part memory)) (view c.in_ok-fixed.fixed) (item_here items (number - 1) number item next here) surroundings member c.in_ok-fixed.ensures
