@@ -41,6 +41,18 @@ class Window:
     release: int
 
 
+@dataclass(frozen=True)
+class Limits:
+    """What versions of an image differ in."""
+
+    partitions: int
+    processes: int
+    words: int
+
+
+LIMITS = {1: Limits(16, 31, 16), 2: Limits(16, 31, 16), 3: Limits(32, 63, 64)}
+
+
 class Reading:
     """Reads the fields of an image from left to right, and judges each when it is read."""
 
@@ -79,7 +91,7 @@ class Reading:
     def port(self, used):
         self.name(used)
         kind, is_destination = self.number(1, 0, 1), self.number(1, 0, 1)
-        words = self.number(1, 1, 16)
+        words = self.number(1, 1, self.limits.words)
         self.number(8, 0, 0 if kind else MOST_TICKS)  # refresh
         self.number(1, kind, 32 if kind else 0)  # depth
         self.number(1, 0, kind)  # discipline
@@ -91,7 +103,7 @@ class Reading:
         self.number(1, 0, 1)
 
     def buffer(self):
-        self.number(1, 1, 16)
+        self.number(1, 1, self.limits.words)
         self.number(1, 1, 32)
         self.number(1, 0, 1)
 
@@ -126,10 +138,10 @@ class Reading:
         for _ in range(self.number(4, 0, 16)):
             self.buffer()
         for _ in range(self.number(4, 0, 16)):
-            self.number(1, 1, 16)  # blackboards
+            self.number(1, 1, self.limits.words)  # blackboards
         entries = [self.routine() for _ in range(self.number(4, 0, 256))]
         used = set()
-        entries += [self.process(used, partition_period) for _ in range(self.number(4, 0, 31))]
+        entries += [self.process(used, partition_period) for _ in range(self.number(4, 0, self.limits.processes))]
         entries.append(self.body())
         if self.number(1, 0, 1):
             entries.append(self.body())
@@ -215,15 +227,16 @@ def read(image):
     if reading.taken(8) != b"AP653IMG":
         raise Fault(FOREIGN)
     version = int.from_bytes(reading.taken(2), "little")
-    if version not in (1, 2):
+    if version not in LIMITS:
         raise Fault(FOREIGN)
+    reading.limits = LIMITS[version]
     frame = reading.number(4, 1, 1 << 24)
     reading.number(1, 0, 2)  # module action
-    if version == 2:
+    if version > 1:
         for _ in range(15):
             reading.number(2, 1, 1000)  # costs
     used = set()
-    partitions = [reading.partition(used, frame) for _ in range(reading.number(4, 1, 16))]
+    partitions = [reading.partition(used, frame) for _ in range(reading.number(4, 1, reading.limits.partitions))]
     windows = reading.windows()
     used = set()
     channels = [reading.channel(used) for _ in range(reading.number(4, 0, 64))]
