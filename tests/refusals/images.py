@@ -14,6 +14,9 @@ from hostile import codes_of  # noqa: E402
 TRUNCATED, FOREIGN, LIMIT, ORDER, TRAILING = 1, 2, 3, 4, 5
 MOST_TICKS = 1 << 40
 COSTS = 15
+# The bytes of the costs, and the costs of a table that writes none.
+COST_BYTES = slice(15, 15 + 2 * COSTS)
+WRITTEN = (1, 1, 2, 1, 2, 4, 1, 1, 1, 3, 2, 8, 6, 4, 4)
 
 
 class Fault(Exception):
@@ -254,6 +257,18 @@ def verdict(image):
     except Fault as fault:
         return f"image {fault}"
     return "runs"
+
+
+def as_first(image):
+    """The image as one of version 1, where that version has its costs and its limits; else as it is."""
+    first = image[:8] + (1).to_bytes(2, "little") + image[10:15] + image[COST_BYTES.stop :]
+    written = b"".join(it.to_bytes(2, "little") for it in WRITTEN)
+    return first if image[COST_BYTES] == written and verdict(first) == "runs" else image
+
+
+def lay_old(folder):
+    """Lays the image in a folder once more, as an older one that may be upgraded to it."""
+    (folder / "old").write_bytes(as_first((folder / "image").read_bytes()))
 
 
 @dataclass(frozen=True)
