@@ -1,10 +1,10 @@
 -- The lines and the actions of an output, as it gets more.
-use Rattle.std.proofs.Common.{◌≡◌, ℕ, ◌+◌, ◌≤◌, ℤ, List, [], ◌∷◌, ◌++◌, length, map, take, drop, refl, ap, ◌∙◌, arith}
+use Rattle.std.proofs.Common.{◌≡◌, ℕ, suc, ◌+◌, ◌≤◌, ℤ, List, [], ◌∷◌, ◌++◌, length, map, take, drop, refl, ap, ◌∙◌, arith}
 use Rattle.std.specs.List.{AllByRecursion}
 use Rattle.std.proofs.lemmas.List.{drop-append-le, length-append, length-drop, map-append, take-append-le}
 use Rattle.std.proofs.Math.Seq.{drop-append_seam, take-length}
 use Rattle.apex_types.specs.Actions.{Action}
-use Rattle.apex_types.specs.Output.{action_of, event_of}
+use Rattle.apex_types.specs.Output.{Output, action_of, event_of}
 use Rattle.apex_types.specs.OutView.{IsPart, actions_of, lines_of, part_of}
 use Rattle.apex_types.specs.declared.event.EventKind.{EventKind}
 use Rattle.apex_types.specs.declared.out.Act.{Act}
@@ -78,3 +78,36 @@ actions_wider n m (a ∷ acts) le all = (wider n m a.part le all.0, actions_wide
 pub one_more : {A : Type 0} (P : A → Type 0) (xs : List A) (x : A) → AllByRecursion P xs → P x → AllByRecursion P (xs ++ x ∷ [])
 one_more P [] x all is = (is, tt)
 one_more P (y ∷ ys) x all is = (all.0, one_more P ys x all.1 is)
+
+-- ---- an output with one line more, or one action more
+
+abbrev pub output : List EventKind → List Action → Output
+output ls xs = record { lines = ls; actions = xs }
+
+pub line_told : (words more words' : List ℤ) (lines lines' : List Line) (acts : List Act) (l : Line)
+    → AllByRecursion (λ (x : Line). IsPart (length words) x.part) lines → AllByRecursion (λ (x : Act). IsPart (length words) x.part) acts
+    → words' ≡ words ++ more → lines' ≡ lines ++ l ∷ [] → l.part.from ≡ length words → l.part.count ≡ length more
+    → output (lines_of words' lines') (actions_of words' acts) ≡ output (lines_of words lines ++ event_of l.kind more ∷ []) (actions_of words acts)
+line_told words more words' lines lines' acts l told asked is_words is_lines from count =
+    ap (λ (ws : List ℤ). output (lines_of ws lines') (actions_of ws acts)) is_words
+    ∙ ap (λ (xs : List Line). output (lines_of (words ++ more) xs) (actions_of (words ++ more) acts)) is_lines
+    ∙ ap (λ (es : List EventKind). output es (actions_of (words ++ more) acts)) (line_added words more lines l told from count)
+    ∙ ap (λ (xs : List Action). output (lines_of words lines ++ event_of l.kind more ∷ []) xs) (actions_kept words more acts asked)
+
+pub action_asked : (words more words' : List ℤ) (lines : List Line) (acts acts' : List Act) (a : Act)
+    → AllByRecursion (λ (x : Line). IsPart (length words) x.part) lines → AllByRecursion (λ (x : Act). IsPart (length words) x.part) acts
+    → words' ≡ words ++ more → acts' ≡ acts ++ a ∷ [] → a.part.from ≡ length words → a.part.count ≡ length more
+    → output (lines_of words' lines) (actions_of words' acts') ≡ output (lines_of words lines) (actions_of words acts ++ action_of a.kind more ∷ [])
+action_asked words more words' lines acts acts' a told asked is_words is_acts from count =
+    ap (λ (ws : List ℤ). output (lines_of ws lines) (actions_of ws acts')) is_words
+    ∙ ap (λ (xs : List Act). output (lines_of (words ++ more) lines) (actions_of (words ++ more) xs)) is_acts
+    ∙ ap (λ (es : List EventKind). output es (actions_of (words ++ more) (acts ++ a ∷ []))) (lines_kept words more lines told)
+    ∙ ap (λ (xs : List Action). output (lines_of words lines) xs) (action_added words more acts a asked from count)
+
+pub lines_count : (words : List ℤ) (lines : List Line) → length lines ≡ length (lines_of words lines)
+lines_count words [] = refl
+lines_count words (l ∷ lines) = ap (λ (n : ℕ). suc n) (lines_count words lines)
+
+pub actions_count : (words : List ℤ) (acts : List Act) → length acts ≡ length (actions_of words acts)
+actions_count words [] = refl
+actions_count words (a ∷ acts) = ap (λ (n : ℕ). suc n) (actions_count words acts)

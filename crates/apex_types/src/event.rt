@@ -131,7 +131,8 @@ impl EventKind {
 
     /// The words of its message; none if it has no message.
     pub fn words(&self) -> &[i64]
-        ensures { result.now ≡ words_of self.now }
+        ensures words { result.now ≡ words_of self.now }
+        ensures few { length result.now ≤ MOST_WORDS }
     {
         match self {
             EventKind::Report(_, words)

@@ -6,7 +6,7 @@ ghost use Rattle.apex_types.specs.Output.{action_of, event_of};
 ghost use Rattle.apex_types.specs.Room.{HasRoom, IsEmpty};
 ghost use Rattle.apex_types.specs.declared.limits.TheConstants.{MOST_OUT_WORDS, MOST_WORDS};
 
-use crate::event::LineKind;
+use crate::event::{LineKind, Subject};
 use crate::identity::Runner;
 use crate::limits::{MOST_ACTIONS, MOST_EVENTS, MOST_OUT_WORDS};
 use crate::process::ActionKind;

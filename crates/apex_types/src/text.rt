@@ -45,7 +45,10 @@ impl<const N: usize> Text for ArrayVec<u8, N> {
     ghost room = { λ line. N - array_vec_len line };
 
     fn append(&mut self, bytes: &[u8]) {
-        self.try_extend_from_slice(bytes).unwrap();
+        // Without bytes nothing is said of the room.
+        if !bytes.is_empty() {
+            self.try_extend_from_slice(bytes).unwrap();
+        }
     }
 }
 
