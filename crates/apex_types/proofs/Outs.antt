@@ -1,5 +1,5 @@
 -- The lines and the actions of an output, as it gets more.
-use Rattle.std.proofs.Common.{◌≡◌, ℕ, suc, ◌+◌, ◌≤◌, ℤ, List, [], ◌∷◌, ◌++◌, length, map, take, drop, refl, ap, ◌∙◌, arith}
+use Rattle.std.proofs.Common.{◌≡◌, ℕ, suc, ◌+◌, ◌≤◌, ℤ, List, [], ◌∷◌, ◌++◌, length, map, take, drop, refl, ap, sym, subst, ◌∙◌, arith}
 use Rattle.std.specs.List.{AllByRecursion}
 use Rattle.std.proofs.lemmas.List.{drop-append-le, length-append, length-drop, map-append, take-append-le}
 use Rattle.std.proofs.Math.Seq.{drop-append_seam, take-length}
@@ -7,6 +7,7 @@ use Rattle.apex_types.specs.Actions.{Action}
 use Rattle.apex_types.specs.Output.{Output, action_of, event_of}
 use Rattle.apex_types.specs.OutView.{IsPart, actions_of, lines_of, part_of}
 use Rattle.apex_types.specs.declared.event.EventKind.{EventKind}
+use Rattle.apex_types.specs.declared.limits.TheConstants.{MOST_WORDS}
 use Rattle.apex_types.specs.declared.out.Act.{Act}
 use Rattle.apex_types.specs.declared.out.Line.{Line}
 use Rattle.apex_types.specs.declared.out.Part.{Part}
@@ -111,3 +112,23 @@ lines_count words (l ∷ lines) = ap (λ (n : ℕ). suc n) (lines_count words li
 pub actions_count : (words : List ℤ) (acts : List Act) → length acts ≡ length (actions_of words acts)
 actions_count words [] = refl
 actions_count words (a ∷ acts) = ap (λ (n : ℕ). suc n) (actions_count words acts)
+
+-- ---- the parts of an output with one line more, or one action more
+
+pub new_is_part : (n m count : ℕ) (p : Part) → p ≡ record { from = n; count = count } → m ≡ n + count → count ≤ MOST_WORDS → IsPart m p
+new_is_part n m count p part longer few =
+    let from = ap (λ (q : Part). q.from) part in
+    let size = ap (λ (q : Part). q.count) part in
+    record { within = omega (arith, from, size, longer); few = omega (arith, size, few) }
+
+pub line_parts : (n m : ℕ) (lines lines' : List Line) (l : Line) → n ≤ m → lines' ≡ lines ++ l ∷ []
+    → AllByRecursion (λ (x : Line). IsPart n x.part) lines → IsPart m l.part → AllByRecursion (λ (x : Line). IsPart m x.part) lines'
+line_parts n m lines lines' l le is told new =
+    subst (λ (xs : List Line). AllByRecursion (λ (x : Line). IsPart m x.part) xs) (sym is)
+        (one_more (λ (x : Line). IsPart m x.part) lines l (lines_wider n m lines le told) new)
+
+pub act_parts : (n m : ℕ) (acts acts' : List Act) (a : Act) → n ≤ m → acts' ≡ acts ++ a ∷ []
+    → AllByRecursion (λ (x : Act). IsPart n x.part) acts → IsPart m a.part → AllByRecursion (λ (x : Act). IsPart m x.part) acts'
+act_parts n m acts acts' a le is asked new =
+    subst (λ (xs : List Act). AllByRecursion (λ (x : Act). IsPart m x.part) xs) (sym is)
+        (one_more (λ (x : Act). IsPart m x.part) acts a (actions_wider n m acts le asked) new)

@@ -6,7 +6,7 @@ ghost use Rattle.apex_types.specs.Output.{action_of, event_of};
 ghost use Rattle.apex_types.specs.Room.{HasRoom, IsEmpty};
 ghost use Rattle.apex_types.specs.declared.limits.TheConstants.{MOST_OUT_WORDS, MOST_WORDS};
 
-use crate::event::{LineKind, Subject};
+use crate::event::LineKind;
 use crate::identity::Runner;
 use crate::limits::{MOST_ACTIONS, MOST_EVENTS, MOST_OUT_WORDS};
 use crate::process::ActionKind;
@@ -117,7 +117,7 @@ impl Out {
             ≡ record self.old { lines = self.old.lines ++ event_of kind words.now ∷ [] } }
     {
         let part = add(&mut self.words, words);
-        let _ = self.lines.push(Line { kind, part });
+        let _ = self.lines.extend_from_slice(&[Line { kind, part }]);
     }
 
     /// Adds an action, with its words.
