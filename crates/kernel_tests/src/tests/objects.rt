@@ -1,5 +1,7 @@
 //! What creates an object and finds its number, and a process that yields.
 
+ghost use Rattle.std.specs.Prelude.{◌≡◌, None};
+
 use apex_types::{
     Action, At, BodyRow, Discipline, Mode, Moment, Name, Out, Priority, ProcessIndex, ProcessRow,
     Runner, SemaphoreRow, Service, Ticks,
@@ -20,8 +22,11 @@ const MOMENT: Moment = Moment {
     },
 };
 
-/// A process of priority 5 without a time capacity.
-fn process(rt: &impl Abort, name: &[u8]) -> ProcessRow {
+/// A process of priority 5 without a period and a time capacity.
+fn process(rt: &impl Abort, name: &[u8]) -> ProcessRow
+    ensures period { result.period ≡ None }
+    ensures capacity { result.capacity ≡ None }
+{
     ProcessRow {
         name: Name::new(name).expect(rt, "a name"),
         priority: Priority(5),
