@@ -1,5 +1,5 @@
 -- The objects of a source.
-use Rattle.std.proofs.Common.{◌^◌, max, ◌++◌, refl, ap, lit<}
+use Rattle.std.proofs.Common.{◌^◌, max, ◌++◌, refl, ap, lit<, ◌<◌}
 use Rattle.std.specs.Prelude.{FitsSigned}
 use Rattle.std.specs.Int.{w32, w64}
 use Rattle.apex_types.specs.declared.limits.Limits.{Limits}

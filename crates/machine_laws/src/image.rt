@@ -1,6 +1,6 @@
 //! Images and their spellings.
 
-ghost use Rattle.std.specs.Prelude.{◌≡◌, ℕ, ◌<◌, ◌≤◌, ◌++◌, List, [], length, Ok, slice_index};
+ghost use Rattle.std.specs.Prelude.{◌≡◌, ℕ, ◌^◌, ◌<◌, ◌≤◌, ◌++◌, List, [], length, Ok, slice_index};
 ghost use Rattle.apex_types.specs.declared.identity.At.{At};
 ghost use Rattle.machine_meaning.specs.Image.{Image};
 ghost use Rattle.module_meaning.specs.Table.{Partition};
