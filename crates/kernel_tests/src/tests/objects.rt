@@ -1,5 +1,7 @@
 //! What creates an object and finds its number, and a process that yields.
 
+ghost use Rattle.std.specs.Prelude.{◌≡◌, None};
+
 use super::outs::{expect_action, no_output};
 use apex_types::{
     ActionKind, At, BodyRow, Discipline, Mode, Moment, Name, Priority, ProcessIndex, ProcessRow,
@@ -21,8 +23,11 @@ const MOMENT: Moment = Moment {
     },
 };
 
-/// A process of priority 5 without a time capacity.
-fn process(rt: &impl Abort, name: &[u8]) -> ProcessRow {
+/// A process of priority 5 without a period and a time capacity.
+fn process(rt: &impl Abort, name: &[u8]) -> ProcessRow
+    ensures period { result.period ≡ None }
+    ensures capacity { result.capacity ≡ None }
+{
     ProcessRow {
         name: Name::new(name).expect(rt, "a name"),
         priority: Priority(5),
