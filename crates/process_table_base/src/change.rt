@@ -13,8 +13,8 @@ ghost use Rattle.process_table_base.specs.Bounds.{IsBounded, IsDelayed};
 
 use crate::table::ProcessTable;
 use apex_types::{
-    ActionKind, Due, EventKind, MOST_RUNNERS, Out, ProcessState, ProcessStatus, ReturnCode, Runner,
-    Service, Subject, Wait,
+    ActionKind, Due, EventKind, LineKind, MOST_RUNNERS, Out, ProcessState, ProcessStatus,
+    ReturnCode, Runner, Service, Subject, Wait,
 };
 
 /// Ends a service with a code and its outputs: its line, then the answer to the process.
