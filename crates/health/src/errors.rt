@@ -6,7 +6,7 @@ ghost use Rattle.kernel_meaning.specs.Kernel as meaning;
 ghost use Rattle.kernel_meaning.specs.HealthServices.{is_waiting};
 ghost use Rattle.kernel_meaning.specs.Step.{message};
 
-use apex_types::{ErrorKind, MOST_ERRORS, ProcessIndex, WaitingError, Words};
+use apex_types::{ErrorKind, MOST_ERRORS, ProcessIndex, WaitingError, message_of};
 use circular_buffer::HeapCircularBuffer;
 use std::alloc::{AllocError, Global};
 use std::marker::Model;
@@ -56,15 +56,11 @@ impl Errors {
             (record { kind = kind; process = process; words = message words.now }) }
     {
         if self.waiting.len() < PLACES {
-            let place = self.waiting.len();
             let _ = self.waiting.try_push_back(WaitingError {
                 kind,
                 process,
-                words: Words::new(),
+                words: message_of(words),
             });
-            if let Some(last) = self.waiting.get_mut(place) {
-                last.words.try_extend_from_slice(words).unwrap();
-            }
         }
     }
 
