@@ -1,11 +1,8 @@
 //! The values that an image spells.
 
-ghost use Rattle.std.specs.Prelude.{◌≡◌};
-ghost use Rattle.machine_meaning.specs.Image.{upgraded};
 ghost use Rattle.machine_meaning.specs.ImageLimits.{IsLawful};
 ghost use Rattle.machine_laws.specs.LawfulFact.{lawful_prop};
 ghost use Rattle.image.specs.Items.{image_from};
-ghost use Rattle.image.specs.Views.{image_of};
 
 use crate::item::PartitionItem;
 use apex_types::{ImageVersion, ModuleAction};
@@ -21,27 +18,4 @@ pub struct Image {
     pub partitions: Vec<PartitionItem>,
     pub channels: Vec<ChannelRow>,
     ghost lawful: { IsLawful (image_from schedule fault version partitions.items channels.items) } by { lawful_prop (image_from schedule fault version partitions.items channels.items) },
-}
-
-impl Image {
-    /// The same image as one of the third version, with the same costs. Takes no memory.
-    pub fn upgraded(self) -> Image
-        ensures { image_of result ≡ upgraded (image_of self) }
-    {
-        let Image {
-            schedule,
-            fault,
-            version,
-            partitions,
-            channels,
-        } = self;
-        let costs = version.costs();
-        Image {
-            schedule,
-            fault,
-            version: ImageVersion::Third { costs },
-            partitions,
-            channels,
-        }
-    }
 }
