@@ -1,8 +1,8 @@
 #!/usr/bin/env python3
 """Compares programs on random modules, byte for byte: the images that they build, and the traces that they write.
 
-    modules.py --new PROGRAM --oracle FOLDER [--old PROGRAM] [--stages N..] [--count N] [--stretched N] [--longest N]
-               [--first SEED] [--jobs N] [--keep FOLDER]
+    modules.py --new PROGRAM --oracle FOLDER [--old PROGRAM] [--stages N..] [--count N] [--costs N] [--stretched N]
+               [--longest N] [--first SEED] [--jobs N] [--keep FOLDER]
 
 The modules are those of an independent program, which lies in the folder of `--oracle` as the Python package `source_meaning`; beside it
 stands the generator, `later_stages.make(stage, seed)`. It is none of this repository, so no gate runs this.
@@ -13,6 +13,10 @@ Of each stage so many modules (`--count`) are built and run as they are made, ev
 And so many modules (`--stretched`) have long quiet stretches: their waits, time-outs, delays, periods, capacities, windows and `work` are stretched
 by factors of up to 10^6, and their device lines lie far apart. They run for up to 10^9 ticks (`--longest`), and are compared with `--old`,
 which needs some 0.1 to 0.3 microseconds a tick; where they have at most 100,000 ticks, with the independent program, too. Their stages go round.
+
+And so many modules of each stage (`--costs`) have a table `[cost]` with random costs, up to all of the 1,000 ticks. The images that `--new` builds are compared
+with those of a second independent program, the Python package `image_machine` in the same folder, and so are the replays of each partition: what
+`mb inputs` writes is replayed, and has to give the partition's lines of the run.
 
 Seeds count from `--first` on, and a stage and a seed make one module. The last line has the counts. At the first difference the files of
 the module are left in the folder of `--keep`, the line is named, and the exit status is 1. A run that is told to end (SIGTERM) says how far it came.
@@ -47,6 +51,10 @@ MOST_FACTOR = 10**6
 # The independent program goes tick by tick, some microseconds each.
 MOST_ORACLE_TICKS = 10**5
 CHUNK = 1 << 20
+COST_KEYS = (
+    *("literal", "scalar", "array", "add", "mul", "div", "logic", "branch", "jump", "call", "return"),
+    *("create", "message", "service", "end"),
+)
 
 # The services whose last argument is a time.
 TIMED = (
@@ -92,19 +100,22 @@ class Oracle:
         self.longest = longest
         if str(folder) not in sys.path:
             sys.path.insert(0, str(folder))
+        import image_machine.module
         import later_stages
         from source_meaning import module, words
 
         # The generator asks it tens of thousands of times, and it depends on the stage alone.
         if not hasattr(later_stages.allowed, "cache_info"):
             later_stages.allowed = functools.cache(later_stages.allowed)
-        self.make_of, self.module, self.Refusal = later_stages.make, module, words.Refusal
+        self.make_of, self.module, self.Refusal, self.machine = later_stages.make, module, words.Refusal, image_machine.module
 
     def make(self, task):
         made = Module(*self.make_of(task.stage, task.seed))
         chance = random.Random(f"{task.kind} {task.stage} {task.seed}")
         if task.kind == "stretched":
             return Stretch(chance, task.seed, self.longest, made).module()
+        if task.kind == "costs":
+            return Module(with_costs(chance, made.table), made.sources, made.devices, made.ticks)
         if task.seed % 10 == 0:
             return Module(made.table, made.sources, made.devices, log_uniform(chance, LEAST_TICKS, MOST_ORACLE_TICKS))
         return made
@@ -112,9 +123,26 @@ class Oracle:
     def trace(self, made):
         """The trace; or the line of the refusal, and no trace."""
         try:
-            return self.module.run(made.table.encode(), [it.encode() for it in made.sources], made.devices.encode(), made.ticks).encode(), b""
+            return self.module.run(made.table.encode(), [it.encode() for it in made.sources], made.devices.encode(), made.ticks, 2).encode(), b""
         except self.Refusal as refusal:
             return b"", f"mb: {refusal.message}\n".encode()
+
+    def image(self, made):
+        """The image that the second independent program builds."""
+        return self.machine.build(made.table.encode(), [it.encode() for it in made.sources], 2)
+
+    def replay(self, image, partition, inputs, ticks):
+        """What the second independent program writes of a partition alone."""
+        lines = []
+        self.machine.replay(image, partition, inputs, ticks, lines.append, 2)
+        return "".join(it if it.endswith("\n") else f"{it}\n" for it in lines).encode()
+
+
+def with_costs(chance, table):
+    """The table with random costs: mostly small ones, as those of a processor, and in some modules any."""
+    most = chance.choice((3, 12, 12, 1000))
+    costs = "".join(f"{key} = {chance.randint(1, most)}\n" for key in COST_KEYS)
+    return table.replace("[[partition]]", f"[cost]\n{costs}\n[[partition]]", 1)
 
 
 def log_uniform(chance, least, most):
@@ -246,6 +274,25 @@ class Comparison:
                 program.wait()
         return lines, b"".join(kept)
 
+    def said(self, *words):
+        """What the program prints, if it is not refused."""
+        done = subprocess.run([self.settings.new, *words], cwd=self.folder, stdin=subprocess.DEVNULL, capture_output=True, timeout=600)
+        if done.returncode:
+            raise Differs(f"{' '.join(words)}: {done.stderr.decode(errors='replace').strip()}")
+        return done.stdout
+
+    def replays(self, oracle, image, trace):
+        """Expects of each partition that its replay is its part of the trace, by both programs; returns how many they are."""
+        names = re.findall(r'^\[\[partition\]\]\nname = "(\w+)"$', self.made.table, re.M)
+        ticks = str(self.made.ticks)
+        for name in names:
+            inputs = self.said("inputs", "image", name, "devices", ticks)
+            (self.folder / "inputs").write_bytes(inputs)
+            part = b"".join(it for it in trace.splitlines(keepends=True) if it.split(b" ")[1] == name.encode())
+            expect(f"replay of {name}", part, self.said("replay", "image", name, "inputs", ticks))
+            expect(f"replay of {name} by the independent program", part, oracle.replay(image, name, inputs, self.made.ticks))
+        return len(names)
+
 
 def compare(task, settings, room, counts):
     """Makes the module of a stage and a seed, and expects the same of all programs."""
@@ -267,6 +314,11 @@ def compare(task, settings, room, counts):
         expect("refusal of the independent program", wanted_refusal, refusal or b"")
         expect("trace of the independent program", wanted, trace)
         counts["modules compared with the independent program"] += 1
+        if task.kind == "costs" and refusal is None:
+            image = (comparison.folder / "image").read_bytes()
+            if image != oracle.image(made):
+                raise Differs("image of the second independent program")
+            counts["replays"] += comparison.replays(oracle, image, trace)
         counts["ticks compared with it"] += made.ticks
 
 
@@ -291,6 +343,7 @@ def words():
     told.add_argument("--oracle", type=Path, required=True, help="the folder of an independent program and of its generator")
     told.add_argument("--stages", type=int, nargs="+", default=STAGES, help="the stages of the generator")
     told.add_argument("--count", type=int, default=0, help="how many modules of each stage")
+    told.add_argument("--costs", type=int, default=0, help="how many modules of each stage with random costs")
     told.add_argument("--stretched", type=int, default=0, help="how many modules with long quiet stretches, with --old")
     told.add_argument("--longest", type=int, default=10**9, help="the most ticks of these, 100,000 at least")
     told.add_argument("--first", type=int, default=1, help="the first seed")
@@ -309,7 +362,8 @@ def tasks_of(given):
     stretched = [
         Task("stretched", given.stages[seed % len(given.stages)], seed) for seed in range(given.first, given.first + given.stretched)
     ]
-    return plain + stretched
+    costs = [Task("costs", stage, seed) for seed in range(given.first, given.first + given.costs) for stage in given.stages]
+    return plain + costs + stretched
 
 
 def stop(*_):

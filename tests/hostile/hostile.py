@@ -170,7 +170,10 @@ def codes_of(image):
     reader = Reader(image)
     if reader.number(8) != int.from_bytes(b"AP653IMG", "little"):
         raise Wrong("the file is no image")
-    reader.number(2 + 4 + 1)  # version, frame, module action
+    version = reader.number(2)
+    reader.number(4 + 1)  # frame, module action
+    if version == 2:
+        reader.number(15 * 2)  # costs
     return dict(reader.code() for _ in range(reader.number(4)))
 
 

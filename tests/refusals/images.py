@@ -13,6 +13,7 @@ from hostile import codes_of  # noqa: E402
 
 TRUNCATED, FOREIGN, LIMIT, ORDER, TRAILING = 1, 2, 3, 4, 5
 MOST_TICKS = 1 << 40
+COSTS = 15
 
 
 class Fault(Exception):
@@ -212,10 +213,16 @@ def keeps_channels(partitions, channels):
 def read(image):
     """Reads a whole image, or stops at its first fault."""
     reading = Reading(image)
-    if reading.taken(8) != b"AP653IMG" or int.from_bytes(reading.taken(2), "little") != 1:
+    if reading.taken(8) != b"AP653IMG":
+        raise Fault(FOREIGN)
+    version = int.from_bytes(reading.taken(2), "little")
+    if version not in (1, 2):
         raise Fault(FOREIGN)
     frame = reading.number(4, 1, 1 << 24)
     reading.number(1, 0, 2)  # module action
+    if version == 2:
+        for _ in range(COSTS):
+            reading.number(2, 1, 1000)
     used = set()
     partitions = [reading.partition(used, frame) for _ in range(reading.number(4, 1, 16))]
     windows = reading.windows()
@@ -262,14 +269,19 @@ def others(image, places):
 
 
 def smallest_damages(image):
-    """What is told of the 164 bytes of the smallest module."""
-    damages = [Damage(length, (), "image 1") for length in range(164)]
-    damages.append(Damage(165, (), "image 5"))
-    damages += [Damage(164, (it,), "image 2") for it in others(image, range(8))]
-    damages.append(Damage(164, ((8, 0), (9, 0)), "image 2"))
-    limits = ((14, 3), (29, 4), (20, 65), (159, 2), (159, 0))
-    damages += [Damage(164, (it,), "image 3") for it in limits]
-    damages += [Damage(164, (it,), "runs") for it in others(image, range(82, 146))]
+    """What is told of an image of the smallest module; behind the module action stand the costs, if it has any."""
+    size, costs = len(image), 0 if image[8] == 1 else 2 * COSTS
+    (code,) = codes_of(image).values()
+    damages = [Damage(length, (), "image 1") for length in range(size)]
+    damages.append(Damage(size + 1, (), "image 5"))
+    damages += [Damage(size, (it,), "image 2") for it in others(image, range(8))]
+    damages.append(Damage(size, ((8, 0), (9, 0)), "image 2"))
+    limits = ((14, 3), (29 + costs, 4), (20 + costs, 65), (159 + costs, 2), (159 + costs, 0))
+    damages += [Damage(size, (it,), "image 3") for it in limits]
+    for place in range(15, 15 + costs, 2):
+        damages += [Damage(size, ((place, low), (place + 1, high)), "image 3") for low, high in ((0, 0), (0xE9, 3))]
+    instructions = range(code.first_byte, code.first_byte + 16 * code.instructions)
+    damages += [Damage(size, (it,), "runs") for it in others(image, instructions)]
     return damages
 
 

@@ -10,6 +10,7 @@ from dataclasses import dataclass
 from pathlib import Path
 
 import calls
+import images
 import trial
 from trial import Answer, Told
 
@@ -18,7 +19,8 @@ FILE_ROWS = ROOT / "crates/file_rows/data"
 TABLE = (calls.ROWS / "smallest/table").read_text()
 SMALLEST = (calls.ROWS / "smallest/source").read_text()
 SMALLEST_TRACE = (calls.ROWS / "smallest/trace").read_text()
-SMALLEST_BYTES = (calls.ROWS / "smallest/image").stat().st_size
+# The image that is kept is of version 1. What is built has costs, of two bytes each.
+SMALLEST_BYTES = (calls.ROWS / "smallest/image").stat().st_size + 2 * images.COSTS
 PORT = 'name = "p"\nkind = "SAMPLING"\ndirection = "DESTINATION"\nwords = 1\nrefresh = 0\n'
 PORT_TABLE = TABLE.replace("[[window]]", f"[[partition.port]]\n{PORT}\n[[window]]")
 PORT_TABLE += '\n[[channel]]\nname = "c"\nsource = "DEVICE"\ndestinations = ["a.p"]\n'

@@ -10,18 +10,24 @@ import trial
 from trial import Told
 
 EXAMPLES = calls.ROOT / "examples"
-# The image of the first example is damaged byte by byte, those of the others at random.
-WHOLE = ["smallest", "telemetry"]
-NAMES = [*WHOLE, "air_data", "fault_contained", "isolation", "modes", "rate_groups", "shared_resource"]
+# The image of the smallest module as it is built, and the one of version 1 that is kept.
+SMALLEST = ["smallest", "kept"]
+# The image of this example is damaged byte by byte, those of the others at random.
+EDGES = "telemetry"
+WHOLE = [SMALLEST[0], EDGES]
+NAMES = [*SMALLEST, EDGES, "air_data", "fault_contained", "isolation", "modes", "rate_groups", "shared_resource"]
 
 
 def image_of(mb, name, folder):
-    """The image of the smallest module, or of an example."""
-    if name == "smallest":
-        return (calls.ROWS / name / "image").read_bytes()
-    table = EXAMPLES / name / "table.toml"
-    partitions = tomllib.loads(table.read_text())["partition"]
-    sources = [EXAMPLES / name / f"{it['name']}.pal" for it in partitions]
+    """An image of the smallest module, or that of an example."""
+    if name == "kept":
+        return (calls.ROWS / "smallest/image").read_bytes()
+    if name in SMALLEST:
+        table, sources = calls.ROWS / name / "table", [calls.ROWS / name / "source"]
+    else:
+        table = EXAMPLES / name / "table.toml"
+        partitions = tomllib.loads(table.read_text())["partition"]
+        sources = [EXAMPLES / name / f"{it['name']}.pal" for it in partitions]
     answer = trial.run([mb, "build", table, "image", *sources], folder)
     if answer.status != 0:
         raise trial.Wrong(f"{name}: {answer}")
@@ -32,9 +38,9 @@ def damages_of(image, name, is_whole):
     """What is done to an image."""
     if is_whole:
         return images.whole_damages(image)
-    if name == "smallest":
+    if name in SMALLEST:
         return images.smallest_damages(image)
-    return images.edge_damages(image) if name == NAMES[1] else images.random_damages(image, name)
+    return images.edge_damages(image) if name == EDGES else images.random_damages(image, name)
 
 
 def sweep(mb, refusals, names, is_whole):
@@ -47,7 +53,7 @@ def sweep(mb, refusals, names, is_whole):
         for name in names:
             image = image_of(mb, name, folder)
             (folder / f"{name}.base").write_bytes(image)
-            ticks = 128 if name == "smallest" else 200
+            ticks = 128 if name in SMALLEST else 200
             damages = damages_of(image, name, is_whole)
             lines += [f"base {name}.base", *(it.line(ticks) for it in damages)]
             tried += [(name, image, it) for it in damages]

@@ -1,4 +1,5 @@
 pub mod Digits
 pub mod NameText
 pub mod Numbers
+pub mod TickCosts
 pub mod Writing

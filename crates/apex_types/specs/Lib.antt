@@ -1,5 +1,4 @@
 pub mod CodeWords
-pub mod CostBounds
 pub mod Costs
 pub mod Line
 pub mod Lines
@@ -11,3 +10,4 @@ pub mod ServiceCalls
 pub mod ServiceShape
 pub mod Sink
 pub mod StoredName
+pub mod Versions

@@ -116,9 +116,9 @@ class_of s = if (shape s).creates then Creation else if list_any is_array (argum
 
 -- the cost in ticks of a service of each class
 abbrev pub cost_of_class : Costs → ServiceClass → ℕ
-cost_of_class costs Creation = costs.create
-cost_of_class costs WithArray = costs.message
-cost_of_class costs Other = costs.service
+cost_of_class costs Creation = costs.create.ticks
+cost_of_class costs WithArray = costs.message.ticks
+cost_of_class costs Other = costs.service.ticks
 
 abbrev pub cost_of_service : Costs → Service → ℕ
 cost_of_service costs s = cost_of_class costs (class_of s)

@@ -30,10 +30,10 @@ impl BinaryOperator {
         ensures { result ≡ cost_of_binary costs.now self }
     {
         match self {
-            BinaryOperator::Add | BinaryOperator::Subtract => costs.add,
-            BinaryOperator::Multiply => costs.mul,
-            BinaryOperator::Divide | BinaryOperator::Remainder => costs.div,
-            _ => costs.logic,
+            BinaryOperator::Add | BinaryOperator::Subtract => costs.add.ticks,
+            BinaryOperator::Multiply => costs.mul.ticks,
+            BinaryOperator::Divide | BinaryOperator::Remainder => costs.div.ticks,
+            _ => costs.logic.ticks,
         }
     }
 }

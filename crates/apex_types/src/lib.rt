@@ -22,13 +22,14 @@ pub mod service;
 pub mod shape;
 pub mod sink;
 pub mod text;
+pub mod version;
 
 pub use call::{array_of, call_of, services_are_numbered};
 pub use codes::{
     Discipline, ErrorKind, ErrorLevel, Mode, ModuleAction, PartitionAction, ProcessState, Response,
     ReturnCode, StartCondition,
 };
-pub use cost::{Costs, UNKNOWN_COST};
+pub use cost::{COST_KEYS, Costs, TickCost, UNKNOWN_COST};
 pub use denotation::{Denotation, ObjectKind};
 pub use device::{DeviceFault, DeviceInput, DeviceLine};
 pub use event::{Event, EventKind, Events, Subject, Words, copied};
@@ -50,3 +51,4 @@ pub use service::{ArrayPlace, Call, SERVICES, Service};
 pub use shape::{ArgumentKind, ServiceClass, Shape};
 pub use sink::{Sink, SinkFault, WriterSink, put_all};
 pub use text::{TraceBuffer, write_event};
+pub use version::{FIRST_VERSION, ImageVersion, MAGIC, SECOND_VERSION};

@@ -24,9 +24,9 @@ impl ServiceClass {
         ensures { result ≡ cost_of_class costs.now self }
     {
         match self {
-            ServiceClass::Creation => costs.create,
-            ServiceClass::WithArray => costs.message,
-            ServiceClass::Other => costs.service,
+            ServiceClass::Creation => costs.create.ticks,
+            ServiceClass::WithArray => costs.message.ticks,
+            ServiceClass::Other => costs.service.ticks,
         }
     }
 }

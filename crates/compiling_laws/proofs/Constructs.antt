@@ -77,9 +77,9 @@ module _ (costs : Costs) where
     exprs_costs NoExpr = refl
     exprs_costs (MoreExprs e es) = simp (expr_costs e, exprs_costs es, map-append)
 
-  targets_costs : (ts : List Place) → map (λ _. costs.scalar) ts ≡ map (cost_of_simple costs) (map WriteScalar ts)
+  targets_costs : (ts : List Place) → map (λ _. costs.scalar.ticks) ts ≡ map (cost_of_simple costs) (map WriteScalar ts)
   targets_costs [] = refl
-  targets_costs (t ∷ ts) = ap (λ xs. costs.scalar ∷ xs) (targets_costs ts)
+  targets_costs (t ∷ ts) = ap (λ xs. costs.scalar.ticks ∷ xs) (targets_costs ts)
 
   mutual
     stmt_costs : (s : Stmt) → costs_of_stmt costs s ≡ map (cost_of_simple costs) (constructs_of_stmt s)

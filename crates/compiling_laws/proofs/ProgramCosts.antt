@@ -1,11 +1,11 @@
 -- The sizes, costs and frames of a program's bodies have 64 bits, if the program has a text.
-use Rattle.std.proofs.Common.{◌≡◌, ℕ, zero, suc, true, get_or, ◌*◌, ◌≤◌, List, [], ◌∷◌, ◌++◌, length, map, Option, Some, None, Ok, refl, sym, subst, arith, length-append}
+use Rattle.std.proofs.Common.{◌≡◌, ℕ, ◌*◌, ◌≤◌, List, [], ◌∷◌, ◌++◌, length, map, Option, Some, None, Ok, refl, sym, subst, arith, length-append}
 use Rattle.std.specs.Prelude.{nat_le, filter_map, option_map}
 use Rattle.std.specs.List.{cons_option, sum, sum_by}
 use Rattle.std.proofs.lemmas.Bool.{and_parts, cond_both, leb-true}
 use Rattle.std.proofs.lemmas.List.Sums.{sum_by-append, sum_by-cons}
-use Rattle.apex_types.specs.CostBounds.{are_costs, is_cost}
 use Rattle.apex_types.specs.declared.cost.Costs.{Costs}
+use Rattle.apex_types.specs.declared.cost.TickCost.{TickCost}
 use Rattle.apex_types.specs.declared.limits.TheConstants.{MOST_COST, MOST_LOCALS, MOST_PARAMETERS, MOST_SOURCE_BYTES, MOST_WORK_TICKS}
 use Rattle.apex_types.specs.declared.instruction.BinaryOperator.{BinaryOperator}
 use Rattle.apex_types.specs.declared.instruction.BinaryOperator.TheVariants.{Add, Subtract, Multiply, Divide, Remainder}
@@ -48,43 +48,35 @@ work_cheap : (ticks : Option ℕ) → within MOST_WORK_TICKS ticks ≤ MOST_WORK
 work_cheap None = omega arith
 work_cheap (Some t) = cond_both (nat_le t MOST_WORK_TICKS) t 0 (λ x. x ≤ MOST_WORK_TICKS) (λ e. leb-true t MOST_WORK_TICKS e) (λ e. omega arith)
 
--- a written cost is at most a thousand ticks
-low_at : (ns : List ℕ) (i : ℕ) → are_costs ns ≡ true → get_or ns i 0 ≤ MOST_WORK_TICKS
-low_at [] i h = omega arith
-low_at (n ∷ ns) zero h = omega (arith, leb-true n MOST_COST (and_parts (nat_le 1 n) (nat_le n MOST_COST) (and_parts (is_cost n) (are_costs ns) h).0).1)
-low_at (n ∷ ns) (suc i) h = low_at ns i (and_parts (is_cost n) (are_costs ns) h).1
-
-abbrev in_order : Costs → List ℕ
-in_order costs = costs.literal ∷ costs.scalar ∷ costs.array ∷ costs.add ∷ costs.mul ∷ costs.div ∷ costs.logic ∷ costs.branch ∷ costs.jump ∷ costs.call ∷ costs.ret ∷ costs.create ∷ costs.message ∷ costs.service ∷ costs.end ∷ []
+-- a cost is at most a thousand ticks
+cheap : (cost : TickCost) → cost.ticks ≤ MOST_WORK_TICKS
+cheap cost = omega (arith, leb-true cost.ticks MOST_COST (and_parts (nat_le 1 cost.ticks) (nat_le cost.ticks MOST_COST) cost.within).1)
 
 module _ (costs : Costs) where
-  low : (i : ℕ) → get_or (in_order costs) i 0 ≤ MOST_WORK_TICKS
-  low i = low_at (in_order costs) i costs.within
-
   binary_cheap : (operator : BinaryOperator) → cost_of_binary costs operator ≤ MOST_WORK_TICKS
-  binary_cheap Add = low 3
-  binary_cheap Subtract = low 3
-  binary_cheap Multiply = low 4
-  binary_cheap Divide = low 5
-  binary_cheap Remainder = low 5
-  binary_cheap _ = low 6
+  binary_cheap Add = cheap costs.add
+  binary_cheap Subtract = cheap costs.add
+  binary_cheap Multiply = cheap costs.mul
+  binary_cheap Divide = cheap costs.div
+  binary_cheap Remainder = cheap costs.div
+  binary_cheap _ = cheap costs.logic
 
   class_cheap : (c : ServiceClass) → cost_of_class costs c ≤ MOST_WORK_TICKS
-  class_cheap Creation = low 11
-  class_cheap WithArray = low 12
-  class_cheap Other = low 13
+  class_cheap Creation = cheap costs.create
+  class_cheap WithArray = cheap costs.message
+  class_cheap Other = cheap costs.service
 
   service_cheap : (s : Service) → cost_of_service costs s ≤ MOST_WORK_TICKS
   service_cheap s = class_cheap (class_of s)
 
   mutual
     expr_cheap : (e : program.Expr) → AreCheap (costs_of_expr costs e)
-    expr_cheap (program.Literal value) = more costs.literal [] (low 0) none
-    expr_cheap (program.Read place) = more costs.scalar [] (low 1) none
-    expr_cheap (program.Element place size index) = both (costs_of_expr costs index) (costs.array ∷ []) (expr_cheap index) (more costs.array [] (low 2) none)
-    expr_cheap (program.Unary operator operand) = both (costs_of_expr costs operand) (costs.logic ∷ []) (expr_cheap operand) (more costs.logic [] (low 6) none)
+    expr_cheap (program.Literal value) = more costs.literal.ticks [] (cheap costs.literal) none
+    expr_cheap (program.Read place) = more costs.scalar.ticks [] (cheap costs.scalar) none
+    expr_cheap (program.Element place size index) = both (costs_of_expr costs index) (costs.array.ticks ∷ []) (expr_cheap index) (more costs.array.ticks [] (cheap costs.array) none)
+    expr_cheap (program.Unary operator operand) = both (costs_of_expr costs operand) (costs.logic.ticks ∷ []) (expr_cheap operand) (more costs.logic.ticks [] (cheap costs.logic) none)
     expr_cheap (program.Chain first rest) = both (costs_of_expr costs first) (costs_of_links costs rest) (expr_cheap first) (links_cheap rest)
-    expr_cheap (program.Apply procedure arguments) = both (costs_of_exprs costs arguments) (costs.call ∷ []) (exprs_cheap arguments) (more costs.call [] (low 9) none)
+    expr_cheap (program.Apply procedure arguments) = both (costs_of_exprs costs arguments) (costs.call.ticks ∷ []) (exprs_cheap arguments) (more costs.call.ticks [] (cheap costs.call) none)
 
     links_cheap : (ls : program.Links) → AreCheap (costs_of_links costs ls)
     links_cheap program.NoLink = none
@@ -94,41 +86,41 @@ module _ (costs : Costs) where
     exprs_cheap program.NoExpr = none
     exprs_cheap (program.MoreExprs first rest) = both (costs_of_expr costs first) (costs_of_exprs costs rest) (expr_cheap first) (exprs_cheap rest)
 
-  targets_cheap : (places : List Place) → AreCheap (map (λ _. costs.scalar) places)
+  targets_cheap : (places : List Place) → AreCheap (map (λ _. costs.scalar.ticks) places)
   targets_cheap [] = none
-  targets_cheap (place ∷ places) = more costs.scalar (map (λ _. costs.scalar) places) (low 1) (targets_cheap places)
+  targets_cheap (place ∷ places) = more costs.scalar.ticks (map (λ _. costs.scalar.ticks) places) (cheap costs.scalar) (targets_cheap places)
 
   module _ (scope : Scope) where
     mutual
       stmt_cheap : (s : written.Stmt) → AreCheap (costs_of_stmt costs (resolve_stmt scope s))
       stmt_cheap (written.Assign target value) =
           let v = resolve_expr scope value in
-          both (costs_of_expr costs v) (costs.scalar ∷ []) (expr_cheap v) (more costs.scalar [] (low 1) none)
+          both (costs_of_expr costs v) (costs.scalar.ticks ∷ []) (expr_cheap v) (more costs.scalar.ticks [] (cheap costs.scalar) none)
       stmt_cheap (written.AssignElement array index value) =
           let i = resolve_expr scope index in
           let v = resolve_expr scope value in
-          both (costs_of_expr costs i ++ costs_of_expr costs v) (costs.array ∷ []) (both (costs_of_expr costs i) (costs_of_expr costs v) (expr_cheap i) (expr_cheap v)) (more costs.array [] (low 2) none)
+          both (costs_of_expr costs i ++ costs_of_expr costs v) (costs.array.ticks ∷ []) (both (costs_of_expr costs i) (costs_of_expr costs v) (expr_cheap i) (expr_cheap v)) (more costs.array.ticks [] (cheap costs.array) none)
       stmt_cheap (written.If test block) =
           let t = resolve_expr scope test in
           let b = costs_of_block costs (resolve_block scope block) in
-          both (costs_of_expr costs t) (costs.branch ∷ b) (expr_cheap t) (more costs.branch b (low 7) (block_cheap block))
+          both (costs_of_expr costs t) (costs.branch.ticks ∷ b) (expr_cheap t) (more costs.branch.ticks b (cheap costs.branch) (block_cheap block))
       stmt_cheap (written.IfElse test block other) =
           let t = resolve_expr scope test in
           let b = costs_of_block costs (resolve_block scope block) in
           let o = costs_of_block costs (resolve_block scope other) in
-          both (costs_of_expr costs t ++ (costs.branch ∷ b)) (costs.jump ∷ o) (both (costs_of_expr costs t) (costs.branch ∷ b) (expr_cheap t) (more costs.branch b (low 7) (block_cheap block))) (more costs.jump o (low MOST_PARAMETERS) (block_cheap other))
+          both (costs_of_expr costs t ++ (costs.branch.ticks ∷ b)) (costs.jump.ticks ∷ o) (both (costs_of_expr costs t) (costs.branch.ticks ∷ b) (expr_cheap t) (more costs.branch.ticks b (cheap costs.branch) (block_cheap block))) (more costs.jump.ticks o (cheap costs.jump) (block_cheap other))
       stmt_cheap (written.While test block) =
           let t = resolve_expr scope test in
           let b = costs_of_block costs (resolve_block scope block) in
-          both (costs_of_expr costs t ++ (costs.branch ∷ b)) (costs.jump ∷ []) (both (costs_of_expr costs t) (costs.branch ∷ b) (expr_cheap t) (more costs.branch b (low 7) (block_cheap block))) (more costs.jump [] (low MOST_PARAMETERS) none)
+          both (costs_of_expr costs t ++ (costs.branch.ticks ∷ b)) (costs.jump.ticks ∷ []) (both (costs_of_expr costs t) (costs.branch.ticks ∷ b) (expr_cheap t) (more costs.branch.ticks b (cheap costs.branch) (block_cheap block))) (more costs.jump.ticks [] (cheap costs.jump) none)
       stmt_cheap (written.Work ticks) = more (within MOST_WORK_TICKS ticks) [] (work_cheap ticks) none
       stmt_cheap (written.Return value) =
           let v = resolve_expr scope value in
-          both (costs_of_expr costs v) (costs.ret ∷ []) (expr_cheap v) (more costs.ret [] (low 10) none)
+          both (costs_of_expr costs v) (costs.ret.ticks ∷ []) (expr_cheap v) (more costs.ret.ticks [] (cheap costs.ret) none)
       stmt_cheap (written.CallService service arguments targets) =
           let es = resolve_arguments scope (arguments_of service) arguments in
           let places = map (λ x. place_of (scope x)) targets in
-          both (costs_of_exprs costs es) (cost_of_service costs service ∷ map (λ _. costs.scalar) places) (exprs_cheap es) (more (cost_of_service costs service) (map (λ _. costs.scalar) places) (service_cheap service) (targets_cheap places))
+          both (costs_of_exprs costs es) (cost_of_service costs service ∷ map (λ _. costs.scalar.ticks) places) (exprs_cheap es) (more (cost_of_service costs service) (map (λ _. costs.scalar.ticks) places) (service_cheap service) (targets_cheap places))
 
       block_cheap : (b : written.Block) → AreCheap (costs_of_block costs (resolve_block scope b))
       block_cheap written.NoStmt = none
@@ -143,14 +135,14 @@ module _ (costs : Costs) where
     body_held : (stack : Option ℕ) (b : written.Body) → size_of_body (resolve_body declared stack b) ≤ 2097152 → IsBodyHeld costs (resolve_body declared stack b)
     body_held stack b few =
         let made = resolve_body declared stack b in
-        let cheap : AreCheap (costs_of_body costs made) = both (costs_of_block costs made.block) (costs.end ∷ []) (block_cheap (scope_of (own_entries 0 ([] ++ b.locals)) declared) b.block) (more costs.end [] (low 14) none) in
+        let cheap : AreCheap (costs_of_body costs made) = both (costs_of_block costs made.block) (costs.end.ticks ∷ []) (block_cheap (scope_of (own_entries 0 ([] ++ b.locals)) declared) b.block) (more costs.end.ticks [] (cheap costs.end) none) in
         (omega arith, omega (arith, body_counts costs made), omega (arith, block_operands made.block, few_counted MOST_LOCALS (length b.locals)))
 
     procedure_held : (parameters : List (List ℕ)) (b : written.Body) (p : program.Procedure)
         → p ≡ record { parameters = count_within MOST_PARAMETERS (length parameters); locals = count_within MOST_LOCALS (length b.locals); block = resolve_body_block declared parameters b } → size_of_procedure p ≤ 2097152 → IsProcedureHeld costs p
     procedure_held parameters b p is few =
         let block : AreCheap (costs_of_block costs p.block) = subst (λ (q : program.Procedure). AreCheap (costs_of_block costs q.block)) (sym is) (block_cheap (scope_of (own_entries 0 (parameters ++ b.locals)) declared) b.block) in
-        let cheap : AreCheap (costs_of_procedure costs p) = both (costs_of_block costs p.block) (costs.literal ∷ costs.ret ∷ []) block (more costs.literal (costs.ret ∷ []) (low 0) (more costs.ret [] (low 10) none)) in
+        let cheap : AreCheap (costs_of_procedure costs p) = both (costs_of_block costs p.block) (costs.literal.ticks ∷ costs.ret.ticks ∷ []) block (more costs.literal.ticks (costs.ret.ticks ∷ []) (cheap costs.literal) (more costs.ret.ticks [] (cheap costs.ret) none)) in
         let own : p.parameters ≤ MOST_PARAMETERS = subst (λ (q : program.Procedure). q.parameters ≤ MOST_PARAMETERS) (sym is) (few_counted MOST_PARAMETERS (length parameters)) in
         let locals : p.locals ≤ MOST_LOCALS = subst (λ (q : program.Procedure). q.locals ≤ MOST_LOCALS) (sym is) (few_counted MOST_LOCALS (length b.locals)) in
         (omega arith, omega (arith, procedure_counts costs p), omega (arith, block_operands p.block))

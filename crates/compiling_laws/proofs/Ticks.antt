@@ -662,11 +662,11 @@ module _ (costs : Costs) (code : Code) (program : Program) (rs : List RoutineRow
       (ap (λ o. fetched costs rs o m words) fetch ∙ ap (λ t. if nat_lt (m.spent + 1) t then machine.counts m words else executes rs i m words) cost ∙ ap (λ t. if nat_lt (t + 1) (cost_of_simple costs s) then machine.counts m words else executes rs i m words) (sym k.spent))
       (counts_or (nat_lt (c.spent + 1) (cost_of_simple costs s)) _ _ h)
 
-  load_cost : (place : Place) → cost_of costs (load place) ≡ costs.scalar
+  load_cost : (place : Place) → cost_of costs (load place) ≡ costs.scalar.ticks
   load_cost (Data x) = refl
   load_cost (Slot x) = refl
 
-  store_cost : (place : Place) → cost_of costs (store place) ≡ costs.scalar
+  store_cost : (place : Place) → cost_of costs (store place) ≡ costs.scalar.ticks
   store_cost (Data x) = refl
   store_cost (Slot x) = refl
 

@@ -2,6 +2,7 @@
 use Rattle.std.specs.Prelude.{List, map}
 use Rattle.apex_types.specs.declared.codes.ModuleAction.{ModuleAction}
 use Rattle.apex_types.specs.declared.row.Section as code_section
+use Rattle.apex_types.specs.declared.version.ImageVersion.{ImageVersion}
 use Rattle.machine_meaning.specs.Section.{Section}
 use Rattle.module_meaning.specs.Table.{Partition, Channel}
 use Rattle.machine_meaning.specs.Image.{Item, Image}
@@ -34,5 +35,5 @@ items_of its = map item_of its
 abbrev pub rows_of : List PartitionItem → List Partition
 rows_of its = map (λ it. partition_view it.row) its
 
-abbrev pub image_from : code_schedule.Schedule → ModuleAction → List PartitionItem → List ChannelRow → Image
-image_from schedule fault partitions channels = record { schedule = schedule_of schedule; fault = fault; items = items_of partitions; channels = channels_of channels }
+abbrev pub image_from : code_schedule.Schedule → ModuleAction → ImageVersion → List PartitionItem → List ChannelRow → Image
+image_from schedule fault version partitions channels = record { schedule = schedule_of schedule; fault = fault; version = version; items = items_of partitions; channels = channels_of channels }

@@ -33,7 +33,7 @@ bodies_of b = record { routines = b.routines.items; processes = b.processes.item
 
 -- all fields of an image
 abbrev pub fields_of : code_fields.Fields → Image
-fields_of f = record { schedule = record { frame = f.frame; windows = f.windows.items }; fault = f.fault; items = items_of f.partitions.items; channels = channels_of f.channels.items }
+fields_of f = record { schedule = record { frame = f.frame; windows = f.windows.items }; fault = f.fault; version = f.version; items = items_of f.partitions.items; channels = channels_of f.channels.items }
 
 abbrev pub image_of : code_image.Image → Image
-image_of image = image_from image.schedule image.fault image.partitions.items image.channels.items
+image_of image = image_from image.schedule image.fault image.version image.partitions.items image.channels.items

@@ -21,6 +21,7 @@ fn judge(alloc: Global, fields: Fields) -> Result<Image, ImageFault>
     let Fields {
         frame,
         fault,
+        version,
         partitions,
         windows,
         channels,
@@ -35,6 +36,7 @@ fn judge(alloc: Global, fields: Fields) -> Result<Image, ImageFault>
     Ok(Image {
         schedule,
         fault,
+        version,
         partitions,
         channels,
     })

@@ -4,6 +4,7 @@
 pub mod bodies;
 pub mod channels;
 pub mod choices;
+pub mod costs;
 pub mod image;
 pub mod items;
 pub mod numbers;

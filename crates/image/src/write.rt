@@ -1,7 +1,7 @@
 //! Writing an image as bytes.
 
 ghost use Rattle.std.specs.Prelude.{◌≡◌, ◌++◌, IfOk, IfErr, OnOk};
-ghost use Rattle.machine_meaning.specs.ImageSpelling.{list, item, channel, head, spelling};
+ghost use Rattle.machine_meaning.specs.ImageSpelling.{list, item, channel, front, head, spelling};
 ghost use Rattle.image.specs.Items.{items_of, channels_of};
 ghost use Rattle.image.specs.Views.{image_of};
 ghost use Rattle.image.specs.declared.fault.ImageFault.TheVariants.{Memory};
@@ -9,20 +9,30 @@ ghost use Rattle.image.specs.declared.fault.ImageFault.TheVariants.{Memory};
 use crate::fault::ImageFault;
 use crate::item::PartitionItem;
 use crate::value::Image;
+use crate::writing::costs::put_own_fields;
 use crate::writing::numbers::number_of_module_action;
 use crate::writing::rows::put_list;
+use apex_types::MAGIC;
 use std::alloc::{AllocError, Global};
 use window_table::ChannelRow;
+
+#[tactic(auto, unfolding(machine_meaning::specs::ImageSpelling::front))]
+fn put_front(out: &mut Vec<u8>, image: &Image) -> Result<(), AllocError>
+    ensures { OnOk result (out.new.items ≡ out.old.items ++ front (image_of image.now)) }
+{
+    out.extend_from_slice(MAGIC.as_slice())?;
+    out.extend_from_slice(&image.version.number().to_le_bytes())?;
+    out.extend_from_slice(&image.schedule.frame.to_le_bytes())?;
+    out.push(number_of_module_action(image.fault))?;
+    Ok(())
+}
 
 #[tactic(auto, unfolding(machine_meaning::specs::ImageSpelling::head))]
 fn put_head(out: &mut Vec<u8>, image: &Image) -> Result<(), AllocError>
     ensures { OnOk result (out.new.items ≡ out.old.items ++ head (image_of image.now)) }
 {
-    out.extend_from_slice(b"AP653IMG".as_slice())?;
-    out.extend_from_slice(&1u16.to_le_bytes())?;
-    out.extend_from_slice(&image.schedule.frame.to_le_bytes())?;
-    out.push(number_of_module_action(image.fault))?;
-    Ok(())
+    put_front(out, image)?;
+    put_own_fields(out, image.version)
 }
 
 #[tactic(auto, using(crate::proofs::Lists::items_spelled))]

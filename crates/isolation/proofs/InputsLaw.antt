@@ -4,7 +4,8 @@ use Rattle.std.proofs.Common.{◌≡◌, sym, ℕ, zero, suc, ◌+◌, ◌≤◌
 use Rattle.std.specs.Prelude.{slice_get, is_some, option_map}
 use Rattle.std.proofs.lemmas.Option.{slice_get-map}
 use Rattle.apex_types.specs.declared.limits.TheConstants.{MOST_DEVICE_LINES, MOST_TICKS, MOST_WORDS}
-use Rattle.apex_types.specs.Costs.{written_costs}
+use Rattle.apex_types.specs.Versions.{costs_of}
+use Rattle.apex_types.specs.declared.cost.Costs.{Costs}
 use Rattle.apex_types.specs.declared.codes.StartCondition.TheVariants as condition
 use Rattle.apex_types.specs.declared.device.DeviceLine.{DeviceLine}
 use Rattle.apex_types.specs.declared.row.PortRow.{PortRow}
@@ -82,15 +83,15 @@ place_kept : (image : Image) → IsLawful image → (place : ℕ) (row : Partiti
 place_kept image lawful place row e = subst (λ (o : Option Partition). IsKept {C = MachineControl} row (λ x. IsSoundMember (ports_in o) x)) (sym e) (kept_sound row (row_short image lawful place row e))
 
 -- each partition has the invariant at first
-first_sound : (s : Schedule) (n : ℕ) (items : List Item) (place : ℕ) (x : Member MachineControl) → slice_get (machine_members s n items) place ≡ Some x → IsSoundMember (ports_in (slice_get (map (λ (it : Item). it.partition) items) place)) x
-first_sound s n [] place x e = absurd (cc)
-first_sound s n (i ∷ is) zero x e =
-    subst (λ (y : Member MachineControl). IsSoundMember i.partition.ports y) (same_some (record_of s n i) x e)
+first_sound : (k : Costs) (s : Schedule) (n : ℕ) (items : List Item) (place : ℕ) (x : Member MachineControl) → slice_get (machine_members k s n items) place ≡ Some x → IsSoundMember (ports_in (slice_get (map (λ (it : Item). it.partition) items) place)) x
+first_sound k s n [] place x e = absurd (cc)
+first_sound k s n (i ∷ is) zero x e =
+    subst (λ (y : Member MachineControl). IsSoundMember i.partition.ports y) (same_some (record_of k s n i) x e)
     (record {
       kernel = fresh_sound i.partition.ports (fixed_of s n i.partition) (map machine_row i.section.processes) (section_objects i.section) (is_some i.section.handler);
-      engine = machine_keeps_within written_costs (map reading i.section.code) i.section.routines (machine_body i.section);
+      engine = machine_keeps_within k (map reading i.section.code) i.section.routines (machine_body i.section);
     })
-first_sound s n (i ∷ is) (suc place) x e = first_sound s (n + 1) is place x e
+first_sound k s n (i ∷ is) (suc place) x e = first_sound k s (n + 1) is place x e
 
 -- ---- the law
 -- the inputs that a run brings a partition, except for the values of the words
@@ -98,16 +99,17 @@ are_delivered : (image : Image) (text : List ℕ) (lines : List DeviceLine) (p :
     → IsLawful image → verdict_for image text ≡ Ok lines → at_number image.items p ≡ Some item → n ≤ MOST_TICKS → AreDelivered item.partition 0 (machine_inputs image p lines n)
 are_delivered image text lines zero item n lawful taken e few = absurd (cc)
 are_delivered image text lines (suc place) item n lawful taken e few =
-    let members = machine_members image.schedule 1 image.items in
+    let k = costs_of image.version in
+    let members = machine_members k image.schedule 1 image.items in
     let right = image_ends image lawful in
-    let own = members_at image.schedule 1 image.items place item e in
+    let own = members_at k image.schedule 1 image.items place item e in
     inputs_allowed {C = MachineControl} (map name_in image.items) (image_all_apart image lawful) (partitions_in image)
     (λ q name f. let a = item_at image.items q name f in (a.0.partition, row_at q a.0 a.1))
     image.schedule image.channels image.fault (λ at. lawful_owner image at lawful) (λ at. lawful_end image at lawful) right.0 right.1 lines (accepted_from_device image text lines taken)
     (λ q row f. text_allowed (partitions_in image) image.schedule image.channels image.fault right.0 right.1 q row f text lines taken)
-    (λ q x. IsSoundMember (ports_at image q) x) (place_kept image lawful) place item.partition (row_at place item e) n (omega (arith, few)) members (record_of image.schedule (1 + place) item) own
-    (starts_same (name_in item) place (map name_in image.items) (image_apart image lawful place item e) first_tick condition.NormalStart members (record_of image.schedule (1 + place) item) (record { own = own; named = members_named image.schedule 1 image.items })).members.named
-    (first_sound image.schedule 1 image.items)
+    (λ q x. IsSoundMember (ports_at image q) x) (place_kept image lawful) place item.partition (row_at place item e) n (omega (arith, few)) members (record_of k image.schedule (1 + place) item) own
+    (starts_same (name_in item) place (map name_in image.items) (image_apart image lawful place item e) first_tick condition.NormalStart members (record_of k image.schedule (1 + place) item) (record { own = own; named = members_named k image.schedule 1 image.items })).members.named
+    (first_sound k image.schedule 1 image.items)
   where
     row_at : (q : ℕ) (i : Item) → slice_get image.items q ≡ Some i → slice_get (partitions_in image) q ≡ Some i.partition
     row_at q i f = slice_get-map (λ (it : Item). it.partition) image.items q ∙ ap (option_map (λ (it : Item). it.partition)) f

@@ -1,6 +1,8 @@
 -- Isolation, for every lawful image.
 use Rattle.std.proofs.Common.{◌≡◌, ℕ, zero, suc, ◌+◌, Bool, true, false, cond, List, [], ◌∷◌, map, Option, Some, None, Ok, refl, sym, ap, subst, ◌∙◌, arith}
 use Rattle.std.specs.Prelude.{slice_get, filter, option_map, ◌==◌}
+use Rattle.apex_types.specs.Versions.{costs_of}
+use Rattle.apex_types.specs.declared.cost.Costs.{Costs}
 use Rattle.apex_types.specs.declared.device.DeviceLine.{DeviceLine}
 use Rattle.apex_types.specs.declared.row.WindowRow.{WindowRow}
 use Rattle.machine_meaning.specs.MachineMeaning.{verdict_for}
@@ -34,27 +36,27 @@ filter_twice {A = A} test (x ∷ xs) = either (test x) refl (filter_twice test x
     either false e h = h
 
 -- a partition's record in the machine
-abbrev pub record_of : Schedule → ℕ → Item → Member MachineControl
-record_of s n i = machine_member (fixed_of s n i.partition) i.partition.ports i.section
+abbrev pub record_of : Costs → Schedule → ℕ → Item → Member MachineControl
+record_of k s n i = machine_member k (fixed_of s n i.partition) i.partition.ports i.section
 
-pub members_at : (s : Schedule) (n : ℕ) (items : List Item) (place : ℕ) (item : Item) → slice_get items place ≡ Some item → slice_get (machine_members s n items) place ≡ Some (record_of s (n + place) item)
-members_at s n [] place item e = absurd (cc)
-members_at s n (i ∷ is) zero item e = ap (λ (o : Option Item). elim o [ None ↦ None | Some j ↦ Some (record_of s n j) ]) e ∙ ap (λ (m : ℕ). Some (record_of s m item)) (plain n)
+pub members_at : (k : Costs) (s : Schedule) (n : ℕ) (items : List Item) (place : ℕ) (item : Item) → slice_get items place ≡ Some item → slice_get (machine_members k s n items) place ≡ Some (record_of k s (n + place) item)
+members_at k s n [] place item e = absurd (cc)
+members_at k s n (i ∷ is) zero item e = ap (λ (o : Option Item). elim o [ None ↦ None | Some j ↦ Some (record_of k s n j) ]) e ∙ ap (λ (m : ℕ). Some (record_of k s m item)) (plain n)
   where
     plain : (n : ℕ) → n ≡ n + 0
     plain n = omega arith
-members_at s n (i ∷ is) (suc place) item e = members_at s (n + 1) is place item e ∙ ap (λ (m : ℕ). Some (record_of s m item)) (turned n place)
+members_at k s n (i ∷ is) (suc place) item e = members_at k s (n + 1) is place item e ∙ ap (λ (m : ℕ). Some (record_of k s m item)) (turned n place)
   where
     turned : (n p : ℕ) → n + 1 + p ≡ n + suc p
     turned n p = omega arith
 
-pub members_named : (s : Schedule) (n : ℕ) (items : List Item) → map name_of (machine_members s n items) ≡ map name_in items
-members_named s n [] = refl
-members_named s n (i ∷ is) = ap (λ (ns : List (List ℕ)). name_in i ∷ ns) (members_named s (n + 1) is)
+pub members_named : (k : Costs) (s : Schedule) (n : ℕ) (items : List Item) → map name_of (machine_members k s n items) ≡ map name_in items
+members_named k s n [] = refl
+members_named k s n (i ∷ is) = ap (λ (ns : List (List ℕ)). name_in i ∷ ns) (members_named k s (n + 1) is)
 
 -- its own windows give the same record
-pub same_record : (s : Schedule) (p : ℕ) (item : Item) → record_of s p item ≡ record_of (schedule_of_partition p s) p item
-same_record s p item = ap (λ (ws : List WindowRow). machine_member (record { name = item.partition.name; number = p; period = item.partition.period; duration = item.partition.duration; schedule = record { frame = s.frame; windows = ws }; health = item.partition.health }) item.partition.ports item.section) (sym (filter_twice (λ w. w.partition.0 == p) s.windows))
+pub same_record : (k : Costs) (s : Schedule) (p : ℕ) (item : Item) → record_of k s p item ≡ record_of k (schedule_of_partition p s) p item
+same_record k s p item = ap (λ (ws : List WindowRow). machine_member k (record { name = item.partition.name; number = p; period = item.partition.period; duration = item.partition.duration; schedule = record { frame = s.frame; windows = ws }; health = item.partition.health }) item.partition.ports item.section) (sym (filter_twice (λ w. w.partition.0 == p) s.windows))
 
 image_isolates : (image : Image) → IsLawful image → (p : ℕ) (item : Item) → at_number image.items p ≡ Some item → IsIsolating (machine_module image).plan p item.partition.ports
 image_isolates image lawful p item e =
@@ -71,12 +73,13 @@ isolation : (image : Image) (text : List ℕ) (lines : List DeviceLine) (p : ℕ
     → part (name_in item) (machine_trace image lines n) ≡ slice_trace (slice_of image p item) (machine_inputs image p lines n) n
 isolation image text lines zero item n lawful taken e = absurd (cc)
 isolation image text lines (suc place) item n lawful taken e =
-    let members = machine_members image.schedule 1 image.items in
+    let k = costs_of image.version in
+    let members = machine_members k image.schedule 1 image.items in
     isolated {C = MachineControl} (name_in item) place (map name_in image.items) (image_apart image lawful place item e) (image_all_apart image lawful) (machine_module image).plan item.partition.ports (image_isolates image lawful (suc place) item e) lines (accepted_from_device image text lines taken)
-    members (record_of (schedule_of_partition (suc place) image.schedule) (suc place) item)
+    members (record_of k (schedule_of_partition (suc place) image.schedule) (suc place) item)
     (record {
-      own = members_at image.schedule 1 image.items place item e ∙ ap (λ (m : ℕ). Some (record_of image.schedule m item)) (first place) ∙ ap (λ (x : Member MachineControl). Some x) (same_record image.schedule (suc place) item);
-      named = members_named image.schedule 1 image.items;
+      own = members_at k image.schedule 1 image.items place item e ∙ ap (λ (m : ℕ). Some (record_of k image.schedule m item)) (first place) ∙ ap (λ (x : Member MachineControl). Some x) (same_record k image.schedule (suc place) item);
+      named = members_named k image.schedule 1 image.items;
     }) n
   where
     first : (p : ℕ) → 1 + p ≡ suc p

@@ -5,6 +5,7 @@ use Rattle.std.specs.Prelude.{◌==◌, replicate, slice_get, option_map}
 use Rattle.std.specs.List.{All}
 use Rattle.std.proofs.lemmas.Option.{slice_get-map}
 use Rattle.toml.specs.Data.{Members}
+use Rattle.apex_types.specs.declared.cost.Costs.{Costs}
 use Rattle.apex_types.specs.declared.device.DeviceLine.{DeviceLine}
 use Rattle.apex_types.specs.declared.row.WindowRow.{WindowRow}
 use Rattle.module_meaning.specs.DeviceText.{verdict as device_verdict}
@@ -89,40 +90,40 @@ abbrev bare_image : Table → Image
 bare_image t = image_of t (map bare t.partitions)
 
 -- ---- its members
-abbrev source_record : Schedule → ℕ → Partition → Program → Member SourceControl
-source_record s n row program = source_member (fixed_of s n row) row.ports program
+abbrev source_record : Costs → Schedule → ℕ → Partition → Program → Member SourceControl
+source_record k s n row program = source_member k (fixed_of s n row) row.ports program
 
-members_at : (s : Schedule) (n : ℕ) (ps : List Partition) (sources : List Program) (place : ℕ) (row : Partition) (program : Program) → slice_get ps place ≡ Some row → slice_get sources place ≡ Some program
-    → slice_get (source_members s n ps sources) place ≡ Some (source_record s (n + place) row program)
-members_at s n [] sources place row program e f = absurd (cc)
-members_at s n (p ∷ ps) [] place row program e f = absurd (cc)
-members_at s n (p ∷ ps) (q ∷ qs) zero row program e f =
-    ap (λ (r : Partition). Some (source_record s n r q)) (same_some p row e) ∙ ap (λ (r : Program). Some (source_record s n row r)) (same_some q program f) ∙ ap (λ (m : ℕ). Some (source_record s m row program)) (plain n)
+members_at : (c : Costs) (s : Schedule) (n : ℕ) (ps : List Partition) (sources : List Program) (place : ℕ) (row : Partition) (program : Program) → slice_get ps place ≡ Some row → slice_get sources place ≡ Some program
+    → slice_get (source_members c s n ps sources) place ≡ Some (source_record c s (n + place) row program)
+members_at c s n [] sources place row program e f = absurd (cc)
+members_at c s n (p ∷ ps) [] place row program e f = absurd (cc)
+members_at c s n (p ∷ ps) (q ∷ qs) zero row program e f =
+    ap (λ (r : Partition). Some (source_record c s n r q)) (same_some p row e) ∙ ap (λ (r : Program). Some (source_record c s n row r)) (same_some q program f) ∙ ap (λ (m : ℕ). Some (source_record c s m row program)) (plain n)
   where
     plain : (n : ℕ) → n ≡ n + 0
     plain n = omega arith
-members_at s n (p ∷ ps) (q ∷ qs) (suc place) row program e f = members_at s (n + 1) ps qs place row program e f ∙ ap (λ (m : ℕ). Some (source_record s m row program)) (turned n place)
+members_at c s n (p ∷ ps) (q ∷ qs) (suc place) row program e f = members_at c s (n + 1) ps qs place row program e f ∙ ap (λ (m : ℕ). Some (source_record c s m row program)) (turned n place)
   where
     turned : (n k : ℕ) → n + 1 + k ≡ n + suc k
     turned n k = omega arith
 
 -- a member has the name of its row
-named_at : (s : Schedule) (n : ℕ) (ps : List Partition) (sources : List Program) (q : ℕ) (name : List ℕ) → slice_get (map name_of (source_members s n ps sources)) q ≡ Some name
+named_at : (c : Costs) (s : Schedule) (n : ℕ) (ps : List Partition) (sources : List Program) (q : ℕ) (name : List ℕ) → slice_get (map name_of (source_members c s n ps sources)) q ≡ Some name
     → (row : Partition) × (slice_get ps q ≡ Some row) × (row.name ≡ name)
-named_at s n [] sources q name e = absurd (cc)
-named_at s n (p ∷ ps) [] q name e = absurd (cc)
-named_at s n (p ∷ ps) (x ∷ xs) zero name e = (p, refl, same_some p.name name e)
-named_at s n (p ∷ ps) (x ∷ xs) (suc q) name e = named_at s (n + 1) ps xs q name e
+named_at c s n [] sources q name e = absurd (cc)
+named_at c s n (p ∷ ps) [] q name e = absurd (cc)
+named_at c s n (p ∷ ps) (x ∷ xs) zero name e = (p, refl, same_some p.name name e)
+named_at c s n (p ∷ ps) (x ∷ xs) (suc q) name e = named_at c s (n + 1) ps xs q name e
 
-same_record : (s : Schedule) (p : ℕ) (row : Partition) (program : Program) → source_record s p row program ≡ source_record (schedule_of_partition p s) p row program
-same_record s p row program = ap (λ (ws : List WindowRow). source_member (record { name = row.name; number = p; period = row.period; duration = row.duration; schedule = record { frame = s.frame; windows = ws }; health = row.health }) row.ports program) (sym (filter_twice (λ w. w.partition.0 == p) s.windows))
+same_record : (c : Costs) (s : Schedule) (p : ℕ) (row : Partition) (program : Program) → source_record c s p row program ≡ source_record c (schedule_of_partition p s) p row program
+same_record c s p row program = ap (λ (ws : List WindowRow). source_member c (record { name = row.name; number = p; period = row.period; duration = row.duration; schedule = record { frame = s.frame; windows = ws }; health = row.health }) row.ports program) (sym (filter_twice (λ w. w.partition.0 == p) s.windows))
 
 module _ (ms : Members) (t : Table) (sources : List Program) (accepted : verdict ms ≡ Ok t) where
   lawful : IsLawful (bare_image t)
   lawful = accepted_image ms t (map bare t.partitions) accepted (bare_rows t.partitions) (bare_sections t.partitions)
 
   abbrev names : List (List ℕ)
-  names = map name_of (source_members t.schedule 1 t.partitions sources)
+  names = map name_of (source_members t.costs t.schedule 1 t.partitions sources)
 
   bare_at : (q : ℕ) (row : Partition) → slice_get t.partitions q ≡ Some row → slice_get (map bare t.partitions) q ≡ Some (bare row)
   bare_at q row e = slice_get-map bare t.partitions q ∙ ap (option_map bare) e
@@ -132,12 +133,12 @@ module _ (ms : Members) (t : Table) (sources : List Program) (accepted : verdict
 
   all_apart : (place : ℕ) (name : List ℕ) → slice_get names place ≡ Some name → IsApart name place names
   all_apart place name e =
-      let r = named_at t.schedule 1 t.partitions sources place name e in
+      let r = named_at t.costs t.schedule 1 t.partitions sources place name e in
       let apart = image_apart (bare_image t) lawful place (bare r.0) (bare_at place r.0 r.1) in
       record {
         here = e;
         others = λ q other n f.
-            let o = named_at t.schedule 1 t.partitions sources q other f in
+            let o = named_at t.costs t.schedule 1 t.partitions sources q other f in
             subst (λ (a : List ℕ). same a other ≡ false) r.2 (subst (λ (b : List ℕ). same r.0.name b ≡ false) o.2 (apart.others q o.0.name n (bare_name q o.0 o.1)));
       }
 
@@ -147,9 +148,9 @@ module _ (ms : Members) (t : Table) (sources : List Program) (accepted : verdict
       → part row.name (source_trace t sources lines n) ≡ source_slice_trace (source_slice t sources p row program) (source_inputs t sources p lines n) n
   source_isolation text lines zero row program n taken e f = absurd (cc)
   source_isolation text lines (suc place) row program n taken e f =
-      let members = source_members t.schedule 1 t.partitions sources in
-      let own : slice_get members place ≡ Some (source_record (schedule_of_partition (suc place) t.schedule) (suc place) row program) =
-      members_at t.schedule 1 t.partitions sources place row program e f ∙ ap (λ (m : ℕ). Some (source_record t.schedule m row program)) (first place) ∙ ap (λ (x : Member SourceControl). Some x) (same_record t.schedule (suc place) row program) in
+      let members = source_members t.costs t.schedule 1 t.partitions sources in
+      let own : slice_get members place ≡ Some (source_record t.costs (schedule_of_partition (suc place) t.schedule) (suc place) row program) =
+      members_at t.costs t.schedule 1 t.partitions sources place row program e f ∙ ap (λ (m : ℕ). Some (source_record t.costs t.schedule m row program)) (first place) ∙ ap (λ (x : Member SourceControl). Some x) (same_record t.costs t.schedule (suc place) row program) in
       let here : slice_get names place ≡ Some row.name = slice_get-map name_of members place ∙ ap (option_map name_of) own in
       let right = image_ends (bare_image t) lawful in
       let plain = isolates t.partitions t.schedule t.channels t.fault (λ at. accepted_owner ms t at accepted) (λ at. accepted_end ms t at accepted)
@@ -162,4 +163,4 @@ module _ (ms : Members) (t : Table) (sources : List Program) (accepted : verdict
       first p = omega arith
 
       record_at : ℕ → Member SourceControl
-      record_at place = source_record (schedule_of_partition (suc place) t.schedule) (suc place) row program
+      record_at place = source_record t.costs (schedule_of_partition (suc place) t.schedule) (suc place) row program

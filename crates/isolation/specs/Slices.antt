@@ -2,6 +2,8 @@
 use Rattle.std.specs.Prelude.{ℕ, List, Option, option_map}
 use Rattle.apex_types.specs.declared.device.DeviceLine.{DeviceLine}
 use Rattle.apex_types.specs.declared.event.Event.{Event}
+use Rattle.apex_types.specs.Versions.{costs_of}
+use Rattle.apex_types.specs.declared.cost.Costs.{Costs}
 use Rattle.machine_meaning.specs.Image.{Item, Image}
 use Rattle.module_meaning.specs.Table.{at_number, fixed_of}
 use Rattle.machine_meaning.specs.MachineControl.{MachineControl}
@@ -10,9 +12,10 @@ use Rattle.isolation.specs.Alone.{Alone, InputLine, Surroundings, trace_alone}
 use Rattle.isolation.specs.Brought.{inputs_of}
 use Rattle.isolation.specs.Surrounded.{surroundings_of}
 
--- The partition's number, its row with its section, the major frame with its own windows, the
--- action on a fault of the module, and the ways out of its ports.
+-- The costs of constructs, the partition's number, its row with its section, the major frame with
+-- its own windows, the action on a fault of the module, and the ways out of its ports.
 pub record Slice : Type 0 where
+  pub costs : Costs
   pub number : ℕ
   pub item : Item
   pub around : Surroundings
@@ -20,6 +23,7 @@ pub record Slice : Type 0 where
 -- The slice of an image for partition p, if the item is that of p.
 abbrev pub slice_of : Image → ℕ → Item → Slice
 slice_of image p item = record {
+  costs = costs_of image.version;
   number = p;
   item = item;
   around = surroundings_of (machine_module image).plan p item.partition.ports;
@@ -31,7 +35,7 @@ slice image p = option_map (slice_of image p) (at_number image.items p)
 
 -- a machine that holds this partition and no other
 abbrev pub machine_alone : Slice → Alone MachineControl
-machine_alone s = record { around = s.around; member = machine_member (fixed_of s.around.schedule s.number s.item.partition) s.item.partition.ports s.item.section }
+machine_alone s = record { around = s.around; member = machine_member s.costs (fixed_of s.around.schedule s.number s.item.partition) s.item.partition.ports s.item.section }
 
 -- The trace of n ticks of a partition alone, from its slice and its inputs.
 abbrev pub slice_trace : Slice → List InputLine → ℕ → List Event

@@ -4,6 +4,7 @@ use Rattle.std.specs.Prelude.{ℤ, ◌^◌}
 use Rattle.std.specs.Option.{option_map}
 use Rattle.std.proofs.lemmas.List.{length-map}
 use Rattle.std.proofs.lemmas.Option.{none-some, same_Some, slice_get-get_or}
+use Rattle.apex_types.specs.declared.cost.Costs.{Costs}
 use Rattle.apex_types.specs.declared.limits.TheConstants.{MOST_PARTITIONS, MOST_PORTS, MOST_TICKS}
 use Rattle.apex_types.specs.declared.row.BodyRow.{BodyRow}
 use Rattle.apex_types.specs.declared.row.PortKind.{PortKind}
@@ -112,13 +113,13 @@ all_idle rows =
 abbrev member : Engine MachineControl → Kernel → List (Option MachineControl) → List ℤ → List ℤ → Member MachineControl
 member engine k controls words initial = record { engine = engine; world = record { kernel = k; controls = controls; words = words; initial = initial } }
 
-pub loaded_member : (fixed : Fixed) (ports : List PortRow) (s : Section) (engine : Engine MachineControl) (k : Kernel) (controls : List (Option MachineControl)) (words initial : List ℤ)
-    → engine ≡ engine_of_section s → k ≡ idle_kernel fixed ports s → controls ≡ replicate (2 + length s.processes.items) None → words ≡ initial → initial ≡ s.initial.items
-    → member engine k controls words initial ≡ machine_member fixed ports (section_of s)
-loaded_member fixed ports s engine k controls words initial e f g h i =
+pub loaded_member : (k : Costs) (fixed : Fixed) (ports : List PortRow) (s : Section) (engine : Engine MachineControl) (kernel : Kernel) (controls : List (Option MachineControl)) (words initial : List ℤ)
+    → engine ≡ engine_of_section k s → kernel ≡ idle_kernel fixed ports s → controls ≡ replicate (2 + length s.processes.items) None → words ≡ initial → initial ≡ s.initial.items
+    → member engine kernel controls words initial ≡ machine_member k fixed ports (section_of s)
+loaded_member k fixed ports s engine kernel controls words initial e f g h i =
     let its = s.initial.items in
-    ap (λ e. member e k controls words initial) e
-    ∙ ap (λ k. member (section_engine (section_of s)) k controls words initial) f
-    ∙ ap (λ c. member (section_engine (section_of s)) (idle_kernel fixed ports s) c words initial) (g ∙ all_idle s.processes.items)
-    ∙ ap (λ w. member (section_engine (section_of s)) (idle_kernel fixed ports s) (map no_control_for (idle_kernel fixed ports s).processes.rows) w initial) (h ∙ i)
-    ∙ ap (λ i. member (section_engine (section_of s)) (idle_kernel fixed ports s) (map no_control_for (idle_kernel fixed ports s).processes.rows) its i) i
+    ap (λ e. member e kernel controls words initial) e
+    ∙ ap (λ x. member (section_engine k (section_of s)) x controls words initial) f
+    ∙ ap (λ c. member (section_engine k (section_of s)) (idle_kernel fixed ports s) c words initial) (g ∙ all_idle s.processes.items)
+    ∙ ap (λ w. member (section_engine k (section_of s)) (idle_kernel fixed ports s) (map no_control_for (idle_kernel fixed ports s).processes.rows) w initial) (h ∙ i)
+    ∙ ap (λ i. member (section_engine k (section_of s)) (idle_kernel fixed ports s) (map no_control_for (idle_kernel fixed ports s).processes.rows) its i) i

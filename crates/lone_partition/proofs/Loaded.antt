@@ -2,6 +2,7 @@
 use Rattle.std.proofs.Common.{◌≡◌, ℕ, suc, List, Option, Some, sym, ap, ◌∙◌}
 use Rattle.std.specs.Prelude.{option_map, slice_get}
 use Rattle.std.proofs.lemmas.Option.{slice_get-map}
+use Rattle.apex_types.specs.Versions.{costs_of}
 use Rattle.machine_meaning.specs.Image.{Image, Item}
 use Rattle.module_meaning.specs.Table.{at_number}
 use Rattle.kernel_meaning.specs.Kernel.{Fixed}
@@ -24,9 +25,9 @@ item_here items place number item e here =
 
 -- surroundings and a member of an item make its slice alone
 pub alone_is : (image : Image) (number : ℕ) (item : Item) (s : Surroundings) (x : Member MachineControl) (fixed : Fixed) → at_number image.items number ≡ Some item
-    → s ≡ surroundings_of (machine_module image).plan number item.partition.ports → x ≡ machine_member fixed item.partition.ports item.section → fixed ≡ fixed_of s.schedule number item.partition
+    → s ≡ surroundings_of (machine_module image).plan number item.partition.ports → x ≡ machine_member (costs_of image.version) fixed item.partition.ports item.section → fixed ≡ fixed_of s.schedule number item.partition
     → Some (record { around = s; member = x }) ≡ option_map machine_alone (slice image number)
 alone_is image number item s x fixed there around member kept =
-    ap (λ (y : Member MachineControl). Some (record { around = s; member = y })) (member ∙ ap (λ (f : Fixed). machine_member f item.partition.ports item.section) kept)
-    ∙ ap (λ (t : Surroundings). Some (record { around = t; member = machine_member (fixed_of t.schedule number item.partition) item.partition.ports item.section })) around
+    ap (λ (y : Member MachineControl). Some (record { around = s; member = y })) (member ∙ ap (λ (f : Fixed). machine_member (costs_of image.version) f item.partition.ports item.section) kept)
+    ∙ ap (λ (t : Surroundings). Some (record { around = t; member = machine_member (costs_of image.version) (fixed_of t.schedule number item.partition) item.partition.ports item.section })) around
     ∙ ap (λ (o : Option Item). option_map machine_alone (option_map (slice_of image number) o)) (sym there)

@@ -11,7 +11,7 @@ ghost use Rattle.partition_base.specs.contracts.machine.PartitionProcessorExecut
 ghost use Rattle.window_table.specs.Schedules.{schedule_of};
 ghost use Rattle.lone_partition.specs.Loading.{IsFittingItem, fresh_item};
 
-use apex_types::PartitionId;
+use apex_types::{Costs, PartitionId};
 use image::PartitionItem;
 use partition::{Fixed, Partition, PartitionRows};
 use partition_base::{FittingSection, PartitionProcessor, memory_plan};
@@ -40,22 +40,24 @@ pub fn fixed(
     })
 }
 
-/// Loads a partition, idle, with nothing created; its memory is to be the one that its section asks
-/// for. `AllocError`: out of memory.
+/// Loads a partition whose instructions have these costs, idle, with nothing created; its memory is
+/// to be the one that its section asks for. `AllocError`: out of memory.
 pub fn load_partition(
     alloc: Global,
+    costs: &Costs,
     fixed: Fixed,
     item: &PartitionItem,
 ) -> Result<Partition<PartitionProcessor>, AllocError>
     requires { IsFittingItem item.now }
     ensures member { IfOk result
         (λ partition. member_of machine partition (fresh_item item.now)
-        ≡ machine_member (view fixed) item.now.row.ports.items (section_of item.now.section)) }
+        ≡ machine_member costs.now (view fixed) item.now.row.ports.items
+        (section_of item.now.section)) }
     ensures fits { IfOk result
         (λ partition. laid_of (fresh_item item.now) ≡ layout_of partition.executor) }
 {
     let section = &item.section;
-    let executor = PartitionProcessor::new(alloc, FittingSection { section })?;
+    let executor = PartitionProcessor::new(alloc, costs, FittingSection { section })?;
     let rows = PartitionRows {
         ports: &item.row.ports,
         section,

@@ -44,7 +44,7 @@ impl LonePartition {
         let item = &image.partitions[usize::from(number.0) - 1];
         let surroundings = Surroundings::load(alloc, image, number, &item.row.ports)?;
         let fixed = fixed(alloc, &surroundings.schedule, number, &item.row)?;
-        let partition = load_partition(alloc, fixed, item)?;
+        let partition = load_partition(alloc, &image.version.costs(), fixed, item)?;
         let memory = load_memory(alloc, item)?;
         Ok(LonePartition {
             surroundings,

@@ -5,6 +5,7 @@ use Rattle.std.specs.List.{list_any, AllByRecursion, All}
 use Rattle.std.proofs.lemmas.Bool.{not-false, ltb-false, or_parts, or_from, and_left, ne_eqb}
 use Rattle.std.proofs.lemmas.List.{length-map}
 use Rattle.std.proofs.lemmas.List.Folds.{list_any-append}
+use Rattle.apex_types.specs.declared.version.ImageVersion.TheVariants.{Second}
 use Rattle.apex_types.specs.declared.limits.TheConstants.{MOST_CHANNELS, MOST_DEPTH, MOST_DESTINATIONS, MOST_FRAME_TICKS, MOST_PARTITIONS, MOST_PORTS, MOST_TICKS, MOST_WINDOWS, MOST_WORDS}
 use Rattle.apex_types.specs.NameText.{is_name}
 use Rattle.apex_types.specs.declared.row.PortRow.{PortRow}
@@ -14,7 +15,7 @@ use Rattle.apex_types.specs.declared.row.ChannelEnd.TheVariants as ends
 use Rattle.toml.specs.Data.{Members}
 use Rattle.module_meaning.specs.Table.{Table, Partition, Channel, has_twice, has_odd_period, has_short_period, lacks_release, has_wrong_ends}
 use Rattle.machine_meaning.specs.Image.{Item, Image}
-use Rattle.module_meaning.specs.TableRules.{same, KindText, Sampling, Queuing, PortText, PartitionText, WindowText, ChannelText, TableText, table_text_of, Refusal, Shape, is_outside, is_count_outside, exceeds_kind, exceeds_port, exceeds_times, has_many_ports, exceeds_partition, exceeds_window, exceeds_channel, exceeds_counts, exceeds_rows, exceeds_limits, is_unknown_window, has_unknown_end, has_same_names, number_from, partition_number, port_number, port_from, end_of, has_unknown_name, window_row, channel_row, kind_row, port_row, partition_row, numbered, overlaps_after, overlaps, has_unknown_action, judge_table, judge_text, verdict}
+use Rattle.module_meaning.specs.TableRules.{same, KindText, Sampling, Queuing, PortText, PartitionText, WindowText, ChannelText, TableText, table_text_of, Refusal, Shape, is_outside, is_count_outside, exceeds_kind, exceeds_port, exceeds_times, has_many_ports, exceeds_partition, exceeds_window, has_costs_outside, exceeds_channel, exceeds_counts, exceeds_rows, exceeds_limits, is_unknown_window, has_unknown_end, has_same_names, number_from, partition_number, port_number, port_from, end_of, has_unknown_name, window_row, channel_row, kind_row, port_row, partition_row, numbered, overlaps_after, overlaps, has_unknown_action, judge_table, judge_text, verdict}
 use Rattle.kernel_meaning.specs.Windows.{Schedule}
 use Rattle.machine_meaning.specs.ImageReading.{last_end, end_of as image_end}
 use Rattle.machine_meaning.specs.ImageLimits.{IsFrom, EachBeside, IsPortKind, IsPort, IsSection, IsItem, IsWindow, IsEnd, IsChannel, IsWithinLimits}
@@ -308,7 +309,7 @@ few_ports frame (p ∷ ps) h =
 
 -- the image of a table whose partitions have become items
 abbrev pub image_of : Table → List Item → Image
-image_of t items = record { schedule = t.schedule; fault = t.fault; items = items; channels = t.channels }
+image_of t items = record { schedule = t.schedule; fault = t.fault; version = Second t.costs; items = items; channels = t.channels }
 
 -- each window ends within the frame
 abbrev pub HaveRoom : Table → Type 0
@@ -320,7 +321,7 @@ unfolding numbered exceeds_counts exceeds_rows has_same_names
 text_limits text items limits names apart same_rows sections =
     let ps = text.partitions in
     let l1 = or_parts _ (list_any (exceeds_partition text.frame) ps) limits in
-    let l2 = or_parts (exceeds_counts text) (exceeds_rows text) l1.0 in
+    let l2 = or_parts (exceeds_counts text) (exceeds_rows text) (or_parts (exceeds_counts text || exceeds_rows text) (has_costs_outside text.costs) l1.0).0 in
     let c1 = or_parts _ (is_count_outside 0 MOST_CHANNELS text.channels) l2.0 in
     let c2 = or_parts _ (is_count_outside 1 MOST_WINDOWS text.windows) c1.0 in
     let c3 = or_parts (is_outside 1 (pos MOST_FRAME_TICKS) text.frame) (is_count_outside 1 MOST_PARTITIONS ps) c2.0 in
@@ -396,7 +397,7 @@ unfolding numbered exceeds_counts exceeds_rows
 text_in_order text limits apart =
     let ps = text.partitions in
     let l1 = or_parts _ (list_any (exceeds_partition text.frame) ps) limits in
-    let l2 = or_parts (exceeds_counts text) (exceeds_rows text) l1.0 in
+    let l2 = or_parts (exceeds_counts text) (exceeds_rows text) (or_parts (exceeds_counts text || exceeds_rows text) (has_costs_outside text.costs) l1.0).0 in
     let c1 = or_parts _ (is_count_outside 0 MOST_CHANNELS text.channels) l2.0 in
     let c2 = or_parts _ (is_count_outside 1 MOST_WINDOWS text.windows) c1.0 in
     let c3 = or_parts (is_outside 1 (pos MOST_FRAME_TICKS) text.frame) (is_count_outside 1 MOST_PARTITIONS ps) c2.0 in

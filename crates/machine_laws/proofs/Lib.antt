@@ -3,6 +3,7 @@ pub mod ImageFields
 pub mod ImageNumbers
 pub mod ImageNames
 pub mod ImageLists
+pub mod ImageCosts
 pub mod ImageChoices
 pub mod ImageObjects
 pub mod ImageBodies

@@ -2,6 +2,7 @@
 
 ghost use Rattle.std.specs.Prelude.{◌≡◌, ◌≤◌, ℕ, List, length, map, Ok, All};
 ghost use Rattle.apex_types.specs.declared.identity.At.{At};
+ghost use Rattle.apex_types.specs.declared.version.ImageVersion.TheVariants.{Second};
 ghost use Rattle.toml.specs.Data.{Members};
 ghost use Rattle.module_meaning.specs.Table.{Table, Partition};
 ghost use Rattle.machine_meaning.specs.Image.{Item};
@@ -22,6 +23,7 @@ pub fn accepted_table_is_within_limits()
         (record {
           schedule = t.schedule;
           fault = t.fault;
+          version = Second t.costs;
           items = items;
           channels = t.channels;
         }) }
@@ -36,6 +38,7 @@ pub fn accepted_table_is_lawful()
         (record {
           schedule = t.schedule;
           fault = t.fault;
+          version = Second t.costs;
           items = items;
           channels = t.channels;
         }) }

@@ -7,6 +7,7 @@ use Rattle.apex_types.specs.declared.row.RoutineRow.{RoutineRow}
 use Rattle.apex_types.specs.declared.row.ProcessRow.{ProcessRow}
 use Rattle.apex_types.specs.declared.row.BodyRow.{BodyRow}
 use Rattle.apex_types.specs.declared.codes.ModuleAction.{ModuleAction}
+use Rattle.apex_types.specs.declared.version.ImageVersion.{ImageVersion}
 use Rattle.kernel_meaning.specs.Windows.{Schedule}
 use Rattle.module_meaning.specs.Table.{Channel, Partition}
 use Rattle.machine_meaning.specs.Section.{Section}
@@ -32,9 +33,6 @@ pub record Bodies : Type 0 where
 abbrev pub magic : List ℕ
 magic = 65 ∷ 80 ∷ 54 ∷ 53 ∷ 51 ∷ 73 ∷ 77 ∷ 71 ∷ []
 
-abbrev pub version : ℕ
-version = 1
-
 -- a partition's row with its section
 pub record Item : Type 0 where
   pub partition : Partition
@@ -43,5 +41,6 @@ pub record Item : Type 0 where
 pub record Image : Type 0 where
   pub schedule : Schedule
   pub fault : ModuleAction
+  pub version : ImageVersion
   pub items : List Item
   pub channels : List Channel

@@ -5,7 +5,14 @@ use Rattle.std.specs.List.{list_all, list_any}
 use Rattle.std.specs.Str.{bytes_eq}
 use Rattle.std.specs.Int.{Width, w16, w32, w64, byte_len, from_le_bytes, cast_signed}
 use Rattle.apex_types.specs.declared.limits.TheConstants.{GREATEST_PRIORITY, LEAST_STACK_WORDS, MOST_CHANNELS, MOST_DATA_WORDS, MOST_DEPTH, MOST_DESTINATIONS, MOST_FRAME_TICKS, MOST_INSTRUCTIONS, MOST_NAME_BYTES, MOST_OBJECTS, MOST_PARTITIONS, MOST_PORTS, MOST_PROCEDURES, MOST_PROCESSES, MOST_SEMAPHORE_VALUE, MOST_SLOTS, MOST_STACK_WORDS, MOST_TICKS, MOST_WINDOWS, MOST_WORDS}
+use Rattle.apex_types.specs.Costs.{cost_of_ticks, from_order}
+use Rattle.apex_types.specs.declared.cost.TheConstants.{COST_KEYS}
 use Rattle.apex_types.specs.NameText.{is_name}
+use Rattle.apex_types.specs.declared.cost.TickCost.{TickCost}
+use Rattle.apex_types.specs.declared.cost.Costs.{Costs}
+use Rattle.apex_types.specs.declared.version.TheConstants.{FIRST_VERSION, SECOND_VERSION}
+use Rattle.apex_types.specs.declared.version.ImageVersion.{ImageVersion}
+use Rattle.apex_types.specs.declared.version.ImageVersion.TheVariants.{First, Second}
 use Rattle.module_meaning.specs.Table.{keeps_rules}
 use Rattle.apex_types.specs.declared.codes.Discipline.{Discipline}
 use Rattle.apex_types.specs.declared.codes.Discipline.TheVariants.{Fifo, Priority}
@@ -31,7 +38,7 @@ use Rattle.apex_types.specs.declared.row.BodyRow.{BodyRow}
 use Rattle.machine_meaning.specs.Section.{Section}
 use Rattle.module_meaning.specs.Table.{Partition, Channel}
 use Rattle.machine_meaning.specs.Image.{Item, Image}
-use Rattle.machine_meaning.specs.Image.{magic, version, Objects, Bodies}
+use Rattle.machine_meaning.specs.Image.{magic, Objects, Bodies}
 
 -- Truncated: a field is incomplete. Foreign: another magic or version. Limit: a value outside its
 -- limit. Order: a name used before among its kind, or a window that begins before the end of the
@@ -374,7 +381,22 @@ unfoldable pub version_at : List ℕ → Read ℕ
 version_at bytes = do
   text ← magic_at bytes
   number ← number_at w16 text.1
-  if number.0 == version then Ok number else Err Foreign
+  if (number.0 == FIRST_VERSION) || (number.0 == SECOND_VERSION) then Ok number else Err Foreign
+
+unfoldable pub cost_at : List ℕ → Read TickCost
+cost_at bytes = do
+  n ← number_at w16 bytes
+  chosen n.1 (cost_of_ticks n.0)
+
+-- the costs in the order of a table's keys
+unfoldable pub costs_at : List ℕ → Read Costs
+costs_at bytes = do
+  costs ← items_at (λ _. cost_at) COST_KEYS [] bytes
+  Ok (from_order costs.0, costs.1)
+
+-- what an image has as one of the version with this number
+unfoldable pub own_fields_at : ℕ → List ℕ → Read ImageVersion
+own_fields_at number bytes = if number == FIRST_VERSION then Ok (First, bytes) else (costs_at bytes >>= λ costs. Ok (Second costs.0, costs.1))
 
 -- all fields, and the bytes behind them
 unfoldable pub fields_at : List ℕ → Read Image
@@ -382,10 +404,11 @@ fields_at bytes = do
   number ← version_at bytes
   frame ← limited_at w32 1 MOST_FRAME_TICKS number.1
   fault ← choice_at module_action_of frame.1
-  items ← list_at 1 MOST_PARTITIONS (item_at frame.0) fault.1
+  version ← own_fields_at number.0 fault.1
+  items ← list_at 1 MOST_PARTITIONS (item_at frame.0) version.1
   windows ← list_at 1 MOST_WINDOWS window_at items.1
   channels ← list_at 0 MOST_CHANNELS channel_at windows.1
-  Ok (record { schedule = record { frame = frame.0; windows = windows.0 }; fault = fault.0; items = items.0; channels = channels.0 }, channels.1)
+  Ok (record { schedule = record { frame = frame.0; windows = windows.0 }; fault = fault.0; version = version.0; items = items.0; channels = channels.0 }, channels.1)
 
 abbrev pub partitions_in : Image → List Partition
 partitions_in image = map (λ it. it.partition) image.items

@@ -25,7 +25,12 @@ use Rattle.apex_types.specs.declared.row.ProcessRow.{ProcessRow}
 use Rattle.apex_types.specs.declared.row.BodyRow.{BodyRow}
 use Rattle.machine_meaning.specs.Section.{Section}
 use Rattle.module_meaning.specs.Table.{Partition, Channel}
-use Rattle.machine_meaning.specs.Image.{Item, Image, Bodies, Objects, magic, version}
+use Rattle.apex_types.specs.Costs.{in_order}
+use Rattle.apex_types.specs.Versions.{number_of}
+use Rattle.apex_types.specs.declared.cost.Costs.{Costs}
+use Rattle.apex_types.specs.declared.version.ImageVersion.{ImageVersion}
+use Rattle.apex_types.specs.declared.version.ImageVersion.TheVariants.{First, Second}
+use Rattle.machine_meaning.specs.Image.{Item, Image, Bodies, Objects, magic}
 
 -- ---- numbers, names and lists
 
@@ -168,8 +173,21 @@ channel row = name row.name ++ channel_end row.source ++ list channel_end row.de
 unfoldable pub item : Item → List ℕ
 item it = partition it.partition ++ section it.section
 
+-- the costs in the order of a table's keys
+unfoldable pub costs : Costs → List ℕ
+costs c = flat_map (λ cost. u16 cost.ticks) (in_order c)
+
+-- what an image has as one of its version
+unfoldable pub own_fields : ImageVersion → List ℕ
+own_fields First = []
+own_fields (Second c) = costs c
+
+-- what images of every version begin with
+unfoldable pub front : Image → List ℕ
+front image = magic ++ u16 (number_of image.version) ++ u32 image.schedule.frame ++ u8 (module_action image.fault)
+
 unfoldable pub head : Image → List ℕ
-head image = magic ++ u16 version ++ u32 image.schedule.frame ++ u8 (module_action image.fault)
+head image = front image ++ own_fields image.version
 
 unfoldable pub spelling : Image → List ℕ
 spelling image = head image ++ list item image.items ++ list window image.schedule.windows ++ list channel image.channels

@@ -6,7 +6,8 @@ use Rattle.apex_types.specs.declared.event.Event.{Event}
 use Rattle.apex_types.specs.declared.event.Subject.TheVariants.{Process}
 use Rattle.apex_types.specs.declared.identity.Runner.{Runner}
 use Rattle.apex_types.specs.declared.process.ProcessStatus.{ProcessStatus}
-use Rattle.apex_types.specs.Costs.{written_costs}
+use Rattle.apex_types.specs.Versions.{costs_of}
+use Rattle.apex_types.specs.declared.cost.Costs.{Costs}
 use Rattle.apex_types.specs.declared.row.BodyRow.{BodyRow}
 use Rattle.apex_types.specs.declared.row.PortRow.{PortRow}
 use Rattle.apex_types.specs.declared.row.ProcessRow.{ProcessRow}
@@ -36,23 +37,23 @@ body_of_row p = p.body
 abbrev pub machine_body : Section → Runner → BodyRow
 machine_body s p = body_at s.init s.handler (map body_of_row s.processes) p
 
--- the processor with the written costs and a partition's code, each instruction read from its sixteen bytes
-abbrev pub section_engine : Section → Engine MachineControl
-section_engine s = machine_engine written_costs (map reading s.code) s.routines (machine_body s)
+-- the processor with these costs and a partition's code, each instruction read from its sixteen bytes
+abbrev pub section_engine : Costs → Section → Engine MachineControl
+section_engine costs s = machine_engine costs (map reading s.code) s.routines (machine_body s)
 
 abbrev pub section_objects : Section → Objects
 section_objects s = fresh_objects s.semaphores s.events s.buffers s.blackboards
 
-abbrev pub machine_member : Fixed → List PortRow → Section → Member MachineControl
-machine_member fixed ports s = record { engine = section_engine s; world = fresh_world (fresh_kernel fixed (map machine_row s.processes) (section_objects s) (fresh_ports ports) (is_some s.handler)) s.initial }
+abbrev pub machine_member : Costs → Fixed → List PortRow → Section → Member MachineControl
+machine_member costs fixed ports s = record { engine = section_engine costs s; world = fresh_world (fresh_kernel fixed (map machine_row s.processes) (section_objects s) (fresh_ports ports) (is_some s.handler)) s.initial }
 
 -- each partition in order, with their numbers
-abbrev pub machine_members : Schedule → ℕ → List Item → List (Member MachineControl)
-machine_members schedule number [] = []
-machine_members schedule number (i ∷ is) = machine_member (fixed_of schedule number i.partition) i.partition.ports i.section ∷ machine_members schedule (number + 1) is
+abbrev pub machine_members : Costs → Schedule → ℕ → List Item → List (Member MachineControl)
+machine_members costs schedule number [] = []
+machine_members costs schedule number (i ∷ is) = machine_member costs (fixed_of schedule number i.partition) i.partition.ports i.section ∷ machine_members costs schedule (number + 1) is
 
 abbrev pub machine_module : Image → Module MachineControl
-machine_module i = record { plan = record { schedule = i.schedule; channels = i.channels; fault = i.fault }; members = machine_members i.schedule 1 i.items }
+machine_module i = record { plan = record { schedule = i.schedule; channels = i.channels; fault = i.fault }; members = machine_members (costs_of i.version) i.schedule 1 i.items }
 
 -- the machine meaning: the trace of n ticks with these lines of the devices
 abbrev pub machine_trace : Image → List DeviceLine → ℕ → List Event

@@ -3,7 +3,6 @@ use Rattle.std.proofs.Common.{◌≡◌, ℕ, ◌+◌, ◌<◌, List, [], ◌∷
 use Rattle.std.specs.Option.{option_map}
 use Rattle.std.proofs.lemmas.List.{map-append, take_more}
 use Rattle.apex_types.specs.declared.cost.Costs.{Costs}
-use Rattle.apex_types.specs.Costs.{written_costs}
 use Rattle.module_meaning.specs.Table.{Partition, Table}
 use Rattle.image.specs.Items.{partition_of}
 use Rattle.pal_base.specs.ProgramView.{body_of, procedure_of, process_of, program_of}
@@ -42,46 +41,46 @@ costs_of_code : (costs : Costs) (p : code_program.Program) → report.costs_of c
 costs_of_code costs p =
     rw (sym (handler_costs costs p.handler), sym (process_costs costs p.processes.items), sym (procedure_costs costs p.procedures.items)) refl
 
-is_costed : (row : Partition) (source : List ℕ) (a : Checked) (c : PartitionCosts) → IsSource row source a → IsCostOf row a c → IsCosted row source c
-is_costed row source a c is of = record {
+is_costed : (k : Costs) (row : Partition) (source : List ℕ) (a : Checked) (c : PartitionCosts) → IsSource row source a → IsCostOf k row a c → IsCosted k row source c
+is_costed k row source a c is of = record {
   partition = of.partition;
   tree = is.tree;
   written = is.written;
   program = program_of a.program;
   judged = is.judged;
-  bodies = of.bodies ∙ costs_of_code written_costs a.program ∙ ap (λ (names : List (List ℕ)). costs_of_program written_costs names (program_of a.program)) is.named;
+  bodies = of.bodies ∙ costs_of_code k a.program ∙ ap (λ (names : List (List ℕ)). costs_of_program k names (program_of a.program)) is.named;
 }
 
-pub are_costed : (rows : List Partition) (sources : List (List ℕ)) (given : List Checked) (costs : List PartitionCosts)
-    → AreSources rows sources given → AreCostsOf rows given costs → AreCosted rows sources costs
-are_costed [] [] [] [] is of = tt
-are_costed [] [] [] (c ∷ costs) is of = absurd of
-are_costed [] [] (a ∷ given) costs is of = absurd is
-are_costed [] (s ∷ sources) given costs is of = absurd is
-are_costed (row ∷ rows) [] given costs is of = absurd is
-are_costed (row ∷ rows) (s ∷ sources) [] costs is of = absurd is
-are_costed (row ∷ rows) (s ∷ sources) (a ∷ given) [] is of = absurd of
-are_costed (row ∷ rows) (s ∷ sources) (a ∷ given) (c ∷ costs) is of = (is_costed row s a c is.0 of.0, are_costed rows sources given costs is.1 of.1)
+pub are_costed : (k : Costs) (rows : List Partition) (sources : List (List ℕ)) (given : List Checked) (costs : List PartitionCosts)
+    → AreSources rows sources given → AreCostsOf k rows given costs → AreCosted k rows sources costs
+are_costed k [] [] [] [] is of = tt
+are_costed k [] [] [] (c ∷ costs) is of = absurd of
+are_costed k [] [] (a ∷ given) costs is of = absurd is
+are_costed k [] (s ∷ sources) given costs is of = absurd is
+are_costed k (row ∷ rows) [] given costs is of = absurd is
+are_costed k (row ∷ rows) (s ∷ sources) [] costs is of = absurd is
+are_costed k (row ∷ rows) (s ∷ sources) (a ∷ given) [] is of = absurd of
+are_costed k (row ∷ rows) (s ∷ sources) (a ∷ given) (c ∷ costs) is of = (is_costed k row s a c is.0 of.0, are_costed k rows sources given costs is.1 of.1)
 
 -- ---- programs one after the other
 
-one_more_costed : (rows : List Partition) (given : List Checked) (costs : List PartitionCosts) (row : Partition) (a : Checked) (c : PartitionCosts)
-    → AreCostsOf rows given costs → IsCostOf row a c → AreCostsOf (rows ++ row ∷ []) (given ++ a ∷ []) (costs ++ c ∷ [])
-one_more_costed [] [] [] row a c h one = (one, tt)
-one_more_costed [] [] (d ∷ costs) row a c h one = absurd h
-one_more_costed [] (b ∷ given) costs row a c h one = absurd h
-one_more_costed (r ∷ rows) [] costs row a c h one = absurd h
-one_more_costed (r ∷ rows) (b ∷ given) [] row a c h one = absurd h
-one_more_costed (r ∷ rows) (b ∷ given) (d ∷ costs) row a c h one = (h.0, one_more_costed rows given costs row a c h.1 one)
+one_more_costed : (k : Costs) (rows : List Partition) (given : List Checked) (costs : List PartitionCosts) (row : Partition) (a : Checked) (c : PartitionCosts)
+    → AreCostsOf k rows given costs → IsCostOf k row a c → AreCostsOf k (rows ++ row ∷ []) (given ++ a ∷ []) (costs ++ c ∷ [])
+one_more_costed k [] [] [] row a c h one = (one, tt)
+one_more_costed k [] [] (d ∷ costs) row a c h one = absurd h
+one_more_costed k [] (b ∷ given) costs row a c h one = absurd h
+one_more_costed k (r ∷ rows) [] costs row a c h one = absurd h
+one_more_costed k (r ∷ rows) (b ∷ given) [] row a c h one = absurd h
+one_more_costed k (r ∷ rows) (b ∷ given) (d ∷ costs) row a c h one = (h.0, one_more_costed k rows given costs row a c h.1 one)
 
-pub next_costed : (rows : List PartitionRow) (place : ℕ) (given : List Checked) (a : Checked) (costs next : List PartitionCosts) (row : PartitionRow) (c : PartitionCosts)
-    → place < length rows → row ≡ get_or rows place row → next ≡ costs ++ c ∷ [] → IsCostOf (partition_of row) a c
-    → AreCostsOf (map partition_of (take place rows)) given costs
-    → AreCostsOf (map partition_of (take (place + 1) rows)) (given ++ a ∷ []) next
-next_costed rows place given a costs next row c within read pushed one h =
+pub next_costed : (k : Costs) (rows : List PartitionRow) (place : ℕ) (given : List Checked) (a : Checked) (costs next : List PartitionCosts) (row : PartitionRow) (c : PartitionCosts)
+    → place < length rows → row ≡ get_or rows place row → next ≡ costs ++ c ∷ [] → IsCostOf k (partition_of row) a c
+    → AreCostsOf k (map partition_of (take place rows)) given costs
+    → AreCostsOf k (map partition_of (take (place + 1) rows)) (given ++ a ∷ []) next
+next_costed k rows place given a costs next row c within read pushed one h =
     let taken : take (place + 1) rows ≡ take place rows ++ row ∷ [] = take_more rows place row within ∙ ap (λ (r : PartitionRow). take place rows ++ r ∷ []) (sym read) in
     let rows_are : map partition_of (take (place + 1) rows) ≡ map partition_of (take place rows) ++ partition_of row ∷ [] = ap (map partition_of) taken ∙ map-append partition_of (take place rows) (row ∷ []) in
-    rw (rows_are, pushed) (one_more_costed (map partition_of (take place rows)) given costs (partition_of row) a c h one)
+    rw (rows_are, pushed) (one_more_costed k (map partition_of (take place rows)) given costs (partition_of row) a c h one)
 
 -- if a source is left, there is a row for it
 pub stands_within : {A B : Type 0} (rows : List A) (place : ℕ) (source : B) (left rest : List B) → left ≡ source ∷ rest → place + length left ≡ length rows → place < length rows
@@ -93,7 +92,7 @@ one_fewer rows place source left rest split all = omega (arith, ap length split)
 -- ---- a module
 
 pub are_costs : {A : Type 0} (items : A → List PartitionCosts) (table : List ℕ) (sources : List (List ℕ)) (t : Table) (answer : Result A BuildFault)
-    → IsTable table t → IfOk answer (λ x. AreCosted t.partitions sources (items x)) → IfOk answer (λ x. AreCosts table sources (items x))
+    → IsTable table t → IfOk answer (λ x. AreCosted t.costs t.partitions sources (items x)) → IfOk answer (λ x. AreCosts table sources (items x))
 are_costs items table sources t (Ok x) is h = record { rows = t; accepted = is; costed = h }
 are_costs items table sources t (Err f) is h = tt
 

@@ -1,5 +1,6 @@
 -- The partitions of an image that are loaded one after the other.
 use Rattle.std.proofs.Common.{◌≡◌, ℕ, ◌+◌, List, [], ◌∷◌, ◌++◌, ◌∙◌, append_assoc}
+use Rattle.apex_types.specs.declared.cost.Costs.{Costs}
 use Rattle.machine_meaning.specs.Image.{Item}
 use Rattle.kernel_meaning.specs.Partition.{Member}
 use Rattle.kernel_meaning.specs.Windows.{Schedule}
@@ -8,8 +9,8 @@ use Rattle.machine_meaning.specs.MachineMeaning.{machine_member, machine_members
 use Rattle.module_meaning.specs.Table.{fixed_of}
 
 -- one more partition is loaded, the first of the rest
-pub one_more_loaded : (schedule : Schedule) (number : ℕ) (before next whole : List (Member MachineControl)) (m : Member MachineControl) (i : Item) (rest : List Item)
-    → next ≡ before ++ m ∷ [] → m ≡ machine_member (fixed_of schedule number i.partition) i.partition.ports i.section
-    → before ++ machine_members schedule number (i ∷ rest) ≡ whole → next ++ machine_members schedule (number + 1) rest ≡ whole
-one_more_loaded schedule number before next whole m i rest pushed same so_far =
-    rw (pushed, same) (append_assoc before (machine_member (fixed_of schedule number i.partition) i.partition.ports i.section ∷ []) (machine_members schedule (number + 1) rest) ∙ so_far)
+pub one_more_loaded : (costs : Costs) (schedule : Schedule) (number : ℕ) (before next whole : List (Member MachineControl)) (m : Member MachineControl) (i : Item) (rest : List Item)
+    → next ≡ before ++ m ∷ [] → m ≡ machine_member costs (fixed_of schedule number i.partition) i.partition.ports i.section
+    → before ++ machine_members costs schedule number (i ∷ rest) ≡ whole → next ++ machine_members costs schedule (number + 1) rest ≡ whole
+one_more_loaded costs schedule number before next whole m i rest pushed same so_far =
+    rw (pushed, same) (append_assoc before (machine_member costs (fixed_of schedule number i.partition) i.partition.ports i.section ∷ []) (machine_members costs schedule (number + 1) rest) ∙ so_far)

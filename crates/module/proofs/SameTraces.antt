@@ -1,7 +1,7 @@
 -- The trace of a built image is the trace of its sources.
 use Rattle.std.proofs.Common.{◌≡◌, ℕ, ◌+◌, ℤ, Bool, List, [], ◌∷◌, map, Option, Some, None, refl, ap, subst}
 use Rattle.std.specs.Prelude.{is_some, option_map}
-use Rattle.apex_types.specs.Costs.{written_costs}
+use Rattle.apex_types.specs.declared.cost.Costs.{Costs}
 use Rattle.apex_types.specs.declared.device.DeviceLine.{DeviceLine}
 use Rattle.apex_types.specs.declared.process.ProcessStatus.{ProcessStatus}
 use Rattle.apex_types.specs.declared.row.PortRow.{PortRow}
@@ -46,12 +46,12 @@ handler_same p = one_too (body_row (handler_place p)) p.handler where
   one_too f None = refl
   one_too f (Some x) = refl
 
-member_same : (fixed : Fixed) (ports : List PortRow) (p : Program) → IsCompiled p → SameMember (Related p) (source_member fixed ports p) (machine_member fixed ports (section_of p))
-member_same fixed ports p h =
+member_same : (costs : Costs) (fixed : Fixed) (ports : List PortRow) (p : Program) → IsCompiled p → SameMember (Related p) (source_member costs fixed ports p) (machine_member costs fixed ports (section_of p))
+member_same costs fixed ports p h =
     let kernel = λ (rows : List ProcessStatus) (has_handler : Bool). fresh_kernel fixed rows (source_objects p) (fresh_ports ports) has_handler in
     let own = kernel (map source_row p.processes) (is_some p.handler) in
     record {
-      engine = compiled_correctly p h.fits h.coded.code written_costs;
+      engine = compiled_correctly p h.fits h.coded.code costs;
       world = subst (λ (b : Bool). SameWorld (Related p) (fresh_world own p.initial) (fresh_world (kernel (map machine_row (section_of p).processes) b) p.initial)) (handler_same p)
           (subst (λ (rows : List ProcessStatus). SameWorld (Related p) (fresh_world own p.initial) (fresh_world (kernel rows (is_some p.handler)) p.initial)) (rows_same (processes_place p) p.processes) (fresh_same (Related p) own p.initial));
     }
@@ -62,10 +62,10 @@ paired [] programs = []
 paired (row ∷ rows) [] = []
 paired (row ∷ rows) (p ∷ ps) = p ∷ paired rows ps
 
-members_same : (schedule : Schedule) (number : ℕ) (rows : List Partition) (ps : List Program) → AreCompiled ps → SameMembers Related (paired rows ps) (source_members schedule number rows ps) (machine_members schedule number (built_items rows ps))
-members_same schedule number [] ps h = tt
-members_same schedule number (row ∷ rows) [] h = tt
-members_same schedule number (row ∷ rows) (p ∷ ps) h = (member_same (fixed_of schedule number row) row.ports p h.0, members_same schedule (number + 1) rows ps h.1)
+members_same : (costs : Costs) (schedule : Schedule) (number : ℕ) (rows : List Partition) (ps : List Program) → AreCompiled ps → SameMembers Related (paired rows ps) (source_members costs schedule number rows ps) (machine_members costs schedule number (built_items rows ps))
+members_same costs schedule number [] ps h = tt
+members_same costs schedule number (row ∷ rows) [] h = tt
+members_same costs schedule number (row ∷ rows) (p ∷ ps) h = (member_same costs (fixed_of schedule number row) row.ports p h.0, members_same costs schedule (number + 1) rows ps h.1)
 
 pub traces_same : (t : Table) (programs : List Program) (lines : List DeviceLine) (n : ℕ) → AreCompiled programs → source_trace t programs lines n ≡ machine_trace (built_image t programs) lines n
-traces_same t programs lines n h = trace_same Related (record { schedule = t.schedule; channels = t.channels; fault = t.fault }) lines n (paired t.partitions programs) (source_members t.schedule 1 t.partitions programs) (machine_members t.schedule 1 (built_items t.partitions programs)) (members_same t.schedule 1 t.partitions programs h)
+traces_same t programs lines n h = trace_same Related (record { schedule = t.schedule; channels = t.channels; fault = t.fault }) lines n (paired t.partitions programs) (source_members t.costs t.schedule 1 t.partitions programs) (machine_members t.costs t.schedule 1 (built_items t.partitions programs)) (members_same t.costs t.schedule 1 t.partitions programs h)

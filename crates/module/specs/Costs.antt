@@ -1,7 +1,6 @@
 -- The costs of the bodies of the partitions of a module.
 use Rattle.std.specs.Prelude.{◌≡◌, ℕ, List, [], ◌∷◌, ◌++◌, map, Option, Some, None, Ok}
 use Rattle.apex_types.specs.declared.cost.Costs.{Costs}
-use Rattle.apex_types.specs.Costs.{written_costs}
 use Rattle.pal_meaning.specs.Program as cost
 use Rattle.module_meaning.specs.Table.{Partition, Table}
 use Rattle.pal_meaning.specs.Program.{Program, Procedure, Body, Process}
@@ -48,36 +47,36 @@ costs_of_program costs names p = cost_of_body costs body.Init p.init ∷ costs_o
 -- ---- the costs of a module
 
 -- The source is the text of a program, which is well formed for its partition, and these are its costs.
-pub record IsCosted (row : Partition) (source : List ℕ) (c : PartitionCosts) : Type 0 where
+pub record IsCosted (costs : Costs) (row : Partition) (source : List ℕ) (c : PartitionCosts) : Type 0 where
   pub partition : c.partition ≡ row.name
   pub tree : written.Program
   pub written : IsProgramOf source tree
   pub program : Program
   pub judged : verdict row.ports row.period tree ≡ Ok program
-  pub bodies : c.bodies.items ≡ costs_of_program written_costs (procedure_names tree.declarations) program
+  pub bodies : c.bodies.items ≡ costs_of_program costs (procedure_names tree.declarations) program
 
 -- one for each partition, in order
-abbrev pub AreCosted : List Partition → List (List ℕ) → List PartitionCosts → Type 0
-AreCosted [] [] [] = Unit {0}
-AreCosted (row ∷ rows) (source ∷ sources) (c ∷ costs) = IsCosted row source c × AreCosted rows sources costs
-AreCosted _ _ _ = ⊥
+abbrev pub AreCosted : Costs → List Partition → List (List ℕ) → List PartitionCosts → Type 0
+AreCosted costs [] [] [] = Unit {0}
+AreCosted costs (row ∷ rows) (source ∷ sources) (c ∷ cs) = IsCosted costs row source c × AreCosted costs rows sources cs
+AreCosted costs _ _ _ = ⊥
 
 -- the table and the sources are accepted, and these are the costs of their programs
 pub record AreCosts (table : List ℕ) (sources : List (List ℕ)) (costs : List PartitionCosts) : Type 0 where
   pub rows : Table
   pub accepted : IsTable table rows
-  pub costed : AreCosted rows.partitions sources costs
+  pub costed : AreCosted rows.costs rows.partitions sources costs
 
 -- ---- the costs of accepted sources
 
-pub record IsCostOf (row : Partition) (a : Checked) (c : PartitionCosts) : Type 0 where
+pub record IsCostOf (costs : Costs) (row : Partition) (a : Checked) (c : PartitionCosts) : Type 0 where
   pub partition : c.partition ≡ row.name
-  pub bodies : c.bodies.items ≡ costs_of written_costs a.program
+  pub bodies : c.bodies.items ≡ costs_of costs a.program
 
-abbrev pub AreCostsOf : List Partition → List Checked → List PartitionCosts → Type 0
-AreCostsOf [] [] [] = Unit {0}
-AreCostsOf (row ∷ rows) (a ∷ accepted) (c ∷ costs) = IsCostOf row a c × AreCostsOf rows accepted costs
-AreCostsOf _ _ _ = ⊥
+abbrev pub AreCostsOf : Costs → List Partition → List Checked → List PartitionCosts → Type 0
+AreCostsOf costs [] [] [] = Unit {0}
+AreCostsOf costs (row ∷ rows) (a ∷ accepted) (c ∷ cs) = IsCostOf costs row a c × AreCostsOf costs rows accepted cs
+AreCostsOf costs _ _ _ = ⊥
 
 -- ---- refusals: as for building, but no program is too long
 

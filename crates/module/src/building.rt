@@ -16,7 +16,7 @@ ghost use Rattle.module.specs.Sources.{programs_of};
 
 use crate::accepting::{accept_sources, judge_lengths};
 use crate::fault::BuildFault;
-use apex_types::Section;
+use apex_types::{ImageVersion, Section};
 use compiler::{CompileFault, compile};
 use image::{Image, PartitionItem, write_image};
 use pal::Checked;
@@ -102,6 +102,7 @@ fn build_image(alloc: Global, table: ModuleTable, sources: &[Checked]) -> Result
     let ModuleTable {
         schedule,
         fault,
+        costs,
         partitions,
         channels,
     } = table;
@@ -109,6 +110,7 @@ fn build_image(alloc: Global, table: ModuleTable, sources: &[Checked]) -> Result
     Ok(Image {
         schedule,
         fault,
+        version: ImageVersion::Second { costs },
         partitions,
         channels,
     })

@@ -50,7 +50,7 @@ fn costs_with(
 ) -> Result<Vec<PartitionCosts>, BuildFault>
     ensures costs { IfOk result
         (λ costs.
-        AreCosted (table_of table.now).partitions (map (λ s. s.now) sources.now) costs.items) }
+        AreCosted (table_of table.now).costs (table_of table.now).partitions (map (λ s. s.now) sources.now) costs.items) }
     ensures refused { IfErr result
         (λ fault. IsCostRefusedWith (table_of table.now) (map (λ s. s.now) sources.now) fault) }
 {
@@ -59,38 +59,41 @@ fn costs_with(
     }
     let rows = table.partitions.as_slice();
     let accepted = accept_sources(alloc, rows, sources)?;
-    Ok(costs_of_sources(alloc, rows, accepted)?)
+    Ok(costs_of_sources(alloc, &table.costs, rows, accepted)?)
 }
 
 /// The costs of accepted sources, one for each partition.
 fn costs_of_sources(
     alloc: Global,
+    costs: &Costs,
     rows: &[PartitionRow],
     sources: Vec<Checked>,
 ) -> Result<Vec<PartitionCosts>, AllocError>
     requires { length sources.items ≡ length rows.now }
     ensures { IfOk result
-        (λ costs. AreCostsOf (map partition_of rows.now) sources.items costs.items) }
+        (λ reports.
+        AreCostsOf costs.now (map partition_of rows.now) sources.items reports.items) }
 {
-    let mut costs = Vec::with_capacity(alloc, rows.len())?;
+    let mut reports = Vec::with_capacity(alloc, rows.len())?;
     let mut place = 0usize;
     for source in sources {
         let row = &rows[place];
-        costs.push(partition_costs(alloc, row, source)?)?;
+        reports.push(partition_costs(alloc, costs, row, source)?)?;
         place += 1;
     }
-    Ok(costs)
+    Ok(reports)
 }
 
 /// The costs of a partition's program.
 fn partition_costs(
     alloc: Global,
+    costs: &Costs,
     row: &PartitionRow,
     source: Checked,
 ) -> Result<PartitionCosts, AllocError>
-    ensures { IfOk result (λ costs. IsCostOf (partition_of row.now) source costs) }
+    ensures { IfOk result (λ report. IsCostOf costs.now (partition_of row.now) source report) }
 {
-    match cost_report(alloc, &Costs::written(), &source) {
+    match cost_report(alloc, costs, &source) {
         Ok(bodies) => Ok(PartitionCosts {
             partition: row.name,
             bodies,

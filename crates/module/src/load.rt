@@ -13,7 +13,7 @@ ghost use Rattle.module.specs.Views.{standing_of};
 ghost use Rattle.window_table.specs.Schedules.{schedule_of};
 
 use crate::member::{Members, Module};
-use apex_types::{PartitionId, Ticks};
+use apex_types::{Costs, PartitionId, Ticks};
 use image::{Image, PartitionItem};
 use lone_partition::{fixed, load_partition};
 use partition::Partition;
@@ -32,7 +32,7 @@ impl Module<PartitionProcessor> {
         ensures image { IfOk result (λ loaded. loaded.image ≡ image) }
     {
         let items = image.partitions.as_slice();
-        let partitions = load_partitions(alloc, &image.schedule, items)?;
+        let partitions = load_partitions(alloc, &image.version.costs(), &image.schedule, items)?;
         let memory = load_memory(alloc, items)?;
         Ok(Module {
             image,
@@ -54,9 +54,10 @@ fn load_memory(alloc: Global, items: &[PartitionItem]) -> Result<Memory, AllocEr
     Memory::new(alloc, &plan)
 }
 
-/// Loads each partition in order, with its number.
+/// Loads each partition in order, with its number. Instructions have these costs.
 fn load_partitions(
     alloc: Global,
+    costs: &Costs,
     schedule: &Schedule,
     items: &[PartitionItem],
 ) -> Result<Vec<Partition<PartitionProcessor>>, AllocError>
@@ -64,7 +65,7 @@ fn load_partitions(
     requires few { length items.now ≤ MOST_PARTITIONS }
     ensures members { IfOk result
         (λ partitions. members_of machine partitions.items (map fresh_item items.now)
-        ≡ machine_members (schedule_of schedule.now) 1 (items_of items.now)) }
+        ≡ machine_members costs.now (schedule_of schedule.now) 1 (items_of items.now)) }
     ensures fit { IfOk result
         (λ partitions. AreFitting machine partitions.items (map fresh_item items.now)) }
     ensures few { IfOk result (λ partitions. length partitions.items ≤ MOST_PARTITIONS) }
@@ -73,7 +74,7 @@ fn load_partitions(
     let mut number = 1u8;
     for item in items {
         let fixed = fixed(alloc, schedule, PartitionId(number), &item.row)?;
-        partitions.push(load_partition(alloc, fixed, item)?)?;
+        partitions.push(load_partition(alloc, costs, fixed, item)?)?;
         number += 1;
     }
     Ok(partitions)

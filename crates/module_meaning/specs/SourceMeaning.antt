@@ -6,7 +6,7 @@ use Rattle.apex_types.specs.declared.device.DeviceLine.{DeviceLine}
 use Rattle.apex_types.specs.declared.event.Event.{Event}
 use Rattle.apex_types.specs.declared.event.Subject.TheVariants.{Process}
 use Rattle.apex_types.specs.declared.process.ProcessStatus.{ProcessStatus}
-use Rattle.apex_types.specs.Costs.{written_costs}
+use Rattle.apex_types.specs.declared.cost.Costs.{Costs}
 use Rattle.apex_types.specs.declared.row.PortRow.{PortRow}
 use Rattle.module_meaning.specs.Table.{Partition, Table, fixed_of}
 use Rattle.kernel_meaning.specs.Kernel.{Fixed}
@@ -29,18 +29,18 @@ source_row p = fresh_row (Process p.name) (record { 0 = p.priority }) p.period p
 abbrev pub source_objects : program.Program → Objects
 source_objects s = fresh_objects s.semaphores s.events s.buffers s.blackboards
 
-abbrev pub source_member : Fixed → List PortRow → program.Program → Member SourceControl
-source_member fixed ports source = record { engine = source_engine written_costs source; world = fresh_world (fresh_kernel fixed (map source_row source.processes) (source_objects source) (fresh_ports ports) (is_some source.handler)) source.initial }
+abbrev pub source_member : Costs → Fixed → List PortRow → program.Program → Member SourceControl
+source_member costs fixed ports source = record { engine = source_engine costs source; world = fresh_world (fresh_kernel fixed (map source_row source.processes) (source_objects source) (fresh_ports ports) (is_some source.handler)) source.initial }
 
 -- each partition with its source, in order, with their numbers
-abbrev pub source_members : Schedule → ℕ → List Partition → List program.Program → List (Member SourceControl)
-source_members schedule number [] sources = []
-source_members schedule number (p ∷ ps) [] = []
-source_members schedule number (p ∷ ps) (s ∷ ss) = source_member (fixed_of schedule number p) p.ports s ∷ source_members schedule (number + 1) ps ss
+abbrev pub source_members : Costs → Schedule → ℕ → List Partition → List program.Program → List (Member SourceControl)
+source_members costs schedule number [] sources = []
+source_members costs schedule number (p ∷ ps) [] = []
+source_members costs schedule number (p ∷ ps) (s ∷ ss) = source_member costs (fixed_of schedule number p) p.ports s ∷ source_members costs schedule (number + 1) ps ss
 
 -- the module of a table and the programs of its partitions
 abbrev pub source_module : Table → List program.Program → Module SourceControl
-source_module t sources = record { plan = record { schedule = t.schedule; channels = t.channels; fault = t.fault }; members = source_members t.schedule 1 t.partitions sources }
+source_module t sources = record { plan = record { schedule = t.schedule; channels = t.channels; fault = t.fault }; members = source_members t.costs t.schedule 1 t.partitions sources }
 
 -- the source meaning: the trace of n ticks with these lines of the devices
 abbrev pub source_trace : Table → List program.Program → List DeviceLine → ℕ → List Event

@@ -1,6 +1,7 @@
 -- The rows of a module table, and the rules that the rows of a table and of an image keep.
 use Rattle.std.specs.Prelude.{ℕ, zero, suc, List, Option, None, slice_get, option_and_then, ◌+◌, ◌-◌, ◌*◌, ◌/◌, ◌%◌, min, max, Bool, true, false, not, ◌&&◌, ◌||◌, ◌==◌, nat_lt, is_none, if◌then◌else◌, [], ◌∷◌, length, flat_map, sum_by, Some}
 use Rattle.apex_types.specs.declared.codes.ModuleAction.{ModuleAction}
+use Rattle.apex_types.specs.declared.cost.Costs.{Costs}
 use Rattle.apex_types.specs.declared.row.HealthTable.{HealthTable}
 use Rattle.apex_types.specs.declared.row.PortRow.{PortRow}
 use Rattle.apex_types.specs.declared.row.ChannelEnd.{ChannelEnd}
@@ -31,6 +32,7 @@ pub record Channel : Type 0 where
 pub record Table : Type 0 where
   pub schedule : Schedule
   pub fault : ModuleAction
+  pub costs : Costs
   pub partitions : List Partition
   pub channels : List Channel
 

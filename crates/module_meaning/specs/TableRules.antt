@@ -1,10 +1,13 @@
 -- The text of a module table, and the rules that it has to keep. A text is a TOML document whose
 -- keys are those of a module table, each with a value of its type. The verdict on it is its table,
 -- or the first rule that it breaks.
-use Rattle.std.specs.Prelude.{ℕ, ℤ, codes, eqb, Bool, true, false, ◌&&◌, ◌||◌, is_some, if◌then◌else◌, List, [], ◌∷◌, Option, Some, None, ◌+◌, ◌^◌, pos, ◌+ℤ◌, nat_abs, not, nat_lt, int_lt, is_none, ◌++◌, length, map, unwrap_or, Result, Ok, Err}
+use Rattle.std.specs.Prelude.{ℕ, ℤ, codes, eqb, Bool, true, false, ◌&&◌, ◌||◌, is_some, if◌then◌else◌, List, [], ◌∷◌, Option, Some, None, ◌+◌, ◌^◌, pos, refl, ◌+ℤ◌, nat_abs, not, nat_lt, int_lt, is_none, ◌++◌, length, map, unwrap_or, Result, Ok, Err}
 use Rattle.std.specs.Cmp.Lexicographic.{pointwise}
 use Rattle.toml.specs.Data.{Items, no_items, item, Members, no_members, member, get_member, as_str, as_integer, as_bool, as_array, as_table}
-use Rattle.apex_types.specs.declared.limits.TheConstants.{MOST_CHANNELS, MOST_DEPTH, MOST_DESTINATIONS, MOST_FRAME_TICKS, MOST_PARTITIONS, MOST_PORTS, MOST_TICKS, MOST_WINDOWS, MOST_WORDS}
+use Rattle.apex_types.specs.Costs.{cost_of_ticks, from_order, ticks, written_costs}
+use Rattle.apex_types.specs.declared.cost.TickCost.{TickCost}
+use Rattle.apex_types.specs.declared.cost.Costs.{Costs}
+use Rattle.apex_types.specs.declared.limits.TheConstants.{MOST_CHANNELS, MOST_COST, MOST_DEPTH, MOST_DESTINATIONS, MOST_FRAME_TICKS, MOST_PARTITIONS, MOST_PORTS, MOST_TICKS, MOST_WINDOWS, MOST_WORDS}
 use Rattle.apex_types.specs.declared.codes.Discipline.{Discipline}
 use Rattle.apex_types.specs.declared.codes.Discipline.TheVariants as orders
 use Rattle.apex_types.specs.declared.codes.ModuleAction.{ModuleAction}
@@ -59,10 +62,12 @@ pub record ChannelText : Type 0 where
   pub source : List ℕ
   pub destinations : List (List ℕ)
 
--- no action on a module fault if the text's action is unknown
+-- no action on a module fault if the text's action is unknown; no costs if the text writes none,
+-- otherwise their numbers in the order of their keys
 pub record TableText : Type 0 where
   pub frame : ℤ
   pub fault : Option ModuleAction
+  pub costs : Option (List ℤ)
   pub partitions : List PartitionText
   pub windows : List WindowText
   pub channels : List ChannelText
@@ -103,6 +108,18 @@ table_at key ms = get_member key ms >>= as_table
 
 abbrev pub array_at : List ℕ → Members → Option Items
 array_at key ms = get_member key ms >>= as_array
+
+-- the integers at some keys
+unfoldable pub integers_at : List (List ℕ) → Members → Option (List ℤ)
+integers_at [] ms = Some []
+integers_at (key ∷ keys) ms = do
+  number ← integer_at key ms
+  numbers ← integers_at keys ms
+  Some (number ∷ numbers)
+
+-- the table at a key that may be absent
+abbrev pub optional_table_at : List ℕ → Members → Option (Option Members)
+optional_table_at key ms = elim (get_member key ms) [ None ↦ Some None | Some d ↦ as_table d >>= λ t. Some (Some t) ]
 
 -- the array at a key that may be absent
 abbrev pub optional_array_at : List ℕ → Members → Option Items
@@ -226,18 +243,37 @@ channel_of ms = do
   destinations ← array_at (codes "destinations") ms >>= texts_of
   if has_only is_channel_key ms then Some (record { name = name; source = source; destinations = destinations }) else None
 
+-- Costs: exactly the fifteen keys.
+
+abbrev pub cost_keys : List (List ℕ)
+cost_keys = codes "literal" ∷ codes "scalar" ∷ codes "array" ∷ codes "add" ∷ codes "mul" ∷ codes "div" ∷ codes "logic" ∷ codes "branch" ∷ codes "jump" ∷ codes "call" ∷ codes "return" ∷ codes "create" ∷ codes "message" ∷ codes "service" ∷ codes "end" ∷ []
+
+abbrev pub is_cost_key : List ℕ → Bool
+is_cost_key = is_one_of cost_keys
+
+unfoldable pub costs_of : Members → Option (List ℤ)
+costs_of ms = do
+  numbers ← integers_at cost_keys ms
+  if has_only is_cost_key ms then Some numbers else None
+
+-- the costs at a key that may be absent
+abbrev pub optional_costs : Option Members → Option (Option (List ℤ))
+optional_costs None = Some None
+optional_costs (Some ms) = costs_of ms >>= λ costs. Some (Some costs)
+
 abbrev pub is_table_key : List ℕ → Bool
-is_table_key = is_one_of (codes "frame" ∷ codes "fault" ∷ codes "partition" ∷ codes "window" ∷ codes "channel" ∷ [])
+is_table_key = is_one_of (codes "frame" ∷ codes "fault" ∷ codes "cost" ∷ codes "partition" ∷ codes "window" ∷ codes "channel" ∷ [])
 
 -- the table that a document describes, if its keys, types and words are those of a module table
 unfoldable pub table_text_of : Members → Option TableText
 table_text_of ms = do
   frame ← integer_at (codes "frame") ms
   fault ← text_at (codes "fault") ms
+  costs ← optional_table_at (codes "cost") ms >>= optional_costs
   partitions ← array_at (codes "partition") ms >>= tables_of partition_of
   windows ← array_at (codes "window") ms >>= tables_of window_of
   channels ← optional_array_at (codes "channel") ms >>= tables_of channel_of
-  if has_only is_table_key ms then Some (record { frame = frame; fault = module_action_of fault; partitions = partitions; windows = windows; channels = channels }) else None
+  if has_only is_table_key ms then Some (record { frame = frame; fault = module_action_of fault; costs = costs; partitions = partitions; windows = windows; channels = channels }) else None
 
 -- The rules that a module table keeps, in the order of their checks, and its verdict: the table
 -- itself, or the first rule that it breaks.
@@ -289,11 +325,19 @@ unfoldable pub exceeds_counts : TableText → Bool
 exceeds_counts t =
     is_outside 1 (pos MOST_FRAME_TICKS) t.frame || is_count_outside 1 MOST_PARTITIONS t.partitions || is_count_outside 1 MOST_WINDOWS t.windows || is_count_outside 0 MOST_CHANNELS t.channels
 
+unfoldable pub is_outside_cost : ℤ → Bool
+is_outside_cost z = is_outside 1 (pos MOST_COST) z
+
+-- one of the costs
+abbrev pub has_costs_outside : Option (List ℤ) → Bool
+has_costs_outside None = false
+has_costs_outside (Some numbers) = list_any is_outside_cost numbers
+
 unfoldable pub exceeds_rows : TableText → Bool
 exceeds_rows t = list_any exceeds_window t.windows || list_any exceeds_channel t.channels
 
 abbrev pub exceeds_limits : TableText → Bool
-exceeds_limits t = exceeds_counts t || exceeds_rows t || list_any (exceeds_partition t.frame) t.partitions
+exceeds_limits t = exceeds_counts t || exceeds_rows t || has_costs_outside t.costs || list_any (exceeds_partition t.frame) t.partitions
 
 unfoldable pub has_same_names : TableText → Bool
 has_same_names t =
@@ -357,8 +401,17 @@ port_row p = record { name = p.name; kind = kind_row p.kind; direction = p.direc
 abbrev pub partition_row : PartitionText → Partition
 partition_row p = record { name = p.name; period = nat_abs p.period; duration = nat_abs p.duration; health = unwrap_or p.health all_ignored; ports = map port_row p.ports }
 
+-- a number outside the limits of a cost is one tick until its rule refuses it
+unfoldable pub cost_row : ℤ → TickCost
+cost_row z = unwrap_or (cost_of_ticks (nat_abs z)) (ticks 1 refl)
+
+-- A table that writes no costs has those that are written of Pal.
+abbrev pub costs_or_written : Option (List ℤ) → Costs
+costs_or_written None = written_costs
+costs_or_written (Some numbers) = from_order (map cost_row numbers)
+
 unfoldable pub numbered : TableText → Table
-numbered t = record { schedule = record { frame = nat_abs t.frame; windows = map (window_row t.partitions) t.windows }; fault = unwrap_or t.fault module_action.Ignore; partitions = map partition_row t.partitions; channels = map (channel_row t.partitions) t.channels }
+numbered t = record { schedule = record { frame = nat_abs t.frame; windows = map (window_row t.partitions) t.windows }; fault = unwrap_or t.fault module_action.Ignore; costs = costs_or_written t.costs; partitions = map partition_row t.partitions; channels = map (channel_row t.partitions) t.channels }
 
 -- Overlap: a window that begins before the end of the window before it in the text, or ends after
 -- the frame.

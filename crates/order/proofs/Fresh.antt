@@ -3,6 +3,8 @@ use Rattle.std.proofs.Common.{◌≡◌, ℕ, zero, suc, ◌+◌, Bool, List, []
 use Rattle.std.proofs.lemmas.Bool.{false≢true}
 use Rattle.std.proofs.lemmas.Option.{none-some, same_Some}
 use Rattle.std.specs.Prelude.{replicate, slice_get}
+use Rattle.apex_types.specs.Versions.{costs_of}
+use Rattle.apex_types.specs.declared.cost.Costs.{Costs}
 use Rattle.apex_types.specs.declared.event.Subject.TheVariants.{Process}
 use Rattle.apex_types.specs.declared.identity.ListKey.{ListKey}
 use Rattle.apex_types.specs.declared.identity.ListKey.TheVariants as key
@@ -116,19 +118,19 @@ IsFresh x = IsOrdered (disciplines_in x.world.kernel) (names_in x.world.kernel) 
 abbrev AreFresh : {C : Type 0} → List (Member C) → Type 0
 AreFresh ms = (place : ℕ) (x : Member _) → slice_get ms place ≡ Some x → IsFresh x
 
-machine_fresh : (s : Schedule) (n : ℕ) (items : List Item) → AreFresh (machine_members s n items)
-machine_fresh s n [] place x e = absurd (none-some x e)
-machine_fresh s n (i ∷ is) zero x e =
-    subst IsFresh (same_Some (machine_member (fixed_of s n i.partition) i.partition.ports i.section) x e)
+machine_fresh : (k : Costs) (s : Schedule) (n : ℕ) (items : List Item) → AreFresh (machine_members k s n items)
+machine_fresh k s n [] place x e = absurd (none-some x e)
+machine_fresh k s n (i ∷ is) zero x e =
+    subst IsFresh (same_Some (machine_member k (fixed_of s n i.partition) i.partition.ports i.section) x e)
     (fresh_ordered _ _ _ _ _ (at_rest machine_row (λ p. (refl, refl)) i.section.processes))
-machine_fresh s n (i ∷ is) (suc place) x e = machine_fresh s (n + 1) is place x e
+machine_fresh k s n (i ∷ is) (suc place) x e = machine_fresh k s (n + 1) is place x e
 
-source_fresh : (s : Schedule) (n : ℕ) (ps : List Partition) (sources : List program.Program) → AreFresh (source_members s n ps sources)
-source_fresh s n [] sources place x e = absurd (none-some x e)
-source_fresh s n (p ∷ ps) [] place x e = absurd (none-some x e)
-source_fresh s n (p ∷ ps) (q ∷ qs) zero x e =
-    subst IsFresh (same_Some (source_member (fixed_of s n p) p.ports q) x e) (fresh_ordered _ _ _ _ _ (at_rest source_row (λ r. (refl, refl)) q.processes))
-source_fresh s n (p ∷ ps) (q ∷ qs) (suc place) x e = source_fresh s (n + 1) ps qs place x e
+source_fresh : (k : Costs) (s : Schedule) (n : ℕ) (ps : List Partition) (sources : List program.Program) → AreFresh (source_members k s n ps sources)
+source_fresh k s n [] sources place x e = absurd (none-some x e)
+source_fresh k s n (p ∷ ps) [] place x e = absurd (none-some x e)
+source_fresh k s n (p ∷ ps) (q ∷ qs) zero x e =
+    subst IsFresh (same_Some (source_member k (fixed_of s n p) p.ports q) x e) (fresh_ordered _ _ _ _ _ (at_rest source_row (λ r. (refl, refl)) q.processes))
+source_fresh k s n (p ∷ ps) (q ∷ qs) (suc place) x e = source_fresh k s (n + 1) ps qs place x e
 
 module _ {C : Type 0} where
   -- by the names and the disciplines that they have at first
@@ -138,9 +140,9 @@ module _ {C : Type 0} where
       subst (λ (o : Option (Member C)). IsOrdered (of_member no_disciplines (λ y. disciplines_in y.world.kernel) o) (of_member no_names (λ y. names_in y.world.kernel) o) first_numbers x.world.kernel)
       (sym e) (h place x e)
 
-pub machine_ordered : (i : Image) → AreOrdered (disciplines_of (machine_members i.schedule 1 i.items)) (names_of (machine_members i.schedule 1 i.items)) (λ p. first_numbers) (machine_members i.schedule 1 i.items)
-machine_ordered i = ordered_at_first (machine_members i.schedule 1 i.items) (machine_fresh i.schedule 1 i.items)
+pub machine_ordered : (i : Image) → AreOrdered (disciplines_of (machine_members (costs_of i.version) i.schedule 1 i.items)) (names_of (machine_members (costs_of i.version) i.schedule 1 i.items)) (λ p. first_numbers) (machine_members (costs_of i.version) i.schedule 1 i.items)
+machine_ordered i = ordered_at_first (machine_members (costs_of i.version) i.schedule 1 i.items) (machine_fresh (costs_of i.version) i.schedule 1 i.items)
 
 pub source_ordered : (t : Table) (sources : List program.Program)
-    → AreOrdered (disciplines_of (source_members t.schedule 1 t.partitions sources)) (names_of (source_members t.schedule 1 t.partitions sources)) (λ p. first_numbers) (source_members t.schedule 1 t.partitions sources)
-source_ordered t sources = ordered_at_first (source_members t.schedule 1 t.partitions sources) (source_fresh t.schedule 1 t.partitions sources)
+    → AreOrdered (disciplines_of (source_members t.costs t.schedule 1 t.partitions sources)) (names_of (source_members t.costs t.schedule 1 t.partitions sources)) (λ p. first_numbers) (source_members t.costs t.schedule 1 t.partitions sources)
+source_ordered t sources = ordered_at_first (source_members t.costs t.schedule 1 t.partitions sources) (source_fresh t.costs t.schedule 1 t.partitions sources)

@@ -62,12 +62,12 @@ pub fn cost_of_expr(costs: &Costs, expr: &Expr) -> Cost
     ensures { result ≡ comes_to (cost.costs_of_expr costs.now (expr_of expr.now)) }
 {
     match expr {
-        Expr::Literal(_) => Cost::one(costs.literal),
-        Expr::Read(_) => Cost::one(costs.scalar),
-        Expr::Element(_, _, index) => cost_of_expr(costs, index).and(costs.array),
-        Expr::Unary(_, operand) => cost_of_expr(costs, operand).and(costs.logic),
+        Expr::Literal(_) => Cost::one(costs.literal.ticks),
+        Expr::Read(_) => Cost::one(costs.scalar.ticks),
+        Expr::Element(_, _, index) => cost_of_expr(costs, index).and(costs.array.ticks),
+        Expr::Unary(_, operand) => cost_of_expr(costs, operand).and(costs.logic.ticks),
         Expr::Chain(first, links) => cost_of_expr(costs, first).plus(cost_of_links(costs, links)),
-        Expr::Apply(_, arguments) => cost_of_exprs(costs, arguments).and(costs.call),
+        Expr::Apply(_, arguments) => cost_of_exprs(costs, arguments).and(costs.call.ticks),
     }
 }
 
@@ -108,11 +108,11 @@ fn cost_of_exprs(costs: &Costs, exprs: &[Expr]) -> Cost
 
 /// The writes of the targets of a service.
 fn cost_of_targets(costs: &Costs, targets: &[Place]) -> Cost
-    ensures { result ≡ comes_to (map (λ _. costs.now.scalar) targets.now) }
+    ensures { result ≡ comes_to (map (λ _. costs.now.scalar.ticks) targets.now) }
 {
     let mut cost = Cost::NONE;
     for _ in targets {
-        cost = cost.and(costs.scalar);
+        cost = cost.and(costs.scalar.ticks);
     }
     cost
 }
@@ -123,7 +123,7 @@ fn cost_of_service(costs: &Costs, service: Service, arguments: &[Expr], targets:
         ≡ comes_to
         (cost.costs_of_exprs costs.now (exprs_of arguments.now)
         ++ (services.cost_of_service costs.now service
-        ∷ map (λ _. costs.now.scalar) targets.now)) }
+        ∷ map (λ _. costs.now.scalar.ticks) targets.now)) }
 {
     cost_of_exprs(costs, arguments).joined_by(service.cost(costs), cost_of_targets(costs, targets))
 }
@@ -134,24 +134,24 @@ fn cost_of_stmt(costs: &Costs, stmt: &Stmt) -> Cost
     ensures { result ≡ comes_to (cost.costs_of_stmt costs.now (stmt_of stmt.now)) }
 {
     match stmt {
-        Stmt::Assign(_, value) => cost_of_expr(costs, value).and(costs.scalar),
+        Stmt::Assign(_, value) => cost_of_expr(costs, value).and(costs.scalar.ticks),
         Stmt::AssignElement(_, _, index, value) => {
             cost_of_expr(costs, index)
                 .plus(cost_of_expr(costs, value))
-                .and(costs.array)
+                .and(costs.array.ticks)
         }
         Stmt::If(test, block) => cost_of_expr(costs, test).joined_by(
-            costs.branch,
+            costs.branch.ticks,
             cost_of_block(costs, block),
         ),
         Stmt::IfElse(test, block, other) => cost_of_expr(costs, test)
-            .joined_by(costs.branch, cost_of_block(costs, block))
-            .joined_by(costs.jump, cost_of_block(costs, other)),
+            .joined_by(costs.branch.ticks, cost_of_block(costs, block))
+            .joined_by(costs.jump.ticks, cost_of_block(costs, other)),
         Stmt::While(test, block) => cost_of_expr(costs, test)
-            .joined_by(costs.branch, cost_of_block(costs, block))
-            .and(costs.jump),
+            .joined_by(costs.branch.ticks, cost_of_block(costs, block))
+            .and(costs.jump.ticks),
         Stmt::Work(ticks) => Cost::one(*ticks),
-        Stmt::Return(value) => cost_of_expr(costs, value).and(costs.ret),
+        Stmt::Return(value) => cost_of_expr(costs, value).and(costs.ret.ticks),
         Stmt::CallService(service, arguments, targets) => {
             cost_of_service(costs, *service, arguments, targets)
         }
@@ -175,12 +175,13 @@ pub fn cost_of_block(costs: &Costs, block: &[Stmt]) -> Cost
 pub fn cost_of_body(costs: &Costs, body: &Body) -> Cost
     ensures { result ≡ comes_to (cost.costs_of_body costs.now (body_of body.now)) }
 {
-    cost_of_block(costs, &body.block).and(costs.end)
+    cost_of_block(costs, &body.block).and(costs.end.ticks)
 }
 
 /// The cost of the constructs of a procedure, its closing `return 0` included.
 pub fn cost_of_procedure(costs: &Costs, procedure: &Procedure) -> Cost
     ensures { result ≡ comes_to (cost.costs_of_procedure costs.now (procedure_of procedure.now)) }
 {
-    cost_of_block(costs, &procedure.block).joined_by(costs.literal, Cost::one(costs.ret))
+    let ends = Cost::one(costs.ret.ticks);
+    cost_of_block(costs, &procedure.block).joined_by(costs.literal.ticks, ends)
 }

@@ -122,23 +122,23 @@ front_of (Do construct ∷ rest) = front construct rest
 
 -- the ticks of a simple construct
 abbrev pub cost_of_simple : Costs → Simple → ℕ
-cost_of_simple costs (Value value) = costs.literal
-cost_of_simple costs (ReadScalar place) = costs.scalar
-cost_of_simple costs (ReadElement place size) = costs.array
-cost_of_simple costs (OperateOne operator) = costs.logic
+cost_of_simple costs (Value value) = costs.literal.ticks
+cost_of_simple costs (ReadScalar place) = costs.scalar.ticks
+cost_of_simple costs (ReadElement place size) = costs.array.ticks
+cost_of_simple costs (OperateOne operator) = costs.logic.ticks
 cost_of_simple costs (OperateTwo operator) = cost_of_binary costs operator
-cost_of_simple costs (Open procedure) = costs.call
-cost_of_simple costs (WriteScalar place) = costs.scalar
-cost_of_simple costs (WriteElement place size) = costs.array
-cost_of_simple costs (Choose block) = costs.branch
-cost_of_simple costs (ChooseElse block other) = costs.branch
-cost_of_simple costs (Repeat test block) = costs.branch
-cost_of_simple costs Leave = costs.jump
-cost_of_simple costs (GoBack test block) = costs.jump
+cost_of_simple costs (Open procedure) = costs.call.ticks
+cost_of_simple costs (WriteScalar place) = costs.scalar.ticks
+cost_of_simple costs (WriteElement place size) = costs.array.ticks
+cost_of_simple costs (Choose block) = costs.branch.ticks
+cost_of_simple costs (ChooseElse block other) = costs.branch.ticks
+cost_of_simple costs (Repeat test block) = costs.branch.ticks
+cost_of_simple costs Leave = costs.jump.ticks
+cost_of_simple costs (GoBack test block) = costs.jump.ticks
 cost_of_simple costs (Spend ticks) = ticks
-cost_of_simple costs ReturnValue = costs.ret
+cost_of_simple costs ReturnValue = costs.ret.ticks
 cost_of_simple costs (Ask service) = cost_of_service costs service
-cost_of_simple costs EndBody = costs.end
+cost_of_simple costs EndBody = costs.end.ticks
 
 -- the words of stack that open calls take: each its slots, 2 and its values that wait
 abbrev pub taken : List OpenCall → ℕ

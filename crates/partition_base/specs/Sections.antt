@@ -1,7 +1,7 @@
 -- The properties of a loaded section that the processor of a partition relies on, and the view of
 -- it.
 use Rattle.std.specs.Prelude.{◌≤◌, List, ◌∷◌, map, length}
-use Rattle.apex_types.specs.Costs.{written_costs}
+use Rattle.apex_types.specs.declared.cost.Costs.{Costs}
 use Rattle.apex_types.specs.declared.row.BodyRow.{BodyRow}
 use Rattle.apex_types.specs.declared.row.Section.{Section}
 use Rattle.apex_types.specs.declared.limits.TheConstants.{MOST_INSTRUCTIONS}
@@ -18,9 +18,9 @@ use Rattle.partition_base.specs.Slots.{stack_of_body}
 abbrev pub bodies_of : Section → List BodyRow
 bodies_of s = map body_of_row s.processes.items
 
--- The processor with the written costs and a section's code, each instruction read from its sixteen bytes.
-abbrev pub engine_of_section : Section → Engine MachineControl
-engine_of_section s = machine_engine written_costs (map reading s.code.items) s.routines.items (body_at s.init s.handler (bodies_of s))
+-- The processor with these costs and a section's code, each instruction read from its sixteen bytes.
+abbrev pub engine_of_section : Costs → Section → Engine MachineControl
+engine_of_section costs s = machine_engine costs (map reading s.code.items) s.routines.items (body_at s.init s.handler (bodies_of s))
 
 -- No more instructions than there may be, and each routine has room for its slots and two saved words.
 pub record IsFittingSection (s : Section) : Type 0 where

@@ -135,10 +135,16 @@ impl PartitionProcessor {
     ghost use Rattle.partition_base.specs.Machines.{engine_of, controls_of, initial_of, bodies_in, layout_of, laid_of};
     ghost use Rattle.partition_base.specs.Sections.{engine_of_section, fresh_memory};
 
-    /// The processor of a partition's section, with no body begun. `AllocError`: out of memory.
-    pub fn new(alloc: Global, fitting: FittingSection<'_>) -> Result<PartitionProcessor, AllocError>
+    /// The processor of a partition's section, whose instructions have these costs, before its start.
+    /// `AllocError`: out of memory.
+    pub fn new(
+        alloc: Global,
+        costs: &Costs,
+        fitting: FittingSection<'_>,
+    ) -> Result<PartitionProcessor, AllocError>
         ensures engine { IfOk result
-            (λ machine. engine_of machine ≡ engine_of_section fitting.entry.section.now) }
+            (λ machine. engine_of machine
+            ≡ engine_of_section costs.now fitting.entry.section.now) }
         ensures controls { IfOk result
             (λ machine. controls_of machine (fresh_memory fitting.entry.section.now)
             ≡ replicate (2 + length fitting.entry.section.now.processes.items) None) }
@@ -155,7 +161,7 @@ impl PartitionProcessor {
         let processes = bodies(alloc, &section.processes)?;
         let handler = section.handler.unwrap_or(section.init);
         Ok(PartitionProcessor {
-            code: Code::read(alloc, &Costs::written(), rows)?,
+            code: Code::read(alloc, costs, rows)?,
             init: section.init,
             handler: section.handler,
             slots: fresh_slots(alloc, &section.init, &handler, &processes)?,

@@ -45,20 +45,20 @@ pub(crate) fn cost_of(costs: &Costs, instruction: Instr) -> u32
     ensures most { result ≤ MOST_WORK_TICKS }
 {
     match instruction {
-        Instr::Push(_) => costs.literal,
-        Instr::LoadData(_) | Instr::StoreData(_) => costs.scalar,
-        Instr::LoadLocal(_) | Instr::StoreLocal(_) => costs.scalar,
-        Instr::LoadElement(_, _) | Instr::StoreElement(_, _) => costs.array,
+        Instr::Push(_) => costs.literal.ticks,
+        Instr::LoadData(_) | Instr::StoreData(_) => costs.scalar.ticks,
+        Instr::LoadLocal(_) | Instr::StoreLocal(_) => costs.scalar.ticks,
+        Instr::LoadElement(_, _) | Instr::StoreElement(_, _) => costs.array.ticks,
         Instr::Binary(operator) => operator.cost(costs),
-        Instr::Unary(_) => costs.logic,
-        Instr::Jump(_) => costs.jump,
-        Instr::JumpIfZero(_) => costs.branch,
-        Instr::Call(_) => costs.call,
-        Instr::Return(_) => costs.ret,
+        Instr::Unary(_) => costs.logic.ticks,
+        Instr::Jump(_) => costs.jump.ticks,
+        Instr::JumpIfZero(_) => costs.branch.ticks,
+        Instr::Call(_) => costs.call.ticks,
+        Instr::Return(_) => costs.ret.ticks,
         Instr::Work(v) => cost_of_work(v),
         Instr::Service(x) => cost_of_service_call(costs, x),
-        Instr::End => costs.end,
-        Instr::LoadRegion(_) | Instr::StoreRegion(_) => costs.array,
+        Instr::End => costs.end.ticks,
+        Instr::LoadRegion(_) | Instr::StoreRegion(_) => costs.array.ticks,
     }
 }
 

@@ -2,6 +2,7 @@ pub mod MemberWalks
 pub mod Orders
 pub mod Periods
 pub mod PortNames
+pub mod Costs
 pub mod Reading
 pub mod Rules
 pub mod OwnWindows

@@ -1,13 +1,13 @@
 -- Reading a list of tables one by one: the values that were read stand before those still to be
 -- read.
-use Rattle.std.proofs.Common.{◌≡◌, ℕ, false, cond, List, [], ◌∷◌, ◌++◌, length, map, Option, Some, None, Result, Ok, Err, is_ok, is_err, refl, sym, ap, ◌∙◌, append_assoc, ◌+◌, ◌≤◌, ◌<◌, drop, get_or, length-drop, arith}
+use Rattle.std.proofs.Common.{◌≡◌, ℕ, ℤ, false, cond, List, [], ◌∷◌, ◌++◌, length, map, Option, Some, None, Result, Ok, Err, is_ok, is_err, refl, sym, ap, ◌∙◌, append_assoc, ◌+◌, ◌≤◌, ◌<◌, drop, get_or, length-drop, arith}
 use Rattle.std.proofs.lemmas.List.{map-append, append-nil, drop_more}
 use Rattle.std.proofs.lemmas.Bool.{false≢true}
 use Rattle.toml.specs.Data.{Members, as_table, as_str}
 use Rattle.toml.specs.View.{view as value_view, items_view}
 use Rattle.toml.specs.declared.value.Value.{Value}
 use Rattle.module_meaning.specs.Table.{◌>>=◌}
-use Rattle.module_meaning.specs.TableRules.{tables_of, texts_of}
+use Rattle.module_meaning.specs.TableRules.{integer_at, integers_at, tables_of, texts_of}
 use Rattle.window_table.specs.Answers.{Reads}
 use Rattle.window_table.specs.declared.fault.TableFault.{TableFault}
 use Rattle.window_table.specs.declared.fault.TableFault.TheVariants as fault
@@ -81,3 +81,22 @@ one-text view all rows new row es v vs r inv step is fits items =
 pub no-texts-left : {R : Type 0} (view : R → List ℕ) (all : Option (List (List ℕ))) (rows : List R) (es : List Value) → all ≡ behind (map view rows) (texts_of (items_view es)) → length es ≡ 0 → all ≡ Some (map view rows)
 unfolding texts_of
 no-texts-left view all rows es inv end = rw (inv, none-left es end) (ap Some (append-nil (map view rows)))
+
+-- ---- the integers at some keys
+
+pub no-number : {K : Type 0} (name : K → List ℕ) (ms : Members) (all : Option (List ℤ)) (numbers : List ℤ) (keys : List K) (key : K) (rest : List K) → all ≡ behind numbers (integers_at (map name keys) ms) → keys ≡ key ∷ rest → None ≡ integer_at (name key) ms → all ≡ None
+unfolding integers_at
+no-number name ms all numbers keys key rest inv step wrong = rw (inv, step, ← wrong) refl
+
+pub one-number : {K : Type 0} (name : K → List ℕ) (ms : Members) (all : Option (List ℤ)) (numbers new : List ℤ) (number : ℤ) (keys : List K) (key : K) (rest : List K) → all ≡ behind numbers (integers_at (map name keys) ms) → keys ≡ key ∷ rest → Some number ≡ integer_at (name key) ms → new ≡ numbers ++ number ∷ [] → all ≡ behind new (integers_at (map name rest) ms)
+unfolding integers_at
+one-number name ms all numbers new number keys key rest inv step is items =
+    rw (inv, step, ← is, items) (behind-one numbers number (integers_at (map name rest) ms))
+
+pub no-numbers-left : {K : Type 0} (name : K → List ℕ) (ms : Members) (all : Option (List ℤ)) (numbers : List ℤ) (keys : List K) → all ≡ behind numbers (integers_at (map name keys) ms) → length keys ≡ 0 → all ≡ Some numbers
+unfolding integers_at
+no-numbers-left name ms all numbers keys inv end = rw (inv, none-left keys end) (ap Some (append-nil numbers))
+
+-- what is left of several keys after the last
+pub all-asked : {K : Type 0} (keys : List K) (i : ℕ) → length keys ≤ i → length (drop i keys) ≡ 0
+all-asked keys i h = omega (arith, length-drop i keys)

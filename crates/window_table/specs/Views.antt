@@ -1,5 +1,5 @@
 -- The rows of the code as rows of the definitions.
-use Rattle.std.specs.Prelude.{map}
+use Rattle.std.specs.Prelude.{map, option_map}
 use Rattle.module_meaning.specs.Table.{Table, Partition, Channel}
 use Rattle.module_meaning.specs.TableRules.{KindText, Sampling, Queuing, PortText, PartitionText, WindowText, ChannelText, TableText}
 use Rattle.window_table.specs.Schedules.{schedule_of}
@@ -33,7 +33,7 @@ abbrev pub channel_text : WrittenChannel → ChannelText
 channel_text c = record { name = c.name.now; source = c.source.now; destinations = map (λ d. d.now) c.destinations.items }
 
 abbrev pub table_text : WrittenTable → TableText
-table_text t = record { frame = t.frame; fault = t.fault; partitions = map partition_text t.partitions.items; windows = map window_text t.windows.items; channels = map channel_text t.channels.items }
+table_text t = record { frame = t.frame; fault = t.fault; costs = option_map (λ v. v.items) t.costs; partitions = map partition_text t.partitions.items; windows = map window_text t.windows.items; channels = map channel_text t.channels.items }
 
 -- The table.
 
@@ -44,4 +44,4 @@ abbrev pub channel_view : ChannelRow → Channel
 channel_view c = record { name = c.name; source = c.source; destinations = c.destinations.items }
 
 abbrev pub table_of : ModuleTable → Table
-table_of t = record { schedule = schedule_of t.schedule; fault = t.fault; partitions = map partition_view t.partitions.items; channels = map channel_view t.channels.items }
+table_of t = record { schedule = schedule_of t.schedule; fault = t.fault; costs = t.costs; partitions = map partition_view t.partitions.items; channels = map channel_view t.channels.items }

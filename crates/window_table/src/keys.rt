@@ -1,7 +1,9 @@
 //! The keys of a module table.
 
 ghost use Rattle.std.specs.Prelude.{◌≡◌, ◌∷◌, [], codes};
-ghost use Rattle.module_meaning.specs.TableRules.{is_table_key, is_partition_key, is_window_key, is_error_name, is_one_of};
+ghost use Rattle.module_meaning.specs.TableRules.{is_table_key, is_partition_key, is_window_key, is_error_name, is_cost_key, is_one_of};
+
+use apex_types::COST_KEYS;
 
 /// A part of a module table, by the keys that it may have.
 #[derive(Clone, Copy)]
@@ -13,6 +15,7 @@ pub enum Part {
     Health,
     Window,
     Channel,
+    Cost,
 }
 
 impl Part {
@@ -31,6 +34,7 @@ impl Part {
             Part::Health => is_error_name(key),
             Part::Window => is_window_key(key),
             Part::Channel => matches!(key, "name" | "source" | "destinations"),
+            Part::Cost => is_cost_key(key),
         }
     }
 }
@@ -38,7 +42,10 @@ impl Part {
 fn is_table_key(key: &str) -> bool
     ensures { result ≡ is_table_key key.now }
 {
-    matches!(key, "frame" | "fault" | "partition" | "window" | "channel")
+    matches!(
+        key,
+        "frame" | "fault" | "cost" | "partition" | "window" | "channel"
+    )
 }
 
 fn is_partition_key(key: &str) -> bool
@@ -72,5 +79,34 @@ fn is_error_name(key: &str) -> bool
             | "STACK_OVERFLOW"
             | "MEMORY_VIOLATION"
             | "HARDWARE_FAULT"
+    )
+}
+
+/// The keys of the costs, in their order.
+pub const COST_NAMES: [&str; COST_KEYS] = [
+    "literal", "scalar", "array", "add", "mul", "div", "logic", "branch", "jump", "call", "return",
+    "create", "message", "service", "end",
+];
+
+fn is_cost_key(key: &str) -> bool
+    ensures { result ≡ is_cost_key key.now }
+{
+    matches!(
+        key,
+        "literal"
+            | "scalar"
+            | "array"
+            | "add"
+            | "mul"
+            | "div"
+            | "logic"
+            | "branch"
+            | "jump"
+            | "call"
+            | "return"
+            | "create"
+            | "message"
+            | "service"
+            | "end"
     )
 }

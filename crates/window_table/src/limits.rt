@@ -1,9 +1,9 @@
 //! The rows of partitions, within their limits, and the other limits.
 
-ghost use Rattle.std.specs.Prelude.{◌≡◌, ◌||◌, map, pos, not, None, Some, IfOk, if◌then◌else◌, int_lt, false, unwrap_or};
+ghost use Rattle.std.specs.Prelude.{◌≡◌, ◌||◌, map, nat_abs, pos, not, None, Some, IfOk, option_map, if◌then◌else◌, int_lt, false, unwrap_or};
 ghost use Rattle.std.specs.List.{list_any};
 ghost use Rattle.apex_types.specs.NameText.{is_name};
-ghost use Rattle.module_meaning.specs.TableRules.{has_many_ports, is_outside, exceeds_kind, exceeds_port, exceeds_partition, exceeds_times, exceeds_window, exceeds_channel, exceeds_counts, exceeds_rows, kind_row, port_row, partition_row, all_ignored};
+ghost use Rattle.module_meaning.specs.TableRules.{has_many_ports, is_outside, exceeds_kind, exceeds_port, exceeds_partition, exceeds_times, exceeds_window, exceeds_channel, exceeds_counts, exceeds_rows, kind_row, port_row, partition_row, all_ignored, cost_row, costs_or_written, has_costs_outside, is_outside_cost};
 ghost use Rattle.window_table.specs.Answers.{RefusesLimit};
 ghost use Rattle.window_table.specs.Views.{kind_text, port_text, partition_text, window_text, channel_text, table_text, partition_view};
 
@@ -13,10 +13,10 @@ use crate::written::{
     WrittenChannel, WrittenKind, WrittenPartition, WrittenPort, WrittenTable, WrittenWindow,
 };
 use apex_types::limits::{
-    MOST_CHANNELS, MOST_DEPTH, MOST_DESTINATIONS, MOST_FRAME_TICKS, MOST_PARTITIONS, MOST_PORTS,
-    MOST_TICKS, MOST_WINDOWS, MOST_WORDS,
+    MOST_CHANNELS, MOST_COST, MOST_DEPTH, MOST_DESTINATIONS, MOST_FRAME_TICKS, MOST_PARTITIONS,
+    MOST_PORTS, MOST_TICKS, MOST_WINDOWS, MOST_WORDS,
 };
-use apex_types::{HealthTable, Name, PartitionAction, PortKind, PortRow};
+use apex_types::{Costs, HealthTable, Name, PartitionAction, PortKind, PortRow, TickCost};
 use std::alloc::Global;
 
 /// The placeholder for a health table with an unknown action, until the table is refused.
@@ -188,7 +188,65 @@ fn exceeds_channel(channel: &WrittenChannel<'_>) -> bool
         || channel.destinations.len() > MOST_DESTINATIONS as usize
 }
 
-/// Returns true if the frame or a count of the whole table is outside its limits.
+#[tactic(auto, unfolding(module_meaning::specs::TableRules::is_outside_cost))]
+fn is_outside_cost(number: i64) -> bool
+    ensures { result ≡ is_outside_cost number }
+{
+    is_outside(1, i64::from(MOST_COST), number)
+}
+
+#[tactic(auto, unfolding(module_meaning::specs::TableRules::is_outside_cost))]
+fn ticks_row(number: i64) -> u32
+    requires { is_outside_cost number ≡ false }
+    ensures { result ≡ nat_abs number }
+{
+    number as u32
+}
+
+/// The cost of a number of ticks, if it is within its limits.
+fn cost_row(number: i64) -> Option<TickCost>
+    ensures { result ≡ (if is_outside_cost number then None else Some (cost_row number)) }
+{
+    if is_outside_cost(number) {
+        return None;
+    }
+    TickCost::new(ticks_row(number))
+}
+
+/// The costs in the order of their keys, if each is within its limits.
+#[tactic(auto, using(std::proofs::lemmas::List::drop_more))]
+fn cost_rows(alloc: Global, numbers: &[i64]) -> Result<Vec<TickCost>, TableFault>
+    ensures kept { IfOk result
+        (λ r. (list_any is_outside_cost numbers.now ≡ false)
+        × (map cost_row numbers.now ≡ r.items)) }
+    ensures refused { RefusesLimit result (list_any is_outside_cost numbers.now) }
+{
+    let mut rows = Vec::new(alloc);
+    for number in numbers {
+        let row = cost_row(*number).ok_or(TableFault::Limit)?;
+        if rows.push(row).is_err() {
+            return Err(TableFault::Memory);
+        }
+    }
+    Ok(rows)
+}
+
+/// The costs of a table, if each is within its limits; those that are written of Pal if the table
+/// writes none.
+pub fn table_costs(alloc: Global, costs: &Option<Vec<i64>>) -> Result<Costs, TableFault>
+    ensures kept { IfOk result
+        (λ row. (has_costs_outside (option_map (λ v. v.items) costs.now) ≡ false)
+        × (row ≡ costs_or_written (option_map (λ v. v.items) costs.now))) }
+    ensures refused { RefusesLimit result
+        (has_costs_outside (option_map (λ v. v.items) costs.now)) }
+{
+    match costs {
+        None => Ok(Costs::written()),
+        Some(numbers) => Ok(Costs::from_order(&cost_rows(alloc, numbers)?)),
+    }
+}
+
+/// Whether the frame or a count of the whole table is outside its limits.
 #[tactic(auto, unfolding(module_meaning::specs::TableRules::exceeds_counts))]
 pub fn exceeds_counts(table: &WrittenTable<'_>) -> bool
     ensures { result ≡ exceeds_counts (table_text table.now) }

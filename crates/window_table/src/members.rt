@@ -3,7 +3,7 @@
 ghost use Rattle.std.specs.Prelude.{◌≡◌, option_map, option_copied};
 ghost use Rattle.toml.specs.Data.{get_member};
 ghost use Rattle.toml.specs.View.{view as value_view, table_view, items_view};
-ghost use Rattle.module_meaning.specs.TableRules.{text_at, integer_at, boolean_at, table_at, array_at, optional_array_at, has_only, has_texts_only};
+ghost use Rattle.module_meaning.specs.TableRules.{text_at, integer_at, boolean_at, table_at, array_at, optional_array_at, optional_table_at, has_only, has_texts_only};
 ghost use Rattle.window_table.specs.Keys.{is_key};
 
 use crate::keys::Part;
@@ -54,6 +54,20 @@ pub fn subtable<'a>(table: &'a Table, key: &str) -> Option<&'a Table>
     match member(table, key) {
         Some(value) => value.as_table(),
         None => None,
+    }
+}
+
+/// The table at a key that may be absent: none where it is, refused where the key has another value.
+pub fn optional_table<'a>(table: &'a Table, key: &str) -> Option<Option<&'a Table>>
+    ensures { option_map (λ o. option_map (λ t. table_view t.now) o) result
+        ≡ optional_table_at key.now (table_view table.now) }
+{
+    match member(table, key) {
+        Some(value) => match value.as_table() {
+            Some(found) => Some(Some(found)),
+            None => None,
+        },
+        None => Some(None),
     }
 }
 

@@ -3,7 +3,7 @@
 ghost use Rattle.std.specs.Prelude.{◌<◌, ◌≡◌, ◌||◌, ◌==◌, false, IfOk, map, is_none, pos, nat_abs};
 ghost use Rattle.std.specs.List.{list_any};
 ghost use Rattle.apex_types.specs.declared.limits.TheConstants.{MOST_FRAME_TICKS};
-ghost use Rattle.module_meaning.specs.TableRules.{is_outside, exceeds_counts, exceeds_rows, exceeds_limits, exceeds_partition, has_same_names, has_unknown_name, overlaps, numbered, partition_row, has_unknown_action, judge_table, judge_text};
+ghost use Rattle.module_meaning.specs.TableRules.{is_outside, exceeds_counts, exceeds_rows, exceeds_limits, exceeds_partition, has_same_names, has_unknown_name, overlaps, numbered, costs_or_written, has_costs_outside, partition_row, has_unknown_action, judge_table, judge_text};
 ghost use Rattle.window_table.specs.Answers.{Judges, AnswersText, RefusesLimit, RefusesOverlap};
 ghost use Rattle.window_table.specs.Views.{table_of, table_text, partition_text, partition_view};
 
@@ -11,26 +11,31 @@ use crate::channels::has_wrong_ends;
 use crate::durations::{has_odd_period, has_short_period, lacks_release};
 use crate::fault::TableFault;
 use crate::few::FewPartitions;
-use crate::limits::{exceeds_counts, exceeds_rows, partition_rows};
+use crate::limits::{exceeds_counts, exceeds_rows, partition_rows, table_costs};
 use crate::names::{has_same_names, has_unknown_name};
 use crate::numbered::{channel_rows, window_rows};
 use crate::schedule::Schedule;
 use crate::table::{ModuleTable, PartitionRow};
 use crate::written::{WrittenPartition, WrittenTable, read_written};
-use apex_types::ModuleAction;
+use apex_types::{Costs, ModuleAction};
 use std::alloc::Global;
 
-/// The rows of the partitions of a text that is within its limits.
+/// The costs and the rows of the partitions of a text that is within its limits.
 #[tactic(auto, using(crate::proofs::Rules::frame_kept))]
-fn limited(alloc: Global, written: &WrittenTable<'_>) -> Result<Vec<PartitionRow>, TableFault>
+fn limited(
+    alloc: Global,
+    written: &WrittenTable<'_>,
+) -> Result<(Costs, Vec<PartitionRow>), TableFault>
     ensures kept { IfOk result
         (λ rows. (exceeds_counts (table_text written.now) ≡ false)
         × (exceeds_rows (table_text written.now) ≡ false)
+        × (has_costs_outside (table_text written.now).costs ≡ false)
         × (list_any (exceeds_partition written.now.frame)
         (map partition_text written.now.partitions.items)
         ≡ false)
+        × (rows.0 ≡ costs_or_written (table_text written.now).costs)
         × (map partition_row (map partition_text written.now.partitions.items)
-        ≡ map partition_view rows.items)) }
+        ≡ map partition_view rows.1.items)) }
     ensures refused { RefusesLimit result (exceeds_limits (table_text written.now)) }
 {
     if exceeds_counts(written) {
@@ -39,7 +44,9 @@ fn limited(alloc: Global, written: &WrittenTable<'_>) -> Result<Vec<PartitionRow
     if exceeds_rows(written) {
         return Err(TableFault::Limit);
     }
-    partition_rows(alloc, written.frame, written.partitions.as_slice())
+    let costs = table_costs(alloc, &written.costs)?;
+    let rows = partition_rows(alloc, written.frame, written.partitions.as_slice())?;
+    Ok((costs, rows))
 }
 
 fn frame_row(frame: i64) -> u32
@@ -65,11 +72,12 @@ fn few_partitions<'a>(written: &'a WrittenTable<'a>) -> FewPartitions<'a>
     }
 }
 
-/// The table of a text that is within its limits and has these rows of partitions.
+/// The table of a text that is within its limits and has these costs and these rows of partitions.
 #[tactic(auto, using(crate::proofs::Rules::frame_kept, crate::proofs::Rules::few_partitions, crate::proofs::Rules::few_ports, crate::proofs::Rules::windows_within, crate::proofs::Rules::channels_within, crate::proofs::Rules::windows_known, crate::proofs::Rules::ends_known), unfolding(module_meaning::specs::TableRules::numbered))]
 fn numbered(
     alloc: Global,
     written: &WrittenTable<'_>,
+    costs: Costs,
     partitions: Vec<PartitionRow>,
 ) -> Result<ModuleTable, TableFault>
     requires counts { exceeds_counts (table_text written.now) ≡ false }
@@ -78,6 +86,7 @@ fn numbered(
         (map partition_text written.now.partitions.items)
         ≡ false }
     requires known { has_unknown_name (table_text written.now) ≡ false }
+    requires costs { costs ≡ costs_or_written (table_text written.now).costs }
     requires rows { map partition_row (map partition_text written.now.partitions.items)
         ≡ map partition_view partitions.items }
     ensures kept { IfOk result
@@ -93,6 +102,7 @@ fn numbered(
     Ok(ModuleTable {
         schedule: Schedule { frame, windows },
         fault: written.fault.unwrap_or(ModuleAction::Ignore),
+        costs,
         partitions,
         channels,
     })
@@ -155,14 +165,14 @@ fn broken_rule(
 fn judge(alloc: Global, written: &WrittenTable<'_>) -> Result<ModuleTable, TableFault>
     ensures { Judges table_of result (judge_text (table_text written.now)) }
 {
-    let partitions = limited(alloc, written)?;
+    let (costs, partitions) = limited(alloc, written)?;
     if has_same_names(written) {
         return Err(TableFault::Name);
     }
     if has_unknown_name(few_partitions(written), written) {
         return Err(TableFault::Name);
     }
-    let table = numbered(alloc, written, partitions)?;
+    let table = numbered(alloc, written, costs, partitions)?;
     broken_rule(alloc, written, &table)?;
     Ok(table)
 }

@@ -4,7 +4,7 @@ ghost use Rattle.std.specs.Prelude.{◌≤◌, length};
 ghost use Rattle.apex_types.specs.declared.limits.TheConstants.{MOST_PARTITIONS};
 
 use crate::schedule::Schedule;
-use apex_types::{ChannelEnd, HealthTable, ModuleAction, Name, PortRow};
+use apex_types::{ChannelEnd, Costs, HealthTable, ModuleAction, Name, PortRow};
 
 /// A partition: in each of its periods of the major frame its windows offer at least `duration`
 /// ticks.
@@ -31,6 +31,7 @@ pub struct ChannelRow {
 pub struct ModuleTable {
     pub schedule: Schedule,
     pub fault: ModuleAction,
+    pub costs: Costs,
     pub partitions: Vec<PartitionRow>,
     pub channels: Vec<ChannelRow>,
     pub ghost few: { length partitions.items ≤ MOST_PARTITIONS },

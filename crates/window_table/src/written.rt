@@ -2,14 +2,15 @@
 
 ghost use Rattle.std.specs.Prelude.{◌≡◌, option_map, map};
 ghost use Rattle.toml.specs.View.{table_view, items_view};
-ghost use Rattle.module_meaning.specs.TableRules.{action_at, health_of, sampling_of, queuing_of, kind_of, port_of, partition_of, window_of, channel_of, table_text_of, tables_of, texts_of};
+ghost use Rattle.module_meaning.specs.TableRules.{action_at, health_of, sampling_of, queuing_of, kind_of, port_of, partition_of, window_of, channel_of, costs_of, integers_at, optional_costs, table_text_of, tables_of, texts_of};
 ghost use Rattle.window_table.specs.Answers.{Reads};
 ghost use Rattle.window_table.specs.Views.{kind_text, port_text, partition_text, window_text, channel_text, table_text};
 
 use crate::fault::TableFault;
-use crate::keys::Part;
+use crate::keys::{COST_NAMES, Part};
 use crate::members::{
-    array, boolean, has_only, has_texts_only, integer, optional_array, subtable, text,
+    array, boolean, has_only, has_texts_only, integer, optional_array, optional_table, subtable,
+    text,
 };
 use crate::words::{direction, discipline, module_action, partition_action};
 use apex_types::{Discipline, HealthTable, ModuleAction, PartitionAction, PortDirection};
@@ -60,11 +61,13 @@ pub struct WrittenChannel<'a> {
     pub destinations: Vec<&'a str>,
 }
 
-/// A module table: without an action on a module fault if the text's action is unknown.
+/// A module table: without an action on a module fault if the text's action is unknown, and without
+/// costs if the text writes none, otherwise with the number of each key in order.
 #[derive(Drop)]
 pub struct WrittenTable<'a> {
     pub frame: i64,
     pub fault: Option<ModuleAction>,
+    pub costs: Option<Vec<i64>>,
     pub partitions: Vec<WrittenPartition<'a>>,
     pub windows: Vec<WrittenWindow<'a>>,
     pub channels: Vec<WrittenChannel<'a>>,
@@ -291,6 +294,46 @@ fn read_channels(alloc: Global, values: &[Value]) -> Result<Vec<WrittenChannel<'
     Ok(channels)
 }
 
+/// The integers at these keys.
+fn read_numbers(alloc: Global, table: &Table, keys: &[&str]) -> Result<Vec<i64>, TableFault>
+    ensures { Reads (λ v. v.items) result
+        (integers_at (map (λ key. key.now) keys.now) (table_view table.now)) }
+{
+    let mut numbers = Vec::new(alloc);
+    for key in keys {
+        let Some(number) = integer(table, key) else {
+            return Err(TableFault::Shape)
+        };
+        if numbers.push(number).is_err() {
+            return Err(TableFault::Memory);
+        }
+    }
+    Ok(numbers)
+}
+
+/// The costs, if there are exactly the fifteen keys.
+#[tactic(auto, unfolding(module_meaning::specs::TableRules::costs_of))]
+fn read_costs(alloc: Global, table: &Table) -> Result<Vec<i64>, TableFault>
+    ensures { Reads (λ v. v.items) result (costs_of (table_view table.now)) }
+{
+    let numbers = read_numbers(alloc, table, &COST_NAMES)?;
+    if !has_only(table, Part::Cost) {
+        return Err(TableFault::Shape);
+    }
+    Ok(numbers)
+}
+
+/// The costs of a table that may write none.
+fn read_optional_costs(alloc: Global, table: Option<&Table>) -> Result<Option<Vec<i64>>, TableFault>
+    ensures { Reads (λ o. option_map (λ v. v.items) o) result
+        (optional_costs (option_map (λ t. table_view t.now) table.entry)) }
+{
+    match table {
+        Some(table) => Ok(Some(read_costs(alloc, table)?)),
+        None => Ok(None),
+    }
+}
+
 /// The table that a document describes, if its keys, types and words are those of a module table.
 #[tactic(auto, unfolding(module_meaning::specs::TableRules::table_text_of))]
 pub fn read_written(alloc: Global, table: &Table) -> Result<WrittenTable<'_>, TableFault>
@@ -298,6 +341,8 @@ pub fn read_written(alloc: Global, table: &Table) -> Result<WrittenTable<'_>, Ta
 {
     let frame = integer(table, "frame").ok_or(TableFault::Shape)?;
     let fault = text(table, "fault").ok_or(TableFault::Shape)?;
+    let costs = optional_table(table, "cost").ok_or(TableFault::Shape)?;
+    let costs = read_optional_costs(alloc, costs)?;
     let partitions = array(table, "partition").ok_or(TableFault::Shape)?;
     let windows = array(table, "window").ok_or(TableFault::Shape)?;
     let channels = optional_array(table, "channel").ok_or(TableFault::Shape)?;
@@ -307,6 +352,7 @@ pub fn read_written(alloc: Global, table: &Table) -> Result<WrittenTable<'_>, Ta
     Ok(WrittenTable {
         frame,
         fault: module_action(fault),
+        costs,
         partitions: read_partitions(alloc, partitions)?,
         windows: read_windows(alloc, windows)?,
         channels: read_channels(alloc, channels)?,

@@ -38,7 +38,7 @@ static REFUSALS: [(&[&str], &str); 12] = [
     ),
     (
         &["mb", "run", "--explain", "table", "devices", "5"],
-        "mb: image 2\nThe file is not an image of version 1: the first eight bytes or the version are different.\n",
+        "mb: image 2\nThe file is not an image of version 1 or 2: the first eight bytes or the version are different.\n",
     ),
     (
         &["mb", "replay", "--explain", "image", "b", "source", "5"],

@@ -2,7 +2,7 @@
 
 use super::shelf::{Shelf, command_into, expect_command};
 use super::sinks::narrow_sink;
-use super::texts::{FIRST_TRACE, SMALLEST, SMALLEST_IMAGE, SMALLEST_TRACE, TABLE};
+use super::texts::{BUILT_IMAGE, FIRST_TRACE, SMALLEST, SMALLEST_IMAGE, SMALLEST_TRACE, TABLE};
 use module::{BuildFault, InputsFault, RunFault, build, inputs, replay, run};
 use std::alloc::Global;
 use std::process::Abort;
@@ -38,7 +38,7 @@ fn no_blocks(rt: &impl Abort, alloc: Global) -> Vec<Vec<u8>> {
 /// Expects that the smallest module is built.
 fn expect_image(rt: &impl Abort, alloc: Global) {
     match build(alloc, TABLE.as_bytes(), &[SMALLEST.as_bytes()]) {
-        Ok(image) => assert_eq!(rt; image.as_slice(), SMALLEST_IMAGE.as_slice()),
+        Ok(image) => assert_eq!(rt; image.as_slice(), BUILT_IMAGE.as_slice()),
         Err(_) => panic!(rt; "nothing is built"),
     }
 }

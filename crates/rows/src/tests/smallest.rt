@@ -1,7 +1,7 @@
 //! The smallest source: its image, byte for byte.
 
 use super::shelf::{Shelf, expect_command};
-use super::texts::{SMALLEST_IMAGE, SMALLEST_SOURCES, TABLE};
+use super::texts::{BUILT_IMAGE, SMALLEST_IMAGE, SMALLEST_SOURCES, TABLE};
 
 #[test]
 fn its_image(rt: HostRuntime) {
@@ -11,10 +11,10 @@ fn its_image(rt: HostRuntime) {
     expect_command(&rt, rt.alloc(), &mut shelf, &words, accepted);
     assert!(rt; shelf.image.is_none());
     let words = ["mb", "build", "table", "image", "source"];
-    let built = (0, "built 164 bytes\n", "");
+    let built = (0, "built 194 bytes\n", "");
     expect_command(&rt, rt.alloc(), &mut shelf, &words, built);
     let image = shelf.image.expect(&rt, "no image");
-    assert_eq!(rt; image.as_slice(), SMALLEST_IMAGE.as_slice());
+    assert_eq!(rt; image.as_slice(), BUILT_IMAGE.as_slice());
 }
 
 #[test]

@@ -41,8 +41,8 @@ pub const SMALLEST_TRACE: &str = "\
 0000000000004 a MODE NORMAL
 ";
 
-/// The image of the smallest source: the head, the partition with its four instructions of 16
-/// bytes from byte 82 on, the window and no channel.
+/// The image of the smallest source, as one of the first version: the head, the partition with its
+/// four instructions of 16 bytes from byte 82 on, the window and no channel.
 pub static SMALLEST_IMAGE: [u8; 164] = [
     65, 80, 54, 53, 51, 73, 77, 71, 1, 0, 128, 0, 0, 0, 0, 1, 0, 0, 0, 1, 97, 128, 0, 0, 0, 128, 0,
     0, 0, 0, 0, 0, 0, 0, 0, 0, 0, 0, 0, 0, 0, 0, 0, 0, 0, 0, 0, 0, 0, 0, 0, 0, 0, 0, 0, 0, 0, 0, 0,
@@ -50,6 +50,18 @@ pub static SMALLEST_IMAGE: [u8; 164] = [
     3, 0, 0, 0, 0, 0, 0, 0, 28, 0, 0, 0, 2, 0, 0, 0, 0, 0, 0, 0, 0, 0, 0, 0, 5, 0, 0, 0, 0, 0, 0,
     0, 0, 0, 0, 0, 0, 0, 0, 0, 29, 0, 0, 0, 0, 0, 0, 0, 0, 0, 0, 0, 0, 0, 0, 0, 1, 0, 0, 0, 1, 0,
     0, 0, 0, 128, 0, 0, 0, 1, 0, 0, 0, 0,
+];
+
+/// The image that is built of the smallest source: one of the second version, whose head has the
+/// fifteen costs.
+pub static BUILT_IMAGE: [u8; 194] = [
+    65, 80, 54, 53, 51, 73, 77, 71, 2, 0, 128, 0, 0, 0, 0, 1, 0, 1, 0, 2, 0, 1, 0, 2, 0, 4, 0, 1,
+    0, 1, 0, 1, 0, 3, 0, 2, 0, 8, 0, 6, 0, 4, 0, 4, 0, 1, 0, 0, 0, 1, 97, 128, 0, 0, 0, 128, 0, 0,
+    0, 0, 0, 0, 0, 0, 0, 0, 0, 0, 0, 0, 0, 0, 0, 0, 0, 0, 0, 0, 0, 0, 0, 0, 0, 0, 0, 0, 0, 0, 0, 0,
+    0, 0, 0, 0, 0, 16, 0, 0, 0, 0, 0, 1, 0, 4, 0, 0, 0, 0, 4, 0, 0, 0, 1, 0, 0, 0, 0, 0, 0, 0, 3,
+    0, 0, 0, 0, 0, 0, 0, 28, 0, 0, 0, 2, 0, 0, 0, 0, 0, 0, 0, 0, 0, 0, 0, 5, 0, 0, 0, 0, 0, 0, 0,
+    0, 0, 0, 0, 0, 0, 0, 0, 29, 0, 0, 0, 0, 0, 0, 0, 0, 0, 0, 0, 0, 0, 0, 0, 1, 0, 0, 0, 1, 0, 0,
+    0, 0, 128, 0, 0, 0, 1, 0, 0, 0, 0,
 ];
 
 /// The source of the stored first module: a process that reports when it asked for the time.

@@ -7,5 +7,5 @@ abbrev pub invariant-loop-source : goal.invariant-loop-source
 invariant-loop-source l = record {
   place : l.place ≡ length l.yielded;
   left : l.place + length l.source-iterator.rest.items ≡ length l.rows;
-  costed : AreCostsOf (map partition_of (take l.place l.rows)) l.yielded l.costs.items;
+  costed : AreCostsOf l.costs (map partition_of (take l.place l.rows)) l.yielded l.reports.items;
 }

@@ -28,5 +28,5 @@ returns-clause-costs c =
     let given = c.in_ok-accepted.accepted.items in
     let costs = c.in_ok-costs_of_sources.field-0.items in
     let accepted = subst (λ (rows : List PartitionRow). AreSources (map partition_view rows) texts given) c.as_slice-rows.ensures.value c.in_ok-accepted.ensures.accepted in
-    let costed = subst (λ (rows : List PartitionRow). AreCostsOf (map partition_view rows) given costs) c.as_slice-rows.ensures.value c.in_ok-costs_of_sources.ensures in
-    are_costed (table_of c.args.table.now).partitions texts given costs accepted costed
+    let costed = subst (λ (rows : List PartitionRow). AreCostsOf (table_of c.args.table.now).costs (map partition_view rows) given costs) c.as_slice-rows.ensures.value c.in_ok-costs_of_sources.ensures in
+    are_costed (table_of c.args.table.now).costs (table_of c.args.table.now).partitions texts given costs accepted costed

@@ -38,10 +38,10 @@ loop-item-preserved c =
     ∙ ap (λ ss. members_of machine (before ++ p ∷ []) ss) more
     ∙ one_more_member machine before fresh p (fresh_item item) c.loop-item.invariant.fit in
     let fits : AreFitting machine (before ++ p ∷ []) (fresh ++ fresh_item item ∷ []) = one_more_fits machine before fresh p (fresh_item item) c.loop-item.invariant.fit c.in_ok-load_partition.ensures.fits in
-    let same : member_of machine p (fresh_item item) ≡ machine_member (fixed_of (schedule_of c.args.schedule.now) c.loop-item.number (partition_of item.row)) item.row.ports.items (section_of item.section) = search rules in
+    let same : member_of machine p (fresh_item item) ≡ machine_member c.args.costs.now (fixed_of (schedule_of c.args.schedule.now) c.loop-item.number (partition_of item.row)) item.row.ports.items (section_of item.section) = search rules in
     record {
       number = omega arith;
       count = one_longer before p i c.loop-item.invariant.count ∙ ap length (sym next);
       fit = subst (λ ps. AreFitting machine ps (map fresh_item (take (i + 1) items))) (sym next) (subst (λ ss. AreFitting machine (before ++ p ∷ []) ss) (sym more) fits);
-      members = one_more_loaded (schedule_of c.args.schedule.now) c.loop-item.number (members_of machine before fresh) (members_of machine c.push.new.self.items (map fresh_item (take (i + 1) items))) (machine_members (schedule_of c.args.schedule.now) 1 (items_of items)) (member_of machine p (fresh_item item)) (item_of item) (items_of (drop (i + 1) items)) pushed same so_far;
+      members = one_more_loaded c.args.costs.now (schedule_of c.args.schedule.now) c.loop-item.number (members_of machine before fresh) (members_of machine c.push.new.self.items (map fresh_item (take (i + 1) items))) (machine_members c.args.costs.now (schedule_of c.args.schedule.now) 1 (items_of items)) (member_of machine p (fresh_item item)) (item_of item) (items_of (drop (i + 1) items)) pushed same so_far;
     }

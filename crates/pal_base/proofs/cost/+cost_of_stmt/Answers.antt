@@ -17,7 +17,7 @@ cost_of_stmt-returns-in-IfElse t c =
     let test = cost.costs_of_expr c.args.costs.now (expr_of c.in-IfElse.test) in
     let block = cost.costs_of_block c.args.costs.now (block_of c.deref-in-IfElse.result.now) in
     let first = c.joined_by-in-IfElse.ensures test block c.cost_of_expr-in-IfElse.ensures c.cost_of_block-in-IfElse.ensures in
-    c.joined_by-in-IfElse-2.ensures (test ++ c.args.costs.now.branch ∷ block) (cost.costs_of_block c.args.costs.now (block_of c.deref-in-IfElse-2.result.now)) first c.cost_of_block-in-IfElse-2.ensures ∙ ap (λ s. comes_to (cost.costs_of_stmt c.args.costs.now s)) (sym seen)
+    c.joined_by-in-IfElse-2.ensures (test ++ c.args.costs.now.branch.ticks ∷ block) (cost.costs_of_block c.args.costs.now (block_of c.deref-in-IfElse-2.result.now)) first c.cost_of_block-in-IfElse-2.ensures ∙ ap (λ s. comes_to (cost.costs_of_stmt c.args.costs.now s)) (sym seen)
 
 pub cost_of_stmt-returns-in-While : goal.cost_of_stmt-returns-in-While
 cost_of_stmt-returns-in-While t c =
@@ -25,7 +25,7 @@ cost_of_stmt-returns-in-While t c =
     let test = cost.costs_of_expr c.args.costs.now (expr_of c.in-While.test) in
     let block = cost.costs_of_block c.args.costs.now (block_of c.deref-in-While.result.now) in
     let first = c.joined_by-in-While.ensures test block c.cost_of_expr-in-While.ensures c.cost_of_block-in-While.ensures in
-    c.and-in-While.ensures (test ++ c.args.costs.now.branch ∷ block) first ∙ ap (λ s. comes_to (cost.costs_of_stmt c.args.costs.now s)) (sym seen)
+    c.and-in-While.ensures (test ++ c.args.costs.now.branch.ticks ∷ block) first ∙ ap (λ s. comes_to (cost.costs_of_stmt c.args.costs.now s)) (sym seen)
 
 pub cost_of_block-loop-stmt-preserved : goal.cost_of_block-loop-stmt-preserved
 cost_of_block-loop-stmt-preserved t c =
