@@ -1,4 +1,5 @@
 pub mod Answers
+pub mod Differences
 pub mod Faults
 pub mod Lines
 pub mod Orders
