@@ -1,11 +1,14 @@
 //! Two traces are read to their ends, and compared.
 
-ghost use Rattle.std.specs.Prelude.{◌≡◌, ◌⊎◌, ◌-◌, ◌^◌, ◌<◌, IfErr, OnOk, string_bytes};
+ghost use Rattle.std.specs.Prelude.{◌≡◌, ◌⊎◌, ℕ, ◌-◌, ◌^◌, ◌<◌, List, [], IfErr, IfOk, OnOk, string_bytes};
+ghost use Rattle.apex_types.specs.declared.event.Event.{Event};
 ghost use Rattle.streams.specs.States.{IsFlushed, seen};
+ghost use Rattle.trace_difference.specs.Comparisons.{AreParts};
 ghost use Rattle.view_command.specs.Answers.{IsRefused, IsUnread};
+ghost use Rattle.view_command.specs.Compared.{AreCompared, AreToldIn, IsInOrder, asked, first_behind, second_behind, tick_behind};
 ghost use Rattle.view_command.specs.Differences.{earlier};
 ghost use Rattle.view_command.specs.States.{state};
-ghost use Rattle.view_command.specs.Texts.{IsTraceIn, IsTraceOf};
+ghost use Rattle.view_command.specs.Texts.{IsTraceIn};
 
 use crate::differences::report;
 use crate::refusal::Refusal;
@@ -40,6 +43,9 @@ pub fn compare<F: Sources, O: Stream>(
     out: &mut O,
 ) -> Result<Outcome, Refusal>
     requires { O.failures out.old < 2 ^ 64 - 1 }
+    ensures told { IfOk result
+        (AreToldIn (F.texts sources.old) (string_bytes pair.first) (string_bytes pair.second)
+        pair.partition) }
     ensures first { OnOk result (IsTraceIn (F.texts sources.old) (string_bytes pair.first)) }
     ensures second { OnOk result (IsTraceIn (F.texts sources.old) (string_bytes pair.second)) }
     ensures opened { OnOk result (F.unopened sources.new ≡ F.unopened sources.old) }
@@ -89,8 +95,10 @@ fn read_both<R: Read + Drop, Q: Read + Drop>(
     partition: &Option<String>,
     comparison: &mut Comparison,
 ) -> Result<(), Refusal>
-    ensures first { OnOk result (IsTraceOf (R.remaining reader)) }
-    ensures second { OnOk result (IsTraceOf (Q.remaining other_reader)) }
+    ensures compared { OnOk result
+        (AreParts comparison.old.parts.items 0 [] []
+        → AreCompared (R.remaining reader) (Q.remaining other_reader) partition.now
+        comparison.new.parts.items) }
     ensures refused { IfErr result
         (λ r. IsUnread (R.remaining reader) (string_bytes name) r
         ⊎ IsUnread (Q.remaining other_reader) (string_bytes other_name) r) }
@@ -157,7 +165,15 @@ fn take(
     side: Side,
     event: Option<Event>,
     partition: &Option<String>,
-) -> Result<(), MemoryFull> {
+) -> Result<(), MemoryFull>
+    ensures { OnOk result
+        ((now : ℕ) (a b : List Event)
+        → AreParts comparison.old.parts.items now (asked partition.now a) (asked partition.now b)
+        → IsInOrder now event
+        → AreParts comparison.new.parts.items (tick_behind now event)
+        (asked partition.now (first_behind side event a))
+        (asked partition.now (second_behind side event b))) }
+{
     match event {
         Some(event) if is_of_partition(partition, &event.partition) => comparison.add(side, event),
         _ => Ok(()),
