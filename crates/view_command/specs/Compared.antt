@@ -30,7 +30,7 @@ pub record AreCompared (text other : Option (List ℕ)) (p : Option (String Glob
   pub first_text : IsTextOf text first
   pub second_text : IsTextOf other second
   pub tick : ℕ
-  pub parts : AreParts parts tick (asked p first) (asked p second)
+  pub are_read : AreParts parts tick (asked p first) (asked p second)
 
 -- ---- a line that may not be there
 
