@@ -1,0 +1,31 @@
+-- A finding: where a rule is broken, and what was found there.
+use Rattle.std.specs.Prelude.{ℕ, ℤ, List, Option}
+use Rattle.table_findings.specs.Subjects.{Subject}
+use Rattle.table_findings.specs.declared.fields.Part.{Part}
+use Rattle.table_findings.specs.declared.words.Words.{Words}
+
+pub data What : Type 0 where
+  -- the subject lacks this key
+  Missing : List ℕ → What
+  -- the key is none of this part
+  Unknown : Part → What
+  -- the value is of another type than the wanted one
+  OtherType : (wanted found : List ℕ) → What
+  -- the text is none of these words
+  NoWord : List ℕ → Words → What
+  -- a number is not between two limits, or below its limit
+  Outside : (number low high : ℤ) → What
+  Below : (number low : ℤ) → What
+  -- a window begins before the end of the one before it, or ends past the frame
+  Overlaps : (begin before : ℤ) → What
+  PastFrame : (end frame : ℤ) → What
+  -- the frame is no multiple of a period
+  OddPeriod : (period frame : ℕ) → What
+  -- a partition has no release window
+  NoRelease : What
+
+-- what the finding is about, and the key there, if the place is one of a key
+pub record Finding : Type 0 where
+  pub subject : Subject
+  pub key : Option (List ℕ)
+  pub what : What

@@ -1,0 +1,5 @@
+pub mod Fields
+pub mod Findings
+pub mod Shape
+pub mod Subjects
+pub mod Views

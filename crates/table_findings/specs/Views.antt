@@ -1,0 +1,41 @@
+-- The findings of the code as findings of the definitions.
+use Rattle.std.specs.Prelude.{List, map, option_copied}
+use Rattle.table_findings.specs.Subjects as spec_subject
+use Rattle.table_findings.specs.Findings as spec_finding
+use Rattle.table_findings.specs.declared.subject.Row.{Row}
+use Rattle.table_findings.specs.declared.subject.Subject.{Subject}
+use Rattle.table_findings.specs.declared.subject.Subject.TheVariants as subject
+use Rattle.table_findings.specs.declared.finding.Finding.{Finding}
+use Rattle.table_findings.specs.declared.finding.What.{What}
+use Rattle.table_findings.specs.declared.finding.What.TheVariants as what
+
+abbrev pub row_of : Row → spec_subject.Row
+row_of r = record { index = r.index; name = option_copied r.name }
+
+abbrev pub subject_of : Subject → spec_subject.Subject
+subject_of subject.Module = spec_subject.Module
+subject_of subject.Costs = spec_subject.Costs
+subject_of (subject.Partition row) = spec_subject.Partition (row_of row)
+subject_of (subject.Health row) = spec_subject.Health (row_of row)
+subject_of (subject.Port port partition) = spec_subject.Port (row_of port) (row_of partition)
+subject_of (subject.Window row) = spec_subject.Window (row_of row)
+subject_of (subject.Channel row) = spec_subject.Channel (row_of row)
+subject_of (subject.Destination index row) = spec_subject.Destination index (row_of row)
+
+abbrev pub what_of : What → spec_finding.What
+what_of (what.Missing key) = spec_finding.Missing key.now
+what_of (what.Unknown part) = spec_finding.Unknown part
+what_of (what.OtherType wanted found) = spec_finding.OtherType wanted.now found.now
+what_of (what.NoWord text words) = spec_finding.NoWord text.now words
+what_of (what.Outside number low high) = spec_finding.Outside number low high
+what_of (what.Below number low) = spec_finding.Below number low
+what_of (what.Overlaps begin before) = spec_finding.Overlaps begin before
+what_of (what.PastFrame end frame) = spec_finding.PastFrame end frame
+what_of (what.OddPeriod period frame) = spec_finding.OddPeriod period frame
+what_of what.NoRelease = spec_finding.NoRelease
+
+abbrev pub finding_of : Finding → spec_finding.Finding
+finding_of f = record { subject = subject_of f.subject; key = option_copied f.key; what = what_of f.what }
+
+abbrev pub findings_of : List Finding → List spec_finding.Finding
+findings_of fs = map finding_of fs

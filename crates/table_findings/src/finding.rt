@@ -1,0 +1,43 @@
+//! A finding: where a rule is broken, and what was found there.
+
+use crate::fields::Part;
+use crate::subject::Subject;
+use crate::words::Words;
+
+/// A place where a rule is broken: what it is about, the key there if the place is one of a key, and
+/// what was found.
+#[derive(Clone, Copy)]
+pub struct Finding<'a> {
+    pub subject: Subject<'a>,
+    pub key: Option<&'a str>,
+    pub what: What<'a>,
+}
+
+/// What was found.
+#[derive(Clone, Copy)]
+pub enum What<'a> {
+    /// The subject lacks this key.
+    Missing(&'static str),
+    /// The key is none of this part.
+    Unknown(Part),
+    /// The value is of another type than the wanted one.
+    OtherType {
+        wanted: &'static str,
+        found: &'static str,
+    },
+    /// The text is none of these words.
+    NoWord { text: &'a str, words: Words },
+    /// A number is not between two limits.
+    Outside { number: i64, low: i64, high: i64 },
+    /// A number is below its limit.
+    Below { number: i64, low: i64 },
+    /// A window begins before the end of the one before it, which is this many ticks from the
+    /// beginning of the frame.
+    Overlaps { begin: i64, before: i128 },
+    /// A window ends past the frame.
+    PastFrame { end: i128, frame: i64 },
+    /// The frame is no multiple of the partition's period.
+    OddPeriod { period: u32, frame: u32 },
+    /// The partition has no release window.
+    NoRelease,
+}

@@ -1,0 +1,18 @@
+//! What is wrong with a module table, rule by rule: each place where the rule is broken, what was
+//! found there, and what to do.
+#![tactic(auto)]
+
+mod fields;
+mod finding;
+mod members;
+mod part;
+mod rows;
+mod shape;
+mod subject;
+mod words;
+
+pub use fields::{Field, Part};
+pub use finding::{Finding, What};
+pub use shape::shape;
+pub use subject::{Row, Subject};
+pub use words::Words;
