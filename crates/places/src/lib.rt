@@ -13,6 +13,6 @@ mod walk;
 
 pub use names::nearest;
 pub use path::{Entry, OwnedStep, Step};
-pub use shown::marked_line;
+pub use shown::{marked_line, shown_start};
 pub use text::{Place, place_of};
 pub use walk::TomlPlaces;

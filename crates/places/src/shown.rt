@@ -40,8 +40,12 @@ fn shown_end(alloc: Global, line: &[u8]) -> Result<String, AllocError>
     format!(in alloc; "...{last}")
 }
 
-/// The rest of the line from a place on.
-fn shown_start(alloc: Global, line: &[u8]) -> Result<String, AllocError>
+/// The rest of a line from a place on, or a word: its first 40 bytes, before dots if it is longer.
+///
+/// # Errors
+///
+/// Only if memory runs out.
+pub fn shown_start(alloc: Global, line: &[u8]) -> Result<String, AllocError>
     ensures { IfOk result (λ text. string_bytes text ≡ shown_start line.now) }
 {
     if line.len() <= MOST_SHOWN {

@@ -5,8 +5,8 @@ use Rattle.table_findings.specs.declared.fields.Part.{Part}
 use Rattle.table_findings.specs.declared.words.Words.{Words}
 
 pub data What : Type 0 where
-  -- the subject lacks this key
-  Missing : List ℕ → What
+  -- the subject lacks this key of this part
+  Missing : List ℕ → Part → What
   -- the key is none of this part
   Unknown : Part → What
   -- the value is of another type than the wanted one

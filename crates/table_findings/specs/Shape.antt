@@ -28,10 +28,10 @@ unnamed index = record { index = index; name = None }
 abbrev pub one : Subject → Option (List ℕ) → What → List Finding
 one subject key what = record { subject = subject; key = key; what = what } ∷ []
 
--- the keys that a table lacks
-abbrev pub missing : Subject → Members → List (List ℕ) → List Finding
-missing subject ms [] = []
-missing subject ms (key ∷ keys) = (if is_none (get_member key ms) then one subject None (Missing key) else []) ++ missing subject ms keys
+-- the keys of these that a table lacks
+abbrev pub missing : Subject → Part → Members → List (List ℕ) → List Finding
+missing subject part ms [] = []
+missing subject part ms (key ∷ keys) = (if is_none (get_member key ms) then one subject None (Missing key part) else []) ++ missing subject part ms keys
 
 -- a value of another type than the wanted one
 abbrev pub of_type : Subject → Option (List ℕ) → List ℕ → Data → List Finding
@@ -47,7 +47,7 @@ members subject part (member key d ms) = one_member subject part key d ++ member
 
 -- the keys of a part, and the types of their values
 abbrev pub of_part : Subject → Part → Members → List Finding
-of_part subject part ms = missing subject ms (needed part) ++ members subject part ms
+of_part subject part ms = missing subject part ms (needed part) ++ members subject part ms
 
 -- a text that is none of its words
 abbrev pub word : Subject → List ℕ → Words → Members → List Finding

@@ -23,7 +23,7 @@ subject_of (subject.Channel row) = spec_subject.Channel (row_of row)
 subject_of (subject.Destination index row) = spec_subject.Destination index (row_of row)
 
 abbrev pub what_of : What → spec_finding.What
-what_of (what.Missing key) = spec_finding.Missing key.now
+what_of (what.Missing key part) = spec_finding.Missing key.now part
 what_of (what.Unknown part) = spec_finding.Unknown part
 what_of (what.OtherType wanted found) = spec_finding.OtherType wanted.now found.now
 what_of (what.NoWord text words) = spec_finding.NoWord text.now words

@@ -16,8 +16,8 @@ pub struct Finding<'a> {
 /// What was found.
 #[derive(Clone, Copy)]
 pub enum What<'a> {
-    /// The subject lacks this key.
-    Missing(&'static str),
+    /// The subject lacks this key of this part.
+    Missing(&'static str, Part),
     /// The key is none of this part.
     Unknown(Part),
     /// The value is of another type than the wanted one.

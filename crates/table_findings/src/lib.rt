@@ -2,16 +2,19 @@
 //! found there, and what to do.
 #![tactic(auto)]
 
+mod explained;
 mod fields;
 mod finding;
 mod members;
 mod part;
+mod phrases;
 mod rows;
 mod shape;
 mod subject;
 mod words;
 
-pub use fields::{Field, Part};
+pub use explained::findings_text;
+pub use fields::Part;
 pub use finding::{Finding, What};
 pub use shape::shape;
 pub use subject::{Row, Subject};

@@ -24,26 +24,27 @@ pub fn of_part<'a>(
         (findings_of found.new.items
         ≡ findings_of found.old.items ++ spec.of_part (subject_of subject) part (table_view table.now)) }
 {
-    missing(found, subject, part.needed(), table)?;
+    missing(found, subject, part, part.needed(), table)?;
     members(found, subject, part, table)
 }
 
-/// Adds the keys that a table lacks.
-#[tactic(auto, using(std::proofs::lemmas::List::drop_more, std::proofs::lemmas::List::append_assoc, std::proofs::lemmas::List::map-append))]
+/// Adds the keys of these that a table lacks.
+#[tactic(auto, using(std::proofs::lemmas::List::drop_more, std::proofs::lemmas::List::append_assoc, std::proofs::lemmas::List::append-nil))]
 fn missing<'a>(
     found: &mut Vec<Finding<'a>>,
     subject: Subject<'a>,
+    part: Part,
     keys: &[&'static str],
     table: &'a Table,
 ) -> Result<(), AllocError>
     ensures { OnOk result
         (findings_of found.new.items
         ≡ findings_of found.old.items
-        ++ spec.missing (subject_of subject) (table_view table.now) (map (λ key. key.now) keys.now)) }
+        ++ spec.missing (subject_of subject) part (table_view table.now) (map (λ key. key.now) keys.now)) }
 {
     for key in keys {
         if member(table, key).is_none() {
-            add(found, subject, None, What::Missing(*key))?;
+            add(found, subject, None, What::Missing(*key, part))?;
         }
     }
     Ok(())

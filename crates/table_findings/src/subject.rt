@@ -1,6 +1,6 @@
 //! What a finding is about.
 
-ghost use Rattle.std.specs.Prelude.{◌≡◌, IfOk};
+ghost use Rattle.std.specs.Prelude.{◌≡◌, ◌++◌, IfOk, OnOk};
 ghost use Rattle.places.specs.Views.{path_of};
 ghost use Rattle.table_findings.specs.Subjects as spec;
 ghost use Rattle.table_findings.specs.Views.{subject_of};
@@ -39,7 +39,7 @@ pub enum Subject<'a> {
 /// # Errors
 ///
 /// Only if memory runs out.
-pub fn subject_path(alloc: Global, subject: Subject<'_>) -> Result<Vec<Step<'static>>, AllocError>
+pub fn subject_path<'a>(alloc: Global, subject: Subject<'a>) -> Result<Vec<Step<'a>>, AllocError>
     ensures { IfOk result (λ path. path_of path.items ≡ spec.subject_path (subject_of subject)) }
 {
     let mut path = Vec::new(alloc);
@@ -66,7 +66,7 @@ pub fn subject_path(alloc: Global, subject: Subject<'_>) -> Result<Vec<Step<'sta
 }
 
 /// Adds the steps to an element of the list at a key.
-fn push_row(path: &mut Vec<Step<'static>>, key: &'static str, index: usize) -> Result<(), AllocError>
+fn push_row<'a>(path: &mut Vec<Step<'a>>, key: &'static str, index: usize) -> Result<(), AllocError>
     ensures { OnOk result
         (path_of path.new.items ≡ path_of path.old.items ++ spec.row_path key.now index) }
 {

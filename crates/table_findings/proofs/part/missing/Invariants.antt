@@ -6,5 +6,5 @@ use Rattle.table_findings.proofs.part.missing.Given as goal
 
 abbrev pub invariant-loop-key : goal.invariant-loop-key
 invariant-loop-key l =
-    findings_of l.found.items ++ missing (subject_of l.subject) (table_view l.table) (map (λ key. key.now) (drop l.key-index l.keys))
-    ≡ findings_of l.fn.found.items ++ missing (subject_of l.subject) (table_view l.table) (map (λ key. key.now) l.keys)
+    findings_of l.found.items ++ missing (subject_of l.subject) l.part (table_view l.table) (map (λ key. key.now) (drop l.key-index l.keys))
+    ≡ findings_of l.fn.found.items ++ missing (subject_of l.subject) l.part (table_view l.table) (map (λ key. key.now) l.keys)
