@@ -1,7 +1,9 @@
 pub mod Explained
 pub mod Fields
 pub mod Findings
+pub mod Health
 pub mod Phrases
+pub mod Schedule
 pub mod Shape
 pub mod Subjects
 pub mod Views

@@ -37,7 +37,7 @@ pub enum What<'a> {
     /// A window ends past the frame.
     PastFrame { end: i128, frame: i64 },
     /// The frame is no multiple of the partition's period.
-    OddPeriod { period: u32, frame: u32 },
+    OddPeriod { period: u64, frame: u64 },
     /// The partition has no release window.
     NoRelease,
 }

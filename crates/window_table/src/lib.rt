@@ -28,3 +28,7 @@ pub use read::read_table;
 pub use row::HasRow;
 pub use schedule::Schedule;
 pub use table::{ChannelRow, ModuleTable, PartitionRow};
+pub use written::{
+    WrittenChannel, WrittenKind, WrittenPartition, WrittenPort, WrittenTable, WrittenWindow,
+    read_written,
+};
