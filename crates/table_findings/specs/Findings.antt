@@ -16,6 +16,10 @@ pub data What : Type 0 where
   -- a number is not between two limits, or below its limit
   Outside : (number low high : ℤ) → What
   Below : (number low : ℤ) → What
+  -- there are too few or too many
+  Count : (number low high : ℕ) → What
+  -- the text is no name
+  NoName : List ℕ → What
   -- a window begins before the end of the one before it, or ends past the frame
   Overlaps : (begin before : ℤ) → What
   PastFrame : (end frame : ℤ) → What

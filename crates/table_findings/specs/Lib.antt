@@ -2,6 +2,7 @@ pub mod Explained
 pub mod Fields
 pub mod Findings
 pub mod Health
+pub mod Limits
 pub mod Phrases
 pub mod Schedule
 pub mod Shape

@@ -4,7 +4,7 @@ use Rattle.std.specs.Fmt.{decimal, signed_decimal}
 use Rattle.places.specs.Nearest.{nearest}
 use Rattle.places.specs.Texts.{shown_start}
 use Rattle.table_findings.specs.Fields.{keys, wanted, words_of}
-use Rattle.table_findings.specs.Findings.{Finding, What, Missing, Unknown, OtherType, NoWord, Outside, Below, Overlaps, PastFrame, OddPeriod, NoRelease}
+use Rattle.table_findings.specs.Findings.{Finding, What, Missing, Unknown, OtherType, NoWord, Outside, Below, Count, NoName, Overlaps, PastFrame, OddPeriod, NoRelease}
 use Rattle.table_findings.specs.Subjects.{Row, Subject, Module, Costs, Partition, Health, Port, Window, Channel, Destination}
 use Rattle.table_findings.specs.declared.fields.Part.{Part}
 
@@ -54,6 +54,9 @@ value_text key subject (NoWord text words) = place_text key subject ++ codes " i
 value_text key subject (Outside number low high) =
     place_text key subject ++ codes " is " ++ signed_decimal number ++ codes ", and has to be " ++ signed_decimal low ++ codes " to " ++ signed_decimal high
 value_text key subject (Below number low) = place_text key subject ++ codes " is " ++ signed_decimal number ++ codes ", below " ++ signed_decimal low
+value_text key subject (Count number low high) =
+    place_text key subject ++ codes " stands for " ++ decimal number ++ codes " of them, and " ++ decimal low ++ codes " to " ++ decimal high ++ codes " are allowed"
+value_text key subject (NoName text) = place_text key subject ++ codes " is " ++ quoted text ++ codes ", which is no name"
 value_text key subject _ = []
 
 abbrev pub what_text : Option (List ℕ) → Subject → What → List ℕ
@@ -101,6 +104,8 @@ advice key (OtherType wanted found) = codes "Write a value of the type " ++ want
 advice key (NoWord text words) = suggestion text (words_of words)
 advice key (Outside number low high) = codes "Write a number from " ++ signed_decimal low ++ codes " to " ++ signed_decimal high ++ codes "."
 advice key (Below number low) = codes "Write " ++ signed_decimal low ++ codes " or more."
+advice key (Count number low high) = codes "Write " ++ decimal low ++ codes " to " ++ decimal high ++ codes " of them."
+advice key (NoName text) = codes "A name is a lower-case letter, then lower-case letters, digits or `_`, 1 to 30 characters in all."
 advice key (Overlaps begin before) = codes "Windows stand in the order of the frame: let it begin at " ++ signed_decimal before ++ codes " or later."
 advice key (PastFrame end frame) = codes "Make it shorter, or let it begin earlier."
 advice key (OddPeriod period frame) = codes "Choose a period that divides the frame, or a multiple of it as the frame."

@@ -29,6 +29,14 @@ pub enum What<'a> {
     NoWord { text: &'a str, words: Words },
     /// A number is not between two limits.
     Outside { number: i64, low: i64, high: i64 },
+    /// There are too few or too many.
+    Count {
+        number: usize,
+        low: usize,
+        high: usize,
+    },
+    /// The text is no name.
+    NoName(&'a str),
     /// A number is below its limit.
     Below { number: i64, low: i64 },
     /// A window begins before the end of the one before it, which is this many ticks from the

@@ -2,24 +2,26 @@
 //! found there, and what to do.
 #![tactic(auto)]
 
+mod actions;
 mod explained;
 mod fields;
 mod finding;
-mod health;
+mod forms;
+mod bounds;
 mod members;
 mod part;
 mod phrases;
 mod rows;
 mod schedule;
-mod shape;
 mod subject;
 mod words;
 
+pub use actions::health;
 pub use explained::findings_text;
 pub use fields::Part;
 pub use finding::{Finding, What};
-pub use health::health;
+pub use forms::shape;
+pub use bounds::limits;
 pub use schedule::{odd_periods, overlaps, without_release};
-pub use shape::shape;
 pub use subject::{Row, Subject};
 pub use words::Words;

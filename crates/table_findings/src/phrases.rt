@@ -71,6 +71,14 @@ fn value_text(
             format!(in alloc; "{place} is {number}, and has to be {low} to {high}")
         }
         What::Below { number, low } => format!(in alloc; "{place} is {number}, below {low}"),
+        What::Count { number, low, high } => format!(
+            in alloc; "{place} stands for {number} of them, and {low} to {high} are allowed"
+        ),
+        What::NoName(text) => {
+            let text = quoted(alloc, text)?;
+            let text = text.as_str();
+            format!(in alloc; "{place} is {text}, which is no name")
+        }
         _ => String::from_str(alloc, ""),
     }
 }
@@ -184,6 +192,11 @@ pub fn advice(alloc: Global, key: Option<&str>, what: What<'_>) -> Result<String
             format!(in alloc; "Write a number from {low} to {high}.")
         }
         What::Below { low, .. } => format!(in alloc; "Write {low} or more."),
+        What::Count { low, high, .. } => format!(in alloc; "Write {low} to {high} of them."),
+        What::NoName(_) => String::from_str(
+            alloc,
+            "A name is a lower-case letter, then lower-case letters, digits or `_`, 1 to 30 characters in all.",
+        ),
         What::Overlaps { before, .. } => format!(
             in alloc; "Windows stand in the order of the frame: let it begin at {before} or later."
         ),

@@ -2,7 +2,7 @@ use Rattle.std.proofs.Common.{◌≡◌, ◌++◌, drop}
 use Rattle.toml.specs.View.{items_view}
 use Rattle.table_findings.specs.Shape.{each, port}
 use Rattle.table_findings.specs.Views.{findings_of, row_of}
-use Rattle.table_findings.proofs.shape.ports.Given as goal
+use Rattle.table_findings.proofs.forms.ports.Given as goal
 
 abbrev pub invariant-loop-index : goal.invariant-loop-index
 invariant-loop-index l =

@@ -1,8 +1,9 @@
 use Rattle.std.proofs.Common.{◌≡◌, ◌++◌, drop}
 use Rattle.toml.specs.View.{items_view}
-use Rattle.table_findings.specs.Shape.{each, partition}
+use Rattle.table_findings.specs.Health.{partition}
+use Rattle.table_findings.specs.Shape.{each}
 use Rattle.table_findings.specs.Views.{findings_of}
-use Rattle.table_findings.proofs.shape.partitions.Given as goal
+use Rattle.table_findings.proofs.actions.partitions.Given as goal
 
 abbrev pub invariant-loop-index : goal.invariant-loop-index
 invariant-loop-index l =

@@ -2,7 +2,7 @@ use Rattle.std.proofs.Common.{◌≡◌, ◌++◌}
 use Rattle.toml.specs.View.{members_view, table_view}
 use Rattle.table_findings.specs.Shape.{health_members}
 use Rattle.table_findings.specs.Views.{findings_of, subject_of}
-use Rattle.table_findings.proofs.shape.health_members.Given as goal
+use Rattle.table_findings.proofs.forms.health_members.Given as goal
 
 abbrev pub invariant-loop-key : goal.invariant-loop-key
 invariant-loop-key l =

@@ -1,9 +1,8 @@
 use Rattle.std.proofs.Common.{◌≡◌, ◌++◌, drop}
 use Rattle.toml.specs.View.{items_view}
-use Rattle.table_findings.specs.Health.{partition}
-use Rattle.table_findings.specs.Shape.{each}
+use Rattle.table_findings.specs.Shape.{each, partition}
 use Rattle.table_findings.specs.Views.{findings_of}
-use Rattle.table_findings.proofs.health.partitions.Given as goal
+use Rattle.table_findings.proofs.forms.partitions.Given as goal
 
 abbrev pub invariant-loop-index : goal.invariant-loop-index
 invariant-loop-index l =
