@@ -20,6 +20,12 @@ pub data What : Type 0 where
   Count : (number low high : ℕ) → What
   -- the text is no name
   NoName : List ℕ → What
+  -- the name is also that of the row at this place of the list
+  SameName : List ℕ → ℕ → What
+  -- the text is no partition of the table; the nearest name of one
+  NoPartition : List ℕ → Option (List ℕ) → What
+  -- the text is neither a port of the table nor `DEVICE`
+  NoEnd : List ℕ → What
   -- a window begins before the end of the one before it, or ends past the frame
   Overlaps : (begin before : ℤ) → What
   PastFrame : (end frame : ℤ) → What

@@ -3,6 +3,7 @@ pub mod Fields
 pub mod Findings
 pub mod Health
 pub mod Limits
+pub mod Names
 pub mod Phrases
 pub mod Schedule
 pub mod Shape

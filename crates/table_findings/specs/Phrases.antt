@@ -4,7 +4,7 @@ use Rattle.std.specs.Fmt.{decimal, signed_decimal}
 use Rattle.places.specs.Nearest.{nearest}
 use Rattle.places.specs.Texts.{shown_start}
 use Rattle.table_findings.specs.Fields.{keys, wanted, words_of}
-use Rattle.table_findings.specs.Findings.{Finding, What, Missing, Unknown, OtherType, NoWord, Outside, Below, Count, NoName, Overlaps, PastFrame, OddPeriod, NoRelease}
+use Rattle.table_findings.specs.Findings.{Finding, What, Missing, Unknown, OtherType, NoWord, Outside, Below, Count, NoName, SameName, NoPartition, NoEnd, Overlaps, PastFrame, OddPeriod, NoRelease}
 use Rattle.table_findings.specs.Subjects.{Row, Subject, Module, Costs, Partition, Health, Port, Window, Channel, Destination}
 use Rattle.table_findings.specs.declared.fields.Part.{Part}
 
@@ -45,6 +45,12 @@ abbrev pub key_text : Option (List ℕ) → List ℕ
 key_text None = []
 key_text (Some key) = quoted key
 
+-- the kind of a row
+abbrev pub kind_text : Subject → List ℕ
+kind_text (Partition row) = codes "partition"
+kind_text (Channel row) = codes "channel"
+kind_text subject = codes "port"
+
 -- ---- what was found
 
 -- what is said of a value
@@ -57,6 +63,9 @@ value_text key subject (Below number low) = place_text key subject ++ codes " is
 value_text key subject (Count number low high) =
     place_text key subject ++ codes " stands for " ++ decimal number ++ codes " of them, and " ++ decimal low ++ codes " to " ++ decimal high ++ codes " are allowed"
 value_text key subject (NoName text) = place_text key subject ++ codes " is " ++ quoted text ++ codes ", which is no name"
+value_text key subject (SameName name earlier) = place_text key subject ++ codes " is also the name of " ++ kind_text subject ++ codes " " ++ number_text earlier
+value_text key subject (NoPartition text near) = place_text key subject ++ codes " is " ++ quoted text ++ codes ", which is no partition of the table"
+value_text key subject (NoEnd text) = place_text key subject ++ codes " is " ++ quoted text ++ codes ", which is neither `DEVICE` nor a port of the table"
 value_text key subject _ = []
 
 abbrev pub what_text : Option (List ℕ) → Subject → What → List ℕ
@@ -89,6 +98,11 @@ listed (word ∷ words) = quoted word ++ others words
 abbrev pub suggestion : List ℕ → List (List ℕ) → List ℕ
 suggestion word words = elim (nearest word words) [ Some near ↦ codes "Did you mean " ++ quoted near ++ codes "?" | None ↦ codes "Choose one of " ++ listed words ++ codes "." ]
 
+-- the nearest name, or else this
+abbrev pub near_or : Option (List ℕ) → List ℕ → List ℕ
+near_or None other = other
+near_or (Some near) other = codes "Did you mean " ++ quoted near ++ codes "?"
+
 abbrev pub suggestion_at : Option (List ℕ) → List (List ℕ) → List ℕ
 suggestion_at None words = []
 suggestion_at (Some word) words = suggestion word words
@@ -106,6 +120,9 @@ advice key (Outside number low high) = codes "Write a number from " ++ signed_de
 advice key (Below number low) = codes "Write " ++ signed_decimal low ++ codes " or more."
 advice key (Count number low high) = codes "Write " ++ decimal low ++ codes " to " ++ decimal high ++ codes " of them."
 advice key (NoName text) = codes "A name is a lower-case letter, then lower-case letters, digits or `_`, 1 to 30 characters in all."
+advice key (SameName name earlier) = codes "Give it a name of its own."
+advice key (NoPartition text near) = near_or near (codes "Write the name of a partition of the table.")
+advice key (NoEnd text) = codes "Write `DEVICE`, or the names of a partition and of one of its ports, as `partition.port`."
 advice key (Overlaps begin before) = codes "Windows stand in the order of the frame: let it begin at " ++ signed_decimal before ++ codes " or later."
 advice key (PastFrame end frame) = codes "Make it shorter, or let it begin earlier."
 advice key (OddPeriod period frame) = codes "Choose a period that divides the frame, or a multiple of it as the frame."

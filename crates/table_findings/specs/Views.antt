@@ -2,6 +2,9 @@
 use Rattle.std.specs.Prelude.{List, map, option_copied}
 use Rattle.table_findings.specs.Subjects as spec_subject
 use Rattle.table_findings.specs.Findings as spec_finding
+use Rattle.table_findings.specs.Names as spec_names
+use Rattle.table_findings.specs.declared.repeated.Named.{Named}
+use Rattle.table_findings.specs.declared.repeated.Named.TheVariants as named
 use Rattle.table_findings.specs.declared.subject.Row.{Row}
 use Rattle.table_findings.specs.declared.subject.Subject.{Subject}
 use Rattle.table_findings.specs.declared.subject.Subject.TheVariants as subject
@@ -22,6 +25,11 @@ subject_of (subject.Window row) = spec_subject.Window (row_of row)
 subject_of (subject.Channel row) = spec_subject.Channel (row_of row)
 subject_of (subject.Destination index row) = spec_subject.Destination index (row_of row)
 
+abbrev pub named_of : Named → spec_names.Named
+named_of named.Partitions = spec_names.Partitions
+named_of named.Channels = spec_names.Channels
+named_of (named.Ports row) = spec_names.Ports (row_of row)
+
 abbrev pub what_of : What → spec_finding.What
 what_of (what.Missing key part) = spec_finding.Missing key.now part
 what_of (what.Unknown part) = spec_finding.Unknown part
@@ -30,6 +38,9 @@ what_of (what.NoWord text words) = spec_finding.NoWord text.now words
 what_of (what.Outside number low high) = spec_finding.Outside number low high
 what_of (what.Count number low high) = spec_finding.Count number low high
 what_of (what.NoName text) = spec_finding.NoName text.now
+what_of (what.SameName name earlier) = spec_finding.SameName name.now earlier
+what_of (what.NoPartition text near) = spec_finding.NoPartition text.now (option_copied near)
+what_of (what.NoEnd text) = spec_finding.NoEnd text.now
 what_of (what.Below number low) = spec_finding.Below number low
 what_of (what.Overlaps begin before) = spec_finding.Overlaps begin before
 what_of (what.PastFrame end frame) = spec_finding.PastFrame end frame

@@ -39,6 +39,15 @@ pub enum What<'a> {
     NoName(&'a str),
     /// A number is below its limit.
     Below { number: i64, low: i64 },
+    /// The name of the row at this place of the list, too.
+    SameName { name: &'a str, earlier: usize },
+    /// The text is no partition of the table. The nearest name of one may be known.
+    NoPartition {
+        text: &'a str,
+        near: Option<&'a str>,
+    },
+    /// The text is neither a port of the table nor `DEVICE`.
+    NoEnd(&'a str),
     /// A window begins before the end of the one before it, which is this many ticks from the
     /// beginning of the frame.
     Overlaps { begin: i64, before: i128 },

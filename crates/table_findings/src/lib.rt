@@ -11,9 +11,11 @@ mod bounds;
 mod members;
 mod part;
 mod phrases;
+mod repeated;
 mod rows;
 mod schedule;
 mod subject;
+mod unknown;
 mod words;
 
 pub use actions::health;

@@ -79,6 +79,22 @@ fn value_text(
             let text = text.as_str();
             format!(in alloc; "{place} is {text}, which is no name")
         }
+        What::SameName { earlier, .. } => {
+            let (kind, number) = (kind_text(subject), earlier.saturating_add(1));
+            format!(in alloc; "{place} is also the name of {kind} {number}")
+        }
+        What::NoPartition { text, .. } => {
+            let text = quoted(alloc, text)?;
+            let text = text.as_str();
+            format!(in alloc; "{place} is {text}, which is no partition of the table")
+        }
+        What::NoEnd(text) => {
+            let text = quoted(alloc, text)?;
+            let text = text.as_str();
+            format!(
+                in alloc; "{place} is {text}, which is neither `DEVICE` nor a port of the table"
+            )
+        }
         _ => String::from_str(alloc, ""),
     }
 }
@@ -151,6 +167,17 @@ fn subject_text(alloc: Global, subject: Subject<'_>) -> Result<String, AllocErro
     }
 }
 
+/// The kind of a row.
+fn kind_text(subject: Subject<'_>) -> &'static str
+    ensures { result.now ≡ spec.kind_text (subject_of subject) }
+{
+    match subject {
+        Subject::Partition(_) => "partition",
+        Subject::Channel(_) => "channel",
+        _ => "port",
+    }
+}
+
 /// A kind of row, its number, and its name, if it has one.
 fn row_text(alloc: Global, kind: &str, row: Row<'_>) -> Result<String, AllocError>
     ensures { IfOk result (λ text. string_bytes text ≡ spec.row_text kind.now (row_of row)) }
@@ -197,6 +224,14 @@ pub fn advice(alloc: Global, key: Option<&str>, what: What<'_>) -> Result<String
             alloc,
             "A name is a lower-case letter, then lower-case letters, digits or `_`, 1 to 30 characters in all.",
         ),
+        What::SameName { .. } => String::from_str(alloc, "Give it a name of its own."),
+        What::NoPartition { near, .. } => {
+            near_or(alloc, near, "Write the name of a partition of the table.")
+        }
+        What::NoEnd(_) => String::from_str(
+            alloc,
+            "Write `DEVICE`, or the names of a partition and of one of its ports, as `partition.port`.",
+        ),
         What::Overlaps { before, .. } => format!(
             in alloc; "Windows stand in the order of the frame: let it begin at {before} or later."
         ),
@@ -206,6 +241,21 @@ pub fn advice(alloc: Global, key: Option<&str>, what: What<'_>) -> Result<String
             "Choose a period that divides the frame, or a multiple of it as the frame.",
         ),
         What::NoRelease => String::from_str(alloc, "Write `release = true` in one of its windows."),
+    }
+}
+
+/// The nearest name, or else this.
+fn near_or(alloc: Global, near: Option<&str>, other: &str) -> Result<String, AllocError>
+    ensures { IfOk result
+        (λ text. string_bytes text ≡ spec.near_or (option_copied near) other.now) }
+{
+    match near {
+        Some(near) => {
+            let near = quoted(alloc, near)?;
+            let near = near.as_str();
+            format!(in alloc; "Did you mean {near}?")
+        }
+        None => String::from_str(alloc, other),
     }
 }
 
