@@ -5,6 +5,7 @@ pub mod Health
 pub mod Limits
 pub mod Names
 pub mod Phrases
+pub mod Refused
 pub mod Schedule
 pub mod Shape
 pub mod Subjects

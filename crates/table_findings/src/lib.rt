@@ -3,11 +3,12 @@
 #![tactic(auto)]
 
 mod actions;
+mod bounds;
+mod explain;
 mod explained;
 mod fields;
 mod finding;
 mod forms;
-mod bounds;
 mod members;
 mod part;
 mod phrases;
@@ -19,11 +20,14 @@ mod unknown;
 mod words;
 
 pub use actions::health;
+pub use bounds::limits;
+pub use explain::explain_table;
 pub use explained::findings_text;
 pub use fields::Part;
 pub use finding::{Finding, What};
 pub use forms::shape;
-pub use bounds::limits;
+pub use repeated::repeated;
 pub use schedule::{odd_periods, overlaps, without_release};
 pub use subject::{Row, Subject};
+pub use unknown::unknown;
 pub use words::Words;
