@@ -8,8 +8,8 @@ ghost use Rattle.command_line.specs.Explained.{IsExplained, IsExplainedWith, IsN
 use crate::refusal::Refusal;
 use apex_types::Name;
 use explanations::{
-    CommandFault, command_sentence, device_sentence, explain_source, image_sentence,
-    replay_sentence, source_sentence, table_sentence,
+    CommandFault, command_sentence, device_sentence, explain_source, explain_table,
+    image_sentence, replay_sentence, source_sentence, table_sentence,
 };
 use module::{BuildFault, InputsFault, RunFault};
 use pal_base::fault::PalFault;
@@ -17,15 +17,15 @@ use std::alloc::Global;
 use std::fmt;
 use window_table::{ModuleTable, PartitionRow, read_table};
 
-/// The explanation of a refused source, for the lines behind that of its refusal.
+/// The explanation of a refused source or table, for the lines behind that of its refusal.
 #[derive(Drop)]
 pub enum Note {
     /// Nobody asked for an explanation.
     Unwanted,
-    /// No source is refused so far.
+    /// No source and no table is refused so far.
     Wanted,
-    /// The lines that explain the refusal of a source, to their end.
-    Source(String),
+    /// The lines that explain the refusal of a source or a table, to their end.
+    Explained(String),
 }
 
 impl Note {
@@ -34,18 +34,31 @@ impl Note {
         if wanted { Note::Wanted } else { Note::Unwanted }
     }
 
-    /// Notes the explanation of a refused source, if it is wanted and there is memory for it.
-    pub fn explain(&mut self, alloc: Global, table: &[u8], sources: &[&[u8]], fault: &BuildFault)
-        ensures { IsNoteOf table.now (map (λ s. s.now) sources.now) fault.now self.old self.new }
+    /// Notes the explanation of a refused table or source, if it is wanted and there is memory for
+    /// it. `file` is the name of the table's file.
+    pub fn explain(
+        &mut self,
+        alloc: Global,
+        file: &str,
+        table: &[u8],
+        sources: &[&[u8]],
+        fault: &BuildFault,
+    )
+        ensures { IsNoteOf file.now table.now (map (λ s. s.now) sources.now) fault.now self.old
+            self.new }
     {
         let Note::Wanted = self else {
             return;
         };
-        let BuildFault::Pal { partition, fault } = fault else {
-            return;
+        let text = match fault {
+            BuildFault::Table(fault) => explain_table(alloc, file, table, *fault),
+            BuildFault::Pal { partition, fault } => {
+                explained(alloc, table, sources, partition, *fault)
+            }
+            _ => None,
         };
-        if let Some(text) = explained(alloc, table, sources, partition, *fault) {
-            *self = Note::Source(text);
+        if let Some(text) = text {
+            *self = Note::Explained(text);
         }
     }
 }
@@ -198,7 +211,7 @@ impl fmt::Display for Told {
             return writeln!(f, "{refusal}");
         }
         match &self.note {
-            Note::Source(text) => write!(f, "{refusal}\n{text}"),
+            Note::Explained(text) => write!(f, "{refusal}\n{text}"),
             Note::Unwanted | Note::Wanted => writeln!(f, "{refusal}\n{}", sentence_of(refusal)),
         }
     }
