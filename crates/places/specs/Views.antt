@@ -6,6 +6,7 @@ use Rattle.places.specs.declared.path.OwnedStep.TheVariants as owned
 use Rattle.places.specs.declared.path.Step as code_step
 use Rattle.places.specs.declared.path.Step.TheVariants as lent
 use Rattle.places.specs.declared.path.Entry as code_entry
+use Rattle.places.specs.declared.walk.TomlPlaces.{TomlPlaces}
 
 abbrev pub owned_step : OwnedStep → Step
 owned_step (owned.Key k) = key (string_bytes k)
@@ -26,3 +27,6 @@ entry_of e = record { path = owned_path e.path.items; key_left = e.key_left; val
 
 abbrev pub entries_of : List code_entry.Entry → List Entry
 entries_of es = map entry_of es
+
+abbrev pub entries_in : TomlPlaces → List Entry
+entries_in places = entries_of places.entries.items

@@ -1,6 +1,6 @@
 //! The paths that headers name.
 
-ghost use Rattle.std.specs.Prelude.{◌≡◌, IfSome};
+ghost use Rattle.std.specs.Prelude.{◌≡◌, [], IfSome};
 ghost use Rattle.toml_parser.specs.Reading.{key_view, path_view};
 ghost use Rattle.places.specs.Entries as spec;
 ghost use Rattle.places.specs.Views.{entries_of, owned_path};
@@ -24,10 +24,11 @@ fn elements_at(path: &[OwnedStep], found: &[Entry]) -> usize
 }
 
 /// The path, or that of its last element if it is that of an array.
-fn through(found: &[Entry], mut path: Vec<OwnedStep>) -> Option<Vec<OwnedStep>>
+fn through(found: &[Entry], path: Vec<OwnedStep>) -> Option<Vec<OwnedStep>>
     ensures { IfSome result
         (λ whole. owned_path whole.items ≡ spec.through (entries_of found.now) (owned_path path.items)) }
 {
+    let mut path = path;
     let elements = elements_at(path.as_slice(), found);
     if elements != 0 {
         path.push(OwnedStep::Element(elements - 1)).ok()?;
@@ -48,10 +49,11 @@ fn header_path(alloc: Global, found: &[Entry], keys: &[String]) -> Option<Vec<Ow
 }
 
 /// The path of a key of the table at a path.
-fn with_key(alloc: Global, mut path: Vec<OwnedStep>, key: &str) -> Option<Vec<OwnedStep>>
+fn with_key(alloc: Global, path: Vec<OwnedStep>, key: &str) -> Option<Vec<OwnedStep>>
     ensures { IfSome result
         (λ whole. owned_path whole.items ≡ spec.with_key (owned_path path.items) key.now) }
 {
+    let mut path = path;
     path.push(OwnedStep::Key(String::from_str(alloc, key).ok()?)).ok()?;
     Some(path)
 }

@@ -23,16 +23,12 @@ pub fn place_of(text: &[u8], offset: usize) -> Place
 }
 
 /// What is before an offset, and what is from it on.
-#[tactic(auto, using(std::proofs::lemmas::List::take_min))]
+#[tactic(auto, using(std::proofs::lemmas::List::take_min, std::proofs::lemmas::List::drop_min))]
 pub fn halves(text: &[u8], offset: usize) -> (&[u8], &[u8])
     ensures before { result.0.now ≡ take offset text.now }
     ensures here { result.1.now ≡ drop offset text.now }
 {
-    if text.len() <= offset {
-        text.split_at(text.len())
-    } else {
-        text.split_at(offset)
-    }
+    text.split_at(offset.min(text.len()))
 }
 
 /// How many line feeds a text has.

@@ -1,8 +1,8 @@
 //! The walk over a TOML text.
 
-ghost use Rattle.std.specs.Prelude.{◌≡◌, ◌<◌, IfSome, OnSome, length, Some, option_map};
+ghost use Rattle.std.specs.Prelude.{◌≡◌, ◌<◌, IfSome, length, Some, option_map, slice_index};
 ghost use Rattle.places.specs.Entries as spec;
-ghost use Rattle.places.specs.Views.{entries_of, entry_of, owned_path, path_of};
+ghost use Rattle.places.specs.Views.{entries_in, entries_of, entry_of, owned_path, path_of};
 
 use crate::header::{element_path, table_path};
 use crate::inside::{add, inside};
@@ -20,9 +20,9 @@ pub struct TomlPlaces {
 
 impl TomlPlaces {
     /// The places of a text, if it is a TOML document and there is memory for them.
-    pub fn of(alloc: Global, text: &str) -> Option<TomlPlaces>
+    pub fn read(alloc: Global, text: &str) -> Option<TomlPlaces>
         ensures { IfSome result
-            (λ places. spec.entries text.now ≡ Some (entries_of places.entries.items)) }
+            (λ places. spec.entries text.now ≡ Some (entries_in places)) }
     {
         let entries = entries(alloc, text)?;
         Some(TomlPlaces { entries })
@@ -32,7 +32,7 @@ impl TomlPlaces {
     #[tactic(auto, using(std::proofs::lemmas::List::drop_more))]
     pub fn first_at(&self, path: &[Step<'_>]) -> Option<&Entry>
         ensures { option_map (λ entry. entry_of entry.now) result
-            ≡ spec.first_at (path_of path.now) (entries_of self.now.entries.items) }
+            ≡ spec.first_at (path_of path.now) (entries_in self.now) }
     {
         for entry in &self.entries {
             if leads_to(path, entry.path.as_slice()) {

@@ -44,7 +44,7 @@ fn counts<'a>(found: &mut Vec<Finding<'a>>, table: &WrittenTable<'a>) -> Result<
         ≡ findings_of found.old.items ++ spec.counts (table_text table.now)) }
 {
     let module = Subject::Module;
-    outside(found, module, "frame", 1, i64::from(MOST_FRAME_TICKS), table.frame)?;
+    outside(found, module, "frame", 1, MOST_FRAME_TICKS as i64, table.frame)?;
     count(found, module, "partition", 1, MOST_PARTITIONS as usize, table.partitions.len())?;
     count(found, module, "window", 1, MOST_WINDOWS as usize, table.windows.len())?;
     count(found, module, "channel", 0, MOST_CHANNELS as usize, table.channels.len())
@@ -162,7 +162,7 @@ fn costs_at<'a>(
 {
     match (keys.split_first(), numbers.split_first()) {
         (Some((key, keys)), Some((number, numbers))) => {
-            outside(found, Subject::Costs, *key, 1, i64::from(MOST_COST), *number)?;
+            outside(found, Subject::Costs, *key, 1, MOST_COST as i64, *number)?;
             costs_at(found, keys, numbers)
         }
         _ => Ok(()),
@@ -245,7 +245,7 @@ fn port<'a>(
     };
     let subject = Subject::Port { port, partition };
     name(found, subject, row.name)?;
-    outside(found, subject, "words", 1, i64::from(MOST_WORDS), row.words)?;
+    outside(found, subject, "words", 1, MOST_WORDS as i64, row.words)?;
     kind(found, subject, row.kind)
 }
 
@@ -264,7 +264,7 @@ fn kind<'a>(
             outside(found, subject, "refresh", 0, MOST_TICKS as i64, refresh)
         }
         WrittenKind::Queuing { depth, .. } => {
-            outside(found, subject, "depth", 1, i64::from(MOST_DEPTH), depth)
+            outside(found, subject, "depth", 1, MOST_DEPTH as i64, depth)
         }
     }
 }

@@ -81,7 +81,7 @@ fn explain_document(
         (λ lines. spec.IsOfDocument file.now text.now (table_view document.now) fault
         (string_bytes lines)) }
 {
-    let places = TomlPlaces::of(alloc, text)?;
+    let places = TomlPlaces::read(alloc, text)?;
     let mut found = Vec::new(alloc);
     findings(alloc, &mut found, document, fault)?;
     findings_text(alloc, file, text, &places, found.as_slice()).ok()

@@ -1,7 +1,7 @@
 //! The findings of a table, each with its place, the line there, and advice.
 
 ghost use Rattle.std.specs.Prelude.{◌≡◌, flat_map, IfOk, option_map, string_bytes, take};
-ghost use Rattle.places.specs.Views.{entries_of, entry_of, path_of};
+ghost use Rattle.places.specs.Views.{entries_in, entry_of, path_of};
 ghost use Rattle.table_findings.specs.Explained as spec;
 ghost use Rattle.table_findings.specs.Phrases.{finding_text};
 ghost use Rattle.table_findings.specs.Views.{finding_of, findings_of, what_of};
@@ -29,7 +29,7 @@ pub fn findings_text(
 ) -> Result<String, AllocError>
     ensures { IfOk result
         (λ lines. string_bytes lines
-        ≡ spec.findings_text file.now text.now (entries_of places.now.entries.items)
+        ≡ spec.findings_text file.now text.now (entries_in places.now)
         (findings_of found.now)) }
 {
     let (shown, _) = found.split_at(found.len().min(MOST_FINDINGS));
@@ -48,7 +48,7 @@ fn all_lines(
     ensures { IfOk result
         (λ lines. string_bytes lines
         ≡ flat_map
-        (spec.finding_lines file.now text.now (entries_of places.now.entries.items))
+        (spec.finding_lines file.now text.now (entries_in places.now))
         (findings_of found.now)) }
 {
     let mut lines = String::new(alloc);
@@ -68,7 +68,7 @@ fn finding_lines(
 ) -> Result<String, AllocError>
     ensures { IfOk result
         (λ lines. string_bytes lines
-        ≡ spec.finding_lines file.now text.now (entries_of places.now.entries.items)
+        ≡ spec.finding_lines file.now text.now (entries_in places.now)
         (finding_of finding)) }
 {
     let offset = offset_of(alloc, text, places, finding)?;
@@ -120,7 +120,7 @@ fn offset_of(
 ) -> Result<usize, AllocError>
     ensures { IfOk result
         (λ offset. offset
-        ≡ spec.offset_of text.now (entries_of places.now.entries.items) (finding_of finding)) }
+        ≡ spec.offset_of text.now (entries_in places.now) (finding_of finding)) }
 {
     let path = finding_path(alloc, finding)?;
     let left = left_at(text.len(), finding.what, places.first_at(path.as_slice()));

@@ -90,7 +90,7 @@ fn same_names<'a>(
         ++ spec.same_names (named_of named) (map (λ name. name.now) names.now)) }
 {
     for (index, name) in names.iter().enumerate() {
-        same_at(found, named, names, index, name)?;
+        same_at(found, named, names, index, *name)?;
     }
     Ok(())
 }
