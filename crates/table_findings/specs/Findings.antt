@@ -31,6 +31,8 @@ pub data What : Type 0 where
   PastFrame : (end frame : ℤ) → What
   -- the frame is no multiple of a period
   OddPeriod : (period frame : ℕ) → What
+  -- in a period that begins at this tick of the frame, a partition's windows offer less than is wanted
+  Short : (from offered wanted : ℕ) → What
   -- a partition has no release window
   NoRelease : What
 

@@ -1,3 +1,4 @@
+pub mod Durations
 pub mod Explained
 pub mod Fields
 pub mod Findings

@@ -4,7 +4,7 @@ use Rattle.std.specs.Fmt.{decimal, signed_decimal}
 use Rattle.places.specs.Nearest.{nearest}
 use Rattle.places.specs.Texts.{shown_start}
 use Rattle.table_findings.specs.Fields.{keys, wanted, words_of}
-use Rattle.table_findings.specs.Findings.{Finding, What, Missing, Unknown, OtherType, NoWord, Outside, Below, Count, NoName, SameName, NoPartition, NoEnd, Overlaps, PastFrame, OddPeriod, NoRelease}
+use Rattle.table_findings.specs.Findings.{Finding, What, Missing, Unknown, OtherType, NoWord, Outside, Below, Count, NoName, SameName, NoPartition, NoEnd, Overlaps, PastFrame, OddPeriod, Short, NoRelease}
 use Rattle.table_findings.specs.Subjects.{Row, Subject, Module, Costs, Partition, Health, Port, Window, Channel, Destination}
 use Rattle.table_findings.specs.declared.fields.Part.{Part}
 
@@ -76,6 +76,8 @@ what_text key subject (Overlaps begin before) =
 what_text key subject (PastFrame end frame) = subject_text subject ++ codes " ends at " ++ signed_decimal end ++ codes ", past the frame of " ++ signed_decimal frame
 what_text key subject (OddPeriod period frame) =
     codes "the frame of " ++ decimal frame ++ codes " ticks is no multiple of " ++ decimal period ++ codes ", the period of " ++ subject_text subject
+what_text key subject (Short from offered wanted) =
+    subject_text subject ++ codes " is offered " ++ decimal offered ++ codes " ticks in its period from " ++ decimal from ++ codes ", and its duration is " ++ decimal wanted
 what_text key subject NoRelease = subject_text subject ++ codes " has no window with `release = true`"
 what_text key subject what = value_text key subject what
 
@@ -126,4 +128,5 @@ advice key (NoEnd text) = codes "Write `DEVICE`, or the names of a partition and
 advice key (Overlaps begin before) = codes "Windows stand in the order of the frame: let it begin at " ++ signed_decimal before ++ codes " or later."
 advice key (PastFrame end frame) = codes "Make it shorter, or let it begin earlier."
 advice key (OddPeriod period frame) = codes "Choose a period that divides the frame, or a multiple of it as the frame."
+advice key (Short from offered wanted) = codes "Give it longer windows in this period, or a shorter duration."
 advice key NoRelease = codes "Write `release = true` in one of its windows."

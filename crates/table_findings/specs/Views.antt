@@ -45,6 +45,7 @@ what_of (what.Below number low) = spec_finding.Below number low
 what_of (what.Overlaps begin before) = spec_finding.Overlaps begin before
 what_of (what.PastFrame end frame) = spec_finding.PastFrame end frame
 what_of (what.OddPeriod period frame) = spec_finding.OddPeriod period frame
+what_of (what.Short from offered wanted) = spec_finding.Short from offered wanted
 what_of what.NoRelease = spec_finding.NoRelease
 
 abbrev pub finding_of : Finding → spec_finding.Finding

@@ -8,6 +8,7 @@ ghost use Rattle.window_table.specs.Views.{table_text};
 
 use crate::actions::health;
 use crate::bounds::limits;
+use crate::durations::short_periods;
 use crate::explained::findings_text;
 use crate::finding::Finding;
 use crate::forms::shape;
@@ -127,6 +128,7 @@ fn findings_in<'a>(
         }
         TableFault::Overlap => overlaps(found, table).ok(),
         TableFault::Period => odd_periods(found, table).ok(),
+        TableFault::Duration => short_periods(found, table).ok(),
         TableFault::Release => without_release(found, table).ok(),
         _ => Some(()),
     }

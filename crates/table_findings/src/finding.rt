@@ -55,6 +55,13 @@ pub enum What<'a> {
     PastFrame { end: i128, frame: i64 },
     /// The frame is no multiple of the partition's period.
     OddPeriod { period: u64, frame: u64 },
+    /// In the period of a partition that begins `from` ticks behind the beginning of the frame its
+    /// windows offer less ticks than are wanted.
+    Short {
+        from: u128,
+        offered: u128,
+        wanted: u64,
+    },
     /// The partition has no release window.
     NoRelease,
 }

@@ -4,6 +4,7 @@
 
 mod actions;
 mod bounds;
+mod durations;
 mod explain;
 mod explained;
 mod fields;
@@ -21,6 +22,7 @@ mod words;
 
 pub use actions::health;
 pub use bounds::limits;
+pub use durations::short_periods;
 pub use explain::explain_table;
 pub use explained::findings_text;
 pub use fields::Part;

@@ -40,6 +40,13 @@ pub fn finding_text(alloc: Global, finding: Finding<'_>) -> Result<String, Alloc
         What::PastFrame { end, frame } => {
             format!(in alloc; "{about} ends at {end}, past the frame of {frame}")
         }
+        What::Short {
+            from,
+            offered,
+            wanted,
+        } => format!(
+            in alloc; "{about} is offered {offered} ticks in its period from {from}, and its duration is {wanted}"
+        ),
         What::NoRelease => format!(in alloc; "{about} has no window with `release = true`"),
         _ => value_text(alloc, subject, key, what),
     }
@@ -239,6 +246,10 @@ pub fn advice(alloc: Global, key: Option<&str>, what: What<'_>) -> Result<String
         What::OddPeriod { .. } => String::from_str(
             alloc,
             "Choose a period that divides the frame, or a multiple of it as the frame.",
+        ),
+        What::Short { .. } => String::from_str(
+            alloc,
+            "Give it longer windows in this period, or a shorter duration.",
         ),
         What::NoRelease => String::from_str(alloc, "Write `release = true` in one of its windows."),
     }
