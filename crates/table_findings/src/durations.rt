@@ -1,6 +1,6 @@
 //! Partitions to which windows offer less than their duration.
 
-ghost use Rattle.std.specs.Prelude.{◌≡◌, ◌++◌, ◌+◌, ◌^◌, ◌<◌, ◌≤◌, map, OnOk};
+ghost use Rattle.std.specs.Prelude.{◌≡◌, ◌++◌, ◌+◌, ◌-◌, ◌^◌, ◌<◌, ◌≤◌, map, OnOk};
 ghost use Rattle.table_findings.specs.Durations as spec;
 ghost use Rattle.table_findings.specs.Views.{findings_of};
 ghost use Rattle.window_table.specs.Views.{partition_text, table_text, window_text};
@@ -126,7 +126,7 @@ fn offered(windows: &[WrittenWindow<'_>], name: &str, low: u128, period: u64) ->
 /// The ticks that a window has in common with those from `low` up to `high`.
 fn common(low: u128, high: u128, window: WrittenWindow<'_>) -> u128
     ensures value { result ≡ spec.common low high (window_text window) }
-    ensures bound { result + low ≤ high + 2 ^ 64 }
+    ensures bound { result ≤ high - low }
 {
     let begin = u128::from(window.offset.unsigned_abs());
     let end = begin + u128::from(window.length.unsigned_abs());
