@@ -82,9 +82,13 @@ IsExplainedWith t sources name fault text = (source : List ℕ) × (source_of t.
 abbrev pub IsExplained : List ℕ → List (List ℕ) → List ℕ → PalFault → List ℕ → Type 0
 IsExplained table sources name fault text = (t : Table) × IsTable table t × IsExplainedWith t sources name fault text
 
--- If an explanation was wanted, the refused table of this file may be explained, and the refused source: that of the partition
--- that the fault names.
+-- the text explains the refusal of a table, which is that of this file, or of the source of the partition that the fault names
+abbrev pub IsNoted : List ℕ → List ℕ → List (List ℕ) → BuildFault → List ℕ → Type 0
+IsNoted file table sources (build.Table fault) text = IsTableExplanation file table fault text
+IsNoted file table sources (build.Pal name fault) text = IsExplained table sources name fault text
+IsNoted file table sources fault text = ⊥
+
+-- If an explanation was wanted, the refused table or source may be explained.
 abbrev pub IsNoteOf : List ℕ → List ℕ → List (List ℕ) → BuildFault → Note → Note → Type 0
-IsNoteOf file table sources (build.Table fault) Wanted (Explained text) = IsTableExplanation file table fault (string_bytes text)
-IsNoteOf file table sources (build.Pal name fault) Wanted (Explained text) = IsExplained table sources name fault (string_bytes text)
+IsNoteOf file table sources fault Wanted (Explained text) = IsNoted file table sources fault (string_bytes text)
 IsNoteOf file table sources fault old new = new ≡ old

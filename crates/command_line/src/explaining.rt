@@ -3,7 +3,7 @@
 ghost use Rattle.std.specs.Prelude.{◌≡◌, Some, map, option_map, string_bytes, IfSome};
 ghost use Rattle.module_meaning.specs.Accepted.{IsTable};
 ghost use Rattle.window_table.specs.Views.{partition_view, table_of};
-ghost use Rattle.command_line.specs.Explained.{IsExplained, IsExplainedWith, IsNoteOf, build_sentence, inputs_sentence, run_sentence, sentence_of, sentence_of_replay, source_of, told_text};
+ghost use Rattle.command_line.specs.Explained.{IsExplained, IsExplainedWith, IsNoted, IsNoteOf, build_sentence, inputs_sentence, run_sentence, sentence_of, sentence_of_replay, source_of, told_text};
 
 use crate::refusal::Refusal;
 use apex_types::Name;
@@ -50,16 +50,30 @@ impl Note {
         let Note::Wanted = self else {
             return;
         };
-        let text = match fault {
-            BuildFault::Table(fault) => explain_table(alloc, file, table, *fault),
-            BuildFault::Pal { partition, fault } => {
-                explained(alloc, table, sources, partition, *fault)
-            }
-            _ => None,
-        };
-        if let Some(text) = text {
+        if let Some(text) = explanation(alloc, file, table, sources, fault) {
             *self = Note::Explained(text);
         }
+    }
+}
+
+/// The explanation of a refused table or source, if there is memory for it.
+fn explanation(
+    alloc: Global,
+    file: &str,
+    table: &[u8],
+    sources: &[&[u8]],
+    fault: &BuildFault,
+) -> Option<String>
+    ensures { IfSome result
+        (λ text. IsNoted file.now table.now (map (λ s. s.now) sources.now) fault.now
+        (string_bytes text)) }
+{
+    match fault {
+        BuildFault::Table(fault) => explain_table(alloc, file, table, *fault),
+        BuildFault::Pal { partition, fault } => {
+            explained(alloc, table, sources, partition, *fault)
+        }
+        _ => None,
     }
 }
 
