@@ -1,4 +1,5 @@
 pub mod Contents
 pub mod Names
 pub mod Noted
+pub mod Reads
 pub mod States

@@ -4,6 +4,7 @@
 
 mod files;
 mod names;
+mod read_names;
 mod sources;
 mod stream;
 mod writer;
@@ -11,6 +12,7 @@ mod writing;
 
 pub use files::Files;
 pub use names::{FailedNames, NameFault};
+pub use read_names::ReadNames;
 pub use sources::Sources;
 pub use stream::Stream;
 pub use writer::WriterStream;
