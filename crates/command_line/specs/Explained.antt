@@ -3,7 +3,7 @@ use Rattle.std.specs.Prelude.{◌≡◌, ℕ, Bool, true, false, List, [], ◌�
 use Rattle.std.specs.Str.{bytes_eq}
 use Rattle.module_meaning.specs.Table.{Partition, Table}
 use Rattle.explanations.specs.Explanation.{IsExplanationOf, IsTableExplanation}
-use Rattle.explanations.specs.Sentences.{command_sentence, device_sentence, image_sentence, replay_sentence, source_sentence, table_sentence}
+use Rattle.explanations.specs.Sentences.{command_sentence, device_sentence, file_sentence, image_sentence, replay_sentence, source_sentence, table_sentence}
 use Rattle.explanations.specs.declared.sentences.CommandFault.TheVariants as command
 use Rattle.module_meaning.specs.Accepted.{IsTable}
 use Rattle.module.specs.declared.fault.BuildFault.{BuildFault}
@@ -55,7 +55,7 @@ sentence_of (Build fault) = build_sentence fault
 sentence_of (Run fault) = run_sentence fault
 sentence_of (Replay fault) = sentence_of_replay fault
 sentence_of (Inputs fault) = inputs_sentence fault
-sentence_of (File name) = command_sentence command.File
+sentence_of (File name reason) = file_sentence reason
 sentence_of Memory = command_sentence command.Memory
 sentence_of Write = command_sentence command.Write
 

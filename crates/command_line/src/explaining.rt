@@ -9,7 +9,7 @@ use crate::refusal::Refusal;
 use apex_types::Name;
 use explanations::{
     CommandFault, command_sentence, device_sentence, explain_source, explain_table,
-    image_sentence, replay_sentence, source_sentence, table_sentence,
+    file_sentence, image_sentence, replay_sentence, source_sentence, table_sentence,
 };
 use module::{BuildFault, InputsFault, RunFault};
 use pal_base::fault::PalFault;
@@ -154,7 +154,7 @@ pub fn sentence_of(refusal: &Refusal) -> &'static str
         Refusal::Run(fault) => run_sentence(fault),
         Refusal::Replay(fault) => sentence_of_replay(fault),
         Refusal::Inputs(fault) => inputs_sentence(fault),
-        Refusal::File(_) => command_sentence(CommandFault::File),
+        Refusal::File(_, reason) => file_sentence(*reason),
         Refusal::Memory => command_sentence(CommandFault::Memory),
         Refusal::Write => command_sentence(CommandFault::Write),
     }

@@ -7,7 +7,7 @@ ghost use Rattle.streams.specs.Reads.{reads_of};
 use std::alloc::{AllocGlobal, Global};
 use std::os::unix::fs::MetadataExt;
 use std::{fs, rt};
-use streams::{FailedNames, Files, NameFault, ReadNames};
+use streams::{FailedNames, Files, NameFault, ReadNames, Reason};
 
 /// The device and the number of a file, which tell it from all others.
 #[derive(Clone, Copy, PartialEq, Eq)]
@@ -80,7 +80,7 @@ impl<'a, R: rt::Files + AllocGlobal> Files for HostFiles<'a, R> {
 
     fn write(&mut self, name: &str, bytes: &[u8]) -> Result<(), NameFault> {
         if self.read.has(name) || self.is_read_file(name) {
-            return Err(self.failed.unavailable(self.runtime.alloc(), name));
+            return Err(self.failed.unavailable(self.runtime.alloc(), name, Reason::WasRead));
         }
         match fs::write(self.runtime, name, bytes) {
             Ok(()) => Ok(()),

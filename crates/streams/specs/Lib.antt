@@ -2,4 +2,5 @@ pub mod Contents
 pub mod Names
 pub mod Noted
 pub mod Reads
+pub mod Reasons
 pub mod States

@@ -11,7 +11,7 @@ mod writer;
 mod writing;
 
 pub use files::Files;
-pub use names::{FailedNames, NameFault};
+pub use names::{FailedNames, NameFault, Reason, reason_of};
 pub use read_names::ReadNames;
 pub use sources::Sources;
 pub use stream::Stream;

@@ -8,7 +8,7 @@ use command_line::command;
 use std::alloc::Global;
 use std::io::Write;
 use std::process::Abort;
-use streams::{FailedNames, Files, NameFault, WriterStream};
+use streams::{FailedNames, Files, NameFault, Reason, WriterStream};
 
 /// The files "table", "devices", "source" and "source2", as far as there are sources, and room for
 /// one that is named "image". No other file can be read or written.
@@ -78,14 +78,14 @@ impl<'a> Files for Shelf<'a> {
         };
         match found? {
             Some(bytes) => Ok(bytes),
-            None => Err(self.failed.unavailable(alloc, name)),
+            None => Err(self.failed.unavailable(alloc, name, Reason::Missing)),
         }
     }
 
     fn write(&mut self, name: &str, bytes: &[u8]) -> Result<(), NameFault> {
         self.writes = self.writes.wrapping_add(1);
         if name != "image" {
-            return Err(self.failed.unavailable(self.alloc, name));
+            return Err(self.failed.unavailable(self.alloc, name, Reason::Denied));
         }
         self.image = Some(copy(self.alloc, bytes)?);
         Ok(())

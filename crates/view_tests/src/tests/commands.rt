@@ -5,7 +5,7 @@ ghost use Rattle.streams.specs.Names.{names_of};
 use std::alloc::Global;
 use std::io::{self, ErrorKind, Read, Write};
 use std::process::Abort;
-use streams::{FailedNames, NameFault, Sources, WriterStream};
+use streams::{FailedNames, NameFault, Reason, Sources, WriterStream};
 use view_command::view;
 
 const TRACE: &str = "0000000000000 a MODE COLD_START
@@ -51,7 +51,7 @@ impl Sources for Texts {
             "torn.txt" => (TRACE, true),
             "other.txt" => ("0000000000000 a MODE COLD_START\nx\n", false),
             "memory.txt" => return Err(NameFault::Memory),
-            _ => return Err(self.unopened.unavailable(self.alloc, name)),
+            _ => return Err(self.unopened.unavailable(self.alloc, name, Reason::Missing)),
         };
         Ok(Text {
             rest: text.as_bytes(),
