@@ -1,5 +1,5 @@
 -- A finding: where a rule is broken, and what was found there.
-use Rattle.std.specs.Prelude.{ℕ, ℤ, List, Option}
+use Rattle.std.specs.Prelude.{ℕ, ℤ, Bool, List, Option}
 use Rattle.table_findings.specs.Subjects.{Subject}
 use Rattle.table_findings.specs.declared.fields.Part.{Part}
 use Rattle.table_findings.specs.declared.words.Words.{Words}
@@ -26,6 +26,19 @@ pub data What : Type 0 where
   NoPartition : List ℕ → Option (List ℕ) → What
   -- the text is neither a port of the table nor `DEVICE`
   NoEnd : List ℕ → What
+  -- the port that the text names is no source, or it is one where a destination is wanted
+  WrongDirection : List ℕ → Bool → What
+  -- its port is of another kind, or takes another number of words than that of this text
+  OtherKind : List ℕ → What
+  OtherWords : ℤ → List ℕ → ℤ → What
+  -- a destination is in the partition of the source
+  SamePartition : What
+  -- the channel has `DEVICE` before
+  DeviceTwice : What
+  -- a channel of queuing ports has this number of destinations
+  SplitQueue : ℕ → What
+  -- the text stands at another end before
+  PortTwice : List ℕ → What
   -- a window begins before the end of the one before it, or ends past the frame
   Overlaps : (begin before : ℤ) → What
   PastFrame : (end frame : ℤ) → What

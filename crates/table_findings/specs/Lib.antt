@@ -1,4 +1,5 @@
 pub mod Durations
+pub mod Ends
 pub mod Explained
 pub mod Fields
 pub mod Findings

@@ -1,10 +1,10 @@
 -- What a finding says, and what it advises.
-use Rattle.std.specs.Prelude.{ℕ, ◌+◌, ◌^◌, min, List, [], ◌∷◌, ◌++◌, codes, flat_map, Option, Some, None}
+use Rattle.std.specs.Prelude.{ℕ, ◌+◌, ◌^◌, min, Bool, if◌then◌else◌, List, [], ◌∷◌, ◌++◌, codes, flat_map, Option, Some, None}
 use Rattle.std.specs.Fmt.{decimal, signed_decimal}
 use Rattle.places.specs.Nearest.{nearest}
 use Rattle.places.specs.Texts.{shown_start}
 use Rattle.table_findings.specs.Fields.{keys, wanted, words_of}
-use Rattle.table_findings.specs.Findings.{Finding, What, Missing, Unknown, OtherType, NoWord, Outside, Below, Count, NoName, SameName, NoPartition, NoEnd, Overlaps, PastFrame, OddPeriod, Short, NoRelease}
+use Rattle.table_findings.specs.Findings.{Finding, What, Missing, Unknown, OtherType, NoWord, Outside, Below, Count, NoName, SameName, NoPartition, NoEnd, WrongDirection, OtherKind, OtherWords, SamePartition, DeviceTwice, SplitQueue, PortTwice, Overlaps, PastFrame, OddPeriod, Short, NoRelease}
 use Rattle.table_findings.specs.Subjects.{Row, Subject, Module, Costs, Partition, Health, Port, Window, Channel, Destination}
 use Rattle.table_findings.specs.declared.fields.Part.{Part}
 
@@ -53,6 +53,21 @@ kind_text subject = codes "port"
 
 -- ---- what was found
 
+-- the word for a direction
+abbrev pub direction_text : Bool → List ℕ
+direction_text as_source = if as_source then codes "SOURCE" else codes "DESTINATION"
+
+-- what is said of an end that does not fit
+abbrev pub end_text : List ℕ → What → List ℕ
+end_text place (WrongDirection text as_source) = place ++ codes " is " ++ quoted text ++ codes ", which is no port of the direction " ++ direction_text as_source
+end_text place (OtherKind other) = place ++ codes " is of another kind than " ++ quoted other
+end_text place (OtherWords words other other_words) = place ++ codes " takes " ++ signed_decimal words ++ codes " words, and " ++ quoted other ++ codes " takes " ++ signed_decimal other_words
+end_text place SamePartition = place ++ codes " is in the partition of the source"
+end_text place DeviceTwice = place ++ codes " is `DEVICE`, which is an end of the channel before"
+end_text place (SplitQueue number) = place ++ codes " stands for " ++ decimal number ++ codes " of them, and a channel of queuing ports has one"
+end_text place (PortTwice text) = place ++ codes " is " ++ quoted text ++ codes ", which is an end before"
+end_text place what = []
+
 -- what is said of a value
 abbrev pub value_text : Option (List ℕ) → Subject → What → List ℕ
 value_text key subject (OtherType wanted found) = place_text key subject ++ codes " is of the type " ++ found ++ codes ", not " ++ wanted
@@ -66,7 +81,7 @@ value_text key subject (NoName text) = place_text key subject ++ codes " is " ++
 value_text key subject (SameName name earlier) = place_text key subject ++ codes " is also the name of " ++ kind_text subject ++ codes " " ++ number_text earlier
 value_text key subject (NoPartition text near) = place_text key subject ++ codes " is " ++ quoted text ++ codes ", which is no partition of the table"
 value_text key subject (NoEnd text) = place_text key subject ++ codes " is " ++ quoted text ++ codes ", which is neither `DEVICE` nor a port of the table"
-value_text key subject _ = []
+value_text key subject what = end_text (place_text key subject) what
 
 abbrev pub what_text : Option (List ℕ) → Subject → What → List ℕ
 what_text key subject (Missing lacked part) = subject_text subject ++ codes " lacks the key " ++ quoted lacked
@@ -125,6 +140,13 @@ advice key (NoName text) = codes "A name is a lower-case letter, then lower-case
 advice key (SameName name earlier) = codes "Give it a name of its own."
 advice key (NoPartition text near) = near_or near (codes "Write the name of a partition of the table.")
 advice key (NoEnd text) = codes "Write `DEVICE`, or the names of a partition and of one of its ports, as `partition.port`."
+advice key (WrongDirection text as_source) = codes "Name a port of the direction " ++ direction_text as_source ++ codes ", or turn the channel around."
+advice key (OtherKind other) = codes "All ports of a channel have the same kind."
+advice key (OtherWords words other other_words) = codes "All ports of a channel have the same `words`."
+advice key SamePartition = codes "A channel leads to other partitions."
+advice key DeviceTwice = codes "Name `DEVICE` once."
+advice key (SplitQueue number) = codes "Name one destination."
+advice key (PortTwice text) = codes "Name a port at one end only."
 advice key (Overlaps begin before) = codes "Windows stand in the order of the frame: let it begin at " ++ signed_decimal before ++ codes " or later."
 advice key (PastFrame end frame) = codes "Make it shorter, or let it begin earlier."
 advice key (OddPeriod period frame) = codes "Choose a period that divides the frame, or a multiple of it as the frame."

@@ -6,6 +6,7 @@ use Rattle.toml.specs.Data.{Members}
 use Rattle.module_meaning.specs.Accepted.{IsDocument}
 use Rattle.module_meaning.specs.TableRules.{TableText, table_text_of}
 use Rattle.table_findings.specs.Durations.{short_periods}
+use Rattle.table_findings.specs.Ends.{ends}
 use Rattle.table_findings.specs.Explained.{findings_text, heading}
 use Rattle.table_findings.specs.Findings.{Finding}
 use Rattle.table_findings.specs.Health.{health}
@@ -23,6 +24,7 @@ findings_in fault.Name t = names t
 findings_in fault.Overlap t = overlaps t
 findings_in fault.Period t = odd_periods t
 findings_in fault.Duration t = short_periods t
+findings_in fault.Ends t = ends t
 findings_in fault.Release t = without_release t
 findings_in f t = []
 

@@ -1,8 +1,14 @@
 -- The findings of the code as findings of the definitions.
-use Rattle.std.specs.Prelude.{List, map, option_copied}
+use Rattle.std.specs.Prelude.{ℕ, List, map, option_copied}
 use Rattle.table_findings.specs.Subjects as spec_subject
 use Rattle.table_findings.specs.Findings as spec_finding
 use Rattle.table_findings.specs.Names as spec_names
+use Rattle.table_findings.specs.Ends as spec_ends
+use Rattle.module_meaning.specs.TableRules.{PortText}
+use Rattle.window_table.specs.Views.{port_text}
+use Rattle.table_findings.specs.declared.fitting.End.{End}
+use Rattle.table_findings.specs.declared.fitting.Port as code_port
+use Rattle.table_findings.specs.declared.fitting.FirstPort.{FirstPort}
 use Rattle.table_findings.specs.declared.repeated.Named.{Named}
 use Rattle.table_findings.specs.declared.repeated.Named.TheVariants as named
 use Rattle.table_findings.specs.declared.subject.Row.{Row}
@@ -41,6 +47,13 @@ what_of (what.NoName text) = spec_finding.NoName text.now
 what_of (what.SameName name earlier) = spec_finding.SameName name.now earlier
 what_of (what.NoPartition text near) = spec_finding.NoPartition text.now (option_copied near)
 what_of (what.NoEnd text) = spec_finding.NoEnd text.now
+what_of (what.WrongDirection text as_source) = spec_finding.WrongDirection text.now as_source
+what_of (what.OtherKind other) = spec_finding.OtherKind other.now
+what_of (what.OtherWords words other other_words) = spec_finding.OtherWords words other.now other_words
+what_of what.SamePartition = spec_finding.SamePartition
+what_of what.DeviceTwice = spec_finding.DeviceTwice
+what_of (what.SplitQueue number) = spec_finding.SplitQueue number
+what_of (what.PortTwice text) = spec_finding.PortTwice text.now
 what_of (what.Below number low) = spec_finding.Below number low
 what_of (what.Overlaps begin before) = spec_finding.Overlaps begin before
 what_of (what.PastFrame end frame) = spec_finding.PastFrame end frame
@@ -53,3 +66,14 @@ finding_of f = record { subject = subject_of f.subject; key = option_copied f.ke
 
 abbrev pub findings_of : List Finding → List spec_finding.Finding
 findings_of fs = map finding_of fs
+
+-- ---- ends
+
+abbrev pub end_of : End → spec_ends.End
+end_of e = record { subject = subject_of e.subject; key = option_copied e.key; text = e.text.now }
+
+abbrev pub port_of : code_port.Port → ℕ × PortText
+port_of p = (p.partition, port_text p.row)
+
+abbrev pub first_of : FirstPort → List ℕ × PortText
+first_of p = (p.text.now, port_text p.row)

@@ -11,6 +11,7 @@ use crate::bounds::limits;
 use crate::durations::short_periods;
 use crate::explained::findings_text;
 use crate::finding::Finding;
+use crate::fitting::ends;
 use crate::forms::shape;
 use crate::repeated::repeated;
 use crate::schedule::{odd_periods, overlaps, without_release};
@@ -129,6 +130,7 @@ fn findings_in<'a>(
         TableFault::Overlap => overlaps(found, table).ok(),
         TableFault::Period => odd_periods(found, table).ok(),
         TableFault::Duration => short_periods(found, table).ok(),
+        TableFault::Ends => ends(alloc, found, table).ok(),
         TableFault::Release => without_release(found, table).ok(),
         _ => Some(()),
     }

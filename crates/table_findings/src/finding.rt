@@ -48,6 +48,24 @@ pub enum What<'a> {
     },
     /// The text is neither a port of the table nor `DEVICE`.
     NoEnd(&'a str),
+    /// The port that the text names is no source, or it is one where a destination is wanted.
+    WrongDirection { text: &'a str, as_source: bool },
+    /// Its port is of another kind than that of this text.
+    OtherKind(&'a str),
+    /// Its port takes another number of words than that of this text.
+    OtherWords {
+        words: i64,
+        other: &'a str,
+        other_words: i64,
+    },
+    /// A destination is in the partition of the source.
+    SamePartition,
+    /// The channel has `DEVICE` before.
+    DeviceTwice,
+    /// A channel of queuing ports has this number of destinations.
+    SplitQueue(usize),
+    /// The text stands at another end before.
+    PortTwice(&'a str),
     /// A window begins before the end of the one before it, which is this many ticks from the
     /// beginning of the frame.
     Overlaps { begin: i64, before: i128 },

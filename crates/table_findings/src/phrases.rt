@@ -102,8 +102,55 @@ fn value_text(
                 in alloc; "{place} is {text}, which is neither `DEVICE` nor a port of the table"
             )
         }
-        _ => String::from_str(alloc, ""),
+        _ => end_text(alloc, place, what),
     }
+}
+
+/// What is said of an end that does not fit.
+fn end_text(alloc: Global, place: &str, what: What<'_>) -> Result<String, AllocError>
+    ensures { IfOk result (λ text. string_bytes text ≡ spec.end_text place.now (what_of what)) }
+{
+    match what {
+        What::WrongDirection { text, as_source } => {
+            let text = quoted(alloc, text)?;
+            let (text, direction) = (text.as_str(), direction_text(as_source));
+            format!(in alloc; "{place} is {text}, which is no port of the direction {direction}")
+        }
+        What::OtherKind(other) => {
+            let other = quoted(alloc, other)?;
+            let other = other.as_str();
+            format!(in alloc; "{place} is of another kind than {other}")
+        }
+        What::OtherWords {
+            words,
+            other,
+            other_words,
+        } => {
+            let other = quoted(alloc, other)?;
+            let other = other.as_str();
+            format!(in alloc; "{place} takes {words} words, and {other} takes {other_words}")
+        }
+        What::SamePartition => format!(in alloc; "{place} is in the partition of the source"),
+        What::DeviceTwice => {
+            format!(in alloc; "{place} is `DEVICE`, which is an end of the channel before")
+        }
+        What::SplitQueue(number) => format!(
+            in alloc; "{place} stands for {number} of them, and a channel of queuing ports has one"
+        ),
+        What::PortTwice(text) => {
+            let text = quoted(alloc, text)?;
+            let text = text.as_str();
+            format!(in alloc; "{place} is {text}, which is an end before")
+        }
+        _ => Ok(String::new(alloc)),
+    }
+}
+
+/// The word for a direction.
+fn direction_text(as_source: bool) -> &'static str
+    ensures { result.now ≡ spec.direction_text as_source }
+{
+    if as_source { "SOURCE" } else { "DESTINATION" }
 }
 
 /// A word of the table in quotation marks.
@@ -239,6 +286,18 @@ pub fn advice(alloc: Global, key: Option<&str>, what: What<'_>) -> Result<String
             alloc,
             "Write `DEVICE`, or the names of a partition and of one of its ports, as `partition.port`.",
         ),
+        What::WrongDirection { as_source, .. } => {
+            let direction = direction_text(as_source);
+            format!(in alloc; "Name a port of the direction {direction}, or turn the channel around.")
+        }
+        What::OtherKind(_) => String::from_str(alloc, "All ports of a channel have the same kind."),
+        What::OtherWords { .. } => {
+            String::from_str(alloc, "All ports of a channel have the same `words`.")
+        }
+        What::SamePartition => String::from_str(alloc, "A channel leads to other partitions."),
+        What::DeviceTwice => String::from_str(alloc, "Name `DEVICE` once."),
+        What::SplitQueue(_) => String::from_str(alloc, "Name one destination."),
+        What::PortTwice(_) => String::from_str(alloc, "Name a port at one end only."),
         What::Overlaps { before, .. } => format!(
             in alloc; "Windows stand in the order of the frame: let it begin at {before} or later."
         ),

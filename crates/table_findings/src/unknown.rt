@@ -79,7 +79,7 @@ fn window<'a>(
 
 /// Returns true if a name is one of some names.
 #[tactic(auto, using(std::proofs::lemmas::List::drop_more))]
-fn is_among(name: &str, names: &[&str]) -> bool
+pub fn is_among(name: &str, names: &[&str]) -> bool
     ensures { result ≡ spec.is_among name.now (map (λ name. name.now) names.now) }
 {
     for other in names {
