@@ -1,3 +1,4 @@
+pub mod Any
 pub mod Durations
 pub mod Ends
 pub mod Explained
