@@ -40,3 +40,38 @@ overlaps_any frame before i (w ∷ ws) =
     (sym (or_assoc (int_lt w.offset before) (int_lt frame (window_end w)) _)
     ∙ ap (λ (b : Bool). b || has_any (overlaps_from frame (window_end w) (i + 1) ws)) (sym (placed_any frame before i w))
     ∙ sym (any_append (placed frame before i w) (overlaps_from frame (window_end w) (i + 1) ws)))
+
+-- ---- limits
+
+any_unless : (test : Bool) (xs ys : List Finding) → has_any xs ≡ false → has_any ys ≡ true → has_any (cond test xs ys) ≡ not test
+any_unless true xs ys none some = none
+any_unless false xs ys none some = some
+
+-- the findings of two parts
+two : (xs ys : List Finding) (a b : Bool) → a ≡ has_any xs → b ≡ has_any ys → a || b ≡ has_any (xs ++ ys)
+two xs ys a b one other = rw (one, other) (sym (any_append xs ys))
+
+outside_any : (s : Subject) (key : List ℕ) (low : ℕ) (high z : ℤ) → is_outside low high z ≡ has_any (outside s key low high z)
+outside_any s key low high z = sym (any_if (is_outside low high z) _ _ refl refl)
+
+below_any : (s : Subject) (key : List ℕ) (low : ℕ) (z : ℤ) → int_lt z (pos low) ≡ has_any (below s key low z)
+below_any s key low z = sym (any_if (int_lt z (pos low)) _ _ refl refl)
+
+count_any : (s : Subject) (key : List ℕ) (low high n : ℕ) → nat_lt n low || nat_lt high n ≡ has_any (count s key low high n)
+count_any s key low high n = sym (any_if (nat_lt n low || nat_lt high n) _ _ refl refl)
+
+name_any : (s : Subject) (text : List ℕ) → not (is_name text) ≡ has_any (name s text)
+name_any s text = sym (any_unless (is_name text) _ _ refl refl)
+
+kind_any : (s : Subject) (k : KindText) → exceeds_kind k ≡ has_any (kind s k)
+unfolding exceeds_kind
+kind_any s (Sampling refresh) = outside_any s (codes "refresh") 0 _ refresh
+kind_any s (Queuing depth discipline) = outside_any s (codes "depth") 1 _ depth
+
+port_any : (s : Subject) (p : PortText) → exceeds_port p ≡ has_any (port_limits s p)
+unfolding exceeds_port
+port_any s p = or_assoc _ _ _ ∙ two _ _ _ _ (name_any s p.name) (two _ _ _ _ (outside_any s (codes "words") 1 _ p.words) (kind_any s p.kind))
+
+ports_any : (r : Row) (i : ℕ) (ps : List PortText) → list_any exceeds_port ps ≡ has_any (ports_from r i ps)
+ports_any r i [] = refl
+ports_any r i (p ∷ ps) = two _ _ _ _ (port_any _ p) (ports_any r (i + 1) ps)
