@@ -9,7 +9,7 @@ ghost use Rattle.pal_meaning.specs.Grammar.{behind_blanks, in_name, in_service, 
 ghost use Rattle.pal_meaning.specs.Lines.{from_word};
 ghost use Rattle.engine_meaning.specs.Digits.{is_digit};
 
-use pal_base::mark::SIGNS;
+use pal_base::mark::{Mark, SIGNS};
 
 /// The text from the word on that has so many words before it; nothing if there are no more words.
 #[tactic(auto, unfolding(pal_meaning::specs::Lines::from_word))]
@@ -139,11 +139,13 @@ fn sign_length(text: &[u8]) -> Option<usize>
         ≡ option_map (λ sign. length sign)
         (find (λ sign. starts_with nat_eq text.now sign) grammar.signs) }
 {
-    for mark in &SIGNS {
+    let mut marks: &[Mark] = &SIGNS;
+    while let Some((mark, others)) = marks.split_first() {
         let sign = mark.text();
         if text.starts_with(sign) {
             return Some(sign.len());
         }
+        marks = others;
     }
     None
 }

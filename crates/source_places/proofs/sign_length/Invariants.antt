@@ -6,4 +6,7 @@ use Rattle.pal_base.specs.Marks.{mark_text}
 use Rattle.source_places.proofs.sign_length.Given as goal
 
 abbrev pub invariant-loop-mark : goal.invariant-loop-mark
-invariant-loop-mark l = ?
+invariant-loop-mark l = find (λ (sign : List ℕ). starts_with nat_eq l.text sign) signs ≡ find (λ (sign : List ℕ). starts_with nat_eq l.text sign) (map mark_text l.marks)
+
+abbrev pub decreases-loop-mark : goal.decreases-loop-mark
+decreases-loop-mark l = length l.marks
