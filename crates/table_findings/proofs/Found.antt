@@ -75,3 +75,32 @@ port_any s p = or_assoc _ _ _ ∙ two _ _ _ _ (name_any s p.name) (two _ _ _ _ (
 ports_any : (r : Row) (i : ℕ) (ps : List PortText) → list_any exceeds_port ps ≡ has_any (ports_from r i ps)
 ports_any r i [] = refl
 ports_any r i (p ∷ ps) = two _ _ _ _ (port_any _ p) (ports_any r (i + 1) ps)
+
+-- five parts of a partition, of which the rule takes two together
+partition_parts : (a b c d e : Bool) → a || ((b || c) || (d || e)) ≡ a || (b || (c || (d || e)))
+partition_parts true b c d e = refl
+partition_parts false b c d e = or_assoc b c (d || e)
+
+partition_any : (frame : ℤ) (i : ℕ) (p : PartitionText) → exceeds_partition frame p ≡ has_any (partition_limits frame i p)
+unfolding exceeds_partition
+partition_any frame i p = ?
+
+partitions_any : (frame : ℤ) (i : ℕ) (ps : List PartitionText) → list_any (exceeds_partition frame) ps ≡ has_any (partitions_from frame i ps)
+partitions_any frame i [] = refl
+partitions_any frame i (p ∷ ps) = two _ _ _ _ (partition_any frame i p) (partitions_any frame (i + 1) ps)
+
+window_any : (i : ℕ) (w : WindowText) → exceeds_window w ≡ has_any (window_limits i w)
+unfolding exceeds_window
+window_any i w = two _ _ _ _ (below_any _ (codes "offset") 0 w.offset) (below_any _ (codes "length") 1 w.length)
+
+windows_any : (i : ℕ) (ws : List WindowText) → list_any exceeds_window ws ≡ has_any (windows_from i ws)
+windows_any i [] = refl
+windows_any i (w ∷ ws) = two _ _ _ _ (window_any i w) (windows_any (i + 1) ws)
+
+channel_any : (i : ℕ) (c : ChannelText) → exceeds_channel c ≡ has_any (channel_limits i c)
+unfolding exceeds_channel
+channel_any i c = two _ _ _ _ (name_any _ c.name) (count_any _ (codes "destinations") 1 _ (length c.destinations))
+
+channels_any : (i : ℕ) (cs : List ChannelText) → list_any exceeds_channel cs ≡ has_any (channels_from i cs)
+channels_any i [] = refl
+channels_any i (c ∷ cs) = two _ _ _ _ (channel_any i c) (channels_any (i + 1) cs)
