@@ -1,10 +1,14 @@
 -- The places of the key paths of a TOML text: where `toml` reads the key and where it reads the value of each.
-use Rattle.std.specs.Prelude.{ℕ, zero, suc, ◌+◌, ◌-◌, Bool, true, false, ◌&&◌, ◌==◌, nat_eq, if◌then◌else◌, List, [], ◌∷◌, ◌++◌, drop, length, map, slice_index, Option, Some, None, option_map}
+use Rattle.std.specs.Prelude.{ℕ, zero, suc, ◌+◌, ◌-◌, Bool, true, false, ◌&&◌, ◌==◌, nat_eq, if◌then◌else◌, List, [], ◌∷◌, ◌++◌, drop, length, map, slice_index, Option, Some, None, option_and_then, option_map}
 use Rattle.std.specs.Str.{bytes_eq}
 use Rattle.toml_parser.specs.Lexical.{Read, first, left_brace, left_bracket, right_brace, right_bracket, skip_blank}
 use Rattle.toml_parser.specs.Strings.{Key, quoted, recursion_limit, starts_string}
 use Rattle.toml_parser.specs.Numbers.{unquoted}
-use Rattle.toml.specs.Parse.{◌>>=◌, after_byte, after_element, header_key, key_equals, skip_bom}
+use Rattle.toml.specs.Parse.{after_byte, after_element, header_key, key_equals, skip_bom}
+
+infixl 10 ◌>>=◌
+abbrev pub ◌>>=◌ : {A B : Type 0} → Option A → (A → Option B) → Option B
+o >>= f = option_and_then f o
 
 -- a step from a table to what a key of it holds, or from an array to one of its elements, counted from 0
 pub data Step : Type 0 where

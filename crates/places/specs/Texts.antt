@@ -52,11 +52,16 @@ abbrev pub shown_start : List ℕ → List ℕ
 shown_start line = if nat_lt 40 (length line) then shown (take 40 line) ++ codes "..." else shown line
 
 -- a space below each byte
+abbrev pub space : ℕ → ℕ
+space byte = 32
+
 abbrev pub spaces_below : List ℕ → List ℕ
-spaces_below bytes = map (λ byte. 32) bytes
+spaces_below bytes = map space bytes
+
+-- two parts of a line, and a mark below the beginning of the second one
+abbrev pub marked : List ℕ → List ℕ → List ℕ
+marked end start = end ++ start ++ 10 ∷ spaces_below end ++ 94 ∷ 10 ∷ []
 
 -- the line around a place, and below it the mark
 abbrev pub marked_line : List ℕ → List ℕ → List ℕ
-marked_line before here =
-    let end = shown_end (last_line before) in
-    end ++ shown_start (first_line here) ++ 10 ∷ spaces_below end ++ 94 ∷ 10 ∷ []
+marked_line before here = marked (shown_end (last_line before)) (shown_start (first_line here))

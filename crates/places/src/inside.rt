@@ -93,7 +93,7 @@ fn members<'a>(
             return Some(skip(start, 1));
         }
         let (key, at_value) = key_equals(alloc, start)?;
-        let here = key_path(alloc, path, &key).ok()?;
+        let here = key_path(alloc, path, &key)?;
         add(alloc, found, here.as_slice(), start, at_value)?;
         let after = inside(alloc, here.as_slice(), found, at_value, depth)?;
         rest = after_element(after, b'}')?;
@@ -101,7 +101,7 @@ fn members<'a>(
 }
 
 /// The path of an element of the array at a path.
-#[tactic(auto, using(std::proofs::lemmas::List::map-append))]
+#[tactic(auto, using(std::proofs::lemmas::List::map_push))]
 pub fn element_path(alloc: Global, path: &[OwnedStep], index: usize) -> Option<Vec<OwnedStep>>
     ensures { IfSome result
         (λ whole. owned_path whole.items ≡ spec.longer (owned_path path.now) index) }

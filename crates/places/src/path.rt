@@ -1,6 +1,6 @@
 //! Key paths, and the entries that a text has for them.
 
-ghost use Rattle.std.specs.Prelude.{◌≡◌, ◌++◌, ◌∷◌, [], IfOk, map};
+ghost use Rattle.std.specs.Prelude.{◌≡◌, ◌++◌, ◌∷◌, [], IfOk, IfSome, map};
 ghost use Rattle.toml_parser.specs.Reading.{key_view};
 ghost use Rattle.places.specs.Entries.{is_one_element, is_same_step, key_path, leads_to, leads_to_element};
 ghost use Rattle.places.specs.Views.{owned_path, owned_step, path_of, step_of};
@@ -68,7 +68,7 @@ fn is_one_element(path: &[OwnedStep]) -> bool
 
 /// Returns true if a step is this one.
 fn is_step(step: Step<'_>, other: &OwnedStep) -> bool
-    ensures { result ≡ is_same_step (step_of step) (owned_step other.now) }
+    ensures { result ≡ is_same_step (step_of step.entry) (owned_step other.now) }
 {
     match (step, other) {
         (Step::Key(key), OwnedStep::Key(other)) => key.as_bytes() == other.as_bytes(),
@@ -101,7 +101,7 @@ fn copied_step(alloc: Global, step: &OwnedStep) -> Result<OwnedStep, AllocError>
 }
 
 /// A path once more.
-#[tactic(auto, using(std::proofs::lemmas::List::drop_more, std::proofs::lemmas::List::map-append))]
+#[tactic(auto, using(std::proofs::lemmas::List::drop_more, std::proofs::lemmas::List::map_push))]
 pub fn copied(alloc: Global, path: &[OwnedStep]) -> Result<Vec<OwnedStep>, AllocError>
     ensures { IfOk result (λ copy. owned_path copy.items ≡ owned_path path.now) }
 {
@@ -113,14 +113,14 @@ pub fn copied(alloc: Global, path: &[OwnedStep]) -> Result<Vec<OwnedStep>, Alloc
 }
 
 /// The path of a key with dots, from a table on.
-pub fn key_path(alloc: Global, path: &[OwnedStep], key: &Key) -> Result<Vec<OwnedStep>, AllocError>
-    ensures { IfOk result
+pub fn key_path(alloc: Global, path: &[OwnedStep], key: &Key) -> Option<Vec<OwnedStep>>
+    ensures { IfSome result
         (λ whole. owned_path whole.items ≡ key_path (owned_path path.now) (key_view key.now)) }
 {
-    let mut whole = copied(alloc, path)?;
+    let mut whole = copied(alloc, path).ok()?;
     for part in &key.path {
-        whole.push(OwnedStep::Key(String::from_str(alloc, part.as_str())?))?;
+        whole.push(OwnedStep::Key(String::from_str(alloc, part.as_str()).ok()?)).ok()?;
     }
-    whole.push(OwnedStep::Key(String::from_str(alloc, key.last.as_str())?))?;
-    Ok(whole)
+    whole.push(OwnedStep::Key(String::from_str(alloc, key.last.as_str()).ok()?)).ok()?;
+    Some(whole)
 }

@@ -1,7 +1,7 @@
 //! The line of a place as it is shown, with a mark below the place.
 
 ghost use Rattle.std.specs.Prelude.{◌≡◌, ◌++◌, ◌∷◌, ◌-◌, [], drop, IfOk, length, map, OnOk, string_bytes, take};
-ghost use Rattle.places.specs.Texts.{marked_line, shown, shown_byte, shown_end, shown_start, spaces_below};
+ghost use Rattle.places.specs.Texts.{marked, marked_line, shown, shown_byte, shown_end, shown_start, spaces_below};
 
 use crate::text::{first_line, halves, last_line};
 use std::alloc::{AllocError, Global};
@@ -22,8 +22,15 @@ pub fn marked_line(alloc: Global, text: &[u8], offset: usize) -> Result<String, 
     let (before, here) = halves(text, offset);
     let end = shown_end(alloc, last_line(before))?;
     let start = shown_start(alloc, first_line(here))?;
+    marked(alloc, end.as_str(), start.as_str())
+}
+
+/// Two parts of a line, and a mark below the beginning of the second one.
+fn marked(alloc: Global, end: &str, start: &str) -> Result<String, AllocError>
+    ensures { IfOk result (λ text. string_bytes text ≡ marked end.now start.now) }
+{
     let spaces = spaces_below(alloc, end.as_bytes())?;
-    let (end, start, spaces) = (end.as_str(), start.as_str(), spaces.as_str());
+    let spaces = spaces.as_str();
     format!(in alloc; "{end}{start}\n{spaces}^\n")
 }
 
@@ -91,8 +98,15 @@ fn spaces_below(alloc: Global, bytes: &[u8]) -> Result<String, AllocError>
     ensures { IfOk result (λ text. string_bytes text ≡ spaces_below bytes.now) }
 {
     let mut text = String::new(alloc);
-    for _byte in bytes {
-        text.push(' ')?;
+    for byte in bytes {
+        text.push(char::from(space(*byte)))?;
     }
     Ok(text)
+}
+
+/// What stands below a byte.
+fn space(_byte: u8) -> u8
+    ensures { result ≡ 32 }
+{
+    b' '
 }

@@ -1,7 +1,8 @@
 //! The line and the column of a place.
 
 ghost use Rattle.std.specs.Prelude.{◌≡◌, ◌≤◌, length, take, drop, count_by};
-ghost use Rattle.places.specs.Texts.{behind_feed, column_of, first_line, is_feed, is_start, last_line, line_of};
+ghost use Rattle.std.specs.List.{prefix_len};
+ghost use Rattle.places.specs.Texts.{behind_feed, column_of, first_line, is_feed, is_no_feed, is_start, last_line, line_of};
 
 /// The line and the column of a place, both from 1. A column is a character.
 #[derive(Clone, Copy, Debug, PartialEq, Eq)]
@@ -64,7 +65,14 @@ fn behind_feed(text: &[u8]) -> usize
 pub fn first_line(text: &[u8]) -> &[u8]
     ensures { result.now ≡ first_line text.now }
 {
-    let length = text.iter().take_while(|byte| **byte != b'\n').count();
-    let (line, _) = text.split_at(length);
+    let (line, _) = text.split_at(before_feed(text));
     line
+}
+
+/// How many bytes are before the first line feed.
+fn before_feed(text: &[u8]) -> usize
+    ensures length { result ≡ prefix_len is_no_feed text.now }
+    ensures within { result ≤ length text.now }
+{
+    text.iter().take_while(|byte| **byte != b'\n').count()
 }

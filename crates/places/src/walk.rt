@@ -133,7 +133,7 @@ fn pair_line<'a>(
     ensures shorter { IfSome result (λ rest. length rest.now < length start.now) }
 {
     let (key, at_value) = key_equals(alloc, start)?;
-    let path = key_path(alloc, section, &key).ok()?;
+    let path = key_path(alloc, section, &key)?;
     add(alloc, found, path.as_slice(), start, at_value)?;
     inside(alloc, path.as_slice(), found, at_value, RECURSION_LIMIT)
 }

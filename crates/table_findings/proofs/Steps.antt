@@ -19,3 +19,6 @@ next_value vs i v is here = drop_more vs i v here ∙ ap (λ (x : Value). x ∷ 
 
 pub all_seen : {X : Type 0} (xs : List X) (i : ℕ) → length xs ≤ i → drop i xs ≡ []
 all_seen xs i h = nil_from_length (drop i xs) (omega (arith, length-drop i xs))
+
+pub append_nil : {A : Type 0} (xs : List A) → xs ++ [] ≡ xs
+append_nil xs = append-nil xs

@@ -30,7 +30,7 @@ pub fn health<'a>(found: &mut Vec<Finding<'a>>, document: &'a Table) -> Result<(
     partitions(found, items_at(document, "partition"))
 }
 
-#[tactic(auto, using(std::proofs::lemmas::List::drop_more, std::proofs::lemmas::List::append_assoc, std::proofs::lemmas::List::append-nil))]
+#[tactic(auto, using(std::proofs::lemmas::List::drop_more, std::proofs::lemmas::List::append_assoc, crate::proofs::Steps::append_nil))]
 fn partitions<'a>(found: &mut Vec<Finding<'a>>, values: &'a [Value]) -> Result<(), AllocError>
     ensures { OnOk result
         (findings_of found.new.items
@@ -65,7 +65,7 @@ fn errors<'a>(
 ) -> Result<(), AllocError>
     ensures { OnOk result
         (findings_of found.new.items
-        ≡ findings_of found.old.items ++ spec.errors (row_of row) (table_view table.now)) }
+        ≡ findings_of found.old.items ++ spec.errors (row_of row.entry) (table_view table.now)) }
 {
     match table_at(table, "hm") {
         None => Ok(()),
@@ -84,7 +84,7 @@ fn actions<'a>(
 ) -> Result<(), AllocError>
     ensures { OnOk result
         (findings_of found.new.items
-        ≡ findings_of found.old.items ++ spec.actions (subject_of subject) (table_view table.now)) }
+        ≡ findings_of found.old.items ++ spec.actions (subject_of subject.entry) (table_view table.now)) }
 {
     for (key, value) in table {
         action(found, subject, key.as_str(), value)?;
@@ -101,7 +101,7 @@ fn action<'a>(
     ensures { OnOk result
         (findings_of found.new.items
         ≡ findings_of found.old.items
-        ++ spec.action (subject_of subject) key.now (value_view value.now)) }
+        ++ spec.action (subject_of subject.entry) key.now (value_view value.now)) }
 {
     let words = Words::PartitionAction;
     match value.as_str() {

@@ -61,7 +61,7 @@ fn outside<'a>(
 ) -> Result<(), AllocError>
     ensures { OnOk result
         (findings_of found.new.items
-        ≡ findings_of found.old.items ++ spec.outside (subject_of subject) key.now low high number) }
+        ≡ findings_of found.old.items ++ spec.outside (subject_of subject.entry) key.now low high number) }
 {
     let low = i64::from(low);
     if number < low || high < number {
@@ -81,7 +81,7 @@ fn below<'a>(
 ) -> Result<(), AllocError>
     ensures { OnOk result
         (findings_of found.new.items
-        ≡ findings_of found.old.items ++ spec.below (subject_of subject) key.now low number) }
+        ≡ findings_of found.old.items ++ spec.below (subject_of subject.entry) key.now low number) }
 {
     let low = i64::from(low);
     if number < low {
@@ -102,7 +102,7 @@ fn count<'a>(
 ) -> Result<(), AllocError>
     ensures { OnOk result
         (findings_of found.new.items
-        ≡ findings_of found.old.items ++ spec.count (subject_of subject) key.now low high number) }
+        ≡ findings_of found.old.items ++ spec.count (subject_of subject.entry) key.now low high number) }
 {
     if number < low || high < number {
         add(found, subject, Some(key), What::Count { number, low, high })
@@ -119,7 +119,7 @@ fn name<'a>(
 ) -> Result<(), AllocError>
     ensures { OnOk result
         (findings_of found.new.items
-        ≡ findings_of found.old.items ++ spec.name (subject_of subject) text.now) }
+        ≡ findings_of found.old.items ++ spec.name (subject_of subject.entry) text.now) }
 {
     if is_name(text) {
         Ok(())
@@ -169,7 +169,7 @@ fn costs_at<'a>(
     }
 }
 
-#[tactic(auto, using(std::proofs::lemmas::List::drop_more, std::proofs::lemmas::List::append_assoc, std::proofs::lemmas::List::append-nil))]
+#[tactic(auto, using(std::proofs::lemmas::List::drop_more, std::proofs::lemmas::List::append_assoc, crate::proofs::Steps::append_nil))]
 fn partitions<'a>(
     found: &mut Vec<Finding<'a>>,
     frame: i64,
@@ -210,7 +210,7 @@ fn partition<'a>(
     ports(found, row, partition.ports.as_slice())
 }
 
-#[tactic(auto, using(std::proofs::lemmas::List::drop_more, std::proofs::lemmas::List::append_assoc, std::proofs::lemmas::List::append-nil))]
+#[tactic(auto, using(std::proofs::lemmas::List::drop_more, std::proofs::lemmas::List::append_assoc, crate::proofs::Steps::append_nil))]
 fn ports<'a>(
     found: &mut Vec<Finding<'a>>,
     partition: Row<'a>,
@@ -219,7 +219,7 @@ fn ports<'a>(
     ensures { OnOk result
         (findings_of found.new.items
         ≡ findings_of found.old.items
-        ++ spec.ports_from (row_of partition) 0 (map port_text ports.now)) }
+        ++ spec.ports_from (row_of partition.entry) 0 (map port_text ports.now)) }
 {
     for (index, row) in ports.iter().enumerate() {
         port(found, partition, index, *row)?;
@@ -237,7 +237,7 @@ fn port<'a>(
     ensures { OnOk result
         (findings_of found.new.items
         ≡ findings_of found.old.items
-        ++ spec.one_port (row_of partition) index (port_text row)) }
+        ++ spec.one_port (row_of partition.entry) index (port_text row.entry)) }
 {
     let port = Row {
         index,
@@ -257,7 +257,7 @@ fn kind<'a>(
 ) -> Result<(), AllocError>
     ensures { OnOk result
         (findings_of found.new.items
-        ≡ findings_of found.old.items ++ spec.kind (subject_of subject) (kind_text kind)) }
+        ≡ findings_of found.old.items ++ spec.kind (subject_of subject.entry) (kind_text kind)) }
 {
     match kind {
         WrittenKind::Sampling { refresh } => {
@@ -269,7 +269,7 @@ fn kind<'a>(
     }
 }
 
-#[tactic(auto, using(std::proofs::lemmas::List::drop_more, std::proofs::lemmas::List::append_assoc, std::proofs::lemmas::List::append-nil))]
+#[tactic(auto, using(std::proofs::lemmas::List::drop_more, std::proofs::lemmas::List::append_assoc, crate::proofs::Steps::append_nil))]
 fn windows<'a>(
     found: &mut Vec<Finding<'a>>,
     windows: &[WrittenWindow<'a>],
@@ -292,7 +292,7 @@ fn window<'a>(
 ) -> Result<(), AllocError>
     ensures { OnOk result
         (findings_of found.new.items
-        ≡ findings_of found.old.items ++ spec.window_limits index (window_text window)) }
+        ≡ findings_of found.old.items ++ spec.window_limits index (window_text window.entry)) }
 {
     let subject = Subject::Window(Row {
         index,
@@ -302,7 +302,7 @@ fn window<'a>(
     below(found, subject, "length", 1, window.length)
 }
 
-#[tactic(auto, using(std::proofs::lemmas::List::drop_more, std::proofs::lemmas::List::append_assoc, std::proofs::lemmas::List::append-nil))]
+#[tactic(auto, using(std::proofs::lemmas::List::drop_more, std::proofs::lemmas::List::append_assoc, crate::proofs::Steps::append_nil))]
 fn channels<'a>(
     found: &mut Vec<Finding<'a>>,
     channels: &[WrittenChannel<'a>],

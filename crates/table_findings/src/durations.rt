@@ -29,7 +29,7 @@ pub fn short_periods<'a>(
     short_periods_from(found, frame, windows, table.partitions.as_slice())
 }
 
-#[tactic(auto, using(std::proofs::lemmas::List::drop_more, std::proofs::lemmas::List::append_assoc, std::proofs::lemmas::List::append-nil))]
+#[tactic(auto, using(std::proofs::lemmas::List::drop_more, std::proofs::lemmas::List::append_assoc, crate::proofs::Steps::append_nil))]
 fn short_periods_from<'a>(
     found: &mut Vec<Finding<'a>>,
     frame: u64,
@@ -125,7 +125,7 @@ fn offered(windows: &[WrittenWindow<'_>], name: &str, low: u128, period: u64) ->
 
 /// The ticks that a window has in common with those from `low` up to `high`.
 fn common(low: u128, high: u128, window: WrittenWindow<'_>) -> u128
-    ensures value { result ≡ spec.common low high (window_text window) }
+    ensures value { result ≡ spec.common low high (window_text window.entry) }
     ensures bound { result ≤ high - low }
 {
     let begin = u128::from(window.offset.unsigned_abs());

@@ -37,7 +37,7 @@ pub fn findings_text(
 }
 
 /// The lines of findings.
-#[tactic(auto, using(std::proofs::lemmas::List::drop_more, std::proofs::lemmas::List::append_assoc, std::proofs::lemmas::List::append-nil))]
+#[tactic(auto, using(std::proofs::lemmas::List::drop_more, std::proofs::lemmas::List::append_assoc, crate::proofs::Steps::append_nil))]
 fn all_lines(
     alloc: Global,
     file: &str,
@@ -69,7 +69,7 @@ fn finding_lines(
     ensures { IfOk result
         (λ lines. string_bytes lines
         ≡ spec.finding_lines file.now text.now (entries_in places.now)
-        (finding_of finding)) }
+        (finding_of finding.entry)) }
 {
     let offset = offset_of(alloc, text, places, finding)?;
     lines_at(alloc, file, text, offset, finding)
@@ -83,7 +83,7 @@ fn lines_at(
     finding: Finding<'_>,
 ) -> Result<String, AllocError>
     ensures { IfOk result
-        (λ lines. string_bytes lines ≡ spec.lines_at file.now text.now offset (finding_of finding)) }
+        (λ lines. string_bytes lines ≡ spec.lines_at file.now text.now offset (finding_of finding.entry)) }
 {
     let heading = heading(alloc, file, text, offset, finding)?;
     let marked = marked_line(alloc, text.as_bytes(), offset)?;
@@ -102,7 +102,7 @@ fn heading(
 ) -> Result<String, AllocError>
     ensures { IfOk result
         (λ line. string_bytes line
-        ≡ spec.heading file.now (take offset text.now) (finding_text (finding_of finding))) }
+        ≡ spec.heading file.now (take offset text.now) (finding_text (finding_of finding.entry))) }
 {
     let place = place_of(text.as_bytes(), offset);
     let (line, column) = (place.line, place.column);
@@ -120,7 +120,7 @@ fn offset_of(
 ) -> Result<usize, AllocError>
     ensures { IfOk result
         (λ offset. offset
-        ≡ spec.offset_of text.now (entries_in places.now) (finding_of finding)) }
+        ≡ spec.offset_of text.now (entries_in places.now) (finding_of finding.entry)) }
 {
     let path = finding_path(alloc, finding)?;
     let left = left_at(text.len(), finding.what, places.first_at(path.as_slice()));
@@ -129,7 +129,7 @@ fn offset_of(
 
 /// The key path of a finding.
 fn finding_path<'a>(alloc: Global, finding: Finding<'a>) -> Result<Vec<Step<'a>>, AllocError>
-    ensures { IfOk result (λ path. path_of path.items ≡ spec.finding_path (finding_of finding)) }
+    ensures { IfOk result (λ path. path_of path.items ≡ spec.finding_path (finding_of finding.entry)) }
 {
     let mut path = subject_path(alloc, finding.subject)?;
     if let Some(key) = finding.key {
@@ -140,7 +140,7 @@ fn finding_path<'a>(alloc: Global, finding: Finding<'a>) -> Result<Vec<Step<'a>>
 
 /// How much of the text is left at the place of a finding.
 fn left_at(whole: usize, what: What<'_>, entry: Option<&Entry>) -> usize
-    ensures { result ≡ spec.left_at whole (what_of what) (option_map (λ e. entry_of e.now) entry.entry) }
+    ensures { result ≡ spec.left_at whole (what_of what.entry) (option_map (λ e. entry_of e.now) entry.entry) }
 {
     match entry {
         None => whole,
@@ -156,7 +156,7 @@ fn left_at(whole: usize, what: What<'_>, entry: Option<&Entry>) -> usize
 
 /// Returns true if what is found is about the key, and not about its value.
 fn is_of_key(what: What<'_>) -> bool
-    ensures { result ≡ spec.is_of_key (what_of what) }
+    ensures { result ≡ spec.is_of_key (what_of what.entry) }
 {
     matches!(what, What::Missing(..) | What::Unknown(_))
 }

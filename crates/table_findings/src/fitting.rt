@@ -59,7 +59,7 @@ pub fn ends<'a>(
     channels_twice(found, &mut seen, rows)
 }
 
-#[tactic(auto, using(std::proofs::lemmas::List::drop_more, std::proofs::lemmas::List::append_assoc, std::proofs::lemmas::List::append-nil))]
+#[tactic(auto, using(std::proofs::lemmas::List::drop_more, std::proofs::lemmas::List::append_assoc, crate::proofs::Steps::append_nil))]
 fn channels<'a>(
     found: &mut Vec<Finding<'a>>,
     partitions: &[WrittenPartition<'a>],
@@ -117,7 +117,7 @@ fn source_end<'a>(index: usize, channel: &WrittenChannel<'a>) -> End<'a>
 
 /// A destination of a channel.
 fn destination_end<'a>(channel: Row<'a>, index: usize, text: &'a str) -> End<'a>
-    ensures { end_of result ≡ spec.destination_end (row_of channel) index text.now }
+    ensures { end_of result ≡ spec.destination_end (row_of channel.entry) index text.now }
 {
     End {
         subject: Subject::Destination(index, channel),
@@ -127,7 +127,7 @@ fn destination_end<'a>(channel: Row<'a>, index: usize, text: &'a str) -> End<'a>
 }
 
 /// Adds the destinations of a channel that do not fit.
-#[tactic(auto, using(std::proofs::lemmas::List::drop_more, std::proofs::lemmas::List::append_assoc, std::proofs::lemmas::List::append-nil))]
+#[tactic(auto, using(std::proofs::lemmas::List::drop_more, std::proofs::lemmas::List::append_assoc, crate::proofs::Steps::append_nil))]
 fn destinations<'a>(
     found: &mut Vec<Finding<'a>>,
     partitions: &[WrittenPartition<'a>],
@@ -138,7 +138,7 @@ fn destinations<'a>(
         (findings_of found.new.items
         ≡ findings_of found.old.items
         ++ spec.destinations_of (map partition_text partitions.now) (channel_text channel.now)
-        (row_of row)) }
+        (row_of row.entry)) }
 {
     let ends = channel.destinations.as_slice();
     let mut before = is_device(channel.source);
@@ -162,7 +162,7 @@ fn destination<'a>(
         (findings_of found.new.items
         ≡ findings_of found.old.items
         ++ spec.destination (map partition_text partitions.now) (channel_text channel.now) before
-        (end_of end)) }
+        (end_of end.entry)) }
 {
     direction(found, partitions, false, end)?;
     mixed(found, partitions, first_port_of(partitions, channel), end)?;
@@ -183,7 +183,7 @@ fn direction<'a>(
     ensures { OnOk result
         (findings_of found.new.items
         ≡ findings_of found.old.items
-        ++ spec.direction (map partition_text partitions.now) as_source (end_of end)) }
+        ++ spec.direction (map partition_text partitions.now) as_source (end_of end.entry)) }
 {
     let Some(port) = port_at(partitions, end.text) else {
         return Ok(());
@@ -218,8 +218,8 @@ fn mixed<'a>(
     ensures { OnOk result
         (findings_of found.new.items
         ≡ findings_of found.old.items
-        ++ spec.mixed (map partition_text partitions.now) (option_map first_of first)
-        (end_of end)) }
+        ++ spec.mixed (map partition_text partitions.now) (option_map first_of first.entry)
+        (end_of end.entry)) }
 {
     let Some(first) = first else {
         return Ok(());
@@ -240,7 +240,7 @@ fn differ<'a>(
     ensures { OnOk result
         (findings_of found.new.items
         ≡ findings_of found.old.items
-        ++ spec.differ (first_of first).0 (first_of first).1 (end_of end) (port_text port)) }
+        ++ spec.differ (first_of first.entry).0 (first_of first.entry).1 (end_of end.entry) (port_text port.entry)) }
 {
     if !is_same_kind(first.row.kind, port.kind) {
         return add_at(found, end, What::OtherKind(first.text));
@@ -266,8 +266,8 @@ fn itself<'a>(
     ensures { OnOk result
         (findings_of found.new.items
         ≡ findings_of found.old.items
-        ++ spec.itself (map partition_text partitions.now) (option_map port_of source)
-        (end_of end)) }
+        ++ spec.itself (map partition_text partitions.now) (option_map port_of source.entry)
+        (end_of end.entry)) }
 {
     let Some(source) = source else {
         return Ok(());
@@ -307,7 +307,7 @@ fn split_queue<'a>(
     }
 }
 
-#[tactic(auto, using(std::proofs::lemmas::List::drop_more, std::proofs::lemmas::List::append_assoc, std::proofs::lemmas::List::append-nil))]
+#[tactic(auto, using(std::proofs::lemmas::List::drop_more, std::proofs::lemmas::List::append_assoc, crate::proofs::Steps::append_nil))]
 fn channels_twice<'a>(
     found: &mut Vec<Finding<'a>>,
     seen: &mut Vec<&'a str>,
@@ -327,7 +327,7 @@ fn channels_twice<'a>(
 }
 
 /// Adds the ends of destinations that stand before, and remembers all of them.
-#[tactic(auto, using(std::proofs::lemmas::List::drop_more, std::proofs::lemmas::List::append_assoc, std::proofs::lemmas::List::append-nil))]
+#[tactic(auto, using(std::proofs::lemmas::List::drop_more, std::proofs::lemmas::List::append_assoc, crate::proofs::Steps::append_nil))]
 fn destinations_twice<'a>(
     found: &mut Vec<Finding<'a>>,
     seen: &mut Vec<&'a str>,
@@ -337,7 +337,7 @@ fn destinations_twice<'a>(
     ensures added { OnOk result
         (findings_of found.new.items
         ≡ findings_of found.old.items
-        ++ spec.destinations_twice (map (λ text. text.now) seen.old.items) (row_of row) 0
+        ++ spec.destinations_twice (map (λ text. text.now) seen.old.items) (row_of row.entry) 0
         (map (λ text. text.now) ends.now)) }
     ensures seen { OnOk result
         (map (λ text. text.now) seen.new.items
@@ -350,7 +350,7 @@ fn destinations_twice<'a>(
 }
 
 /// Adds an end that stands before and is not `DEVICE`, and remembers it.
-#[tactic(auto, using(std::proofs::lemmas::List::map-append))]
+#[tactic(auto, using(std::proofs::lemmas::List::map_push))]
 fn twice<'a>(
     found: &mut Vec<Finding<'a>>,
     seen: &mut Vec<&'a str>,
@@ -359,10 +359,10 @@ fn twice<'a>(
     ensures added { OnOk result
         (findings_of found.new.items
         ≡ findings_of found.old.items
-        ++ spec.twice (map (λ text. text.now) seen.old.items) (end_of end)) }
+        ++ spec.twice (map (λ text. text.now) seen.old.items) (end_of end.entry)) }
     ensures seen { OnOk result
         (map (λ text. text.now) seen.new.items
-        ≡ map (λ text. text.now) seen.old.items ++ (end_of end).text ∷ []) }
+        ≡ map (λ text. text.now) seen.old.items ++ (end_of end.entry).text ∷ []) }
 {
     if !is_device(end.text) && is_among(end.text, seen.as_slice()) {
         add_at(found, end, What::PortTwice(end.text))?;
@@ -378,7 +378,7 @@ fn add_at<'a>(
 ) -> Result<(), AllocError>
     ensures { OnOk result
         (findings_of found.new.items
-        ≡ findings_of found.old.items ++ spec.one_at (end_of end) (what_of what)) }
+        ≡ findings_of found.old.items ++ spec.one_at (end_of end.entry) (what_of what.entry)) }
 {
     add(found, end.subject, end.key, what)
 }

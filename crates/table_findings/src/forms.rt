@@ -46,7 +46,7 @@ fn costs<'a>(found: &mut Vec<Finding<'a>>, document: &'a Table) -> Result<(), Al
 }
 
 /// Adds what is wrong with the partitions.
-#[tactic(auto, using(std::proofs::lemmas::List::drop_more, std::proofs::lemmas::List::append_assoc, std::proofs::lemmas::List::append-nil))]
+#[tactic(auto, using(std::proofs::lemmas::List::drop_more, std::proofs::lemmas::List::append_assoc, crate::proofs::Steps::append_nil))]
 fn partitions<'a>(found: &mut Vec<Finding<'a>>, values: &'a [Value]) -> Result<(), AllocError>
     ensures { OnOk result
         (findings_of found.new.items
@@ -81,7 +81,7 @@ fn partition_table<'a>(
 ) -> Result<(), AllocError>
     ensures { OnOk result
         (findings_of found.new.items
-        ≡ findings_of found.old.items ++ spec.partition_table (row_of row) (table_view table.now)) }
+        ≡ findings_of found.old.items ++ spec.partition_table (row_of row.entry) (table_view table.now)) }
 {
     of_part(found, Subject::Partition(row), Part::Partition, table)?;
     health(found, row, table)?;
@@ -96,7 +96,7 @@ fn health<'a>(
 ) -> Result<(), AllocError>
     ensures { OnOk result
         (findings_of found.new.items
-        ≡ findings_of found.old.items ++ spec.health (row_of row) (table_view table.now)) }
+        ≡ findings_of found.old.items ++ spec.health (row_of row.entry) (table_view table.now)) }
 {
     match table_at(table, "hm") {
         None => Ok(()),
@@ -111,7 +111,7 @@ fn health_members<'a>(
 ) -> Result<(), AllocError>
     ensures { OnOk result
         (findings_of found.new.items
-        ≡ findings_of found.old.items ++ spec.health_members (subject_of subject) (table_view table.now)) }
+        ≡ findings_of found.old.items ++ spec.health_members (subject_of subject.entry) (table_view table.now)) }
 {
     for (key, value) in table {
         of_type(found, subject, Some(key.as_str()), "string", value)?;
@@ -120,7 +120,7 @@ fn health_members<'a>(
 }
 
 /// Adds what is wrong with the ports of a partition.
-#[tactic(auto, using(std::proofs::lemmas::List::drop_more, std::proofs::lemmas::List::append_assoc, std::proofs::lemmas::List::append-nil))]
+#[tactic(auto, using(std::proofs::lemmas::List::drop_more, std::proofs::lemmas::List::append_assoc, crate::proofs::Steps::append_nil))]
 fn ports<'a>(
     found: &mut Vec<Finding<'a>>,
     partition: Row<'a>,
@@ -129,7 +129,7 @@ fn ports<'a>(
     ensures { OnOk result
         (findings_of found.new.items
         ≡ findings_of found.old.items
-        ++ spec.each (spec.port (row_of partition)) 0 (items_view values.now)) }
+        ++ spec.each (spec.port (row_of partition.entry)) 0 (items_view values.now)) }
 {
     for (index, value) in values.iter().enumerate() {
         port(found, partition, index, value)?;
@@ -146,7 +146,7 @@ fn port<'a>(
 ) -> Result<(), AllocError>
     ensures { OnOk result
         (findings_of found.new.items
-        ≡ findings_of found.old.items ++ spec.port (row_of partition) index (value_view value.now)) }
+        ≡ findings_of found.old.items ++ spec.port (row_of partition.entry) index (value_view value.now)) }
 {
     match value.as_table() {
         None => {
@@ -167,7 +167,7 @@ fn port_table<'a>(
 ) -> Result<(), AllocError>
     ensures { OnOk result
         (findings_of found.new.items
-        ≡ findings_of found.old.items ++ spec.port_table (subject_of subject) (table_view table.now)) }
+        ≡ findings_of found.old.items ++ spec.port_table (subject_of subject.entry) (table_view table.now)) }
 {
     of_part(found, subject, part_of_kind(text_at(table, "kind")), table)?;
     word(found, subject, "kind", Words::Kind, table)?;
@@ -177,7 +177,7 @@ fn port_table<'a>(
 
 /// The part that a port of a kind is. One of a kind that is not known may have the keys of both.
 fn part_of_kind(kind: Option<&str>) -> Part
-    ensures { result ≡ spec.part_of_kind (option_copied kind) }
+    ensures { result ≡ spec.part_of_kind (option_copied kind.entry) }
 {
     match kind {
         Some("SAMPLING") => Part::SamplingPort,
@@ -187,7 +187,7 @@ fn part_of_kind(kind: Option<&str>) -> Part
 }
 
 /// Adds what is wrong with the windows.
-#[tactic(auto, using(std::proofs::lemmas::List::drop_more, std::proofs::lemmas::List::append_assoc, std::proofs::lemmas::List::append-nil))]
+#[tactic(auto, using(std::proofs::lemmas::List::drop_more, std::proofs::lemmas::List::append_assoc, crate::proofs::Steps::append_nil))]
 fn windows<'a>(found: &mut Vec<Finding<'a>>, values: &'a [Value]) -> Result<(), AllocError>
     ensures { OnOk result
         (findings_of found.new.items
@@ -219,7 +219,7 @@ fn window<'a>(
 }
 
 /// Adds what is wrong with the channels.
-#[tactic(auto, using(std::proofs::lemmas::List::drop_more, std::proofs::lemmas::List::append_assoc, std::proofs::lemmas::List::append-nil))]
+#[tactic(auto, using(std::proofs::lemmas::List::drop_more, std::proofs::lemmas::List::append_assoc, crate::proofs::Steps::append_nil))]
 fn channels<'a>(found: &mut Vec<Finding<'a>>, values: &'a [Value]) -> Result<(), AllocError>
     ensures { OnOk result
         (findings_of found.new.items
@@ -254,14 +254,14 @@ fn channel_table<'a>(
 ) -> Result<(), AllocError>
     ensures { OnOk result
         (findings_of found.new.items
-        ≡ findings_of found.old.items ++ spec.channel_table (row_of row) (table_view table.now)) }
+        ≡ findings_of found.old.items ++ spec.channel_table (row_of row.entry) (table_view table.now)) }
 {
     of_part(found, Subject::Channel(row), Part::Channel, table)?;
     destinations(found, row, items_at(table, "destinations"))
 }
 
 /// Adds the destinations of a channel that are no texts.
-#[tactic(auto, using(std::proofs::lemmas::List::drop_more, std::proofs::lemmas::List::append_assoc, std::proofs::lemmas::List::append-nil))]
+#[tactic(auto, using(std::proofs::lemmas::List::drop_more, std::proofs::lemmas::List::append_assoc, crate::proofs::Steps::append_nil))]
 fn destinations<'a>(
     found: &mut Vec<Finding<'a>>,
     channel: Row<'a>,
@@ -270,7 +270,7 @@ fn destinations<'a>(
     ensures { OnOk result
         (findings_of found.new.items
         ≡ findings_of found.old.items
-        ++ spec.each (spec.destination (row_of channel)) 0 (items_view values.now)) }
+        ++ spec.each (spec.destination (row_of channel.entry)) 0 (items_view values.now)) }
 {
     for (index, value) in values.iter().enumerate() {
         of_type(found, Subject::Destination(index, channel), None, "string", value)?;

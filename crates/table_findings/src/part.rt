@@ -22,14 +22,14 @@ pub fn of_part<'a>(
 ) -> Result<(), AllocError>
     ensures { OnOk result
         (findings_of found.new.items
-        ≡ findings_of found.old.items ++ spec.of_part (subject_of subject) part (table_view table.now)) }
+        ≡ findings_of found.old.items ++ spec.of_part (subject_of subject.entry) part (table_view table.now)) }
 {
     missing(found, subject, part, part.needed(), table)?;
     members(found, subject, part, table)
 }
 
 /// Adds the keys of these that a table lacks.
-#[tactic(auto, using(std::proofs::lemmas::List::drop_more, std::proofs::lemmas::List::append_assoc, std::proofs::lemmas::List::append-nil))]
+#[tactic(auto, using(std::proofs::lemmas::List::drop_more, std::proofs::lemmas::List::append_assoc, crate::proofs::Steps::append_nil))]
 fn missing<'a>(
     found: &mut Vec<Finding<'a>>,
     subject: Subject<'a>,
@@ -40,7 +40,7 @@ fn missing<'a>(
     ensures { OnOk result
         (findings_of found.new.items
         ≡ findings_of found.old.items
-        ++ spec.missing (subject_of subject) part (table_view table.now) (map (λ key. key.now) keys.now)) }
+        ++ spec.missing (subject_of subject.entry) part (table_view table.now) (map (λ key. key.now) keys.now)) }
 {
     for key in keys {
         if member(table, key).is_none() {
@@ -59,7 +59,7 @@ fn members<'a>(
 ) -> Result<(), AllocError>
     ensures { OnOk result
         (findings_of found.new.items
-        ≡ findings_of found.old.items ++ spec.members (subject_of subject) part (table_view table.now)) }
+        ≡ findings_of found.old.items ++ spec.members (subject_of subject.entry) part (table_view table.now)) }
 {
     for (key, value) in table {
         one_member(found, subject, part, key.as_str(), value)?;
@@ -78,7 +78,7 @@ fn one_member<'a>(
     ensures { OnOk result
         (findings_of found.new.items
         ≡ findings_of found.old.items
-        ++ spec.one_member (subject_of subject) part key.now (value_view value.now)) }
+        ++ spec.one_member (subject_of subject.entry) part key.now (value_view value.now)) }
 {
     match part.wanted(key) {
         None => add(found, subject, Some(key), What::Unknown(part)),
@@ -97,7 +97,7 @@ pub fn of_type<'a>(
     ensures { OnOk result
         (findings_of found.new.items
         ≡ findings_of found.old.items
-        ++ spec.of_type (subject_of subject) (option_copied key) wanted.now (value_view value.now)) }
+        ++ spec.of_type (subject_of subject.entry) (option_copied key.entry) wanted.now (value_view value.now)) }
 {
     let found_type = value.type_str();
     if found_type == wanted {
@@ -121,7 +121,7 @@ pub fn word<'a>(
     ensures { OnOk result
         (findings_of found.new.items
         ≡ findings_of found.old.items
-        ++ spec.word (subject_of subject) key.now words (table_view table.now)) }
+        ++ spec.word (subject_of subject.entry) key.now words (table_view table.now)) }
 {
     match text_at(table, key) {
         None => Ok(()),
@@ -145,7 +145,7 @@ pub fn add<'a>(
     ensures { OnOk result
         (findings_of found.new.items
         ≡ findings_of found.old.items
-        ++ spec.one (subject_of subject) (option_copied key) (what_of what)) }
+        ++ spec.one (subject_of subject.entry) (option_copied key.entry) (what_of what.entry)) }
 {
     found.extend_from_slice(&[Finding { subject, key, what }])
 }

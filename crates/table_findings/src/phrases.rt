@@ -15,7 +15,7 @@ use std::alloc::{AllocError, Global};
 ///
 /// Only if memory runs out.
 pub fn finding_text(alloc: Global, finding: Finding<'_>) -> Result<String, AllocError>
-    ensures { IfOk result (λ text. string_bytes text ≡ spec.finding_text (finding_of finding)) }
+    ensures { IfOk result (λ text. string_bytes text ≡ spec.finding_text (finding_of finding.entry)) }
 {
     let Finding { subject, key, what } = finding;
     let about = subject_text(alloc, subject)?;
@@ -61,7 +61,7 @@ fn value_text(
 ) -> Result<String, AllocError>
     ensures { IfOk result
         (λ text. string_bytes text
-        ≡ spec.value_text (option_copied key) (subject_of subject) (what_of what)) }
+        ≡ spec.value_text (option_copied key.entry) (subject_of subject.entry) (what_of what.entry)) }
 {
     let place = place_text(alloc, key, subject)?;
     let place = place.as_str();
@@ -108,7 +108,7 @@ fn value_text(
 
 /// What is said of an end that does not fit.
 fn end_text(alloc: Global, place: &str, what: What<'_>) -> Result<String, AllocError>
-    ensures { IfOk result (λ text. string_bytes text ≡ spec.end_text place.now (what_of what)) }
+    ensures { IfOk result (λ text. string_bytes text ≡ spec.end_text place.now (what_of what.entry)) }
 {
     match what {
         What::WrongDirection { text, as_source } => {
@@ -164,7 +164,7 @@ fn quoted(alloc: Global, word: &str) -> Result<String, AllocError>
 
 /// A key in quotation marks, if there is one.
 fn key_text(alloc: Global, key: Option<&str>) -> Result<String, AllocError>
-    ensures { IfOk result (λ text. string_bytes text ≡ spec.key_text (option_copied key)) }
+    ensures { IfOk result (λ text. string_bytes text ≡ spec.key_text (option_copied key.entry)) }
 {
     match key {
         Some(key) => quoted(alloc, key),
@@ -179,7 +179,7 @@ fn place_text(
     subject: Subject<'_>,
 ) -> Result<String, AllocError>
     ensures { IfOk result
-        (λ text. string_bytes text ≡ spec.place_text (option_copied key) (subject_of subject)) }
+        (λ text. string_bytes text ≡ spec.place_text (option_copied key.entry) (subject_of subject.entry)) }
 {
     let about = subject_text(alloc, subject)?;
     match key {
@@ -194,7 +194,7 @@ fn place_text(
 
 /// What a finding is about.
 fn subject_text(alloc: Global, subject: Subject<'_>) -> Result<String, AllocError>
-    ensures { IfOk result (λ text. string_bytes text ≡ spec.subject_text (subject_of subject)) }
+    ensures { IfOk result (λ text. string_bytes text ≡ spec.subject_text (subject_of subject.entry)) }
 {
     match subject {
         Subject::Module => String::from_str(alloc, "the table"),
@@ -223,7 +223,7 @@ fn subject_text(alloc: Global, subject: Subject<'_>) -> Result<String, AllocErro
 
 /// The kind of a row.
 fn kind_text(subject: Subject<'_>) -> &'static str
-    ensures { result.now ≡ spec.kind_text (subject_of subject) }
+    ensures { result.now ≡ spec.kind_text (subject_of subject.entry) }
 {
     match subject {
         Subject::Partition(_) => "partition",
@@ -234,7 +234,7 @@ fn kind_text(subject: Subject<'_>) -> &'static str
 
 /// A kind of row, its number, and its name, if it has one.
 fn row_text(alloc: Global, kind: &str, row: Row<'_>) -> Result<String, AllocError>
-    ensures { IfOk result (λ text. string_bytes text ≡ spec.row_text kind.now (row_of row)) }
+    ensures { IfOk result (λ text. string_bytes text ≡ spec.row_text kind.now (row_of row.entry)) }
 {
     let number = row.index.saturating_add(1);
     match row.name {
@@ -254,7 +254,7 @@ fn row_text(alloc: Global, kind: &str, row: Row<'_>) -> Result<String, AllocErro
 /// Only if memory runs out.
 pub fn advice(alloc: Global, key: Option<&str>, what: What<'_>) -> Result<String, AllocError>
     ensures { IfOk result
-        (λ text. string_bytes text ≡ spec.advice (option_copied key) (what_of what)) }
+        (λ text. string_bytes text ≡ spec.advice (option_copied key.entry) (what_of what.entry)) }
 {
     match what {
         What::Missing(lacked, part) => {
@@ -317,7 +317,7 @@ pub fn advice(alloc: Global, key: Option<&str>, what: What<'_>) -> Result<String
 /// The nearest name, or else this.
 fn near_or(alloc: Global, near: Option<&str>, other: &str) -> Result<String, AllocError>
     ensures { IfOk result
-        (λ text. string_bytes text ≡ spec.near_or (option_copied near) other.now) }
+        (λ text. string_bytes text ≡ spec.near_or (option_copied near.entry) other.now) }
 {
     match near {
         Some(near) => {

@@ -22,7 +22,7 @@ pub enum Named<'a> {
 
 /// The subject of a row of such a list.
 fn subject_in<'a>(named: Named<'a>, row: Row<'a>) -> Subject<'a>
-    ensures { subject_of result ≡ spec.subject_in (named_of named) (row_of row) }
+    ensures { subject_of result ≡ spec.subject_in (named_of named.entry) (row_of row.entry) }
 {
     match named {
         Named::Partitions => Subject::Partition(row),
@@ -55,7 +55,7 @@ pub fn repeated<'a>(
     same_ports(alloc, found, table.partitions.as_slice())
 }
 
-#[tactic(auto, using(std::proofs::lemmas::List::drop_more, std::proofs::lemmas::List::append_assoc, std::proofs::lemmas::List::append-nil))]
+#[tactic(auto, using(std::proofs::lemmas::List::drop_more, std::proofs::lemmas::List::append_assoc, crate::proofs::Steps::append_nil))]
 fn same_ports<'a>(
     alloc: Global,
     found: &mut Vec<Finding<'a>>,
@@ -78,7 +78,7 @@ fn same_ports<'a>(
 }
 
 /// Adds each row whose name one before it has.
-#[tactic(auto, using(std::proofs::lemmas::List::drop_more, std::proofs::lemmas::List::append_assoc, std::proofs::lemmas::List::append-nil))]
+#[tactic(auto, using(std::proofs::lemmas::List::drop_more, std::proofs::lemmas::List::append_assoc, crate::proofs::Steps::append_nil))]
 fn same_names<'a>(
     found: &mut Vec<Finding<'a>>,
     named: Named<'a>,
@@ -87,7 +87,7 @@ fn same_names<'a>(
     ensures { OnOk result
         (findings_of found.new.items
         ≡ findings_of found.old.items
-        ++ spec.same_names (named_of named) (map (λ name. name.now) names.now)) }
+        ++ spec.same_names (named_of named.entry) (map (λ name. name.now) names.now)) }
 {
     for (index, name) in names.iter().enumerate() {
         same_at(found, named, names, index, *name)?;
@@ -106,7 +106,7 @@ fn same_at<'a>(
     ensures { OnOk result
         (findings_of found.new.items
         ≡ findings_of found.old.items
-        ++ spec.same_at (named_of named) (map (λ name. name.now) names.now) index name.now) }
+        ++ spec.same_at (named_of named.entry) (map (λ name. name.now) names.now) index name.now) }
 {
     match first_same(names, name) {
         Some(earlier) => {
@@ -139,7 +139,7 @@ fn first_same(names: &[&str], name: &str) -> Option<usize>
 }
 
 /// The names of partitions.
-#[tactic(auto, using(std::proofs::lemmas::List::drop_more, std::proofs::lemmas::List::map-append, std::proofs::lemmas::List::append_assoc, std::proofs::lemmas::List::append-nil))]
+#[tactic(auto, using(std::proofs::lemmas::List::drop_more, std::proofs::lemmas::List::map_push, std::proofs::lemmas::List::append_assoc, crate::proofs::Steps::append_nil))]
 pub fn partition_names<'a>(
     alloc: Global,
     partitions: &[WrittenPartition<'a>],
@@ -156,7 +156,7 @@ pub fn partition_names<'a>(
 }
 
 /// The names of channels.
-#[tactic(auto, using(std::proofs::lemmas::List::drop_more, std::proofs::lemmas::List::map-append, std::proofs::lemmas::List::append_assoc, std::proofs::lemmas::List::append-nil))]
+#[tactic(auto, using(std::proofs::lemmas::List::drop_more, std::proofs::lemmas::List::map_push, std::proofs::lemmas::List::append_assoc, crate::proofs::Steps::append_nil))]
 fn channel_names<'a>(
     alloc: Global,
     channels: &[WrittenChannel<'a>],
@@ -173,7 +173,7 @@ fn channel_names<'a>(
 }
 
 /// The names of ports.
-#[tactic(auto, using(std::proofs::lemmas::List::drop_more, std::proofs::lemmas::List::map-append, std::proofs::lemmas::List::append_assoc, std::proofs::lemmas::List::append-nil))]
+#[tactic(auto, using(std::proofs::lemmas::List::drop_more, std::proofs::lemmas::List::map_push, std::proofs::lemmas::List::append_assoc, crate::proofs::Steps::append_nil))]
 fn port_names<'a>(alloc: Global, ports: &[WrittenPort<'a>]) -> Result<Vec<&'a str>, AllocError>
     ensures { IfOk result
         (λ names. map (λ name. name.now) names.items

@@ -28,7 +28,7 @@ pub fn overlaps<'a>(
     overlaps_from(found, table.frame, table.windows.as_slice())
 }
 
-#[tactic(auto, using(std::proofs::lemmas::List::drop_more, std::proofs::lemmas::List::append_assoc, std::proofs::lemmas::List::append-nil))]
+#[tactic(auto, using(std::proofs::lemmas::List::drop_more, std::proofs::lemmas::List::append_assoc, crate::proofs::Steps::append_nil))]
 fn overlaps_from<'a>(
     found: &mut Vec<Finding<'a>>,
     frame: i64,
@@ -57,7 +57,7 @@ fn placed<'a>(
 ) -> Result<(), AllocError>
     ensures { OnOk result
         (findings_of found.new.items
-        ≡ findings_of found.old.items ++ spec.placed frame before index (window_text window)) }
+        ≡ findings_of found.old.items ++ spec.placed frame before index (window_text window.entry)) }
 {
     let subject = Subject::Window(Row {
         index,
@@ -76,7 +76,7 @@ fn placed<'a>(
 
 /// Where a window ends.
 fn window_end(window: WrittenWindow<'_>) -> i128
-    ensures { result ≡ spec.window_end (window_text window) }
+    ensures { result ≡ spec.window_end (window_text window.entry) }
 {
     i128::from(window.offset) + i128::from(window.length)
 }
@@ -97,7 +97,7 @@ pub fn odd_periods<'a>(
     odd_periods_from(found, table.frame.unsigned_abs(), table.partitions.as_slice())
 }
 
-#[tactic(auto, using(std::proofs::lemmas::List::drop_more, std::proofs::lemmas::List::append_assoc, std::proofs::lemmas::List::append-nil))]
+#[tactic(auto, using(std::proofs::lemmas::List::drop_more, std::proofs::lemmas::List::append_assoc, crate::proofs::Steps::append_nil))]
 fn odd_periods_from<'a>(
     found: &mut Vec<Finding<'a>>,
     frame: u64,
@@ -152,7 +152,7 @@ pub fn without_release<'a>(
     without_release_from(found, table.windows.as_slice(), table.partitions.as_slice())
 }
 
-#[tactic(auto, using(std::proofs::lemmas::List::drop_more, std::proofs::lemmas::List::append_assoc, std::proofs::lemmas::List::append-nil))]
+#[tactic(auto, using(std::proofs::lemmas::List::drop_more, std::proofs::lemmas::List::append_assoc, crate::proofs::Steps::append_nil))]
 fn without_release_from<'a>(
     found: &mut Vec<Finding<'a>>,
     windows: &[WrittenWindow<'a>],

@@ -40,7 +40,7 @@ pub enum Subject<'a> {
 ///
 /// Only if memory runs out.
 pub fn subject_path<'a>(alloc: Global, subject: Subject<'a>) -> Result<Vec<Step<'a>>, AllocError>
-    ensures { IfOk result (λ path. path_of path.items ≡ spec.subject_path (subject_of subject)) }
+    ensures { IfOk result (λ path. path_of path.items ≡ spec.subject_path (subject_of subject.entry)) }
 {
     let mut path = Vec::new(alloc);
     match subject {

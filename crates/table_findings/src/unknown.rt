@@ -36,7 +36,7 @@ pub fn unknown<'a>(
     channels(found, table.partitions.as_slice(), table.channels.as_slice())
 }
 
-#[tactic(auto, using(std::proofs::lemmas::List::drop_more, std::proofs::lemmas::List::append_assoc, std::proofs::lemmas::List::append-nil))]
+#[tactic(auto, using(std::proofs::lemmas::List::drop_more, std::proofs::lemmas::List::append_assoc, crate::proofs::Steps::append_nil))]
 fn windows<'a>(
     found: &mut Vec<Finding<'a>>,
     names: &[&'a str],
@@ -63,7 +63,7 @@ fn window<'a>(
     ensures { OnOk result
         (findings_of found.new.items
         ≡ findings_of found.old.items
-        ++ spec.partition_of (map (λ name. name.now) names.now) index (window_text window)) }
+        ++ spec.partition_of (map (λ name. name.now) names.now) index (window_text window.entry)) }
 {
     let text = window.partition;
     if is_among(text, names) {
@@ -90,7 +90,7 @@ pub fn is_among(name: &str, names: &[&str]) -> bool
     false
 }
 
-#[tactic(auto, using(std::proofs::lemmas::List::drop_more, std::proofs::lemmas::List::append_assoc, std::proofs::lemmas::List::append-nil))]
+#[tactic(auto, using(std::proofs::lemmas::List::drop_more, std::proofs::lemmas::List::append_assoc, crate::proofs::Steps::append_nil))]
 fn channels<'a>(
     found: &mut Vec<Finding<'a>>,
     partitions: &[WrittenPartition<'a>],
@@ -130,7 +130,7 @@ fn channel<'a>(
     destinations(found, partitions, row, channel.destinations.as_slice())
 }
 
-#[tactic(auto, using(std::proofs::lemmas::List::drop_more, std::proofs::lemmas::List::append_assoc, std::proofs::lemmas::List::append-nil))]
+#[tactic(auto, using(std::proofs::lemmas::List::drop_more, std::proofs::lemmas::List::append_assoc, crate::proofs::Steps::append_nil))]
 fn destinations<'a>(
     found: &mut Vec<Finding<'a>>,
     partitions: &[WrittenPartition<'a>],
@@ -140,7 +140,7 @@ fn destinations<'a>(
     ensures { OnOk result
         (findings_of found.new.items
         ≡ findings_of found.old.items
-        ++ spec.destinations_of (map partition_text partitions.now) (row_of channel) 0
+        ++ spec.destinations_of (map partition_text partitions.now) (row_of channel.entry) 0
         (map (λ end. end.now) ends.now)) }
 {
     for (index, end) in ends.iter().enumerate() {
