@@ -1,7 +1,11 @@
 -- A loop that adds findings: those of the rest, behind those that it has added, are all of them.
 use Rattle.std.proofs.Common.{◌≡◌, ℕ, ◌+◌, ◌<◌, ◌≤◌, List, [], ◌∷◌, ◌++◌, length, drop, get_or, length-drop, refl, sym, ap, ◌∙◌, arith}
 use Rattle.std.proofs.lemmas.List.{append_assoc, append-nil, drop_more, nil_from_length}
+use Rattle.std.proofs.Common.{take}
+use Rattle.std.proofs.lemmas.List.{take-map}
 use Rattle.toml.specs.declared.value.Value.{Value}
+use Rattle.table_findings.specs.declared.finding.Finding.{Finding}
+use Rattle.table_findings.specs.Views.{finding_of, findings_of}
 
 -- one turn: the first of the rest adds its own
 pub step : {X A : Type 0} (all rest : List X → List A) (own : X → List A) (xs others : List X) (x : X) (old new whole : List A) → ((y : X) (ys : List X) → all (y ∷ ys) ≡ own y ++ rest ys)
@@ -22,3 +26,6 @@ all_seen xs i h = nil_from_length (drop i xs) (omega (arith, length-drop i xs))
 
 pub append_nil : {A : Type 0} (xs : List A) → xs ++ [] ≡ xs
 append_nil xs = append-nil xs
+
+pub findings_taken : (n : ℕ) (fs : List Finding) → findings_of (take n fs) ≡ take n (findings_of fs)
+findings_taken n fs = sym (take-map finding_of n fs)

@@ -1,6 +1,7 @@
 //! What is wrong with a table that is refused.
 
 ghost use Rattle.std.specs.Prelude.{◌≡◌, ◌++◌, IfSome, OnSome, string_bytes};
+ghost use Rattle.toml.specs.Errors.{IsMemory, IsWithin};
 ghost use Rattle.toml.specs.View.{table_view};
 ghost use Rattle.table_findings.specs.Refused as spec;
 ghost use Rattle.table_findings.specs.Views.{findings_of};
@@ -44,7 +45,10 @@ pub fn explain_table(
 
 /// Where the reading of a document ended, and why.
 fn explain_error(alloc: Global, file: &str, bytes: &[u8], error: &Error) -> Option<String>
-    ensures { IfSome result (λ lines. spec.IsEnded file.now bytes.now (string_bytes lines)) }
+    requires { IsWithin bytes.now error.now }
+    ensures ended { IfSome result
+        (λ lines. spec.IsEnded file.now bytes.now (string_bytes lines)) }
+    ensures text { IfSome result (λ lines. ¬ IsMemory error.now) }
 {
     let span = error.span()?;
     ended_at(alloc, file, bytes, span.start, error.message())
@@ -104,9 +108,25 @@ fn findings<'a>(
         TableFault::Shape => shape(found, document).ok(),
         TableFault::Health => health(found, document).ok(),
         _ => {
-            let table = read_written(alloc, document).ok()?;
-            findings_in(alloc, found, &table, fault)
+            findings_with(alloc, found, document, fault)
         }
+    }
+}
+
+/// The same, if its keys and types are right.
+fn findings_with<'a>(
+    alloc: Global,
+    found: &mut Vec<Finding<'a>>,
+    document: &'a Table,
+    fault: TableFault,
+) -> Option<()>
+    ensures { OnSome result
+        (findings_of found.new.items
+        ≡ findings_of found.old.items ++ spec.findings_with fault (table_view document.now)) }
+{
+    match read_written(alloc, document) {
+        Ok(table) => findings_in(alloc, found, &table, fault),
+        Err(_) => None,
     }
 }
 

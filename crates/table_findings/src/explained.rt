@@ -32,8 +32,16 @@ pub fn findings_text(
         ≡ spec.findings_text file.now text.now (entries_in places.now)
         (findings_of found.now)) }
 {
-    let (shown, _) = found.split_at(found.len().min(MOST_FINDINGS));
-    all_lines(alloc, file, text, places, shown)
+    all_lines(alloc, file, text, places, first_findings(found))
+}
+
+/// The first twenty findings.
+#[tactic(auto, using(std::proofs::lemmas::List::take_min, crate::proofs::Steps::findings_taken))]
+fn first_findings<'f, 'a>(found: &'f [Finding<'a>]) -> &'f [Finding<'a>]
+    ensures { findings_of result.now ≡ take 20 (findings_of found.now) }
+{
+    let (first, _) = found.split_at(MOST_FINDINGS.min(found.len()));
+    first
 }
 
 /// The lines of findings.
