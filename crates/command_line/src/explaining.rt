@@ -8,8 +8,8 @@ ghost use Rattle.command_line.specs.Explained.{IsExplained, IsExplainedWith, IsN
 use crate::refusal::Refusal;
 use apex_types::Name;
 use explanations::{
-    CommandFault, command_sentence, device_sentence, explain_source, explain_table,
-    file_sentence, image_sentence, replay_sentence, source_sentence, table_sentence,
+    CommandFault, command_sentence, device_sentence, explain_source, explain_table, file_sentence,
+    image_sentence, replay_sentence, source_sentence, table_sentence,
 };
 use module::{BuildFault, InputsFault, RunFault};
 use pal_base::fault::PalFault;

@@ -34,12 +34,7 @@ pub fn explain_source(alloc: Global, source: &[u8], fault: PalFault) -> Result<S
 
 /// The explanation of a refusal of that table: a line with the sentence of the rule, and the lines of
 /// what is wrong with it. `file` is its name. There is none if memory runs out.
-pub fn explain_table(
-    alloc: Global,
-    file: &str,
-    table: &[u8],
-    fault: TableFault,
-) -> Option<String>
+pub fn explain_table(alloc: Global, file: &str, table: &[u8], fault: TableFault) -> Option<String>
     ensures { IfSome result
         (λ text. IsTableExplanation file.now table.now fault (string_bytes text)) }
 {

@@ -14,7 +14,7 @@ pub use explanation::{explain_source, explain_table};
 pub use lines::{refused_line, shown};
 pub use looking::looked_for;
 pub use sentences::{
-    CommandFault, command_sentence, device_sentence, file_sentence, image_sentence, replay_sentence,
-    source_sentence, table_sentence,
+    CommandFault, command_sentence, device_sentence, file_sentence, image_sentence,
+    replay_sentence, source_sentence, table_sentence,
 };
 pub use sought::Sought;

@@ -80,7 +80,10 @@ impl<'a, R: rt::Files + AllocGlobal> Files for HostFiles<'a, R> {
 
     fn write(&mut self, name: &str, bytes: &[u8]) -> Result<(), NameFault> {
         if self.read.has(name) || self.is_read_file(name) {
-            return Err(self.failed.unavailable(self.runtime.alloc(), name, Reason::WasRead));
+            return Err(
+                self.failed
+                    .unavailable(self.runtime.alloc(), name, Reason::WasRead),
+            );
         }
         match fs::write(self.runtime, name, bytes) {
             Ok(()) => Ok(()),

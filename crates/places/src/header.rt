@@ -54,7 +54,8 @@ fn with_key(alloc: Global, path: Vec<OwnedStep>, key: &str) -> Option<Vec<OwnedS
         (λ whole. owned_path whole.items ≡ spec.with_key (owned_path path.items) key.now) }
 {
     let mut path = path;
-    path.push(OwnedStep::Key(String::from_str(alloc, key).ok()?)).ok()?;
+    path.push(OwnedStep::Key(String::from_str(alloc, key).ok()?))
+        .ok()?;
     Some(path)
 }
 

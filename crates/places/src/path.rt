@@ -119,8 +119,12 @@ pub fn key_path(alloc: Global, path: &[OwnedStep], key: &Key) -> Option<Vec<Owne
 {
     let mut whole = copied(alloc, path).ok()?;
     for part in &key.path {
-        whole.push(OwnedStep::Key(String::from_str(alloc, part.as_str()).ok()?)).ok()?;
+        whole
+            .push(OwnedStep::Key(String::from_str(alloc, part.as_str()).ok()?))
+            .ok()?;
     }
-    whole.push(OwnedStep::Key(String::from_str(alloc, key.last.as_str()).ok()?)).ok()?;
+    whole
+        .push(OwnedStep::Key(String::from_str(alloc, key.last.as_str()).ok()?))
+        .ok()?;
     Some(whole)
 }

@@ -43,7 +43,9 @@ fn feeds(text: &[u8]) -> usize
 fn characters(text: &[u8]) -> usize
     ensures { result ≡ count_by is_start text.now }
 {
-    text.iter().filter(|byte| **byte < 128 || 191 < **byte).count()
+    text.iter()
+        .filter(|byte| **byte < 128 || 191 < **byte)
+        .count()
 }
 
 /// The text behind the last line feed.

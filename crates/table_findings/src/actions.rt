@@ -26,7 +26,13 @@ pub fn health<'a>(found: &mut Vec<Finding<'a>>, document: &'a Table) -> Result<(
         (findings_of found.new.items
         ≡ findings_of found.old.items ++ spec.health (table_view document.now)) }
 {
-    word(found, Subject::Module, "fault", Words::ModuleAction, document)?;
+    word(
+        found,
+        Subject::Module,
+        "fault",
+        Words::ModuleAction,
+        document,
+    )?;
     partitions(found, items_at(document, "partition"))
 }
 

@@ -44,10 +44,38 @@ fn counts<'a>(found: &mut Vec<Finding<'a>>, table: &WrittenTable<'a>) -> Result<
         ≡ findings_of found.old.items ++ spec.counts (table_text table.now)) }
 {
     let module = Subject::Module;
-    outside(found, module, "frame", 1, MOST_FRAME_TICKS as i64, table.frame)?;
-    count(found, module, "partition", 1, MOST_PARTITIONS as usize, table.partitions.len())?;
-    count(found, module, "window", 1, MOST_WINDOWS as usize, table.windows.len())?;
-    count(found, module, "channel", 0, MOST_CHANNELS as usize, table.channels.len())
+    outside(
+        found,
+        module,
+        "frame",
+        1,
+        MOST_FRAME_TICKS as i64,
+        table.frame,
+    )?;
+    count(
+        found,
+        module,
+        "partition",
+        1,
+        MOST_PARTITIONS as usize,
+        table.partitions.len(),
+    )?;
+    count(
+        found,
+        module,
+        "window",
+        1,
+        MOST_WINDOWS as usize,
+        table.windows.len(),
+    )?;
+    count(
+        found,
+        module,
+        "channel",
+        0,
+        MOST_CHANNELS as usize,
+        table.channels.len(),
+    )
 }
 
 /// Adds a number that is not between two limits.
@@ -65,7 +93,12 @@ fn outside<'a>(
 {
     let low = i64::from(low);
     if number < low || high < number {
-        add(found, subject, Some(key), What::Outside { number, low, high })
+        add(
+            found,
+            subject,
+            Some(key),
+            What::Outside { number, low, high },
+        )
     } else {
         Ok(())
     }
@@ -135,10 +168,7 @@ fn is_name(text: &str) -> bool
 }
 
 /// Adds what is outside its limits in a table that may write costs.
-fn costs<'a>(
-    found: &mut Vec<Finding<'a>>,
-    numbers: &Option<Vec<i64>>,
-) -> Result<(), AllocError>
+fn costs<'a>(found: &mut Vec<Finding<'a>>, numbers: &Option<Vec<i64>>) -> Result<(), AllocError>
     ensures { OnOk result
         (findings_of found.new.items
         ≡ findings_of found.old.items ++ spec.costs_limits (option_map (λ v. v.items) numbers.now)) }
@@ -205,8 +235,22 @@ fn partition<'a>(
     let subject = Subject::Partition(row);
     name(found, subject, partition.name)?;
     outside(found, subject, "period", 1, frame, partition.period)?;
-    outside(found, subject, "duration", 0, partition.period, partition.duration)?;
-    count(found, subject, "port", 0, MOST_PORTS as usize, partition.ports.len())?;
+    outside(
+        found,
+        subject,
+        "duration",
+        0,
+        partition.period,
+        partition.duration,
+    )?;
+    count(
+        found,
+        subject,
+        "port",
+        0,
+        MOST_PORTS as usize,
+        partition.ports.len(),
+    )?;
     ports(found, row, partition.ports.as_slice())
 }
 
@@ -333,5 +377,12 @@ fn channel<'a>(
     });
     name(found, subject, channel.name)?;
     let most = MOST_DESTINATIONS as usize;
-    count(found, subject, "destinations", 1, most, channel.destinations.len())
+    count(
+        found,
+        subject,
+        "destinations",
+        1,
+        most,
+        channel.destinations.len(),
+    )
 }

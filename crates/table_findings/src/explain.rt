@@ -25,12 +25,7 @@ use window_table::{TableFault, WrittenTable, read_written};
 
 /// What is wrong with a table that is refused by this rule: the lines of the first twenty findings.
 /// `file` is its name. There are none if memory runs out.
-pub fn explain_table(
-    alloc: Global,
-    file: &str,
-    bytes: &[u8],
-    fault: TableFault,
-) -> Option<String>
+pub fn explain_table(alloc: Global, file: &str, bytes: &[u8], fault: TableFault) -> Option<String>
     ensures { IfSome result
         (λ lines. spec.IsExplanation file.now bytes.now fault (string_bytes lines)) }
 {
@@ -55,13 +50,7 @@ fn explain_error(alloc: Global, file: &str, bytes: &[u8], error: &Error) -> Opti
 }
 
 /// That the reading of a document ended at an offset, in these words.
-fn ended_at(
-    alloc: Global,
-    file: &str,
-    bytes: &[u8],
-    offset: usize,
-    said: &str,
-) -> Option<String>
+fn ended_at(alloc: Global, file: &str, bytes: &[u8], offset: usize, said: &str) -> Option<String>
     ensures { IfSome result
         (λ lines. string_bytes lines ≡ spec.ended_at file.now bytes.now offset said.now) }
 {
@@ -69,10 +58,9 @@ fn ended_at(
     let (line, column) = (place.line, place.column);
     let marked = marked_line(alloc, bytes, offset).ok()?;
     let marked = marked.as_str();
-    format!(
-        in alloc; "{file}:{line}:{column}: {said}\n{marked}The text is TOML up to this place.\n"
-    )
-    .ok()
+    format!(in alloc;
+        "{file}:{line}:{column}: {said}\n{marked}The text is TOML up to this place.\n"
+    ).ok()
 }
 
 /// The findings of a document.
@@ -107,9 +95,7 @@ fn findings<'a>(
     match fault {
         TableFault::Shape => shape(found, document).ok(),
         TableFault::Health => health(found, document).ok(),
-        _ => {
-            findings_with(alloc, found, document, fault)
-        }
+        _ => { findings_with(alloc, found, document, fault) }
     }
 }
 

@@ -19,13 +19,18 @@ pub enum Part {
 }
 
 static MODULE_KEYS: [&str; 6] = ["frame", "fault", "partition", "window", "cost", "channel"];
+
 static MODULE_NEEDED: [&str; 4] = ["frame", "fault", "partition", "window"];
+
 static COST_KEYS: [&str; 15] = [
     "literal", "scalar", "array", "add", "mul", "div", "logic", "branch", "jump", "call", "return",
     "create", "message", "service", "end",
 ];
+
 static PARTITION_KEYS: [&str; 5] = ["name", "period", "duration", "hm", "port"];
+
 static PARTITION_NEEDED: [&str; 4] = ["name", "period", "duration", "hm"];
+
 static HEALTH_KEYS: [&str; 7] = [
     "DEADLINE_MISSED",
     "APPLICATION_ERROR",
@@ -35,8 +40,11 @@ static HEALTH_KEYS: [&str; 7] = [
     "MEMORY_VIOLATION",
     "HARDWARE_FAULT",
 ];
+
 static SAMPLING_KEYS: [&str; 5] = ["name", "kind", "direction", "words", "refresh"];
+
 static QUEUING_KEYS: [&str; 6] = ["name", "kind", "direction", "words", "depth", "discipline"];
+
 static PORT_KEYS: [&str; 7] = [
     "name",
     "kind",
@@ -46,8 +54,11 @@ static PORT_KEYS: [&str; 7] = [
     "depth",
     "discipline",
 ];
+
 static PORT_NEEDED: [&str; 4] = ["name", "kind", "direction", "words"];
+
 static WINDOW_KEYS: [&str; 4] = ["partition", "offset", "length", "release"];
+
 static CHANNEL_KEYS: [&str; 3] = ["name", "source", "destinations"];
 
 impl Part {
@@ -119,8 +130,21 @@ fn cost_type(key: &str) -> Option<&'static str>
     ensures { option_copied result ≡ spec.cost_type key.now }
 {
     match key {
-        "literal" | "scalar" | "array" | "add" | "mul" | "div" | "logic" | "branch" | "jump"
-        | "call" | "return" | "create" | "message" | "service" | "end" => Some("integer"),
+        "literal"
+        | "scalar"
+        | "array"
+        | "add"
+        | "mul"
+        | "div"
+        | "logic"
+        | "branch"
+        | "jump"
+        | "call"
+        | "return"
+        | "create"
+        | "message"
+        | "service"
+        | "end" => Some("integer"),
         _ => None,
     }
 }
@@ -141,8 +165,13 @@ fn health_type(key: &str) -> Option<&'static str>
     ensures { option_copied result ≡ spec.health_type key.now }
 {
     match key {
-        "DEADLINE_MISSED" | "APPLICATION_ERROR" | "NUMERIC_ERROR" | "ILLEGAL_REQUEST"
-        | "STACK_OVERFLOW" | "MEMORY_VIOLATION" | "HARDWARE_FAULT" => Some("string"),
+        "DEADLINE_MISSED"
+        | "APPLICATION_ERROR"
+        | "NUMERIC_ERROR"
+        | "ILLEGAL_REQUEST"
+        | "STACK_OVERFLOW"
+        | "MEMORY_VIOLATION"
+        | "HARDWARE_FAULT" => Some("string"),
         _ => None,
     }
 }

@@ -26,9 +26,16 @@ pub enum What<'a> {
         found: &'static str,
     },
     /// The text is none of these words.
-    NoWord { text: &'a str, words: Words },
+    NoWord {
+        text: &'a str,
+        words: Words,
+    },
     /// A number is not between two limits.
-    Outside { number: i64, low: i64, high: i64 },
+    Outside {
+        number: i64,
+        low: i64,
+        high: i64,
+    },
     /// There are too few or too many.
     Count {
         number: usize,
@@ -38,9 +45,15 @@ pub enum What<'a> {
     /// The text is no name.
     NoName(&'a str),
     /// A number is below its limit.
-    Below { number: i64, low: i64 },
+    Below {
+        number: i64,
+        low: i64,
+    },
     /// The name of the row at this place of the list, too.
-    SameName { name: &'a str, earlier: usize },
+    SameName {
+        name: &'a str,
+        earlier: usize,
+    },
     /// The text is no partition of the table. The nearest name of one may be known.
     NoPartition {
         text: &'a str,
@@ -49,7 +62,10 @@ pub enum What<'a> {
     /// The text is neither a port of the table nor `DEVICE`.
     NoEnd(&'a str),
     /// The port that the text names is no source, or it is one where a destination is wanted.
-    WrongDirection { text: &'a str, as_source: bool },
+    WrongDirection {
+        text: &'a str,
+        as_source: bool,
+    },
     /// Its port is of another kind than that of this text.
     OtherKind(&'a str),
     /// Its port takes another number of words than that of this text.
@@ -68,11 +84,20 @@ pub enum What<'a> {
     PortTwice(&'a str),
     /// A window begins before the end of the one before it, which is this many ticks from the
     /// beginning of the frame.
-    Overlaps { begin: i64, before: i128 },
+    Overlaps {
+        begin: i64,
+        before: i128,
+    },
     /// A window ends past the frame.
-    PastFrame { end: i128, frame: i64 },
+    PastFrame {
+        end: i128,
+        frame: i64,
+    },
     /// The frame is no multiple of the partition's period.
-    OddPeriod { period: u64, frame: u64 },
+    OddPeriod {
+        period: u64,
+        frame: u64,
+    },
     /// In the period of a partition that begins `from` ticks behind the beginning of the frame its
     /// windows offer less ticks than are wanted.
     Short {

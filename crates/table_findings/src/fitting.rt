@@ -301,7 +301,12 @@ fn split_queue<'a>(
         || has_queuing_port(partitions, channel.destinations.as_slice());
     if queues && number != 1 {
         let subject = Subject::Channel(row_at(index, channel));
-        add(found, subject, Some("destinations"), What::SplitQueue(number))
+        add(
+            found,
+            subject,
+            Some("destinations"),
+            What::SplitQueue(number),
+        )
     } else {
         Ok(())
     }
@@ -371,11 +376,7 @@ fn twice<'a>(
 }
 
 /// Adds a finding at an end.
-fn add_at<'a>(
-    found: &mut Vec<Finding<'a>>,
-    end: End<'a>,
-    what: What<'a>,
-) -> Result<(), AllocError>
+fn add_at<'a>(found: &mut Vec<Finding<'a>>, end: End<'a>, what: What<'a>) -> Result<(), AllocError>
     ensures { OnOk result
         (findings_of found.new.items
         ≡ findings_of found.old.items ++ spec.one_at (end_of end.entry) (what_of what.entry)) }
@@ -450,10 +451,7 @@ fn first_port_of<'a>(
 
 /// The first port that one of the texts names, and this text.
 #[tactic(auto, using(std::proofs::lemmas::List::drop_more))]
-fn first_port<'a>(
-    partitions: &[WrittenPartition<'a>],
-    texts: &[&'a str],
-) -> Option<FirstPort<'a>>
+fn first_port<'a>(partitions: &[WrittenPartition<'a>], texts: &[&'a str]) -> Option<FirstPort<'a>>
     ensures { option_map first_of result
         ≡ spec.first_port (map partition_text partitions.now) (map (λ text. text.now) texts.now) }
 {
@@ -487,11 +485,7 @@ fn port_at<'a>(partitions: &[WrittenPartition<'a>], text: &str) -> Option<Port<'
 
 /// The port of a partition that a text names.
 #[tactic(auto, using(std::proofs::lemmas::List::drop_more))]
-fn port_named<'a>(
-    partition: &str,
-    ports: &[WrittenPort<'a>],
-    text: &str,
-) -> Option<WrittenPort<'a>>
+fn port_named<'a>(partition: &str, ports: &[WrittenPort<'a>], text: &str) -> Option<WrittenPort<'a>>
     ensures { option_map port_text result
         ≡ spec.port_named partition.now (map port_text ports.now) text.now }
 {

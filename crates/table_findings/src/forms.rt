@@ -69,7 +69,13 @@ fn partition<'a>(
         ≡ findings_of found.old.items ++ spec.partition index (value_view value.now)) }
 {
     match value.as_table() {
-        None => of_type(found, Subject::Partition(unnamed(index)), None, "table", value),
+        None => of_type(
+            found,
+            Subject::Partition(unnamed(index)),
+            None,
+            "table",
+            value,
+        ),
         Some(table) => partition_table(found, row_at(index, "name", table), table),
     }
 }
@@ -151,7 +157,13 @@ fn port<'a>(
     match value.as_table() {
         None => {
             let port = unnamed(index);
-            of_type(found, Subject::Port { port, partition }, None, "table", value)
+            of_type(
+                found,
+                Subject::Port { port, partition },
+                None,
+                "table",
+                value,
+            )
         }
         Some(table) => {
             let port = row_at(index, "name", table);
@@ -242,7 +254,13 @@ fn channel<'a>(
         ≡ findings_of found.old.items ++ spec.channel index (value_view value.now)) }
 {
     match value.as_table() {
-        None => of_type(found, Subject::Channel(unnamed(index)), None, "table", value),
+        None => of_type(
+            found,
+            Subject::Channel(unnamed(index)),
+            None,
+            "table",
+            value,
+        ),
         Some(table) => channel_table(found, row_at(index, "name", table), table),
     }
 }
@@ -273,7 +291,13 @@ fn destinations<'a>(
         ++ spec.each (spec.destination (row_of channel.entry)) 0 (items_view values.now)) }
 {
     for (index, value) in values.iter().enumerate() {
-        of_type(found, Subject::Destination(index, channel), None, "string", value)?;
+        of_type(
+            found,
+            Subject::Destination(index, channel),
+            None,
+            "string",
+            value,
+        )?;
     }
     Ok(())
 }

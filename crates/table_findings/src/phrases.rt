@@ -31,11 +31,11 @@ pub fn finding_text(alloc: Global, finding: Finding<'_>) -> Result<String, Alloc
             let key = key.as_str();
             format!(in alloc; "{about} has no key {key}")
         }
-        What::OddPeriod { period, frame } => format!(
-            in alloc; "the frame of {frame} ticks is no multiple of {period}, the period of {about}"
+        What::OddPeriod { period, frame } => format!(in alloc;
+            "the frame of {frame} ticks is no multiple of {period}, the period of {about}"
         ),
-        What::Overlaps { begin, before } => format!(
-            in alloc; "{about} begins at {begin}, and the window before it ends at {before}"
+        What::Overlaps { begin, before } => format!(in alloc;
+            "{about} begins at {begin}, and the window before it ends at {before}"
         ),
         What::PastFrame { end, frame } => {
             format!(in alloc; "{about} ends at {end}, past the frame of {frame}")
@@ -44,8 +44,8 @@ pub fn finding_text(alloc: Global, finding: Finding<'_>) -> Result<String, Alloc
             from,
             offered,
             wanted,
-        } => format!(
-            in alloc; "{about} is offered {offered} ticks in its period from {from}, and its duration is {wanted}"
+        } => format!(in alloc;
+            "{about} is offered {offered} ticks in its period from {from}, and its duration is {wanted}"
         ),
         What::NoRelease => format!(in alloc; "{about} has no window with `release = true`"),
         _ => value_text(alloc, subject, key, what),
@@ -78,8 +78,8 @@ fn value_text(
             format!(in alloc; "{place} is {number}, and has to be {low} to {high}")
         }
         What::Below { number, low } => format!(in alloc; "{place} is {number}, below {low}"),
-        What::Count { number, low, high } => format!(
-            in alloc; "{place} stands for {number} of them, and {low} to {high} are allowed"
+        What::Count { number, low, high } => format!(in alloc;
+            "{place} stands for {number} of them, and {low} to {high} are allowed"
         ),
         What::NoName(text) => {
             let text = quoted(alloc, text)?;
@@ -98,8 +98,8 @@ fn value_text(
         What::NoEnd(text) => {
             let text = quoted(alloc, text)?;
             let text = text.as_str();
-            format!(
-                in alloc; "{place} is {text}, which is neither `DEVICE` nor a port of the table"
+            format!(in alloc;
+                "{place} is {text}, which is neither `DEVICE` nor a port of the table"
             )
         }
         _ => end_text(alloc, place, what),
@@ -134,8 +134,8 @@ fn end_text(alloc: Global, place: &str, what: What<'_>) -> Result<String, AllocE
         What::DeviceTwice => {
             format!(in alloc; "{place} is `DEVICE`, which is an end of the channel before")
         }
-        What::SplitQueue(number) => format!(
-            in alloc; "{place} stands for {number} of them, and a channel of queuing ports has one"
+        What::SplitQueue(number) => format!(in alloc;
+            "{place} stands for {number} of them, and a channel of queuing ports has one"
         ),
         What::PortTwice(text) => {
             let text = quoted(alloc, text)?;
@@ -173,11 +173,7 @@ fn key_text(alloc: Global, key: Option<&str>) -> Result<String, AllocError>
 }
 
 /// The key of the subject, or the subject itself.
-fn place_text(
-    alloc: Global,
-    key: Option<&str>,
-    subject: Subject<'_>,
-) -> Result<String, AllocError>
+fn place_text(alloc: Global, key: Option<&str>, subject: Subject<'_>) -> Result<String, AllocError>
     ensures { IfOk result
         (λ text. string_bytes text ≡ spec.place_text (option_copied key.entry) (subject_of subject.entry)) }
 {
@@ -288,7 +284,9 @@ pub fn advice(alloc: Global, key: Option<&str>, what: What<'_>) -> Result<String
         ),
         What::WrongDirection { as_source, .. } => {
             let direction = direction_text(as_source);
-            format!(in alloc; "Name a port of the direction {direction}, or turn the channel around.")
+            format!(in alloc;
+                "Name a port of the direction {direction}, or turn the channel around."
+            )
         }
         What::OtherKind(_) => String::from_str(alloc, "All ports of a channel have the same kind."),
         What::OtherWords { .. } => {
@@ -298,10 +296,13 @@ pub fn advice(alloc: Global, key: Option<&str>, what: What<'_>) -> Result<String
         What::DeviceTwice => String::from_str(alloc, "Name `DEVICE` once."),
         What::SplitQueue(_) => String::from_str(alloc, "Name one destination."),
         What::PortTwice(_) => String::from_str(alloc, "Name a port at one end only."),
-        What::Overlaps { before, .. } => format!(
-            in alloc; "Windows stand in the order of the frame: let it begin at {before} or later."
+        What::Overlaps { before, .. } => format!(in alloc;
+            "Windows stand in the order of the frame: let it begin at {before} or later."
         ),
-        What::PastFrame { .. } => String::from_str(alloc, "Make it shorter, or let it begin earlier."),
+        What::PastFrame { .. } => String::from_str(
+            alloc,
+            "Make it shorter, or let it begin earlier.",
+        ),
         What::OddPeriod { .. } => String::from_str(
             alloc,
             "Choose a period that divides the frame, or a multiple of it as the frame.",
@@ -330,11 +331,7 @@ fn near_or(alloc: Global, near: Option<&str>, other: &str) -> Result<String, All
 }
 
 /// The nearest of the words, or all of them.
-fn suggestion(
-    alloc: Global,
-    word: &str,
-    words: &[&'static str],
-) -> Result<String, AllocError>
+fn suggestion(alloc: Global, word: &str, words: &[&'static str]) -> Result<String, AllocError>
     ensures { IfOk result
         (λ text. string_bytes text
         ≡ spec.suggestion word.now (map (λ word. word.now) words.now)) }
@@ -369,11 +366,7 @@ fn listed(alloc: Global, words: &[&'static str]) -> Result<String, AllocError>
 }
 
 /// Adds words, each behind a comma.
-fn push_others(
-    alloc: Global,
-    text: &mut String,
-    words: &[&'static str],
-) -> Result<(), AllocError>
+fn push_others(alloc: Global, text: &mut String, words: &[&'static str]) -> Result<(), AllocError>
     ensures { OnOk result
         (string_bytes text.new
         ≡ string_bytes text.old ++ spec.others (map (λ word. word.now) words.now)) }

@@ -65,11 +65,21 @@ fn placed<'a>(
     });
     let begin = window.offset;
     if i128::from(begin) < before {
-        add(found, subject, Some("offset"), What::Overlaps { begin, before })?;
+        add(
+            found,
+            subject,
+            Some("offset"),
+            What::Overlaps { begin, before },
+        )?;
     }
     let end = window_end(window);
     if i128::from(frame) < end {
-        add(found, subject, Some("length"), What::PastFrame { end, frame })?;
+        add(
+            found,
+            subject,
+            Some("length"),
+            What::PastFrame { end, frame },
+        )?;
     }
     Ok(())
 }
@@ -94,7 +104,11 @@ pub fn odd_periods<'a>(
         (findings_of found.new.items
         ≡ findings_of found.old.items ++ spec.odd_periods (table_text table.now)) }
 {
-    odd_periods_from(found, table.frame.unsigned_abs(), table.partitions.as_slice())
+    odd_periods_from(
+        found,
+        table.frame.unsigned_abs(),
+        table.partitions.as_slice(),
+    )
 }
 
 #[tactic(auto, using(std::proofs::lemmas::List::drop_more, std::proofs::lemmas::List::append_assoc, crate::proofs::Steps::append_nil))]
@@ -133,7 +147,12 @@ fn odd_period<'a>(
         index,
         name: Some(partition.name),
     });
-    add(found, subject, Some("period"), What::OddPeriod { period, frame })
+    add(
+        found,
+        subject,
+        Some("period"),
+        What::OddPeriod { period, frame },
+    )
 }
 
 /// Adds each partition without a release window.

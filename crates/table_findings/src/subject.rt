@@ -24,10 +24,7 @@ pub enum Subject<'a> {
     Partition(Row<'a>),
     /// The health table of a partition.
     Health(Row<'a>),
-    Port {
-        port: Row<'a>,
-        partition: Row<'a>,
-    },
+    Port { port: Row<'a>, partition: Row<'a> },
     Window(Row<'a>),
     Channel(Row<'a>),
     /// A destination of a channel, counted from 0.

@@ -33,7 +33,11 @@ pub fn unknown<'a>(
 {
     let partitions = partition_names(alloc, table.partitions.as_slice())?;
     windows(found, partitions.as_slice(), table.windows.as_slice())?;
-    channels(found, table.partitions.as_slice(), table.channels.as_slice())
+    channels(
+        found,
+        table.partitions.as_slice(),
+        table.channels.as_slice(),
+    )
 }
 
 #[tactic(auto, using(std::proofs::lemmas::List::drop_more, std::proofs::lemmas::List::append_assoc, crate::proofs::Steps::append_nil))]
@@ -74,7 +78,12 @@ fn window<'a>(
         name: Some(text),
     });
     let near = nearest(text.as_bytes(), names);
-    add(found, subject, Some("partition"), What::NoPartition { text, near })
+    add(
+        found,
+        subject,
+        Some("partition"),
+        What::NoPartition { text, near },
+    )
 }
 
 /// Returns true if a name is one of some names.
@@ -145,7 +154,12 @@ fn destinations<'a>(
 {
     for (index, end) in ends.iter().enumerate() {
         if !is_end(partitions, end) {
-            add(found, Subject::Destination(index, channel), None, What::NoEnd(*end))?;
+            add(
+                found,
+                Subject::Destination(index, channel),
+                None,
+                What::NoEnd(*end),
+            )?;
         }
     }
     Ok(())

@@ -15,9 +15,13 @@ pub enum Words {
 }
 
 static KINDS: [&str; 2] = ["SAMPLING", "QUEUING"];
+
 static DIRECTIONS: [&str; 2] = ["SOURCE", "DESTINATION"];
+
 static DISCIPLINES: [&str; 2] = ["FIFO", "PRIORITY"];
+
 static PARTITION_ACTIONS: [&str; 4] = ["IGNORE", "IDLE", "WARM_START", "COLD_START"];
+
 static MODULE_ACTIONS: [&str; 3] = ["IGNORE", "SHUTDOWN", "RESET"];
 
 impl Words {

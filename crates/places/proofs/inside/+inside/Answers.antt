@@ -23,9 +23,12 @@ elements-items-preserved c c' =
       search rules,
       omega (arith, l.invariant.1),
       λ n h.
-          let (m, room, loop) = l.invariant.2 n h in
-          (m - 1, omega arith, loop ∙ elements_step c'.args.depth m _ (owned_path c'.in_ok-here.here.items) l.index c'.in_ok-index.index _ (entries_of c'.add.new.found.items) _ l.rest.now c'.skip_blank-start.result.now _ _ (omega arith) other c'.skip_blank-start.ensures.rest c'.in_ok-here.ensures
-          (rw c'.as_slice.ensures.value at c'.in_ok-add.ensures) (rw c'.as_slice-in-items.ensures.value at c'.in_ok-after.ensures.value) c'.in_ok-rest.ensures.value (omega arith)),
+          let (m, room, loop) = l.invariant.2 n h in (
+            m - 1,
+            omega arith,
+            loop ∙ elements_step c'.args.depth m _ (owned_path c'.in_ok-here.here.items) l.index c'.in_ok-index.index _ (entries_of c'.add.new.found.items) _ l.rest.now c'.skip_blank-start.result.now _ _ (omega arith) other c'.skip_blank-start.ensures.rest c'.in_ok-here.ensures
+                (rw c'.as_slice.ensures.value at c'.in_ok-add.ensures) (rw c'.as_slice-in-items.ensures.value at c'.in_ok-after.ensures.value) c'.in_ok-rest.ensures.value (omega arith),
+          ),
     )
 
 pub members-returns-then-first-eq125-clause-value : goal.members-returns-then-first-eq125-clause-value
@@ -46,9 +49,12 @@ members-items-preserved c c' =
       search rules,
       omega (arith, l.invariant.1),
       λ n h.
-          let (m, room, loop) = l.invariant.2 n h in
-          (m - 1, omega arith, loop ∙ members_step c'.args.depth m _ (owned_path c'.in_ok-here.here.items) _ (entries_of c'.add.new.found.items) _ l.rest.now c'.skip_blank-start.result.now _ _ _ _ (omega arith) other c'.skip_blank-start.ensures.rest c'.in_ok-key.ensures.value c'.in_ok-here.ensures
-          (rw c'.as_slice.ensures.value at c'.in_ok-add.ensures) (rw c'.as_slice-in-items.ensures.value at c'.in_ok-after.ensures.value) c'.in_ok-rest.ensures.value),
+          let (m, room, loop) = l.invariant.2 n h in (
+            m - 1,
+            omega arith,
+            loop ∙ members_step c'.args.depth m _ (owned_path c'.in_ok-here.here.items) _ (entries_of c'.add.new.found.items) _ l.rest.now c'.skip_blank-start.result.now _ _ _ _ (omega arith) other c'.skip_blank-start.ensures.rest c'.in_ok-key.ensures.value c'.in_ok-here.ensures
+                (rw c'.as_slice.ensures.value at c'.in_ok-add.ensures) (rw c'.as_slice-in-items.ensures.value at c'.in_ok-after.ensures.value) c'.in_ok-rest.ensures.value,
+          ),
     )
 
 pub inside-returns-then-byte-ne123-clause-value : goal.inside-returns-then-byte-ne123-clause-value
