@@ -70,7 +70,7 @@ kind_any s (Queuing depth discipline) = outside_any s (codes "depth") 1 _ depth
 
 port_any : (s : Subject) (p : PortText) → exceeds_port p ≡ has_any (port_limits s p)
 unfolding exceeds_port
-port_any s p = or_assoc _ _ _ ∙ two _ _ _ _ (name_any s p.name) (two _ _ _ _ (outside_any s (codes "words") 1 _ p.words) (kind_any s p.kind))
+port_any s p = two _ _ _ _ (name_any s p.name) (two _ _ _ _ (outside_any s (codes "words") 1 _ p.words) (kind_any s p.kind))
 
 ports_any : (r : Row) (i : ℕ) (ps : List PortText) → list_any exceeds_port ps ≡ has_any (ports_from r i ps)
 ports_any r i [] = refl
@@ -83,7 +83,11 @@ partition_parts false b c d e = or_assoc b c (d || e)
 
 partition_any : (frame : ℤ) (i : ℕ) (p : PartitionText) → exceeds_partition frame p ≡ has_any (partition_limits frame i p)
 unfolding exceeds_partition
-partition_any frame i p = ?
+partition_any frame i p =
+    partition_parts _ _ _ _ _
+    ∙ two _ _ _ _ (name_any _ p.name)
+    (two _ _ _ _ (outside_any _ (codes "period") 1 frame p.period)
+    (two _ _ _ _ (outside_any _ (codes "duration") 0 p.period p.duration) (two _ _ _ _ (count_any _ (codes "port") 0 _ (length p.ports)) (ports_any _ 0 p.ports))))
 
 partitions_any : (frame : ℤ) (i : ℕ) (ps : List PartitionText) → list_any (exceeds_partition frame) ps ≡ has_any (partitions_from frame i ps)
 partitions_any frame i [] = refl
