@@ -37,8 +37,7 @@ unfolding overlaps_after
 overlaps_any frame before i [] = refl
 overlaps_any frame before i (w ∷ ws) =
     rw (overlaps_any frame (window_end w) (i + 1) ws)
-    (sym (or_assoc (int_lt w.offset before) (int_lt frame (window_end w)) _)
-    ∙ ap (λ (b : Bool). b || has_any (overlaps_from frame (window_end w) (i + 1) ws)) (sym (placed_any frame before i w))
+    (ap (λ (b : Bool). b || has_any (overlaps_from frame (window_end w) (i + 1) ws)) (sym (placed_any frame before i w))
     ∙ sym (any_append (placed frame before i w) (overlaps_from frame (window_end w) (i + 1) ws)))
 
 -- ---- limits
@@ -70,16 +69,16 @@ kind_any s (Queuing depth discipline) = outside_any s (codes "depth") 1 _ depth
 
 port_any : (s : Subject) (p : PortText) → exceeds_port p ≡ has_any (port_limits s p)
 unfolding exceeds_port
-port_any s p = two _ _ _ _ (name_any s p.name) (two _ _ _ _ (outside_any s (codes "words") 1 _ p.words) (kind_any s p.kind))
+port_any s p = or_assoc _ _ _ ∙ two _ _ _ _ (name_any s p.name) (two _ _ _ _ (outside_any s (codes "words") 1 _ p.words) (kind_any s p.kind))
 
 ports_any : (r : Row) (i : ℕ) (ps : List PortText) → list_any exceeds_port ps ≡ has_any (ports_from r i ps)
 ports_any r i [] = refl
 ports_any r i (p ∷ ps) = two _ _ _ _ (port_any _ p) (ports_any r (i + 1) ps)
 
 -- five parts of a partition, of which the rule takes two together
-partition_parts : (a b c d e : Bool) → a || ((b || c) || (d || e)) ≡ a || (b || (c || (d || e)))
+partition_parts : (a b c d e : Bool) → ((a || (b || c)) || d) || e ≡ a || (b || (c || (d || e)))
 partition_parts true b c d e = refl
-partition_parts false b c d e = or_assoc b c (d || e)
+partition_parts false b c d e = or_assoc (b || c) d e ∙ or_assoc b c (d || e)
 
 partition_any : (frame : ℤ) (i : ℕ) (p : PartitionText) → exceeds_partition frame p ≡ has_any (partition_limits frame i p)
 unfolding exceeds_partition
