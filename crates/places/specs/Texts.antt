@@ -60,7 +60,7 @@ spaces_below bytes = map space bytes
 
 -- two parts of a line, and a mark below the beginning of the second one
 abbrev pub marked : List ℕ → List ℕ → List ℕ
-marked end start = end ++ start ++ 10 ∷ spaces_below end ++ 94 ∷ 10 ∷ []
+marked end start = end ++ start ++ 10 ∷ [] ++ spaces_below end ++ 94 ∷ 10 ∷ []
 
 -- the line around a place, and below it the mark
 abbrev pub marked_line : List ℕ → List ℕ → List ℕ
