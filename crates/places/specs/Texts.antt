@@ -58,9 +58,13 @@ space byte = 32
 abbrev pub spaces_below : List ℕ → List ℕ
 spaces_below bytes = map space bytes
 
+-- two parts of a line, and these spaces and a mark below it
+abbrev pub with_mark : List ℕ → List ℕ → List ℕ → List ℕ
+with_mark end start spaces = end ++ start ++ 10 ∷ [] ++ spaces ++ 94 ∷ 10 ∷ []
+
 -- two parts of a line, and a mark below the beginning of the second one
 abbrev pub marked : List ℕ → List ℕ → List ℕ
-marked end start = end ++ start ++ 10 ∷ [] ++ spaces_below end ++ 94 ∷ 10 ∷ []
+marked end start = with_mark end start (spaces_below end)
 
 -- the line around a place, and below it the mark
 abbrev pub marked_line : List ℕ → List ℕ → List ℕ

@@ -1,7 +1,7 @@
 //! The line of a place as it is shown, with a mark below the place.
 
 ghost use Rattle.std.specs.Prelude.{◌≡◌, ◌++◌, ◌∷◌, ◌-◌, [], drop, IfOk, length, map, OnOk, string_bytes, take};
-ghost use Rattle.places.specs.Texts.{marked, marked_line, shown, shown_byte, shown_end, shown_start, spaces_below};
+ghost use Rattle.places.specs.Texts.{marked, marked_line, with_mark, shown, shown_byte, shown_end, shown_start, spaces_below};
 
 use crate::text::{first_line, halves, last_line};
 use std::alloc::{AllocError, Global};
@@ -30,7 +30,19 @@ fn marked(alloc: Global, end: &str, start: &str) -> Result<String, AllocError>
     ensures { IfOk result (λ text. string_bytes text ≡ marked end.now start.now) }
 {
     let spaces = spaces_below(alloc, end.as_bytes())?;
-    let spaces = spaces.as_str();
+    with_mark(alloc, end, start, spaces.as_str())
+}
+
+/// Two parts of a line, and these spaces and a mark below it.
+fn with_mark(
+    alloc: Global,
+    end: &str,
+    start: &str,
+    spaces: &str,
+) -> Result<String, AllocError>
+    ensures { IfOk result
+        (λ text. string_bytes text ≡ with_mark end.now start.now spaces.now) }
+{
     format!(in alloc; "{end}{start}\n{spaces}^\n")
 }
 
