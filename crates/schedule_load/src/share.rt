@@ -2,8 +2,6 @@
 
 ghost use Rattle.std.specs.Prelude.{◌≡◌};
 
-use std::fmt;
-
 /// A share of a whole, in tenths of a percent.
 #[derive(Clone, Copy, Debug, PartialEq, Eq)]
 pub struct Share {
@@ -26,18 +24,5 @@ impl Share {
         Share {
             tenths: tenths.min(u128::from(u64::MAX)) as u64,
         }
-    }
-}
-
-impl fmt::Display for Share {
-    ghost use Rattle.std.specs.Prelude.{Some};
-    ghost use Rattle.schedule_load.specs.Shares.{share_text};
-
-    ghost output = { λ share. Some (share_text share) };
-
-    fn fmt<W: fmt::Write>(&self, f: &mut fmt::Formatter<W>) -> fmt::Result {
-        let whole = self.tenths / 10;
-        let rest = self.tenths % 10;
-        write!(f, "{whole}.{rest}")
     }
 }
