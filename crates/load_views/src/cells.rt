@@ -10,14 +10,14 @@ fn number(number: u32) -> Cell {
     Cell::Number(u64::from(number))
 }
 
-fn share(share: Share) -> Cell {
+fn share_cell(share: Share) -> Cell {
     Cell::Share(trace_view::Share {
         tenths: share.tenths,
     })
 }
 
 fn share_of(part: u32, whole: u32) -> Cell {
-    share(Share::of(u64::from(part), u64::from(whole)))
+    share_cell(Share::of(u64::from(part), u64::from(whole)))
 }
 
 fn optional(number: Option<u64>) -> Cell {
@@ -83,7 +83,7 @@ pub fn body_cells(body: &BodyLoad) -> [Cell; 4] {
         optional(body.period),
         optional(body.capacity),
         match body.share {
-            Some(part) => share(part),
+            Some(part) => share_cell(part),
             None => Cell::Absent,
         },
     ]

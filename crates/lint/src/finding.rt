@@ -1,0 +1,39 @@
+//! Findings.
+
+/// What is probably not meant.
+#[derive(Clone, Copy, Debug, PartialEq, Eq)]
+pub enum FindingKind {
+    /// A port is declared that the partition's row has not.
+    UnknownPort,
+    /// The row of the named partition lacks fewer of the declared ports than the partition's own.
+    FitsAnother,
+    /// The row has a port that the source does not declare.
+    UndeclaredPort,
+    /// A call on a port is for ports of the other kind.
+    WrongKind,
+    /// A call on a port is for ports of the other direction.
+    WrongDirection,
+    /// No call creates what is declared.
+    NeverCreated,
+    /// No call creates the handler.
+    HandlerNeverCreated,
+    /// No call may start the process.
+    NeverStarted,
+    /// No call in INIT or in a procedure may enter NORMAL.
+    NeverNormal,
+    /// A periodic process has no call of PERIODIC_WAIT, nor has a procedure.
+    NoPeriodicWait,
+    /// INIT calls a service that waits.
+    WaitInInit,
+    /// The body of a process costs more than its time capacity, each construct counted once.
+    AboveCapacity,
+}
+
+/// A finding: its line in the source, from 1, or 0 if it is about the row of the table; what is
+/// probably not meant; and the name that it is about, which is empty for INIT and the handler.
+#[derive(Clone, Copy, Debug)]
+pub struct Finding<'a> {
+    pub line: u32,
+    pub kind: FindingKind,
+    pub subject: &'a str,
+}

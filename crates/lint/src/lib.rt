@@ -1,0 +1,19 @@
+//! What of a module is accepted and probably not meant: findings in a source, each with its place.
+//!
+//! A finding says that a stated condition on the text holds. Nothing else is concluded.
+#![tactic(auto)]
+
+mod calls;
+mod finding;
+mod findings;
+mod lives;
+mod names;
+mod port_rules;
+mod services;
+mod slow;
+mod uses;
+mod wanted;
+
+pub use finding::{Finding, FindingKind};
+pub use findings::findings;
+pub use slow::slow_processes;
