@@ -7,6 +7,38 @@ use Rattle.apex_types.specs.declared.service.Service.{Service}
 use Rattle.pal_meaning.specs.Syntax as written
 use Rattle.lint.specs.Services.{numbered_kind}
 
+-- An argument, as far as it is looked at: a number as it is written, a name alone, or anything else.
+pub data Plain : Type 0 where
+  Literal : Option ℕ → Plain
+  Word : List ℕ → Plain
+  Other : Plain
+
+abbrev pub plain : written.Expr → Plain
+plain (written.Number value) = Literal value
+plain (written.Name name) = Word name
+plain _ = Other
+
+abbrev pub plains : written.Exprs → List Plain
+plains written.NoExpr = []
+plains (written.MoreExprs first rest) = plain first ∷ plains rest
+
+-- the first of some, the second, and the last
+abbrev pub first_of : List Plain → Option Plain
+first_of [] = None
+first_of (x ∷ xs) = Some x
+
+abbrev pub head_of : List (List ℕ) → Option (List ℕ)
+head_of [] = None
+head_of (x ∷ xs) = Some x
+
+abbrev pub second_of : List (List ℕ) → Option (List ℕ)
+second_of [] = None
+second_of (x ∷ xs) = head_of xs
+
+abbrev pub last_or : Option Plain → List Plain → Option Plain
+last_or last [] = last
+last_or last (x ∷ xs) = last_or (Some x) xs
+
 -- an object, a port or a process, and the variable that got its number
 pub record Created : Type 0 where
   pub kind : ObjectKind
@@ -17,12 +49,12 @@ pub record Created : Type 0 where
 -- by its name has put into a variable, if no statement between the two writes this variable or has a block.
 pub record Call : Type 0 where
   pub service : Service
-  pub arguments : written.Exprs
+  pub arguments : List Plain
   pub created : Option Created
 
 -- what a service creates or finds by its name, with the variable that gets the number
-abbrev pub numbered : Option ObjectKind → written.Exprs → List (List ℕ) → Option Created
-numbered (Some kind) (written.MoreExprs (written.Name object) written.NoExpr) (code ∷ id ∷ []) = Some (record { kind = kind; object = object; variable = id })
+abbrev pub numbered : Option ObjectKind → Option Plain → Option (List ℕ) → Option Created
+numbered (Some kind) (Some (Word object)) (Some id) = Some (record { kind = kind; object = object; variable = id })
 numbered _ _ _ = None
 
 -- the same, unless one of these variables is written
@@ -37,7 +69,7 @@ or_before None before = before
 -- what was created last behind a statement
 abbrev pub left_by : Option Created → written.Stmt → Option Created
 left_by created (written.Assign target value) = unless_written (target ∷ []) created
-left_by created (written.CallService service arguments targets) = or_before (numbered (numbered_kind service) arguments targets) (unless_written targets created)
+left_by created (written.CallService service arguments targets) = or_before (numbered (numbered_kind service) (first_of (plains arguments)) (second_of targets)) (unless_written targets created)
 left_by created (written.If test block) = None
 left_by created (written.IfElse test block other) = None
 left_by created (written.While test block) = None
@@ -49,7 +81,7 @@ abbrev mutual
   calls_behind created (written.MoreStmts s rest) = calls_in created s ++ calls_behind (left_by created s) rest
 
   pub calls_in : Option Created → written.Stmt → List Call
-  calls_in created (written.CallService service arguments targets) = record { service = service; arguments = arguments; created = created } ∷ []
+  calls_in created (written.CallService service arguments targets) = record { service = service; arguments = plains arguments; created = created } ∷ []
   calls_in created (written.If test block) = calls_behind None block
   calls_in created (written.IfElse test block other) = calls_behind None block ++ calls_behind None other
   calls_in created (written.While test block) = calls_behind None block

@@ -2,6 +2,7 @@ pub mod Calls
 pub mod Services
 pub mod Views
 pub mod Uses
+pub mod Seen
 pub mod Ports
 pub mod Lives
 pub mod Slow

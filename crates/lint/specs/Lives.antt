@@ -6,9 +6,9 @@ use Rattle.apex_types.specs.declared.denotation.ObjectKind.{ObjectKind}
 use Rattle.apex_types.specs.declared.denotation.ObjectKind.TheVariants as object
 use Rattle.pal_meaning.specs.Syntax as written
 use Rattle.pal_meaning.specs.WellFormed.{is_same_kind}
-use Rattle.lint.specs.Calls.{Call, all_calls, calls_of, calls_of_procedures}
+use Rattle.lint.specs.Calls.{Call, all_calls, calls_of, calls_of_procedures, first_of, last_or}
 use Rattle.lint.specs.Services.{created_kind, is_start, is_set_mode, is_periodic_wait, is_handler_creation, always_waits, has_time_out}
-use Rattle.lint.specs.Uses.{first_of, last_of, name_in, is_name, is_zero, may_be, may_be_number, subject_of}
+use Rattle.lint.specs.Uses.{name_in, is_name, is_zero, may_be, may_be_number, subject_of}
 use Rattle.lint.specs.Views.{Found}
 use Rattle.lint.specs.declared.finding.FindingKind.{FindingKind}
 use Rattle.lint.specs.declared.finding.FindingKind.TheVariants as kind
@@ -91,7 +91,7 @@ without_waits procedures ps = flat_map (without_wait procedures) ps
 
 -- a service that waits, or whose time-out is not written as 0
 abbrev pub waits : Call → Bool
-waits c = always_waits c.service || (has_time_out c.service && not (is_zero (last_of c.arguments)))
+waits c = always_waits c.service || (has_time_out c.service && not (is_zero (last_or None c.arguments)))
 
 abbrev pub wait_in_init : Call → List Found
 wait_in_init c = if waits c then found kind.WaitInInit (service_word c.service) ∷ [] else []

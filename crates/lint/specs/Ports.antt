@@ -10,10 +10,11 @@ use Rattle.apex_types.specs.declared.row.PortDirection.TheVariants.{Source, Dest
 use Rattle.apex_types.specs.declared.row.PortRow.{PortRow}
 use Rattle.module_meaning.specs.Table.{Partition, at_number, is_queuing}
 use Rattle.pal_meaning.specs.Syntax as written
-use Rattle.lint.specs.Calls.{Call}
+use Rattle.lint.specs.Calls.{Call, first_of}
 use Rattle.lint.specs.Services.{port_kind, port_direction, numbered_kind}
-use Rattle.lint.specs.Uses.{Id, Numbered, Named, Unseen, first_of, name_in, subject_of}
+use Rattle.lint.specs.Uses.{Id, Numbered, Named, Unseen, name_in, subject_of}
 use Rattle.lint.specs.Views.{Found}
+use Rattle.lint.specs.declared.finding.FindingKind.{FindingKind}
 use Rattle.lint.specs.declared.finding.FindingKind.TheVariants as kind
 
 -- ---- declarations
@@ -96,12 +97,18 @@ contradicts_direction (Some Source) Destination = true
 contradicts_direction (Some Destination) Source = true
 contradicts_direction (Some Destination) Destination = false
 
+-- what is wrong about the use of a port, if anything
+abbrev pub wrong_kind_of : Option Bool → Option PortDirection → PortRow → Option FindingKind
+wrong_kind_of queuing direction row =
+    if contradicts_kind queuing row then Some kind.WrongKind else if contradicts_direction direction row.direction then Some kind.WrongDirection else None
+
+abbrev pub found_at : PortRow → Option FindingKind → List Found
+found_at row None = []
+found_at row (Some k) = record { kind = k; subject = row.name } ∷ []
+
 abbrev pub wrong_use_of : Call → Option PortRow → List Found
 wrong_use_of c None = []
-wrong_use_of c (Some row) =
-    if contradicts_kind (port_kind c.service) row then record { kind = kind.WrongKind; subject = row.name } ∷ []
-    else if contradicts_direction (port_direction c.service) row.direction then record { kind = kind.WrongDirection; subject = row.name } ∷ []
-    else []
+wrong_use_of c (Some row) = found_at row (wrong_kind_of (port_kind c.service) (port_direction c.service) row)
 
 abbrev pub is_for_ports : Option Bool → Bool
 is_for_ports None = false

@@ -4,14 +4,21 @@ use Rattle.pal_base.specs.View.{id_text, exprs_of}
 use Rattle.lint.specs.Calls as meant
 use Rattle.lint.specs.declared.calls.Call as code_call
 use Rattle.lint.specs.declared.calls.Created as code_created
+use Rattle.lint.specs.declared.calls.Plain.{Plain}
+use Rattle.lint.specs.declared.calls.Plain.TheVariants as plain
 use Rattle.lint.specs.declared.finding.Finding as code_finding
 use Rattle.lint.specs.declared.finding.FindingKind.{FindingKind}
+
+abbrev pub plain_of : List (List ℕ) → Plain → meant.Plain
+plain_of names (plain.Literal value) = meant.Literal value
+plain_of names (plain.Name name) = meant.Word (id_text names name)
+plain_of names plain.Other = meant.Other
 
 abbrev pub created_of : List (List ℕ) → code_created.Created → meant.Created
 created_of names c = record { kind = c.kind; object = id_text names c.object; variable = id_text names c.variable }
 
 abbrev pub call_of : List (List ℕ) → code_call.Call → meant.Call
-call_of names c = record { service = c.service; arguments = exprs_of names c.arguments.now; created = option_map (created_of names) c.created }
+call_of names c = record { service = c.service; arguments = meant.plains (exprs_of names c.arguments.now); created = option_map (created_of names) c.created }
 
 -- the calls of a list, as the definitions see them
 abbrev pub calls_seen : List (List ℕ) → List code_call.Call → List meant.Call

@@ -3,17 +3,17 @@
 ghost use Rattle.std.specs.Prelude.{◌≡◌, ◌++◌, ◌||◌, [], ℕ, List, map, option_map, OnOk, IfOk};
 ghost use Rattle.std.specs.List.{list_any};
 ghost use Rattle.std.specs.Str.{bytes_eq};
-ghost use Rattle.pal_base.specs.View.{texts, id_text, name_of, exprs_of, kind_of, block_of, body_of, stmt_of, stack_body_of, process_of, declaration_of, declared_of};
+ghost use Rattle.pal_base.specs.View.{texts, id_text, name_of, number_of, expr_of, exprs_of, kind_of, block_of, body_of, stack_body_of, process_of, declaration_of, declared_of};
 ghost use Rattle.lint.specs.Calls as meant;
-ghost use Rattle.lint.specs.Views.{created_of, calls_seen};
+ghost use Rattle.lint.specs.Views.{plain_of, created_of, calls_seen};
 
 use crate::names::is_same_name;
 use crate::services::numbered_kind;
 use apex_types::{ObjectKind, Service};
 use indexmap::IndexSet;
 use pal_base::syntax::{
-    Body, Declaration, DeclarationKind, Expr, Identifier, NameId, Process, StackBody, Stmt,
-    StmtKind,
+    Body, Declaration, DeclarationKind, Expr, Identifier, NameId, Natural, Numeral, Process,
+    StackBody, Stmt, StmtKind,
 };
 use std::alloc::AllocError;
 
@@ -34,21 +34,98 @@ pub struct Call<'a> {
     pub created: Option<Created>,
 }
 
+/// An argument, as far as it is looked at.
+#[derive(Clone, Copy)]
+pub enum Plain {
+    /// A number as it is written; none above 2^63 - 1.
+    Literal(Option<u64>),
+    Name(NameId),
+    Other,
+}
+
+/// The value of a number; none if it is above 2^63 - 1.
+fn value_of(number: &Numeral) -> Option<u64>
+    ensures { result ≡ number_of number.now }
+{
+    match number.magnitude {
+        Natural::Within(value) if 0 <= value => Some(value as u64),
+        _ => None,
+    }
+}
+
+/// An argument, as far as it is looked at.
+fn plain(argument: &Expr) -> Plain
+    ensures { (names : List (List ℕ))
+        → plain_of names result ≡ meant.plain (expr_of names argument.now) }
+{
+    match argument {
+        Expr::Number(number) => Plain::Literal(value_of(number)),
+        Expr::Name(name) => Plain::Name(name.name),
+        Expr::Element(_, _) => Plain::Other,
+        Expr::Apply(_, _) => Plain::Other,
+        Expr::Parenthesis(_) => Plain::Other,
+        Expr::Unary(_, _) => Plain::Other,
+        Expr::Chain(_, _) => Plain::Other,
+    }
+}
+
+/// The first of some arguments.
+pub fn first_plain(arguments: &[Expr]) -> Option<Plain>
+    ensures { (names : List (List ℕ))
+        → option_map (plain_of names) result
+        ≡ meant.first_of (meant.plains (exprs_of names arguments.now)) }
+{
+    match arguments.split_first() {
+        Some((first, _)) => Some(plain(first)),
+        None => None,
+    }
+}
+
+/// The last of some arguments.
+#[tactic(auto, using(std::proofs::lemmas::List::drop_more))]
+pub fn last_plain(arguments: &[Expr]) -> Option<Plain>
+    ensures { (names : List (List ℕ))
+        → option_map (plain_of names) result
+        ≡ meant.last_or None (meant.plains (exprs_of names arguments.now)) }
+{
+    let mut last = None;
+    for argument in arguments {
+        last = Some(plain(argument));
+    }
+    last
+}
+
+/// The second of some targets.
+fn second(targets: &[Identifier]) -> Option<NameId>
+    ensures { (names : List (List ℕ))
+        → option_map (id_text names) result
+        ≡ meant.second_of (map (name_of names) targets.now) }
+{
+    match targets.split_first() {
+        Some((_, others)) => match others.split_first() {
+            Some((second, _)) => Some(second.name),
+            None => None,
+        },
+        None => None,
+    }
+}
+
 /// What a service creates or finds by its name, with the variable that gets the number.
 fn numbered(
     kind: Option<ObjectKind>,
-    arguments: &[Expr],
-    targets: &[Identifier],
+    argument: Option<Plain>,
+    target: Option<NameId>,
 ) -> Option<Created>
     ensures { (names : List (List ℕ))
         → option_map (created_of names) result
-        ≡ meant.numbered kind (exprs_of names arguments.now) (map (name_of names) targets.now) }
+        ≡ meant.numbered kind (option_map (plain_of names) argument)
+        (option_map (id_text names) target) }
 {
-    match (kind, arguments, targets) {
-        (Some(kind), [Expr::Name(object)], [_, id]) => Some(Created {
+    match (kind, argument, target) {
+        (Some(kind), Some(Plain::Name(object)), Some(variable)) => Some(Created {
             kind,
-            object: object.name,
-            variable: id.name,
+            object,
+            variable,
         }),
         _ => None,
     }
@@ -97,7 +174,8 @@ fn left_by(
     match statement {
         StmtKind::Assign(target, _) => unless_written(names, &[*target], created),
         StmtKind::CallService(service, arguments, targets) => {
-            match numbered(numbered_kind(*service), arguments, targets) {
+            let kind = numbered_kind(*service);
+            match numbered(kind, first_plain(arguments), second(targets)) {
                 Some(created) => Some(created),
                 None => unless_written(names, targets, created),
             }

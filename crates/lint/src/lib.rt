@@ -5,7 +5,7 @@
 
 mod calls;
 mod finding;
-mod findings;
+mod gathering;
 mod lives;
 mod names;
 mod port_rules;
@@ -15,5 +15,5 @@ mod uses;
 mod wanted;
 
 pub use finding::{Finding, FindingKind};
-pub use findings::findings;
+pub use gathering::findings;
 pub use slow::slow_processes;
