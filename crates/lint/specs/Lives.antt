@@ -11,7 +11,7 @@ use Rattle.lint.specs.Services.{created_kind, is_start, is_set_mode, is_periodic
 use Rattle.lint.specs.Uses.{name_in, is_name, is_zero, may_be, may_be_number, subject_of}
 use Rattle.lint.specs.Views.{Found}
 use Rattle.lint.specs.declared.finding.FindingKind.{FindingKind}
-use Rattle.lint.specs.declared.finding.FindingKind.TheVariants as kind
+use Rattle.lint.specs.declared.finding.FindingKind.TheVariants as finding
 
 -- ---- calls that are looked for
 
@@ -55,7 +55,7 @@ object_kind _ = None
 
 abbrev pub never_created : List Call → Option ObjectKind → List ℕ → List Found
 never_created calls None name = []
-never_created calls (Some k) name = lacking (Creation k name) calls (found kind.NeverCreated name)
+never_created calls (Some k) name = lacking (Creation k name) calls (found finding.NeverCreated name)
 
 abbrev pub objects_never_created : List Call → List written.Declaration → List Found
 objects_never_created calls ds = flat_map (λ d. never_created calls (object_kind d.kind) d.name) ds
@@ -65,24 +65,24 @@ processes_never_created calls ps = flat_map (λ p. never_created calls (Some obj
 
 abbrev pub handler_never_created : List Call → Option written.StackBody → List Found
 handler_never_created calls None = []
-handler_never_created calls (Some b) = lacking HandlerCreation calls (found kind.HandlerNeverCreated [])
+handler_never_created calls (Some b) = lacking HandlerCreation calls (found finding.HandlerNeverCreated [])
 
 -- ---- start
 
 -- the processes that are never started, the first of which has this number
 abbrev pub never_started : List Call → (number : ℕ) → List written.Process → List Found
 never_started calls number [] = []
-never_started calls number (p ∷ ps) = lacking (Start number p.name) calls (found kind.NeverStarted p.name) ++ never_started calls (number + 1) ps
+never_started calls number (p ∷ ps) = lacking (Start number p.name) calls (found finding.NeverStarted p.name) ++ never_started calls (number + 1) ps
 
 -- no call in INIT or in a procedure may enter NORMAL
 abbrev pub never_normal : written.Program → List Found
-never_normal p = lacking NormalMode (calls_of p.init.body ++ calls_of_procedures p.declarations) (found kind.NeverNormal [])
+never_normal p = lacking NormalMode (calls_of p.init.body ++ calls_of_procedures p.declarations) (found finding.NeverNormal [])
 
 -- ---- periods
 
 -- a periodic process that does not wait for its next release, nor does a procedure
 abbrev pub without_wait : List Call → written.Process → List Found
-without_wait procedures p = if p.period.negative then [] else lacking PeriodicWait (calls_of p.body ++ procedures) (found kind.NoPeriodicWait p.name)
+without_wait procedures p = if p.period.negative then [] else lacking PeriodicWait (calls_of p.body ++ procedures) (found finding.NoPeriodicWait p.name)
 
 abbrev pub without_waits : List Call → List written.Process → List Found
 without_waits procedures ps = flat_map (without_wait procedures) ps
@@ -94,7 +94,7 @@ abbrev pub waits : Call → Bool
 waits c = always_waits c.service || (has_time_out c.service && not (is_zero (last_or None c.arguments)))
 
 abbrev pub wait_in_init : Call → List Found
-wait_in_init c = if waits c then found kind.WaitInInit (service_word c.service) ∷ [] else []
+wait_in_init c = if waits c then found finding.WaitInInit (service_word c.service) ∷ [] else []
 
 abbrev pub waits_in_init : written.Program → List Found
 waits_in_init p = flat_map wait_in_init (calls_of p.init.body)

@@ -15,7 +15,7 @@ use Rattle.lint.specs.Services.{port_kind, port_direction, numbered_kind}
 use Rattle.lint.specs.Uses.{Id, Numbered, Named, Unseen, name_in, subject_of}
 use Rattle.lint.specs.Views.{Found}
 use Rattle.lint.specs.declared.finding.FindingKind.{FindingKind}
-use Rattle.lint.specs.declared.finding.FindingKind.TheVariants as kind
+use Rattle.lint.specs.declared.finding.FindingKind.TheVariants as finding
 
 -- ---- declarations
 
@@ -29,7 +29,7 @@ is_unknown ports written.Port name = not (has_port ports name)
 is_unknown ports _ name = false
 
 abbrev pub unknown_port : List PortRow → written.Declaration → List Found
-unknown_port ports d = if is_unknown ports d.kind d.name then record { kind = kind.UnknownPort; subject = d.name } ∷ [] else []
+unknown_port ports d = if is_unknown ports d.kind d.name then record { kind = finding.UnknownPort; subject = d.name } ∷ [] else []
 
 abbrev pub unknown_ports : List PortRow → List written.Declaration → List Found
 unknown_ports ports ds = flat_map (unknown_port ports) ds
@@ -42,7 +42,7 @@ misfits ports (d ∷ ds) = (if is_unknown ports d.kind d.name then 1 else 0) + m
 -- the first partition whose row lacks fewer of the declared ports than the partition's own row does
 abbrev pub better_row : (own : ℕ) → List written.Declaration → List Partition → List Found
 better_row own ds [] = []
-better_row own ds (row ∷ rows) = if nat_lt (misfits row.ports ds) own then record { kind = kind.FitsAnother; subject = row.name } ∷ [] else better_row own ds rows
+better_row own ds (row ∷ rows) = if nat_lt (misfits row.ports ds) own then record { kind = finding.FitsAnother; subject = row.name } ∷ [] else better_row own ds rows
 
 -- a port of this name is declared
 abbrev pub is_port_of : List ℕ → written.Kind → List ℕ → Bool
@@ -53,7 +53,7 @@ abbrev pub declares_port : List ℕ → List written.Declaration → Bool
 declares_port name ds = list_any (λ d. is_port_of name d.kind d.name) ds
 
 abbrev pub undeclared_port : List written.Declaration → PortRow → List Found
-undeclared_port ds row = if declares_port row.name ds then [] else record { kind = kind.UndeclaredPort; subject = row.name } ∷ []
+undeclared_port ds row = if declares_port row.name ds then [] else record { kind = finding.UndeclaredPort; subject = row.name } ∷ []
 
 abbrev pub undeclared_ports : List written.Declaration → List PortRow → List Found
 undeclared_ports ds ports = flat_map (undeclared_port ds) ports
@@ -100,7 +100,7 @@ contradicts_direction (Some Destination) Destination = false
 -- what is wrong about the use of a port, if anything
 abbrev pub wrong_kind_of : Option Bool → Option PortDirection → PortRow → Option FindingKind
 wrong_kind_of queuing direction row =
-    if contradicts_kind queuing row then Some kind.WrongKind else if contradicts_direction direction row.direction then Some kind.WrongDirection else None
+    if contradicts_kind queuing row then Some finding.WrongKind else if contradicts_direction direction row.direction then Some finding.WrongDirection else None
 
 abbrev pub found_at : PortRow → Option FindingKind → List Found
 found_at row None = []

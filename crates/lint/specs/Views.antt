@@ -1,5 +1,5 @@
 -- The calls and the findings of the code, as the definitions see them.
-use Rattle.std.specs.Prelude.{ℕ, List, map, option_map}
+use Rattle.std.specs.Prelude.{ℕ, Bool, List, [], ◌∷◌, map, option_map, if◌then◌else◌}
 use Rattle.pal_base.specs.View.{id_text, exprs_of}
 use Rattle.lint.specs.Calls as meant
 use Rattle.lint.specs.declared.calls.Call as code_call
@@ -34,3 +34,10 @@ found_of f = record { kind = f.kind; subject = f.subject.now }
 
 abbrev pub found_all : List code_finding.Finding → List Found
 found_all findings = map found_of findings
+
+-- a finding if something is so, and one unless it is
+abbrev pub if_so : Bool → Found → List Found
+if_so so found = if so then found ∷ [] else []
+
+abbrev pub unless : Bool → Found → List Found
+unless so found = if so then [] else found ∷ []

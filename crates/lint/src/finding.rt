@@ -1,5 +1,10 @@
 //! Findings.
 
+ghost use Rattle.std.specs.Prelude.{◌≡◌, ◌++◌, OnOk};
+ghost use Rattle.lint.specs.Views.{found_all, found_of, if_so, unless};
+
+use std::alloc::AllocError;
+
 /// What is probably not meant.
 #[derive(Clone, Copy, Debug, PartialEq, Eq)]
 pub enum FindingKind {
@@ -36,4 +41,38 @@ pub struct Finding<'a> {
     pub line: u32,
     pub kind: FindingKind,
     pub subject: &'a str,
+}
+
+/// Adds a finding if something is so.
+pub fn add_if<'a>(
+    so: bool,
+    finding: Finding<'a>,
+    findings: &mut Vec<Finding<'a>>,
+) -> Result<(), AllocError>
+    ensures { OnOk result
+        (found_all findings.new.items
+        ≡ found_all findings.old.items ++ if_so so (found_of finding.entry)) }
+{
+    if !so {
+        return Ok(());
+    }
+    findings.push(finding)?;
+    Ok(())
+}
+
+/// Adds a finding unless something is so.
+pub fn add_unless<'a>(
+    so: bool,
+    finding: Finding<'a>,
+    findings: &mut Vec<Finding<'a>>,
+) -> Result<(), AllocError>
+    ensures { OnOk result
+        (found_all findings.new.items
+        ≡ found_all findings.old.items ++ unless so (found_of finding.entry)) }
+{
+    if so {
+        return Ok(());
+    }
+    findings.push(finding)?;
+    Ok(())
 }

@@ -6,7 +6,7 @@ ghost use Rattle.lint.specs.Lives as meant;
 ghost use Rattle.lint.specs.Views.{call_of, calls_seen, found_all};
 
 use crate::calls::{Call, add_body, last_plain};
-use crate::finding::{Finding, FindingKind};
+use crate::finding::{Finding, FindingKind, add_if};
 use crate::names::text_of;
 use crate::services::{always_waits, has_time_out};
 use crate::uses::is_zero;
@@ -245,13 +245,12 @@ pub fn add_waits<'a>(
         ++ flat_map meant.wait_in_init (calls_seen (texts names.now.keys) calls.now)) }
 {
     for call in calls {
-        if waits(call) {
-            findings.push(Finding {
-                line: call.line,
-                kind: FindingKind::WaitInInit,
-                subject: call.service.word(),
-            })?;
-        }
+        let finding = Finding {
+            line: call.line,
+            kind: FindingKind::WaitInInit,
+            subject: call.service.word(),
+        };
+        add_if(waits(call), finding, findings)?;
     }
     Ok(())
 }

@@ -10,7 +10,7 @@ ghost use Rattle.lint.specs.Services.{numbered_kind};
 ghost use Rattle.lint.specs.Views.{call_of, calls_seen, found_all};
 
 use crate::calls::{Call, first_plain};
-use crate::finding::{Finding, FindingKind};
+use crate::finding::{Finding, FindingKind, add_if, add_unless};
 use crate::names::text_of;
 use crate::services::{numbered_kind, port_direction, port_kind};
 use crate::uses::{Id, name_in, subject_of};
@@ -73,13 +73,13 @@ pub fn add_unknown<'a>(
 {
     for declaration in declarations {
         let subject = text_of(names, declaration.name.name);
-        if is_unknown(ports, &declaration.kind, subject) {
-            findings.push(Finding {
-                line: declaration.line,
-                kind: FindingKind::UnknownPort,
-                subject,
-            })?;
-        }
+        let finding = Finding {
+            line: declaration.line,
+            kind: FindingKind::UnknownPort,
+            subject,
+        };
+        let unknown = is_unknown(ports, &declaration.kind, subject);
+        add_if(unknown, finding, findings)?;
     }
     Ok(())
 }
@@ -193,13 +193,12 @@ pub fn add_undeclared<'a>(
 {
     for port in ports {
         let subject = port.name.as_str();
-        if !declares_port(names, subject, declarations) {
-            findings.push(Finding {
-                line: 0,
-                kind: FindingKind::UndeclaredPort,
-                subject,
-            })?;
-        }
+        let finding = Finding {
+            line: 0,
+            kind: FindingKind::UndeclaredPort,
+            subject,
+        };
+        add_unless(declares_port(names, subject, declarations), finding, findings)?;
     }
     Ok(())
 }

@@ -4,7 +4,7 @@ ghost use Rattle.std.specs.Prelude.{◌≡◌, IfOk};
 ghost use Rattle.lint.specs.Slow as meant;
 ghost use Rattle.lint.specs.Views.{found_all};
 
-use crate::finding::{Finding, FindingKind};
+use crate::finding::{Finding, FindingKind, add_if};
 use apex_types::Costs;
 use pal_base::cost::cost_of_body;
 use pal_base::program::Process;
@@ -33,13 +33,13 @@ pub fn slow_processes<'a>(
 {
     let mut findings = Vec::new(alloc);
     for process in processes {
-        if is_above(cost_of_body(costs, &process.body).ticks, process.capacity) {
-            findings.push(Finding {
-                line: 0,
-                kind: FindingKind::AboveCapacity,
-                subject: process.name.as_str(),
-            })?;
-        }
+        let finding = Finding {
+            line: 0,
+            kind: FindingKind::AboveCapacity,
+            subject: process.name.as_str(),
+        };
+        let ticks = cost_of_body(costs, &process.body).ticks;
+        add_if(is_above(ticks, process.capacity), finding, &mut findings)?;
     }
     Ok(findings)
 }

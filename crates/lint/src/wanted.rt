@@ -8,7 +8,7 @@ ghost use Rattle.lint.specs.Seen.{wanted_of};
 ghost use Rattle.lint.specs.Views.{call_of, calls_seen, found_all, found_of};
 
 use crate::calls::{Call, first_plain};
-use crate::finding::Finding;
+use crate::finding::{Finding, add_unless};
 use crate::services::{
     created_kind, is_handler_creation, is_periodic_wait, is_set_mode, is_start,
 };
@@ -101,8 +101,5 @@ pub fn expect<'a>(
         ++ lacking (wanted_of wanted.entry) (calls_seen (texts names.now.keys) calls.now)
         (found_of finding.entry)) }
 {
-    if !is_met(names, wanted, calls) {
-        findings.push(finding)?;
-    }
-    Ok(())
+    add_unless(is_met(names, wanted, calls), finding, findings)
 }
