@@ -9,6 +9,7 @@ mod gathering;
 mod lives;
 mod names;
 mod port_rules;
+mod sentence;
 mod services;
 mod slow;
 mod uses;
@@ -16,4 +17,5 @@ mod wanted;
 
 pub use finding::{Finding, FindingKind};
 pub use gathering::findings;
+pub use sentence::write_findings;
 pub use slow::slow_processes;
