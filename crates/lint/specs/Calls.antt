@@ -27,6 +27,10 @@ abbrev pub first_of : List Plain → Option Plain
 first_of [] = None
 first_of (x ∷ xs) = Some x
 
+abbrev pub second_plain : List Plain → Option Plain
+second_plain [] = None
+second_plain (x ∷ xs) = first_of xs
+
 abbrev pub head_of : List (List ℕ) → Option (List ℕ)
 head_of [] = None
 head_of (x ∷ xs) = Some x

@@ -3,6 +3,7 @@ use Rattle.std.specs.Prelude.{ℕ, List, ◌++◌, flat_map}
 use Rattle.apex_types.specs.declared.row.PortRow.{PortRow}
 use Rattle.module_meaning.specs.Table.{Partition}
 use Rattle.pal_meaning.specs.Syntax as written
+use Rattle.lint.specs.Arrays.{small_arrays}
 use Rattle.lint.specs.Calls.{all_calls, calls_of_procedures}
 use Rattle.lint.specs.Lives.{objects_never_created, processes_never_created, handler_never_created, never_started, never_normal, without_waits, waits_in_init}
 use Rattle.lint.specs.Ports.{unknown_ports, misfits, better_row, undeclared_ports, wrong_use}
@@ -15,6 +16,7 @@ port_findings rows ports p =
     ++ better_row (misfits ports p.declarations) p.declarations rows
     ++ undeclared_ports p.declarations ports
     ++ flat_map (wrong_use ports) (all_calls p)
+    ++ small_arrays ports p.declarations (all_calls p)
 
 -- about what is created and started
 abbrev pub creation_findings : written.Program → List Found

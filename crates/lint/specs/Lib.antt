@@ -4,6 +4,7 @@ pub mod Views
 pub mod Uses
 pub mod Seen
 pub mod Ports
+pub mod Arrays
 pub mod Lives
 pub mod Slow
 pub mod Findings

@@ -29,6 +29,14 @@ numbered_kind service.GetSamplingPortId = Some object.Port
 numbered_kind service.GetQueuingPortId = Some object.Port
 numbered_kind s = created_kind s
 
+-- the kind of what the message comes from that a service stores in its array
+abbrev pub stored_kind : Service → Option ObjectKind
+stored_kind service.ReceiveBuffer = Some object.Buffer
+stored_kind service.ReadBlackboard = Some object.Blackboard
+stored_kind service.ReadSamplingMessage = Some object.Port
+stored_kind service.ReceiveQueuingMessage = Some object.Port
+stored_kind _ = None
+
 -- it starts the process of a number
 abbrev pub is_start : Service → Bool
 is_start service.Start = true

@@ -44,7 +44,7 @@ pub enum Plain {
 }
 
 /// The value of a number; none if it is above 2^63 - 1.
-fn value_of(number: &Numeral) -> Option<u64>
+pub fn value_of(number: &Numeral) -> Option<u64>
     ensures { result ≡ number_of number.now }
 {
     match number.magnitude {
@@ -77,6 +77,18 @@ pub fn first_plain(arguments: &[Expr]) -> Option<Plain>
 {
     match arguments.split_first() {
         Some((first, _)) => Some(plain(first)),
+        None => None,
+    }
+}
+
+/// The second of some arguments.
+pub fn second_plain(arguments: &[Expr]) -> Option<Plain>
+    ensures { (names : List (List ℕ))
+        → option_map (plain_of names) result
+        ≡ meant.second_plain (meant.plains (exprs_of names arguments.now)) }
+{
+    match arguments.split_first() {
+        Some((_, others)) => first_plain(others),
         None => None,
     }
 }

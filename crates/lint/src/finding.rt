@@ -18,6 +18,8 @@ pub enum FindingKind {
     WrongKind,
     /// A call on a port is for ports of the other direction.
     WrongDirection,
+    /// A service stores messages in an array that is smaller than they may be.
+    SmallArray,
     /// No call creates what is declared.
     NeverCreated,
     /// No call creates the handler.

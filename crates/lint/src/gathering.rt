@@ -8,6 +8,7 @@ ghost use Rattle.lint.specs.Calls.{all_calls, calls_of, calls_of_procedures};
 ghost use Rattle.lint.specs.Findings as meant;
 ghost use Rattle.lint.specs.Views.{calls_seen, found_all};
 
+use crate::arrays;
 use crate::calls::{Call, add_body, add_handler, add_procedures, add_processes};
 use crate::finding::Finding;
 use crate::lives;
@@ -73,7 +74,8 @@ fn add_port_findings<'a>(
     port_rules::add_unknown(names, ports, &program.declarations, findings)?;
     port_rules::add_better_row(names, rows, ports, &program.declarations, findings)?;
     port_rules::add_undeclared(names, ports, &program.declarations, findings)?;
-    port_rules::add_wrong_uses(names, ports, calls, findings)
+    port_rules::add_wrong_uses(names, ports, calls, findings)?;
+    arrays::add_small_arrays(names, ports, &program.declarations, calls, findings)
 }
 
 /// Adds what is found about creation and starts.

@@ -3,6 +3,7 @@
 //! A finding says that a stated condition on the text holds. Nothing else is concluded.
 #![tactic(auto)]
 
+mod arrays;
 mod calls;
 mod finding;
 mod gathering;

@@ -212,7 +212,7 @@ fn port_numbered(ports: &[PortRow], number: u64) -> Option<&PortRow>
 }
 
 /// The port that an argument stands for.
-fn port_of_id<'a>(
+pub fn port_of_id<'a>(
     names: &IndexSet<String>,
     ports: &'a [PortRow],
     id: Id,

@@ -37,6 +37,18 @@ pub fn numbered_kind(service: Service) -> Option<ObjectKind>
     }
 }
 
+/// The kind of what the message comes from that a service stores in its array.
+pub fn stored_kind(service: Service) -> Option<ObjectKind>
+    ensures { result ≡ meant.stored_kind service }
+{
+    match service {
+        Service::ReceiveBuffer => Some(ObjectKind::Buffer),
+        Service::ReadBlackboard => Some(ObjectKind::Blackboard),
+        Service::ReadSamplingMessage | Service::ReceiveQueuingMessage => Some(ObjectKind::Port),
+        _ => None,
+    }
+}
+
 /// Returns true if a service starts the process of a number.
 pub fn is_start(service: Service) -> bool
     ensures { result ≡ meant.is_start service }

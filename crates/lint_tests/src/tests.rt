@@ -43,7 +43,7 @@ struct Row {
     found: &'static [(u32, FindingKind, &'static str)],
 }
 
-static ROWS: [Row; 14] = [
+static ROWS: [Row; 15] = [
     // Nothing.
     Row {
         source: "port out; port in; event e;
@@ -111,6 +111,25 @@ static ROWS: [Row; 14] = [
         found: &[
             (4, FindingKind::WrongDirection, "out"),
             (8, FindingKind::WrongDirection, "in"),
+        ],
+    },
+    // Arrays that are too small: for a port by its number, for a buffer that was created last, and for a
+    // blackboard by its number. An array that is sent may be short.
+    Row {
+        source: "port out; port in; array short[1]; array long[2]; buffer b 4 1 fifo; buffer c 2 1 fifo; blackboard d 3;
+            init stack 32 { local r; local i; CREATE_SAMPLING_PORT(out) -> r, i; CREATE_QUEUING_PORT(in) -> r, i;
+            RECEIVE_QUEUING_MESSAGE(2, short, 0) -> r, i;
+            RECEIVE_QUEUING_MESSAGE(2, long, 0) -> r, i;
+            CREATE_BUFFER(c) -> r, i; CREATE_BUFFER(b) -> r, i;
+            RECEIVE_BUFFER(i, long, 0) -> r, r;
+            SEND_BUFFER(i, short, 1, 0) -> r;
+            RECEIVE_BUFFER(2, long, 0) -> r, r;
+            CREATE_BLACKBOARD(d) -> r, i; READ_BLACKBOARD(1, long, 0) -> r, i;
+            SET_PARTITION_MODE(3) -> r; }",
+        found: &[
+            (3, FindingKind::SmallArray, "short"),
+            (6, FindingKind::SmallArray, "long"),
+            (9, FindingKind::SmallArray, "long"),
         ],
     },
     // What is never created. A creation in a procedure counts.
