@@ -54,7 +54,7 @@ pub fn value_of(number: &Numeral) -> Option<u64>
 }
 
 /// An argument, as far as it is looked at.
-fn plain(argument: &Expr) -> Plain
+fn argument_of(argument: &Expr) -> Plain
     ensures { (names : List (List ℕ))
         → plain_of names result ≡ meant.plain (expr_of names argument.now) }
 {
@@ -76,7 +76,7 @@ pub fn first_plain(arguments: &[Expr]) -> Option<Plain>
         ≡ meant.first_of (meant.plains (exprs_of names arguments.now)) }
 {
     match arguments.split_first() {
-        Some((first, _)) => Some(plain(first)),
+        Some((first, _)) => Some(argument_of(first)),
         None => None,
     }
 }
@@ -102,7 +102,7 @@ pub fn last_plain(arguments: &[Expr]) -> Option<Plain>
 {
     let mut last = None;
     for argument in arguments {
-        last = Some(plain(argument));
+        last = Some(argument_of(argument));
     }
     last
 }

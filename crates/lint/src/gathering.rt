@@ -33,14 +33,20 @@ fn all_calls<'a>(alloc: Global, program: &'a Program) -> Result<Vec<Call<'a>>, A
     Ok(calls)
 }
 
-/// The calls of the procedures of a program.
-fn procedure_calls<'a>(alloc: Global, program: &'a Program) -> Result<Vec<Call<'a>>, AllocError>
+/// The calls of INIT and of the procedures.
+fn init_and_procedure_calls<'a>(
+    alloc: Global,
+    program: &'a Program,
+) -> Result<Vec<Call<'a>>, AllocError>
     ensures { IfOk result
         (λ calls. calls_seen (texts program.now.names.keys) calls.items
-        ≡ calls_of_procedures (program_of program.now).declarations) }
+        ≡ calls_of (program_of program.now).init.body
+        ++ calls_of_procedures (program_of program.now).declarations) }
 {
+    let names = &program.names;
     let mut calls = Vec::new(alloc);
-    add_procedures(&program.names, &mut calls, &program.declarations)?;
+    add_body(names, &mut calls, &program.init.body)?;
+    add_procedures(names, &mut calls, &program.declarations)?;
     Ok(calls)
 }
 
@@ -109,11 +115,10 @@ fn add_waits<'a>(
 {
     let names = &program.names;
     let init = init_calls(alloc, program)?;
-    let procedures = procedure_calls(alloc, program)?;
-    let mut both = init_calls(alloc, program)?;
-    both.extend_from_slice(&procedures)?;
+    let both = init_and_procedure_calls(alloc, program)?;
     lives::add_never_normal(names, &both, program.init.line, findings)?;
-    lives::add_without_waits(alloc, names, &procedures, &program.processes, findings)?;
+    let declarations = program.declarations.as_slice();
+    lives::add_without_waits(alloc, names, declarations, &program.processes, findings)?;
     lives::add_waits(names, &init, findings)
 }
 

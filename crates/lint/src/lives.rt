@@ -2,10 +2,11 @@
 
 ghost use Rattle.std.specs.Prelude.{◌≡◌, ◌++◌, [], ℕ, List, map, flat_map, option_map, OnOk};
 ghost use Rattle.pal_base.specs.View.{declaration_of, declared_of, name_of, process_of, stack_body_of, texts};
+ghost use Rattle.lint.specs.Calls.{calls_of_procedures};
 ghost use Rattle.lint.specs.Lives as meant;
 ghost use Rattle.lint.specs.Views.{call_of, calls_seen, found_all};
 
-use crate::calls::{Call, add_body, last_plain};
+use crate::calls::{Call, add_body, add_procedures, last_plain};
 use crate::finding::{Finding, FindingKind, add_if};
 use crate::names::text_of;
 use crate::services::{always_waits, has_time_out};
@@ -179,14 +180,15 @@ pub fn add_never_normal<'a>(
 fn add_without_wait<'a>(
     alloc: Global,
     names: &'a IndexSet<String>,
-    procedures: &[Call<'a>],
-    process: &'a Process,
+    declarations: &[Declaration],
+    process: &Process,
     findings: &mut Vec<Finding<'a>>,
 ) -> Result<(), AllocError>
     ensures { OnOk result
         (found_all findings.new.items
         ≡ found_all findings.old.items
-        ++ meant.without_wait (calls_seen (texts names.now.keys) procedures.now)
+        ++ meant.without_wait
+        (calls_of_procedures (map (declaration_of (texts names.now.keys)) declarations.now))
         (process_of (texts names.now.keys) process.now)) }
 {
     if process.period.negative {
@@ -194,7 +196,7 @@ fn add_without_wait<'a>(
     }
     let mut calls = Vec::new(alloc);
     add_body(names, &mut calls, &process.body)?;
-    calls.extend_from_slice(procedures)?;
+    add_procedures(names, &mut calls, declarations)?;
     let finding = Finding {
         line: process.line,
         kind: FindingKind::NoPeriodicWait,
@@ -208,18 +210,19 @@ fn add_without_wait<'a>(
 pub fn add_without_waits<'a>(
     alloc: Global,
     names: &'a IndexSet<String>,
-    procedures: &[Call<'a>],
-    processes: &'a [Process],
+    declarations: &[Declaration],
+    processes: &[Process],
     findings: &mut Vec<Finding<'a>>,
 ) -> Result<(), AllocError>
     ensures { OnOk result
         (found_all findings.new.items
         ≡ found_all findings.old.items
-        ++ meant.without_waits (calls_seen (texts names.now.keys) procedures.now)
+        ++ meant.without_waits
+        (calls_of_procedures (map (declaration_of (texts names.now.keys)) declarations.now))
         (map (process_of (texts names.now.keys)) processes.now)) }
 {
     for process in processes {
-        add_without_wait(alloc, names, procedures, process, findings)?;
+        add_without_wait(alloc, names, declarations, process, findings)?;
     }
     Ok(())
 }

@@ -16,7 +16,7 @@ pub struct Stretch {
 
 /// The ticks from `tick` on that have the owner of `tick`, as far as they are before `high` and no
 /// window begins or ends among them.
-pub fn stretch(schedule: &Schedule, tick: u32, high: u32) -> Stretch
+pub fn stretch_from(schedule: &Schedule, tick: u32, high: u32) -> Stretch
     requires { tick < high }
     ensures some { 0 < result.ticks }
     ensures within { tick + result.ticks ≤ high }
@@ -73,7 +73,7 @@ pub fn ticks_of(schedule: &Schedule, who: Option<PartitionId>, low: u32, high: u
     let mut count: u32 = 0;
     let mut tick = low;
     while tick < high {
-        let next = stretch(schedule, tick, high);
+        let next = stretch_from(schedule, tick, high);
         count += counted(who, next);
         tick += next.ticks;
     }

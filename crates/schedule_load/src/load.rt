@@ -7,7 +7,7 @@ ghost use Rattle.window_table.specs.Views.{partition_view, table_of};
 ghost use Rattle.schedule_load.specs.Load.{IsLoadOf, partition_load, partition_loads};
 
 use crate::counting::ticks_of;
-use crate::periods::offered;
+use crate::periods::offers_of;
 use crate::unowned::{Gap, gaps};
 use apex_types::{Name, PartitionId};
 use std::alloc::{AllocError, Global};
@@ -42,7 +42,7 @@ fn partition_load(schedule: &Schedule, number: PartitionId, row: &PartitionRow) 
     ensures { result
         ≡ partition_load (schedule_of schedule.now) number.0 (partition_view row.now) }
 {
-    let offers = offered(schedule, number, row.period);
+    let offers = offers_of(schedule, number, row.period);
     PartitionLoad {
         name: row.name,
         ticks: ticks_of(schedule, Some(number), 0, schedule.frame),

@@ -28,8 +28,8 @@ impl Offered {
 }
 
 /// The least and the most ticks that a partition owns in one of the periods of the frame.
-#[tactic(auto, using(window_table::proofs::Periods::period_within, crate::proofs::Offers::one_more))]
-pub fn offered(schedule: &Schedule, partition: PartitionId, period: u32) -> Offered
+#[tactic(auto, using(window_table::proofs::Periods::period_within))]
+pub fn offers_of(schedule: &Schedule, partition: PartitionId, period: u32) -> Offered
     ensures { result
         ≡ record {
           least = least_offered (schedule_of schedule.now) partition.0 period

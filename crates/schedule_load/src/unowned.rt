@@ -4,7 +4,7 @@ ghost use Rattle.std.specs.Prelude.{◌≡◌, ◌≤◌, ◌<◌, ◌+◌, ◌-
 ghost use Rattle.window_table.specs.Schedules.{schedule_of};
 ghost use Rattle.schedule_load.specs.Gaps.{closed, gap_before, gaps_of, still_open};
 
-use crate::counting::{Stretch, stretch};
+use crate::counting::{Stretch, stretch_from};
 use std::alloc::{AllocError, Global};
 use window_table::Schedule;
 
@@ -61,7 +61,7 @@ pub fn gaps(alloc: Global, schedule: &Schedule) -> Result<Vec<Gap>, AllocError>
     let mut begun: u32 = 0;
     let mut tick: u32 = 0;
     while tick < schedule.frame {
-        let next = stretch(schedule, tick, schedule.frame);
+        let next = stretch_from(schedule, tick, schedule.frame);
         begun = follow(&mut gaps, begun, tick, next)?;
         tick += next.ticks;
     }

@@ -1,7 +1,7 @@
 use Rattle.std.proofs.Common.{◌≡◌, ◌<◌, ◌*◌}
 use Rattle.window_table.specs.Schedules.{schedule_of}
 use Rattle.schedule_load.proofs.Offers.{offers}
-use Rattle.schedule_load.proofs.periods.offered.Given as goal
+use Rattle.schedule_load.proofs.periods.offers_of.Given as goal
 
 abbrev pub invariant-loop : goal.invariant-loop
 invariant-loop l = record {
