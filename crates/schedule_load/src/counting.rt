@@ -51,7 +51,7 @@ fn is_of(who: Option<PartitionId>, owner: Option<PartitionId>) -> bool
 }
 
 /// The ticks of a stretch if its owner is this one, else 0.
-fn counted(who: Option<PartitionId>, stretch: Stretch) -> u32
+pub fn counted(who: Option<PartitionId>, stretch: Stretch) -> u32
     ensures ticks { result
         ≡ (if is_of (option_map (λ p. p.0) who) (option_map (λ p. p.0) stretch.owner) then stretch.ticks
         else 0) }
