@@ -15,9 +15,9 @@ range-append a (suc m) n =
     let same : a + 1 + m ≡ a + suc m = omega arith in
     ap (range_with_len a) all ∙ ap (λ l. a ∷ l) (range-append (a + 1) m n ∙ ap (λ k. range_with_len (a + 1) m ++ range_with_len k n) same)
 
-none_more : (b : Bool) → 0 ≡ cond b 0 0
-none_more true = refl
-none_more false = refl
+none_more : (b : Bool) (n : ℕ) → n ≡ cond b n n
+none_more true n = refl
+none_more false n = refl
 
 one_more : (b : Bool) (n : ℕ) → cond b 1 0 + cond b n 0 ≡ cond b (suc n) 0
 one_more true n = omega arith
@@ -25,7 +25,7 @@ one_more false n = refl
 
 -- a test that all these ticks answer alike
 all_alike : (p : ℕ → Bool) (b : Bool) (a n : ℕ) → ((i : ℕ) → i < n → p (a + i) ≡ b) → count_by p (range_with_len a n) ≡ cond b n 0
-all_alike p b a zero h = none_more b
+all_alike p b a zero h = none_more b 0
 all_alike p b a (suc n) h =
     let same : a + 0 ≡ a = omega arith in
     let here : p a ≡ b = ap p (sym same) ∙ h 0 (omega arith) in

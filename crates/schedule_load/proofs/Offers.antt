@@ -1,5 +1,6 @@
 -- What is offered in one period more, and in many that are alike.
 use Rattle.std.proofs.Common.{◌≡◌, ℕ, zero, suc, ◌+◌, ◌*◌, ◌/◌, ◌<◌, ◌≤◌, min, max, Bool, cond, Option, Some, refl, sym, ap, ◌∙◌, arith, if◌then◌else◌, eq-eqb, mul-le-mul_right}
+use Rattle.std.proofs.Math.Nat.{mul-le-mul_left}
 use Rattle.std.proofs.lemmas.Bool.{ne_eqb}
 use Rattle.kernel_meaning.specs.Windows.{Schedule}
 use Rattle.schedule_load.specs.Ownership.{is_of, owner_at, ticks_of, offered_in, least_offered, most_offered, periods_of}
@@ -78,6 +79,21 @@ in_stretch s p period k low n count owner begins same fits i below =
     ticks_of-stretch s (Some p) owner first period last (omega (arith, end)) owned
     ∙ ap (λ t. value + t) (ticks_of-none s (Some p) (first + period) last (omega (arith, end)))
     ∙ omega arith
+
+-- so many periods fit into a stretch
+pub fit : (n period count other : ℕ) → count ≡ min (n / period) other → count * period ≤ n
+fit n period count other is =
+    let less : count ≤ n / period = omega (arith, is) in
+    let m = mul-le-mul_right period less in
+    let d : period * (n / period) ≤ n = omega arith in
+    omega (arith, m, d)
+
+-- there are no more periods than ticks
+pub few : (frame period : ℕ) → 0 < period → frame / period ≤ frame
+few frame period there =
+    let m : frame / period * 1 ≤ frame / period * period = mul-le-mul_left (frame / period) there in
+    let d : period * (frame / period) ≤ frame = omega arith in
+    omega (arith, m, d)
 
 -- ---- no period, and all periods
 

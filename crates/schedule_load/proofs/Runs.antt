@@ -59,6 +59,11 @@ stretch s (Some p) begun tick (suc n) m some h =
     step s begun tick n m (Some p) (first s tick n (Some p) h)
     ∙ ap (λ l. gap_before begun tick ++ l) (owned s p (tick + 1) n m (others s tick n (Some p) h) ∙ moved s 0 0 (tick + 1 + n) (tick + suc n) m refl (omega arith))
 
+-- no more has begun than the ticks so far
+pub begun_at_most : (begun n : ℕ) (owner : Option ℕ) (left : ℕ) → left ≡ still_open begun n owner → left ≤ begun + n
+begun_at_most begun n None left is = omega (arith, is)
+begun_at_most begun n (Some p) left is = omega (arith, is)
+
 -- one stretch more
 pub goes_on : (s : Schedule) (owner : Option ℕ) (before after : List Gap) (begun left tick n : ℕ) → 0 < n → tick + n ≤ s.frame → ((i : ℕ) → i < n → owner_at s (tick + i) ≡ owner)
     → after ≡ before ++ closed begun tick owner → left ≡ still_open begun n owner

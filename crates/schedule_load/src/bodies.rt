@@ -113,7 +113,7 @@ fn add_processes(
         (loads.new.items ≡ loads.old.items ++ map (process_load costs.now) processes.now) }
 {
     for process in processes {
-        loads.push(process_load(costs, process))?;
+        loads.extend_from_slice(&[process_load(costs, process)])?;
     }
     Ok(())
 }
@@ -128,7 +128,7 @@ fn add_procedures(
         (loads.new.items ≡ loads.old.items ++ map (procedure_load costs.now) procedures.now) }
 {
     for procedure in procedures {
-        loads.push(procedure_load(costs, procedure))?;
+        loads.extend_from_slice(&[procedure_load(costs, procedure)])?;
     }
     Ok(())
 }

@@ -30,9 +30,7 @@ pub fn stretch_from(schedule: &Schedule, tick: u32, high: u32) -> Stretch
         },
     };
     let owner = schedule.owner(moment);
-    let ticks = schedule
-        .until_change(moment)
-        .min(u64::from(high - tick));
+    let ticks = schedule.until_change(moment).min(u64::from(high - tick));
     Stretch {
         owner,
         ticks: ticks as u32,

@@ -13,6 +13,6 @@ mod unowned;
 
 pub use bodies::{BodyLoad, body_loads};
 pub use counting::ticks_of;
-pub use unowned::{Gap, gaps};
 pub use load::{FrameLoad, PartitionLoad, frame_load};
 pub use share::Share;
+pub use unowned::{Gap, gaps};

@@ -45,9 +45,10 @@ fn next_alike(schedule: &Schedule, partition: PartitionId, period: u32, passed: 
     ensures ticks { (i : ℕ) → i < result.count
         → offered_in (schedule_of schedule.now) partition.0 period (passed + i) ≡ result.ticks }
 {
+    let frame = schedule.frame;
     let low = passed * period;
-    let next = stretch_from(schedule, low, schedule.frame);
-    let whole = (next.ticks / period).min(schedule.frame / period - passed);
+    let next = stretch_from(schedule, low, frame);
+    let whole = (next.ticks / period).min(frame / period - passed);
     if whole == 0 {
         return Alike {
             count: 1,
@@ -69,11 +70,12 @@ pub fn offers_of(schedule: &Schedule, partition: PartitionId, period: u32) -> Of
     ensures { result
         ≡ record {
           least = least_offered (schedule_of schedule.now) partition.0 period
-          (periods_of schedule.now.frame period);
+              (periods_of schedule.now.frame period);
           most = most_offered (schedule_of schedule.now) partition.0 period
-          (periods_of schedule.now.frame period);
+              (periods_of schedule.now.frame period);
         } }
 {
+    let frame = schedule.frame;
     let mut offered = Offered {
         least: period,
         most: 0,
@@ -82,7 +84,7 @@ pub fn offers_of(schedule: &Schedule, partition: PartitionId, period: u32) -> Of
         return offered;
     }
     let mut passed: u32 = 0;
-    while passed < schedule.frame / period {
+    while passed < frame / period {
         let next = next_alike(schedule, partition, period, passed);
         offered = offered.and(next.ticks);
         passed += next.count;

@@ -1,6 +1,6 @@
 //! The gaps of the frame.
 
-ghost use Rattle.std.specs.Prelude.{◌≡◌, ◌≤◌, ◌<◌, ◌+◌, ◌-◌, ◌++◌, ℕ, option_map, IfOk, OnOk};
+ghost use Rattle.std.specs.Prelude.{◌≡◌, ◌≤◌, ◌<◌, ◌+◌, ◌-◌, ◌^◌, ◌++◌, option_map, IfOk, OnOk};
 ghost use Rattle.window_table.specs.Schedules.{schedule_of};
 ghost use Rattle.schedule_load.specs.Gaps.{closed, gap_before, gaps_of, still_open};
 
@@ -31,12 +31,7 @@ fn close(gaps: &mut Vec<Gap>, begun: u32, tick: u32) -> Result<(), AllocError>
 }
 
 /// Adds the gap that ends where a stretch begins. Returns how many ticks of a gap have begun behind the stretch.
-fn follow(
-    gaps: &mut Vec<Gap>,
-    begun: u32,
-    tick: u32,
-    next: Stretch,
-) -> Result<u32, AllocError>
+fn follow(gaps: &mut Vec<Gap>, begun: u32, tick: u32, next: Stretch) -> Result<u32, AllocError>
     requires past { begun ≤ tick }
     requires within { tick + next.ticks < 2 ^ 32 }
     ensures added { IfOk result
