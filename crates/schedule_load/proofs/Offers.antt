@@ -3,7 +3,7 @@ use Rattle.std.proofs.Common.{◌≡◌, ℕ, zero, suc, ◌+◌, ◌*◌, ◌/�
 use Rattle.std.proofs.Math.Nat.{mul-le-mul_left}
 use Rattle.std.proofs.lemmas.Bool.{ne_eqb}
 use Rattle.kernel_meaning.specs.Windows.{Schedule}
-use Rattle.schedule_load.specs.Ownership.{is_of, owner_at, ticks_of, offered_in, least_offered, most_offered, periods_of}
+use Rattle.schedule_load.specs.Ownership.{is_of, owner_at, offered_in, least_offered, most_offered, periods_of}
 use Rattle.schedule_load.specs.declared.periods.Offered.{Offered}
 use Rattle.schedule_load.proofs.Counts.{ticks_of-none, ticks_of-stretch}
 

@@ -1,5 +1,5 @@
 -- The gaps of the frame, stretch by stretch.
-use Rattle.std.proofs.Common.{◌≡◌, ℕ, zero, suc, ◌+◌, ◌-◌, ◌<◌, ◌≤◌, cond, is_none, List, [], ◌∷◌, ◌++◌, Option, Some, None, refl, sym, ap, ◌∙◌, arith, append_assoc}
+use Rattle.std.proofs.Common.{◌≡◌, ℕ, zero, suc, ◌+◌, ◌-◌, ◌<◌, ◌≤◌, cond, is_none, List, ◌++◌, Option, Some, None, refl, sym, ap, ◌∙◌, arith, append_assoc}
 use Rattle.kernel_meaning.specs.Windows.{Schedule}
 use Rattle.schedule_load.specs.Ownership.{owner_at}
 use Rattle.schedule_load.specs.Gaps.{closed, gap_before, gaps_from, gaps_of, still_open}

@@ -1,5 +1,5 @@
 -- Each tick of the frame is counted once: for the partition that owns it, or as one that nobody owns.
-use Rattle.std.proofs.Common.{◌≡◌, ℕ, zero, suc, ◌+◌, ◌-◌, ◌<◌, ◌≤◌, Bool, true, false, ◌||◌, cond, nat_lt, List, [], ◌∷◌, length, Option, Some, None, option_map, find, refl, sym, ap, ◌∙◌, arith, sum_by, inl, inr, ◌⊎◌}
+use Rattle.std.proofs.Common.{◌≡◌, ℕ, zero, suc, ◌+◌, ◌<◌, ◌≤◌, true, false, ◌||◌, cond, nat_lt, List, [], ◌∷◌, length, Option, Some, None, option_map, find, refl, ap, ◌∙◌, arith, inl, inr}
 use Rattle.std.specs.List.{list_any}
 use Rattle.std.proofs.lemmas.Bool.{cases_lt, eq-eqb, ne_eqb, ltb-false, or_parts}
 use Rattle.std.proofs.lemmas.List.Sums.{sum_by-cons}

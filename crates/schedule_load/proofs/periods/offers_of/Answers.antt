@@ -1,4 +1,4 @@
-use Rattle.std.proofs.Common.{arith, ◌<◌}
+use Rattle.std.proofs.Common.{arith}
 use Rattle.window_table.specs.Schedules.{schedule_of}
 use Rattle.schedule_load.proofs.Offers.{all_offered, few, goes_on, none_offered, start}
 use Rattle.schedule_load.proofs.periods.offers_of.Goals as goal
