@@ -1,5 +1,5 @@
 -- The calls of blocks.
-use Rattle.std.proofs.Common.{◌≡◌, ℕ, ◌+◌, ◌<◌, List, [], ◌∷◌, ◌++◌, Option, Some, None, Result, OnOk, length, get_or, drop, refl, sym, ap, subst, ◌∙◌, append_assoc}
+use Rattle.std.proofs.Common.{◌≡◌, ℕ, ◌+◌, ◌<◌, List, [], ◌∷◌, ◌++◌, Option, Some, None, Result, Ok, Err, OnOk, length, get_or, drop, refl, sym, ap, subst, ◌∙◌, append_assoc}
 use Rattle.std.specs.Prelude.{Vec}
 use Rattle.std.specs.declared.alloc.Global.{Global}
 use Rattle.pal_base.specs.declared.syntax.Expr.{Expr}
@@ -34,3 +34,8 @@ module _ (names : List (List ℕ)) (created : Option Created) {X E : Type 0} (re
   pub in_if_else : (s : StmtKind) (test : Expr) (ss ts : Vec Stmt Global) (xs ys : List Stmt) → s ≡ IfElse test ss ts → xs ≡ ss.items → ys ≡ ts.items
       → OnOk result (new ≡ old ++ (calls_behind None (block_of names xs) ++ calls_behind None (block_of names ys))) → OnOk result (new ≡ old ++ calls_in created (kind_of names s))
   in_if_else s test ss ts xs ys is first second h = subst (λ k. OnOk result (new ≡ old ++ calls_in created k)) (sym (seen_if_else names s test ss ts xs ys is first second)) h
+
+-- what two lists add, one after the other
+pub both_add : {A X E : Type 0} (result : Result X E) (old mid new first second : List A) → mid ≡ old ++ first → OnOk result (new ≡ mid ++ second) → OnOk result (new ≡ old ++ (first ++ second))
+both_add (Ok x) old mid new first second one two = two ∙ ap (λ l. l ++ second) one ∙ append_assoc old first second
+both_add (Err e) old mid new first second one two = tt
