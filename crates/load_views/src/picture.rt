@@ -184,5 +184,11 @@ fn draw_legend(page: &mut Page, bottom: Length) -> Result<(), AllocError> {
             moved(second + Length(150), top + Length(110)),
         ],
     )?;
-    draw_text(page, "process", second + Length(400), top + LINE, "release point")
+    draw_text(
+        page,
+        "process",
+        second + Length(400),
+        top + LINE,
+        "release point",
+    )
 }
