@@ -89,11 +89,7 @@ fn is_of_kind(kind: ObjectKind, declaration: &DeclarationKind) -> bool
 fn left_behind(is_one: bool, left: u64) -> u64
     ensures { result ≡ (if is_one then left - 1 else left) }
 {
-    if is_one {
-        left.saturating_sub(1)
-    } else {
-        left
-    }
+    if is_one { left.saturating_sub(1) } else { left }
 }
 
 /// The declaration of this kind with this number, from 1.

@@ -8,11 +8,9 @@ ghost use Rattle.lint.specs.Calls.{all_calls, calls_of, calls_of_procedures};
 ghost use Rattle.lint.specs.Findings as meant;
 ghost use Rattle.lint.specs.Views.{calls_seen, found_all};
 
-use crate::arrays;
 use crate::calls::{Call, add_body, add_handler, add_procedures, add_processes};
 use crate::finding::Finding;
-use crate::lives;
-use crate::port_rules;
+use crate::{arrays, lives, port_rules};
 use apex_types::PortRow;
 use pal_base::syntax::Program;
 use std::alloc::{AllocError, Global};

@@ -57,7 +57,13 @@ fn expect_creation<'a>(
         kind: FindingKind::NeverCreated,
         subject,
     };
-    expect(names, Wanted::Creation(kind, subject), calls, finding, findings)
+    expect(
+        names,
+        Wanted::Creation(kind, subject),
+        calls,
+        finding,
+        findings,
+    )
 }
 
 /// Adds the objects and the ports that no call creates.
@@ -76,7 +82,14 @@ pub fn add_objects<'a>(
 {
     for declaration in declarations {
         let kind = object_kind(&declaration.kind);
-        expect_creation(names, calls, kind, declaration.name, declaration.line, findings)?;
+        expect_creation(
+            names,
+            calls,
+            kind,
+            declaration.name,
+            declaration.line,
+            findings,
+        )?;
     }
     Ok(())
 }
@@ -148,7 +161,13 @@ pub fn add_unstarted<'a>(
             kind: FindingKind::NeverStarted,
             subject,
         };
-        expect(names, Wanted::Start(number, subject), calls, finding, findings)?;
+        expect(
+            names,
+            Wanted::Start(number, subject),
+            calls,
+            finding,
+            findings,
+        )?;
         number += 1;
     }
     Ok(())

@@ -113,8 +113,35 @@ fn misfits(names: &IndexSet<String>, ports: &[PortRow], declarations: &[Declarat
     count
 }
 
-/// Adds the first partition whose row lacks fewer of the declared ports than the partition's own.
+/// Adds the first partition whose row lacks fewer than `own` of the declared ports.
 #[tactic(auto, using(std::proofs::lemmas::List::drop_more))]
+fn add_first_better<'a>(
+    names: &IndexSet<String>,
+    rows: &'a [PartitionRow],
+    own: usize,
+    declarations: &[Declaration],
+    findings: &mut Vec<Finding<'a>>,
+) -> Result<(), AllocError>
+    ensures { OnOk result
+        (found_all findings.new.items
+        ≡ found_all findings.old.items
+        ++ meant.better_row own (map (declaration_of (texts names.now.keys)) declarations.now)
+        (map partition_view rows.now)) }
+{
+    for row in rows {
+        if misfits(names, &row.ports, declarations) < own {
+            findings.push(Finding {
+                line: 0,
+                kind: FindingKind::FitsAnother,
+                subject: row.name.as_str(),
+            })?;
+            return Ok(());
+        }
+    }
+    Ok(())
+}
+
+/// Adds the first partition whose row lacks fewer of the declared ports than the partition's own.
 pub fn add_better_row<'a>(
     names: &IndexSet<String>,
     rows: &'a [PartitionRow],
@@ -131,17 +158,7 @@ pub fn add_better_row<'a>(
         (map partition_view rows.now)) }
 {
     let lacking = misfits(names, own, declarations);
-    for row in rows {
-        if misfits(names, &row.ports, declarations) < lacking {
-            findings.push(Finding {
-                line: 0,
-                kind: FindingKind::FitsAnother,
-                subject: row.name.as_str(),
-            })?;
-            return Ok(());
-        }
-    }
-    Ok(())
+    add_first_better(names, rows, lacking, declarations, findings)
 }
 
 /// Returns true if a declaration is of a port of this name.
@@ -198,7 +215,11 @@ pub fn add_undeclared<'a>(
             kind: FindingKind::UndeclaredPort,
             subject,
         };
-        add_unless(declares_port(names, subject, declarations), finding, findings)?;
+        add_unless(
+            declares_port(names, subject, declarations),
+            finding,
+            findings,
+        )?;
     }
     Ok(())
 }
@@ -212,11 +233,7 @@ fn port_numbered(ports: &[PortRow], number: u64) -> Option<&PortRow>
 }
 
 /// The port that an argument stands for.
-pub fn port_of_id<'a>(
-    names: &IndexSet<String>,
-    ports: &'a [PortRow],
-    id: Id,
-) -> Option<&'a PortRow>
+pub fn port_of_id<'a>(names: &IndexSet<String>, ports: &'a [PortRow], id: Id) -> Option<&'a PortRow>
     ensures { option_copied result
         ≡ meant.port_of_id ports.now (id_seen (texts names.now.keys) id) }
 {

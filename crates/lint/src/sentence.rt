@@ -71,6 +71,9 @@ fn write_finding<W: Write>(partition: &str, finding: &Finding<'_>, out: &mut W) 
     if line == 0 {
         write!(out, "{partition}: {opening}{subject}; {advice}\n")
     } else {
-        write!(out, "{partition} line {line}: {opening}{subject}; {advice}\n")
+        write!(
+            out,
+            "{partition} line {line}: {opening}{subject}; {advice}\n"
+        )
     }
 }

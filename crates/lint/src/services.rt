@@ -129,9 +129,8 @@ pub fn port_direction(service: Service) -> Option<PortDirection>
 {
     match service {
         Service::WriteSamplingMessage | Service::SendQueuingMessage => Some(PortDirection::Source),
-        Service::ReadSamplingMessage
-        | Service::ReceiveQueuingMessage
-        | Service::ClearQueuingPort => Some(PortDirection::Destination),
+        Service::ReadSamplingMessage | Service::ReceiveQueuingMessage | Service::ClearQueuingPort =>
+            Some(PortDirection::Destination),
         _ => None,
     }
 }

@@ -102,13 +102,7 @@ pub fn is_same_kind(found: ObjectKind, kind: ObjectKind) -> bool
 }
 
 /// Returns true if what an argument stands for may be the object of this kind, number and name.
-pub fn may_be(
-    names: &IndexSet<String>,
-    kind: ObjectKind,
-    number: u64,
-    text: &str,
-    id: Id,
-) -> bool
+pub fn may_be(names: &IndexSet<String>, kind: ObjectKind, number: u64, text: &str, id: Id) -> bool
     ensures { result
         ≡ meant.may_be kind number text.now (id_seen (texts names.now.keys) id) }
 {

@@ -9,9 +9,7 @@ ghost use Rattle.lint.specs.Views.{call_of, calls_seen, found_all, found_of};
 
 use crate::calls::{Call, first_plain};
 use crate::finding::{Finding, add_unless};
-use crate::services::{
-    created_kind, is_handler_creation, is_periodic_wait, is_set_mode, is_start,
-};
+use crate::services::{created_kind, is_handler_creation, is_periodic_wait, is_set_mode, is_start};
 use crate::uses::{is_name, is_same_kind, may_be, may_be_number, subject_of};
 use apex_types::ObjectKind;
 use indexmap::IndexSet;
