@@ -7,4 +7,5 @@ pub mod Ports
 pub mod Arrays
 pub mod Lives
 pub mod Slow
+pub mod Unused
 pub mod Findings

@@ -13,6 +13,7 @@ use crate::calls::{Call, add_body, add_handler, add_procedures, add_processes};
 use crate::finding::Finding;
 use crate::lives;
 use crate::port_rules;
+use crate::unused::add_unused;
 use apex_types::PortRow;
 use pal_base::syntax::Program;
 use std::alloc::{AllocError, Global};
@@ -140,5 +141,6 @@ pub fn findings<'a>(
     add_port_findings(rows, ports, program, &calls, &mut findings)?;
     add_creations(program, &calls, &mut findings)?;
     add_waits(alloc, program, &mut findings)?;
+    add_unused(alloc, program, &mut findings)?;
     Ok(findings)
 }

@@ -13,6 +13,7 @@ mod port_rules;
 mod sentence;
 mod services;
 mod slow;
+mod unused;
 mod uses;
 mod wanted;
 

@@ -20,6 +20,9 @@ impl FindingKind {
             FindingKind::NeverNormal => "INIT does not enter NORMAL",
             FindingKind::NoPeriodicWait => "nothing waits for the next release of ",
             FindingKind::WaitInInit => "INIT calls a service that waits: ",
+            FindingKind::UnusedVariable => "no statement names the variable ",
+            FindingKind::UnusedProcedure => "no statement calls the procedure ",
+            FindingKind::UnusedParameter => "no statement names the parameter ",
             FindingKind::AboveCapacity => "the time capacity is below the cost of ",
         }
     }
@@ -41,6 +44,9 @@ impl FindingKind {
             FindingKind::NeverNormal => "call SET_PARTITION_MODE(3) at the end of INIT",
             FindingKind::NoPeriodicWait => "call PERIODIC_WAIT at the end of each round",
             FindingKind::WaitInInit => "leave the wait to a process, or give the time-out 0",
+            FindingKind::UnusedVariable => "take it out",
+            FindingKind::UnusedProcedure => "take it out",
+            FindingKind::UnusedParameter => "take it out, and the arguments of its calls",
             FindingKind::AboveCapacity => "raise the time capacity, or let the body do less",
         }
     }
