@@ -294,7 +294,7 @@ fn read_channels(alloc: Global, values: &[Value]) -> Result<Vec<WrittenChannel<'
     Ok(channels)
 }
 
-/// The table that a document describes, if its keys, types and words are those of a module table.
+/// The integers at these keys.
 fn read_numbers(alloc: Global, table: &Table, keys: &[&str]) -> Result<Vec<i64>, TableFault>
     ensures { Reads (λ v. v.items) result
         (integers_at (map (λ key. key.now) keys.now) (table_view table.now)) }
@@ -337,7 +337,7 @@ fn read_optional_costs(
     }
 }
 
-/// What a document says, if its keys, types and words are those of a module table.
+/// The table that a document describes, if its keys, types and words are those of a module table.
 #[tactic(auto, unfolding(module_meaning::specs::TableRules::table_text_of))]
 pub fn read_written(alloc: Global, table: &Table) -> Result<WrittenTable<'_>, TableFault>
     ensures { Reads table_text result (table_text_of (table_view table.now)) }
