@@ -1,5 +1,5 @@
-//! Tests of reading and writing text and bytes: Pal's grammar, the check of a program and its
-//! costs, and images.
+//! Tests of reading and writing text and bytes: Pal's grammar, the check of a program and its costs,
+//! images, and traces, with what no command of `mbview` reaches of their views.
 #![tactic(auto)]
 
 #[cfg(test)]

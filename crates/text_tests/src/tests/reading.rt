@@ -120,27 +120,6 @@ fn a_text_is_read_to_its_end(rt: HostRuntime) {
     }
 }
 
-/// Texts that are no traces, and the number of the first wrong line.
-static WRONG_TEXTS: [(&str, u64); 2] = [
-    ("0000000000005 a MODE IDLE\n0000000000004 a MODE IDLE\n", 2),
-    (
-        "0000000000005 a MODE IDLE\n\n0000000000005 a MODE IDLE\n",
-        2,
-    ),
-];
-
-#[test]
-fn the_first_wrong_line_is_named(rt: HostRuntime) {
-    for (text, line) in &WRONG_TEXTS {
-        let line = *line;
-        assert_eq!(rt; check_trace(text.as_bytes()), Err(TraceFault { line }));
-    }
-    let without_end = TRACE.trim_end().as_bytes();
-    assert_eq!(rt; check_trace(without_end), Err(TraceFault { line: 9 }));
-    let without_front = TRACE.strip_prefix('0').expect(&rt, "a tick").as_bytes();
-    assert_eq!(rt; check_trace(without_front), Err(TraceFault { line: 1 }));
-}
-
 /// A line of a trace, and a line that is not.
 const REFUSED: &str = "0000000000005 a MODE IDLE\n0000000000006 a MODE IDLE \n";
 

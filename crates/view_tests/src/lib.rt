@@ -1,5 +1,0 @@
-//! Tests of the views of `mbview`.
-#![tactic(auto)]
-
-#[cfg(test)]
-mod tests;

@@ -1,9 +1,0 @@
-mod commands;
-mod picture;
-mod pieces;
-mod reading;
-mod summaries;
-mod summary;
-mod traces;
-mod value_changes;
-mod waves;
