@@ -153,6 +153,20 @@ impl Out {
         });
     }
 
+    /// How many lines there are.
+    pub fn line_count(&self) -> usize
+        ensures { result ≡ length self.now.lines }
+    {
+        self.lines.len()
+    }
+
+    /// How many actions there are.
+    pub fn action_count(&self) -> usize
+        ensures { result ≡ length self.now.actions }
+    {
+        self.actions.len()
+    }
+
     /// The line at `place`, from 0, and the words of its message.
     pub fn line(&self, place: usize) -> Option<(&LineKind, &[i64])>
         ensures line { option_map (λ l. event_of l.0.now l.1.now) result

@@ -38,6 +38,7 @@ fn act<E: Executor>(
 }
 
 /// Performs all actions of a step, in order.
+#[tactic(auto, using(crate::proofs::Places::drop_read, crate::proofs::Places::some_read))]
 pub(crate) fn act_all<E: Executor>(
     kernel: &mut Kernel,
     executor: &mut E,
@@ -49,10 +50,10 @@ pub(crate) fn act_all<E: Executor>(
     ensures member { member_at E.Executor kernel.new executor.new mem.new
         ≡ acts_all out.now.actions (member_at E.Executor kernel.old executor.old mem.old) }
 {
-    let mut place = 0;
-    while let Some((kind, words)) = out.action(place) {
-        act(kernel, executor, mem, kind, words);
-        place += 1;
+    for place in 0..out.action_count() {
+        if let Some((kind, words)) = out.action(place) {
+            act(kernel, executor, mem, kind, words);
+        }
     }
 }
 
@@ -63,9 +64,9 @@ pub(crate) fn tell<L: EventLog>(name: Name, moment: Moment, out: &Out, log: &mut
     ensures few { L.room log.old ≤ L.room log.new + length out.now.lines }
 {
     let partition = Some(name);
-    let mut place = 0;
-    while let Some((kind, words)) = out.line(place) {
-        log.tell(moment.at.now, &partition, kind, words);
-        place += 1;
+    for place in 0..out.line_count() {
+        if let Some((kind, words)) = out.line(place) {
+            log.tell(moment.at.now, &partition, kind, words);
+        }
     }
 }
