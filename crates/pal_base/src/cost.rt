@@ -182,5 +182,6 @@ pub fn cost_of_body(costs: &Costs, body: &Body) -> Cost
 pub fn cost_of_procedure(costs: &Costs, procedure: &Procedure) -> Cost
     ensures { result ≡ comes_to (cost.costs_of_procedure costs.now (procedure_of procedure.now)) }
 {
-    cost_of_block(costs, &procedure.block).joined_by(costs.literal.ticks, Cost::one(costs.ret.ticks))
+    let ends = Cost::one(costs.ret.ticks);
+    cost_of_block(costs, &procedure.block).joined_by(costs.literal.ticks, ends)
 }

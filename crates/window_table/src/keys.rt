@@ -42,7 +42,10 @@ impl Part {
 fn is_table_key(key: &str) -> bool
     ensures { result ≡ is_table_key key.now }
 {
-    matches!(key, "frame" | "fault" | "cost" | "partition" | "window" | "channel")
+    matches!(
+        key,
+        "frame" | "fault" | "cost" | "partition" | "window" | "channel"
+    )
 }
 
 fn is_partition_key(key: &str) -> bool
@@ -81,21 +84,8 @@ fn is_error_name(key: &str) -> bool
 
 /// The keys of the costs, in their order.
 pub const COST_NAMES: [&str; COST_KEYS] = [
-    "literal",
-    "scalar",
-    "array",
-    "add",
-    "mul",
-    "div",
-    "logic",
-    "branch",
-    "jump",
-    "call",
-    "return",
-    "create",
-    "message",
-    "service",
-    "end",
+    "literal", "scalar", "array", "add", "mul", "div", "logic", "branch", "jump", "call", "return",
+    "create", "message", "service", "end",
 ];
 
 fn is_cost_key(key: &str) -> bool

@@ -13,8 +13,8 @@ use crate::written::{
     WrittenChannel, WrittenKind, WrittenPartition, WrittenPort, WrittenTable, WrittenWindow,
 };
 use apex_types::limits::{
-    MOST_CHANNELS, MOST_COST, MOST_DEPTH, MOST_DESTINATIONS, MOST_FRAME_TICKS, MOST_PARTITIONS, MOST_PORTS,
-    MOST_TICKS, MOST_WINDOWS, MOST_WORDS,
+    MOST_CHANNELS, MOST_COST, MOST_DEPTH, MOST_DESTINATIONS, MOST_FRAME_TICKS, MOST_PARTITIONS,
+    MOST_PORTS, MOST_TICKS, MOST_WINDOWS, MOST_WORDS,
 };
 use apex_types::{Costs, HealthTable, Name, PartitionAction, PortKind, PortRow, TickCost};
 use std::alloc::Global;

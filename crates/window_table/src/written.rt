@@ -324,10 +324,7 @@ fn read_costs(alloc: Global, table: &Table) -> Result<Vec<i64>, TableFault>
 }
 
 /// The costs of a table that may write none.
-fn read_optional_costs(
-    alloc: Global,
-    table: Option<&Table>,
-) -> Result<Option<Vec<i64>>, TableFault>
+fn read_optional_costs(alloc: Global, table: Option<&Table>) -> Result<Option<Vec<i64>>, TableFault>
     ensures { Reads (λ o. option_map (λ v. v.items) o) result
         (optional_costs (option_map (λ t. table_view t.now) table.entry)) }
 {

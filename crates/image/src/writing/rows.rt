@@ -16,6 +16,7 @@ pub trait Spelled {
         ensures { OnOk result (out.new.items ≡ out.old.items ++ spelled self.now) };
 }
 
+/// Appends the spelling of each row.
 pub fn put_rows<T: Spelled>(out: &mut Vec<u8>, rows: &[T]) -> Result<(), AllocError>
     ensures { OnOk result (out.new.items ≡ out.old.items ++ flat_map T.spelled rows.now) }
 {
