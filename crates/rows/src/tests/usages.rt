@@ -4,7 +4,7 @@ use super::shelf::{Shelf, expect_command};
 use super::texts::TABLE;
 
 /// Words, the status, and the texts on the standard output and the standard error.
-static USAGES: [(&[&str], u8, &str, &str); 39] = [
+static USAGES: [(&[&str], u8, &str, &str); 40] = [
     (
         &["mb", "check"],
         2,
@@ -146,13 +146,13 @@ static USAGES: [(&[&str], u8, &str, &str); 39] = [
     (
         &["mb", "help"],
         0,
-        "Builds ARINC 653 modules and runs them; without a command, runs a stored first module\n\nUsage: mb [COMMAND]\n\nCommands:\n  check   Builds a module table and one source a partition, and writes no image\n  build   Builds an image of a module table and one source a partition, in their order\n  run     Runs an image for so many ticks and writes its trace\n  replay  Runs one partition of an image alone, with its inputs, and writes its trace\n  inputs  Runs an image and writes what comes to one partition, as a replay text\n  cost    Writes the instructions, the frame and the cost of each body of the sources\n  dis     Writes the instructions of an image\n  help    Print this message or the help of the given subcommand(s)\n\nOptions:\n  -h, --help  Print help\n\nExample: mb build table.toml module.image a.pal b.pal\n",
+        "Builds ARINC 653 modules and runs them; without a command, runs a stored first module\n\nUsage: mb [COMMAND]\n\nCommands:\n  check    Builds a module table and one source a partition, and writes no image\n  build    Builds an image of a module table and one source a partition, in their order\n  run      Runs an image for so many ticks and writes its trace\n  replay   Runs one partition of an image alone, with its inputs, and writes its trace\n  inputs   Runs an image and writes what comes to one partition, as a replay text\n  cost     Writes the instructions, the frame and the cost of each body of the sources\n  dis      Writes the instructions of an image\n  upgrade  Writes an image again as one of the newest version, which runs as before\n  help     Print this message or the help of the given subcommand(s)\n\nOptions:\n  -h, --help  Print help\n\nExample: mb build table.toml module.image a.pal b.pal\n",
         "",
     ),
     (
         &["mb", "--help"],
         0,
-        "Builds ARINC 653 modules and runs them; without a command, runs a stored first module\n\nUsage: mb [COMMAND]\n\nCommands:\n  check   Builds a module table and one source a partition, and writes no image\n  build   Builds an image of a module table and one source a partition, in their order\n  run     Runs an image for so many ticks and writes its trace\n  replay  Runs one partition of an image alone, with its inputs, and writes its trace\n  inputs  Runs an image and writes what comes to one partition, as a replay text\n  cost    Writes the instructions, the frame and the cost of each body of the sources\n  dis     Writes the instructions of an image\n  help    Print this message or the help of the given subcommand(s)\n\nOptions:\n  -h, --help  Print help\n\nExample: mb build table.toml module.image a.pal b.pal\n",
+        "Builds ARINC 653 modules and runs them; without a command, runs a stored first module\n\nUsage: mb [COMMAND]\n\nCommands:\n  check    Builds a module table and one source a partition, and writes no image\n  build    Builds an image of a module table and one source a partition, in their order\n  run      Runs an image for so many ticks and writes its trace\n  replay   Runs one partition of an image alone, with its inputs, and writes its trace\n  inputs   Runs an image and writes what comes to one partition, as a replay text\n  cost     Writes the instructions, the frame and the cost of each body of the sources\n  dis      Writes the instructions of an image\n  upgrade  Writes an image again as one of the newest version, which runs as before\n  help     Print this message or the help of the given subcommand(s)\n\nOptions:\n  -h, --help  Print help\n\nExample: mb build table.toml module.image a.pal b.pal\n",
         "",
     ),
     (
@@ -237,6 +237,12 @@ static USAGES: [(&[&str], u8, &str, &str); 39] = [
         &["mb", "dis", "--help"],
         0,
         "Writes the instructions of an image\n\nUsage: mb dis [OPTIONS] <IMAGE>\n\nArguments:\n  <IMAGE>  The file of an image\n\nOptions:\n      --explain  Explains a refusal in plain words\n  -h, --help     Print help\n\nExample: mb dis module.image\n",
+        "",
+    ),
+    (
+        &["mb", "upgrade", "--help"],
+        0,
+        "Writes an image again as one of the newest version, which runs as before\n\nUsage: mb upgrade [OPTIONS] <OLD> <NEW>\n\nArguments:\n  <OLD>  The file of an image of any version\n  <NEW>  The file that the upgraded image is written to\n\nOptions:\n      --explain  Explains a refusal in plain words\n  -h, --help     Print help\n\nExample: mb upgrade old.image new.image\n",
         "",
     ),
 ];
