@@ -11,6 +11,7 @@ pub mod Room
 pub mod Runners
 pub mod ServiceCalls
 pub mod ServiceShape
+pub mod StepBytes
 pub mod Sink
 pub mod StoredName
 pub mod Versions

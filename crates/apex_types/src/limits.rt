@@ -77,6 +77,9 @@ pub const MOST_ERRORS: u8 = 64;
 /// The most words of a message.
 pub const MOST_WORDS: usize = 64;
 
+/// The most words of the arguments of a service.
+pub const MOST_ARGUMENT_WORDS: usize = 5;
+
 /// The most messages that a buffer or a queuing port holds.
 pub const MOST_DEPTH: u8 = 32;
 

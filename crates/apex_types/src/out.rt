@@ -67,7 +67,10 @@ fn add(words: &mut Vec<i64>, message: &[i64]) -> Part
         from: words.len() as u32,
         count: message.len() as u32,
     };
-    let _ = words.extend_from_slice(message);
+    // Most lines have no words.
+    if !message.is_empty() {
+        let _ = words.extend_from_slice(message);
+    }
     part
 }
 
@@ -117,7 +120,7 @@ impl Out {
             ≡ record self.old { lines = self.old.lines ++ event_of kind words.now ∷ [] } }
     {
         let part = add(&mut self.words, words);
-        let _ = self.lines.extend_from_slice(&[Line { kind, part }]);
+        self.lines.push_reserved(Line { kind, part });
     }
 
     /// Adds an action, with its words.
@@ -128,7 +131,7 @@ impl Out {
             ≡ record self.old { actions = self.old.actions ++ action_of kind words.now ∷ [] } }
     {
         let part = add(&mut self.words, words);
-        let _ = self.actions.push(Act { kind, part });
+        self.actions.push_reserved(Act { kind, part });
     }
 
     /// Adds the answer to a service call: the code, then the outputs.
@@ -141,13 +144,14 @@ impl Out {
                   ++ action_of (ActionKind.Reply runner) (code ∷ outputs.now) ∷ [];
             } }
     {
-        let code = add(&mut self.words, &[code]);
+        let from = self.words.len() as u32;
+        self.words.push_reserved(code);
         let outputs = add(&mut self.words, outputs);
         let part = Part {
-            from: code.from,
+            from,
             count: 1 + outputs.count,
         };
-        let _ = self.actions.push(Act {
+        self.actions.push_reserved(Act {
             kind: ActionKind::Reply(runner),
             part,
         });

@@ -55,18 +55,20 @@ impl<const N: usize> Text for ArrayVec<u8, N> {
 /// The bytes of the lines of a step, in memory that is taken once. A contract sees the bytes.
 #[derive(Drop)]
 pub struct StepText {
+    /// As many as the lines of a step may have. Those behind the first `len` say nothing.
     bytes: Vec<u8>,
+    len: usize,
 }
 
 impl Model for StepText {
-    ghost use Rattle.std.specs.Prelude.{ℕ, List, ◌≤◌, vec_capacity};
-    ghost use Rattle.apex_types.specs.declared.limits.TheConstants.{MOST_STEP_BYTES};
+    ghost use Rattle.std.specs.Prelude.{ℕ, List, take};
+    ghost use Rattle.apex_types.specs.StepBytes.{AreStepBytes};
 
     ghost Value = { List ℕ };
 
-    ghost view = { λ t. t.bytes.items };
+    ghost view = { λ t. take t.len t.bytes.items };
 
-    ghost invariant = { λ t. MOST_STEP_BYTES ≤ vec_capacity t.bytes };
+    ghost invariant = { λ t. AreStepBytes t.len t.bytes.items };
 }
 
 impl StepText {
@@ -74,29 +76,29 @@ impl StepText {
     fn new(alloc: Global) -> Result<StepText, AllocError>
         ensures { IfOk result (λ text. text ≡ []) }
     {
-        let bytes = Vec::with_capacity(alloc, MOST_STEP_BYTES)?;
-        Ok(StepText { bytes })
+        let bytes = Vec::from_elem(alloc, 0, MOST_STEP_BYTES)?;
+        Ok(StepText { bytes, len: 0 })
     }
 
     /// The bytes.
     pub fn as_slice(&self) -> &[u8]
         ensures { result.now ≡ self.now }
     {
-        self.bytes.as_slice()
+        &self.bytes[..self.len]
     }
 
     /// Whether there are none.
     fn is_empty(&self) -> bool
         ensures { IsTrue result ↔ (self.now ≡ []) }
     {
-        self.bytes.as_slice().is_empty()
+        self.as_slice().is_empty()
     }
 
     /// Drops all bytes.
     fn clear(&mut self)
         ensures { self.new ≡ [] }
     {
-        self.bytes.clear();
+        self.len = 0;
     }
 }
 
@@ -108,7 +110,9 @@ impl Text for StepText {
     ghost room = { λ t. MOST_STEP_BYTES - length t };
 
     fn append(&mut self, bytes: &[u8]) {
-        let _ = self.bytes.extend_from_slice(bytes);
+        let end = self.len + bytes.len();
+        self.bytes[self.len..end].copy_from_slice(bytes);
+        self.len = end;
     }
 }
 

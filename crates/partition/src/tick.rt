@@ -191,9 +191,9 @@ impl<E: Executor> Partition<E> {
     {
         let name = self.kernel.name();
         let outcome = self.executor.tick(mem, runner);
-        let words = self.given(mem, &outcome);
-        let out = &mut self.out;
-        self.kernel.treat(moment, runner, outcome, &words, out);
+        hand(&mut self.handed, &self.executor, mem, &outcome);
+        let (words, out) = (&self.handed, &mut self.out);
+        self.kernel.treat(moment, runner, outcome, words, out);
         self.finish(mem, name, moment, log);
     }
 
@@ -210,20 +210,6 @@ impl<E: Executor> Partition<E> {
     {
         if let Some(runner) = self.kernel.running() {
             self.spend(mem, moment, runner, log);
-        }
-    }
-
-    /// The words that a call hands in: those of its array, at most those of a message.
-    #[tactic(auto, using(kernel_laws::proofs::Numbers::handed_words))]
-    pub(crate) fn given(&self, mem: &E::Mem, outcome: &Outcome) -> Words
-        ensures { result.items ≡ meaning.given (asks_of outcome.now) (E.words mem.now) }
-    {
-        match outcome {
-            Outcome::Call(call) => match array_of(*call) {
-                Some(array) => { self.executor.read(mem, array.base, most_words(array.size)) }
-                None => Words::new(),
-            },
-            _ => Words::new(),
         }
     }
 
@@ -254,6 +240,21 @@ impl<E: Executor> Partition<E> {
     {
         self.prepare(mem, moment, log);
         self.spend_chosen(mem, moment, log);
+    }
+}
+
+/// Takes the words that a call hands in: those of its array, at most those of a message. They are
+/// copied into memory that is there, since most calls hand in none.
+#[tactic(auto, using(kernel_laws::proofs::Numbers::handed_words))]
+pub(crate) fn hand<E: Executor>(handed: &mut Words, executor: &E, mem: &E::Mem, outcome: &Outcome)
+    ensures { handed.new.items ≡ meaning.given (asks_of outcome.now) (E.words mem.now) }
+{
+    handed.clear();
+    if let Outcome::Call(call) = outcome {
+        if let Some(array) = array_of(*call) {
+            let words = executor.read(mem, array.base, most_words(array.size));
+            handed.try_extend_from_slice(words).unwrap();
+        }
     }
 }
 

@@ -9,7 +9,7 @@ ghost use Rattle.bursts.specs.Bursts.{is_nothing};
 ghost use Rattle.processor.specs.Views.{asks_of};
 ghost use Rattle.partition_base.specs.Bursting.{burst_at};
 
-use apex_types::{Runner, Words};
+use apex_types::Runner;
 use processor::{Burst, Outcome};
 
 /// Runs INIT, the error handler and the processes of one partition. A runner without a control has
@@ -107,10 +107,9 @@ pub trait Executor {
             answer.now) }
         ensures words { words mem.new ≡ words mem.old };
 
-    /// At most 16 words of the data, from `place` on.
-    fn read(&self, mem: &Self::Mem, place: i64, count: u8) -> Words
-        requires { count ≤ MOST_WORDS }
-        ensures { result.items ≡ message_from place count (words mem.now) };
+    /// At most so many words of the data, from `place` on.
+    fn read<'a>(&self, mem: &'a Self::Mem, place: i64, count: u8) -> &'a [i64]
+        ensures { result.now ≡ message_from place count (words mem.now) };
 
     /// Writes words into the data, one after another from `place` on. A word whose place is outside
     /// of the data is dropped.

@@ -1,7 +1,7 @@
 //! Routines and services: CALL, RET and SVC.
 
 ghost use Rattle.std.specs.Prelude.{◌≡◌, ◌-◌, ◌+◌, ◌≤◌, ◌++◌, ◌∷◌, [], option_map, pos, replicate, slice_get, slice_set};
-ghost use Rattle.apex_types.specs.declared.limits.TheConstants.{MOST_WORDS};
+ghost use Rattle.apex_types.specs.declared.limits.TheConstants.{MOST_ARGUMENT_WORDS};
 ghost use Rattle.machine_meaning.specs.MachineControl.{popped, saved_within};
 ghost use Rattle.engine_meaning.specs.Operators.{put_words};
 ghost use Rattle.processor.specs.Fitting.{IsFittingRoutine};
@@ -12,9 +12,13 @@ use crate::context::{Context, stack_word};
 use crate::outcome::Outcome;
 use crate::registers::Registers;
 use crate::turn::Turn;
-use apex_types::limits::MOST_INSTRUCTIONS;
-use apex_types::{Call, ErrorKind, RoutineRow, Service, Words, array_of, call_of};
+use apex_types::limits::{MOST_ARGUMENT_WORDS, MOST_INSTRUCTIONS};
+use apex_types::{Call, ErrorKind, RoutineRow, Service, array_of, call_of};
+use arrayvec::ArrayVec;
 use regions::{PartitionMem, Reach};
+
+/// The words that a service takes from the stack.
+type Arguments = ArrayVec<i64, MOST_ARGUMENT_WORDS>;
 
 /// Changes the word of a stack at `place`, if there is such a word.
 #[tactic(auto, using(std::proofs::lemmas::List::set_past))]
@@ -51,13 +55,13 @@ fn save(stack: &mut [i64], frame: u32, routine: &RoutineRow, next: u32, caller: 
     set(stack, slots + 1, i64::from(caller));
 }
 
-/// The words of the own stack from `from` up to `to`, at most 16.
-fn popped(memory: &PartitionMem, from: u32, to: u32) -> Words
+/// The words of the own stack from `from` up to `to`, as many as a service may take.
+fn popped(memory: &PartitionMem, from: u32, to: u32) -> Arguments
     requires order { from ≤ to }
-    requires few { to ≤ from + MOST_WORDS }
+    requires few { to ≤ from + MOST_ARGUMENT_WORDS }
     ensures { result.items ≡ popped (to - from) memory.now.stack to [] }
 {
-    let mut words = Words::new();
+    let mut words = Arguments::new();
     for place in from..to {
         words.push(stack_word(memory, place));
     }

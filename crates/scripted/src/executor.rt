@@ -5,7 +5,7 @@ ghost use Rattle.kernel_meaning.specs.Partition.{no_control};
 ghost use Rattle.scripted.specs.Plays.{control_of, script_of};
 
 use crate::part::Part;
-use apex_types::{Runner, Words};
+use apex_types::Runner;
 use partition_base::{Executor, message, put};
 use processor::{Burst, Outcome};
 use regions::PartitionMem;
@@ -117,7 +117,7 @@ impl Executor for Scripted {
     #[tactic(auto, using(crate::proofs::Parts::views))]
     fn reply(&mut self, _mem: &mut PartitionMem, _runner: Runner, _answer: &[i64]) {}
 
-    fn read(&self, mem: &PartitionMem, place: i64, count: u8) -> Words {
+    fn read<'a>(&self, mem: &'a PartitionMem, place: i64, count: u8) -> &'a [i64] {
         message(mem.data(), place, count)
     }
 
