@@ -97,7 +97,7 @@ fn take_error(
         Some(error) => {
             let outputs = status_of(&error);
             table.answer(request.caller, service, ReturnCode::NoError, &outputs, out);
-            fill(Some(array), error.words, out);
+            fill(Some(array), &error.words, out);
         }
         None => table.refuse(request.caller, service, ReturnCode::NoAction, out),
     }

@@ -10,7 +10,7 @@ ghost use Rattle.lone_partition.specs.Steps.{step_of};
 ghost use Rattle.lone_partition.specs.Written.{IsMade};
 
 use crate::output::Output;
-use apex_types::{Moment, Name, PortId, Sink, StartCondition, TraceBuffer, Words, copied};
+use apex_types::{Moment, Name, PortId, Sink, StartCondition, TraceBuffer, Words};
 use partition::Partition;
 use partition_base::Executor;
 
@@ -50,16 +50,10 @@ fn step_member<E: Executor>(
     trace.clear();
     match step {
         PartitionStep::Start(condition) => partition.clear(mem, moment, *condition, trace),
-        PartitionStep::Arrive(port, message) => partition.arrive(
-            mem,
-            moment,
-            *port,
-            copied(message),
-            trace,
-        ),
+        PartitionStep::Arrive(port, message) => partition.arrive(mem, moment, *port, message, trace),
         PartitionStep::Admit(port) => partition.admit(mem, moment, *port, trace),
         PartitionStep::GoOut(channel, message) => {
-            partition.go_out(mem, moment, *channel, copied(message), trace)
+            partition.go_out(mem, moment, *channel, message, trace)
         }
         PartitionStep::BreakDown => partition.fault(mem, moment, trace),
         PartitionStep::Tick => partition.tick(mem, moment, trace),

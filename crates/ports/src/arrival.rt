@@ -24,7 +24,7 @@ fn arrive_sampling(
     moment: Moment,
     place: u8,
     port: PortStatus,
-    message: Words,
+    message: &Words,
     out: &mut Out,
 )
     requires status { port ≡ port_status (placed_port ports.old place) }
@@ -32,11 +32,11 @@ fn arrive_sampling(
     requires room { HasRoom 1 0 out.old }
     ensures step { IsMade
         (meaning.arrives_sampling moment.at (both table.now ports.old) place
-        (placed_port ports.old place) message)
+        (placed_port ports.old place) message.now)
         (both table.now ports.new) out.old out.new }
     ensures grows { Grows 1 0 out.old out.new }
 {
-    out.tell(LineKind::Arrive(port.row.name), &message);
+    out.tell(LineKind::Arrive(port.row.name), message);
     ports.put_arrived(place, message, moment.at.now);
 }
 
@@ -46,22 +46,22 @@ fn store(
     ports: &mut Ports,
     place: u8,
     port: PortStatus,
-    message: Words,
+    message: &Words,
     out: &mut Out,
 )
     requires status { port ≡ port_status (placed_port ports.old place) }
     requires room { HasRoom 1 0 out.old }
     ensures step { IsMade
         (meaning.arrives_queuing (both table.now ports.old) place (placed_port ports.old place)
-        message None)
+        message.now None)
         (both table.now ports.new) out.old out.new }
     ensures grows { Grows 1 0 out.old out.new }
 {
     if !port.is_full() {
-        out.tell(LineKind::Arrive(port.row.name), &message);
+        out.tell(LineKind::Arrive(port.row.name), message);
         ports.push_message(place, message);
     } else {
-        out.tell(LineKind::Lost(port.row.name), &message);
+        out.tell(LineKind::Lost(port.row.name), message);
         ports.lose_message(place);
     }
 }
@@ -73,7 +73,7 @@ fn arrive_queuing(
     ports: &mut Ports,
     place: u8,
     port: PortStatus,
-    message: Words,
+    message: &Words,
     out: &mut Out,
 )
     requires place { place < MOST_OBJECTS }
@@ -81,13 +81,13 @@ fn arrive_queuing(
     requires room { HasRoom 3 2 out.old }
     ensures step { IsMade
         (meaning.arrives_queuing (both table.old ports.old) place (placed_port ports.old place)
-        message (first_waiting table.old (list place)))
+        message.now (first_waiting table.old (list place)))
         (both table.new ports.new) out.old out.new }
     ensures grows { Grows 3 2 out.old out.new }
 {
     match table.first_waiting(ListKey::Port(place)) {
         Some(receiver) => {
-            out.tell(LineKind::Arrive(port.row.name), &message);
+            out.tell(LineKind::Arrive(port.row.name), message);
             table.give(&receiver, message, out);
         }
         None => store(table, ports, place, port, message, out),
@@ -103,11 +103,11 @@ pub fn arrive(
     ports: &mut Ports,
     moment: Moment,
     place: u8,
-    message: Words,
+    message: &Words,
     out: &mut Out,
 )
     requires { HasRoom 3 2 out.old }
-    ensures step { IsMade (meaning.arrives moment.at (both table.old ports.old) place message)
+    ensures step { IsMade (meaning.arrives moment.at (both table.old ports.old) place message.now)
         (both table.new ports.new) out.old out.new }
     ensures grows { Grows 3 2 out.old out.new }
 {
@@ -136,7 +136,7 @@ fn admit_one(table: &mut ProcessTable, ports: &mut Ports, entry: Entry, place: u
         return;
     }
     if let Some(sender) = table.numbered(entry.process) {
-        ports.push_message(place, table.handed_by(sender.runner));
+        ports.push_message(place, &table.handed_by(sender.runner));
         table.release(&sender, ReturnCode::NoError, out);
     }
 }

@@ -192,12 +192,12 @@ impl Port {
     }
 
     /// Replaces the message of the port.
-    pub(crate) fn put_sample(&mut self, message: Words)
+    pub(crate) fn put_sample(&mut self, message: &Words)
         requires { 1 ≤ meaning.depth_of self.old.row.kind }
-        ensures { self.new ≡ meaning.with_sample self.old message }
+        ensures { self.new ≡ meaning.with_sample self.old message.now }
     {
         self.messages.clear();
-        append(&mut self.messages, &message);
+        append(&mut self.messages, message);
     }
 
     /// Sets the tick in which its message arrived.
@@ -229,11 +229,11 @@ impl Port {
     }
 
     /// Appends a message.
-    pub(crate) fn push(&mut self, message: Words)
+    pub(crate) fn push(&mut self, message: &Words)
         requires { length self.old.messages < meaning.depth_of self.old.row.kind }
-        ensures { self.new ≡ meaning.with_message self.old message }
+        ensures { self.new ≡ meaning.with_message self.old message.now }
     {
-        append(&mut self.messages, &message);
+        append(&mut self.messages, message);
     }
 
     /// Takes the first message.

@@ -166,20 +166,22 @@ impl Context {
     ghost use Rattle.apex_types.specs.ServiceShape.{argument_words};
     ghost use Rattle.apex_types.specs.ServiceCalls.{call_of};
 
-    /// The call whose arguments are the operands on top.
+    /// The call whose arguments are the operands on top, so many words.
     #[tactic(auto, using(crate::proofs::Arguments::few))]
-    fn called(&self, memory: &PartitionMem, service: Service) -> Call
-        requires { argument_words service ≤ self.now.sp }
+    fn called(&self, memory: &PartitionMem, service: Service, words: u32) -> Call
+        requires words { words ≡ argument_words service }
+        requires operands { words ≤ self.now.sp }
         ensures { result ≡ call_of service (arguments service (control_of self.now memory.now)) }
     {
-        let words = popped(memory, self.sp - service.argument_words(), self.sp);
-        call_of(service, &words)
+        let arguments = popped(memory, self.sp - words, self.sp);
+        call_of(service, &arguments)
     }
 
-    /// Calls a service whose arguments are on the stack.
-    fn call_service(&mut self, memory: &PartitionMem, service: Service) -> Outcome
+    /// Calls a service whose arguments, so many words, are on the stack.
+    fn call_service(&mut self, memory: &PartitionMem, service: Service, words: u32) -> Outcome
         requires next { self.old.pc + 1 < 2 ^ 32 }
-        requires operands { argument_words service ≤ self.old.sp }
+        requires words { words ≡ argument_words service }
+        requires operands { words ≤ self.old.sp }
         ensures control { control_of self.new memory.now
             ≡ (calls service (control_of self.old memory.now) memory.now.words).control }
         ensures memory { IsChanged (calls service (control_of self.old memory.now) memory.now.words)
@@ -187,11 +189,11 @@ impl Context {
         ensures outcome { result
             ≡ outcome_of (calls service (control_of self.old memory.now) memory.now.words).asks }
     {
-        let call = self.called(memory, service);
+        let call = self.called(memory, service, words);
         if !holds(memory, array_of(call)) {
             return Outcome::Fault(ErrorKind::MemoryViolation);
         }
-        let sp = self.sp - service.argument_words();
+        let sp = self.sp - words;
         let awaits = service.answer_words();
         if memory.stack_len() < sp as usize + usize::from(awaits) {
             return Outcome::Fault(ErrorKind::StackOverflow);
@@ -219,10 +221,11 @@ impl Context {
     {
         match Service::from_number(x) {
             Some(service) => {
-                if self.operands() < service.argument_words() {
+                let words = service.argument_words();
+                if self.operands() < words {
                     return Outcome::Fault(ErrorKind::IllegalRequest);
                 }
-                self.call_service(memory, service)
+                self.call_service(memory, service, words)
             }
             None => Outcome::Fault(ErrorKind::IllegalRequest),
         }

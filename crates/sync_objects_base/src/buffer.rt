@@ -68,11 +68,11 @@ impl Buffer {
     }
 
     /// Appends a message.
-    pub(crate) fn push(&mut self, message: Words)
+    pub(crate) fn push(&mut self, message: &Words)
         requires { length self.old.messages < self.old.row.depth }
-        ensures { self.new ≡ record self.old { messages = self.old.messages ++ message ∷ [] } }
+        ensures { self.new ≡ record self.old { messages = self.old.messages ++ message.now ∷ [] } }
     {
-        append(&mut self.messages, &message);
+        append(&mut self.messages, message);
     }
 
     /// Takes the first message.
