@@ -83,6 +83,15 @@ fn words_at(words: &[i64], part: Part) -> &[i64]
     &words[from..from + part.count as usize]
 }
 
+/// Adds a copy of a value where there is memory for it.
+fn keep<T: Copy>(list: &mut Vec<T>, value: &T)
+    requires { length list.old.items < vec_capacity list.old }
+    ensures items { list.new.items ≡ list.old.items ++ value.now ∷ [] }
+    ensures memory { vec_capacity list.new ≡ vec_capacity list.old }
+{
+    list.push_reserved(*value);
+}
+
 impl Out {
     /// Without lines or actions, with memory for all that a step may have. `AllocError`: out of
     /// memory.
@@ -120,7 +129,7 @@ impl Out {
             ≡ record self.old { lines = self.old.lines ++ event_of kind words.now ∷ [] } }
     {
         let part = add(&mut self.words, words);
-        self.lines.push_reserved(Line { kind, part });
+        keep(&mut self.lines, &Line { kind, part });
     }
 
     /// Adds an action, with its words.

@@ -11,24 +11,22 @@ pub invariant_of-self : goal.invariant_of-self
 invariant_of-self c =
     let old = c.self.inside in
     let outputs = c.args.outputs.now in
-    let a : Act = record { kind = kind.Reply c.args.runner; part = record { from = c.add-code.result.from; count = 1 + c.add-outputs.result.count } } in
-    let count = actions_count old.words.items old.actions.items ∙ ap (λ (o : Output). length o.actions) c.self.view_is in
-    let ok = c.push.ensures.succeeds (omega (arith, count, c.requires.room.1, c.self.invariant.action_room)) in
-    let pushed : c.push.new.self.items ≡ old.actions.items ++ a ∷ [] = search (rules, ok) in
-    let first = ap length c.add-code.ensures.items ∙ length-append old.words.items _ in
-    let longer = ap length c.add-outputs.ensures.items ∙ length-append c.add-code.new.words.items outputs in
+    let a : Act = record { kind = kind.Reply c.args.runner; part = record { from = c.len-from.result; count = 1 + c.add-outputs.result.count } } in
+    let pushed : c.push_reserved-2.new.self.items ≡ old.actions.items ++ a ∷ [] = c.push_reserved-2.ensures.items in
+    let first = ap length c.push_reserved.ensures.items ∙ length-append old.words.items _ in
+    let longer = ap length c.add-outputs.ensures.items ∙ length-append c.push_reserved.new.self.items outputs in
     let added = ap length pushed ∙ length-append old.actions.items (a ∷ []) in
-    let from = ap (λ p. p.from) c.add-code.ensures.part in
+    let from : c.len-from.result ≡ length old.words.items = search rules in
     let size = ap (λ p. p.count) c.add-outputs.ensures.part in
     let n = length old.words.items in
     let m = length c.add-outputs.new.words.items in
     record {
         lines = lines_wider n m old.lines.items (omega (arith, first, longer)) c.self.invariant.lines;
-        actions = act_parts n m old.actions.items c.push.new.self.items a (omega (arith, first, longer)) pushed c.self.invariant.actions
+        actions = act_parts n m old.actions.items c.push_reserved-2.new.self.items a (omega (arith, first, longer)) pushed c.self.invariant.actions
             (record { within = omega (arith, from, size, first, longer); few = omega (arith, size, c.requires.few) });
         few = omega (arith, first, longer, added, c.self.invariant.few, c.requires.few);
         line_room = c.self.invariant.line_room;
-        action_room = omega (arith, c.self.invariant.action_room, c.push.ensures.capacity);
+        action_room = omega (arith, c.self.invariant.action_room, c.push_reserved-2.ensures.capacity);
         word_room = c.add-outputs.ensures.memory
     }
 
@@ -36,14 +34,13 @@ pub returns : goal.returns
 returns c =
     let old = c.self.inside in
     let outputs = c.args.outputs.now in
-    let a : Act = record { kind = kind.Reply c.args.runner; part = record { from = c.add-code.result.from; count = 1 + c.add-outputs.result.count } } in
-    let count = actions_count old.words.items old.actions.items ∙ ap (λ (o : Output). length o.actions) c.self.view_is in
-    let ok = c.push.ensures.succeeds (omega (arith, count, c.requires.room.1, c.self.invariant.action_room)) in
-    let pushed : c.push.new.self.items ≡ old.actions.items ++ a ∷ [] = search (rules, ok) in
+    let a : Act = record { kind = kind.Reply c.args.runner; part = record { from = c.len-from.result; count = 1 + c.add-outputs.result.count } } in
+    let pushed : c.push_reserved-2.new.self.items ≡ old.actions.items ++ a ∷ [] = c.push_reserved-2.ensures.items in
     let same : to_z w64 (of_z w64 c.args.code) ≡ c.args.code = search rules in
-    let joined = c.add-outputs.ensures.items ∙ ap (λ ws. ws ++ outputs) c.add-code.ensures.items ∙ ap (λ x. (old.words.items ++ x ∷ []) ++ outputs) same ∙ append_assoc old.words.items (c.args.code ∷ []) outputs in
+    let joined = c.add-outputs.ensures.items ∙ ap (λ ws. ws ++ outputs) c.push_reserved.ensures.items ∙ ap (λ x. (old.words.items ++ x ∷ []) ++ outputs) same ∙ append_assoc old.words.items (c.args.code ∷ []) outputs in
     let size = ap (λ p. p.count) c.add-outputs.ensures.part in
-    action_asked old.words.items (c.args.code ∷ outputs) c.add-outputs.new.words.items old.lines.items old.actions.items c.push.new.self.items a
+    let from : c.len-from.result ≡ length old.words.items = search rules in
+    action_asked old.words.items (c.args.code ∷ outputs) c.add-outputs.new.words.items old.lines.items old.actions.items c.push_reserved-2.new.self.items a
         c.self.invariant.lines c.self.invariant.actions joined pushed
-        (ap (λ p. p.from) c.add-code.ensures.part) (omega (arith, size))
+        from (omega (arith, size))
     ∙ ap (λ (o : Output). output o.lines (o.actions ++ action_of (kind.Reply c.args.runner) (c.args.code ∷ outputs) ∷ [])) c.self.view_is

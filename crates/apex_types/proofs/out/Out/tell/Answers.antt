@@ -11,18 +11,16 @@ invariant_of-self c =
     let old = c.self.inside in
     let more = c.args.words.now in
     let l : Line = record { kind = c.args.kind; part = c.add-part.result } in
-    let count = lines_count old.words.items old.lines.items ∙ ap (λ (o : Output). length o.lines) c.self.view_is in
-    let ok = c.extend_from_slice.ensures.succeeds (omega (arith, count, c.requires.room.0, c.self.invariant.line_room)) in
-    let told : c.extend_from_slice.new.self.items ≡ old.lines.items ++ l ∷ [] = search (rules, ok) in
+    let told : c.keep.new.list.items ≡ old.lines.items ++ l ∷ [] = c.keep.ensures.items in
     let longer = ap length c.add-part.ensures.items ∙ length-append old.words.items more in
     let added = ap length told ∙ length-append old.lines.items (l ∷ []) in
     let n = length old.words.items in
     let m = length c.add-part.new.words.items in
     record {
-        lines = line_parts n m old.lines.items c.extend_from_slice.new.self.items l (omega (arith, longer)) told c.self.invariant.lines (new_is_part n m (length more) c.add-part.result c.add-part.ensures.part longer c.requires.few);
+        lines = line_parts n m old.lines.items c.keep.new.list.items l (omega (arith, longer)) told c.self.invariant.lines (new_is_part n m (length more) c.add-part.result c.add-part.ensures.part longer c.requires.few);
         actions = actions_wider n m old.actions.items (omega (arith, longer)) c.self.invariant.actions;
         few = omega (arith, longer, added, c.self.invariant.few, c.requires.few);
-        line_room = omega (arith, c.self.invariant.line_room, c.extend_from_slice.ensures.capacity);
+        line_room = omega (arith, c.self.invariant.line_room, c.keep.ensures.memory);
         action_room = c.self.invariant.action_room;
         word_room = c.add-part.ensures.memory
     }
@@ -32,10 +30,8 @@ returns c =
     let old = c.self.inside in
     let more = c.args.words.now in
     let l : Line = record { kind = c.args.kind; part = c.add-part.result } in
-    let count = lines_count old.words.items old.lines.items ∙ ap (λ (o : Output). length o.lines) c.self.view_is in
-    let ok = c.extend_from_slice.ensures.succeeds (omega (arith, count, c.requires.room.0, c.self.invariant.line_room)) in
-    let told : c.extend_from_slice.new.self.items ≡ old.lines.items ++ l ∷ [] = search (rules, ok) in
-    line_told old.words.items more c.add-part.new.words.items old.lines.items c.extend_from_slice.new.self.items old.actions.items l
+    let told : c.keep.new.list.items ≡ old.lines.items ++ l ∷ [] = c.keep.ensures.items in
+    line_told old.words.items more c.add-part.new.words.items old.lines.items c.keep.new.list.items old.actions.items l
         c.self.invariant.lines c.self.invariant.actions c.add-part.ensures.items told
         (ap (λ p. p.from) c.add-part.ensures.part) (ap (λ p. p.count) c.add-part.ensures.part)
     ∙ ap (λ (o : Output). output (o.lines ++ event_of c.args.kind more ∷ []) o.actions) c.self.view_is
