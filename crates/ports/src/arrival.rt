@@ -10,12 +10,13 @@ ghost use Rattle.kernel_meaning.specs.Sharing.{both};
 ghost use Rattle.kernel_meaning.specs.Made.{IsMade};
 ghost use Rattle.kernel_meaning.specs.Sharing.{first_waiting};
 ghost use Rattle.ports.specs.Status.{placed_port, port_status};
+ghost use Rattle.process_table_base.specs.FoundView.{pair_of};
 ghost use Rattle.process_table_base.specs.declared.rooms.TheConstants.{ACTIONS_TO_RELEASE_ALL, LINES_TO_RELEASE_ALL};
 
 use crate::port::PortStatus;
 use crate::ports::Ports;
 use apex_types::{Entry, LineKind, ListKey, Moment, Out, ReturnCode, Words};
-use process_table_base::ProcessTable;
+use process_table_base::{Found, ProcessTable};
 
 /// Replaces the message of a sampling port, and its tick of arrival.
 fn arrive_sampling(
@@ -66,6 +67,28 @@ fn store(
     }
 }
 
+/// Gives the message to a receiver that waits at the port.
+fn hand_over(
+    table: &mut ProcessTable,
+    ports: &Ports,
+    place: u8,
+    port: PortStatus,
+    receiver: &Found,
+    message: &Words,
+    out: &mut Out,
+)
+    requires status { port ≡ port_status (placed_port ports.now place) }
+    requires room { HasRoom 3 2 out.old }
+    ensures step { IsMade
+        (meaning.arrives_queuing (both table.old ports.now) place (placed_port ports.now place)
+        message.now (pair_of (Some receiver.now)))
+        (both table.new ports.now) out.old out.new }
+    ensures grows { Grows 3 2 out.old out.new }
+{
+    out.tell(LineKind::Arrive(port.row.name), message);
+    table.give(receiver, message, out);
+}
+
 /// Gives the message to the first waiting receiver. Without one, appends it; if the port is full,
 /// the message is lost.
 fn arrive_queuing(
@@ -86,10 +109,7 @@ fn arrive_queuing(
     ensures grows { Grows 3 2 out.old out.new }
 {
     match table.first_waiting(ListKey::Port(place)) {
-        Some(receiver) => {
-            out.tell(LineKind::Arrive(port.row.name), message);
-            table.give(&receiver, message, out);
-        }
+        Some(receiver) => hand_over(table, ports, place, port, &receiver, message, out),
         None => store(table, ports, place, port, message, out),
     }
 }
