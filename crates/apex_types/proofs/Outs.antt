@@ -125,10 +125,10 @@ pub line_parts : (n m : ℕ) (lines lines' : List Line) (l : Line) → n ≤ m �
     → AllByRecursion (λ (x : Line). IsPart n x.part) lines → IsPart m l.part → AllByRecursion (λ (x : Line). IsPart m x.part) lines'
 line_parts n m lines lines' l le is told new =
     subst (λ (xs : List Line). AllByRecursion (λ (x : Line). IsPart m x.part) xs) (sym is)
-        (one_more (λ (x : Line). IsPart m x.part) lines l (lines_wider n m lines le told) new)
+    (one_more (λ (x : Line). IsPart m x.part) lines l (lines_wider n m lines le told) new)
 
 pub act_parts : (n m : ℕ) (acts acts' : List Act) (a : Act) → n ≤ m → acts' ≡ acts ++ a ∷ []
     → AllByRecursion (λ (x : Act). IsPart n x.part) acts → IsPart m a.part → AllByRecursion (λ (x : Act). IsPart m x.part) acts'
 act_parts n m acts acts' a le is asked new =
     subst (λ (xs : List Act). AllByRecursion (λ (x : Act). IsPart m x.part) xs) (sym is)
-        (one_more (λ (x : Act). IsPart m x.part) acts a (actions_wider n m acts le asked) new)
+    (one_more (λ (x : Act). IsPart m x.part) acts a (actions_wider n m acts le asked) new)

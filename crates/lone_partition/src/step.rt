@@ -50,7 +50,9 @@ fn step_member<E: Executor>(
     trace.clear();
     match step {
         PartitionStep::Start(condition) => partition.clear(mem, moment, *condition, trace),
-        PartitionStep::Arrive(port, message) => partition.arrive(mem, moment, *port, message, trace),
+        PartitionStep::Arrive(port, message) => partition.arrive(
+            mem, moment, *port, message, trace,
+        ),
         PartitionStep::Admit(port) => partition.admit(mem, moment, *port, trace),
         PartitionStep::GoOut(channel, message) => {
             partition.go_out(mem, moment, *channel, message, trace)

@@ -11,9 +11,9 @@ use Rattle.std.proofs.lemmas.Option.{slice_get_cases}
 
 pub drop_read : {X : Type 0} (xs : List X) (i : ℕ) (x : X) → Some x ≡ slice_get xs i → drop i xs ≡ x ∷ drop (i + 1) xs
 drop_read xs i x e = elim (slice_get_cases xs i).1 [
-    inl w ↦ (let same : w.0 ≡ x = (let both : Some w.0 ≡ Some x = sym w.2 ∙ sym e in cc) in drop_more xs i w.0 w.1 ∙ ap (λ z. z ∷ drop (i + 1) xs) (w.3 ∙ same))
+  | inl w ↦ (let same : w.0 ≡ x = (let both : Some w.0 ≡ Some x = sym w.2 ∙ sym e in cc) in drop_more xs i w.0 w.1 ∙ ap (λ z. z ∷ drop (i + 1) xs) (w.3 ∙ same))
   | inr past ↦ absurd (let clash : Some x ≡ None = e ∙ past.1 in cc)
-  ]
+]
 
 -- each place before the end has something
 pub some_read : {X : Type 0} (xs : List X) (i : ℕ) → None ≡ slice_get xs i → length xs < i + 1
@@ -21,9 +21,9 @@ some_read xs i e = elim (slice_get_cases xs i).1 [ inl w ↦ absurd (let clash :
 
 take_read : {X : Type 0} (xs : List X) (i : ℕ) (x : X) → Some x ≡ slice_get xs i → take (i + 1) xs ≡ take i xs ++ x ∷ []
 take_read xs i x e = elim (slice_get_cases xs i).1 [
-    inl w ↦ (let same : w.0 ≡ x = (let both : Some w.0 ≡ Some x = sym w.2 ∙ sym e in cc) in take_more xs i w.0 w.1 ∙ ap (λ z. take i xs ++ z ∷ []) (w.3 ∙ same))
+  | inl w ↦ (let same : w.0 ≡ x = (let both : Some w.0 ≡ Some x = sym w.2 ∙ sym e in cc) in take_more xs i w.0 w.1 ∙ ap (λ z. take i xs ++ z ∷ []) (w.3 ∙ same))
   | inr past ↦ absurd (let clash : Some x ≡ None = e ∙ past.1 in cc)
-  ]
+]
 
 -- the events of one line more
 told_read : (name : List ℕ) (at : At) (lines : List EventKind) (i : ℕ) (kind : EventKind) → Some kind ≡ slice_get lines i → told name at (take (i + 1) lines) ≡ told name at (take i lines) ++ line name at kind ∷ []

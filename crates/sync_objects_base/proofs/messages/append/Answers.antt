@@ -18,6 +18,7 @@ returns-in_default-clause-items c =
     let ok = c.try_push_back.ensures.variant.1 c.requires in
     let pushed : c.try_push_back.new.self.items ≡ old ++ c.new.result ∷ [] = search (rules, ok) in
     let longer = ap length pushed ∙ length-append old (c.new.result ∷ []) in
-    elim (slice_get_cases c.try_push_back.new.self.items c.len-place.result).1
-      [ inl within ↦ search (rules, within)
-      | inr past ↦ absurd (omega (arith, c.len-place.ensures.len, longer, past.0)) ]
+    elim (slice_get_cases c.try_push_back.new.self.items c.len-place.result).1 [
+      | inl within ↦ search (rules, within)
+      | inr past ↦ absurd (omega (arith, c.len-place.ensures.len, longer, past.0))
+    ]

@@ -13,6 +13,6 @@ returns c =
     let a : Act = record { kind = c.args.kind; part = c.add-part.result } in
     let pushed : c.push_reserved.new.self.items ≡ old.actions.items ++ a ∷ [] = c.push_reserved.ensures.items in
     action_asked old.words.items more c.add-part.new.words.items old.lines.items old.actions.items c.push_reserved.new.self.items a
-        c.self.invariant.lines c.self.invariant.actions c.add-part.ensures.items pushed
-        (ap (λ p. p.from) c.add-part.ensures.part) (ap (λ p. p.count) c.add-part.ensures.part)
+    c.self.invariant.lines c.self.invariant.actions c.add-part.ensures.items pushed
+    (ap (λ p. p.from) c.add-part.ensures.part) (ap (λ p. p.count) c.add-part.ensures.part)
     ∙ ap (λ (o : Output). output o.lines (o.actions ++ action_of c.args.kind more ∷ [])) c.self.view_is

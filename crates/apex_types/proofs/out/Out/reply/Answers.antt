@@ -21,13 +21,13 @@ invariant_of-self c =
     let n = length old.words.items in
     let m = length c.add-outputs.new.words.items in
     record {
-        lines = lines_wider n m old.lines.items (omega (arith, first, longer)) c.self.invariant.lines;
-        actions = act_parts n m old.actions.items c.push_reserved-2.new.self.items a (omega (arith, first, longer)) pushed c.self.invariant.actions
-            (record { within = omega (arith, from, size, first, longer); few = omega (arith, size, c.requires.few) });
-        few = omega (arith, first, longer, added, c.self.invariant.few, c.requires.few);
-        line_room = c.self.invariant.line_room;
-        action_room = omega (arith, c.self.invariant.action_room, c.push_reserved-2.ensures.capacity);
-        word_room = c.add-outputs.ensures.memory
+      lines = lines_wider n m old.lines.items (omega (arith, first, longer)) c.self.invariant.lines;
+      actions = act_parts n m old.actions.items c.push_reserved-2.new.self.items a (omega (arith, first, longer)) pushed c.self.invariant.actions
+          (record { within = omega (arith, from, size, first, longer); few = omega (arith, size, c.requires.few) });
+      few = omega (arith, first, longer, added, c.self.invariant.few, c.requires.few);
+      line_room = c.self.invariant.line_room;
+      action_room = omega (arith, c.self.invariant.action_room, c.push_reserved-2.ensures.capacity);
+      word_room = c.add-outputs.ensures.memory;
     }
 
 pub returns : goal.returns
@@ -41,6 +41,6 @@ returns c =
     let size = ap (λ p. p.count) c.add-outputs.ensures.part in
     let from : c.len-from.result ≡ length old.words.items = search rules in
     action_asked old.words.items (c.args.code ∷ outputs) c.add-outputs.new.words.items old.lines.items old.actions.items c.push_reserved-2.new.self.items a
-        c.self.invariant.lines c.self.invariant.actions joined pushed
-        from (omega (arith, size))
+    c.self.invariant.lines c.self.invariant.actions joined pushed
+    from (omega (arith, size))
     ∙ ap (λ (o : Output). output o.lines (o.actions ++ action_of (kind.Reply c.args.runner) (c.args.code ∷ outputs) ∷ [])) c.self.view_is
