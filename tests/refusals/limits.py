@@ -163,6 +163,7 @@ APART = {
     "MOST_COST": "a duration",
     "LEAST_STACK_WORDS": "a least number",
     "MOST_RUNNERS": "follows from the processes",
+    "MOST_ARGUMENT_WORDS": "follows from the rows of the services",
     "PRIORITY_LEVELS": "follows from the priorities",
     "MARK_BITS": "the bits of a word",
     "INSTRUCTION_BYTES": "the bytes of an instruction",
