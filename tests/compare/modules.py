@@ -1,8 +1,8 @@
 #!/usr/bin/env python3
 """Compares programs on random modules, byte for byte: the images that they build, and the traces that they write.
 
-    modules.py --new PROGRAM --oracle FOLDER [--old PROGRAM] [--stages N..] [--count N] [--costs N] [--stretched N]
-               [--longest N] [--first SEED] [--jobs N] [--keep FOLDER]
+    modules.py --new PROGRAM --oracle FOLDER [--old PROGRAM] [--stages N..] [--count N] [--costs N] [--wide N]
+               [--upgrades N] [--stretched N] [--longest N] [--first SEED] [--jobs N] [--keep FOLDER]
 
 The modules are those of an independent program, which lies in the folder of `--oracle` as the Python package `source_meaning`; beside it
 stands the generator, `later_stages.make(stage, seed)`. It is none of this repository, so no gate runs this.
@@ -16,7 +16,11 @@ which needs some 0.1 to 0.3 microseconds a tick; where they have at most 100,000
 
 And so many modules of each stage (`--costs`) have a table `[cost]` with random costs, up to all of the 1,000 ticks. The images that `--new` builds are compared
 with those of a second independent program, the Python package `image_machine` in the same folder, and so are the replays of each partition: what
-`mb inputs` writes is replayed, and has to give the partition's lines of the run.
+`mb inputs` writes is replayed, and has to give the partition's lines of the run. The same is expected of so many modules of each stage (`--wide`)
+that are larger than older versions of an image allow: messages of up to 64 words, up to 63 processes, up to 32 partitions.
+
+And of so many modules of each stage (`--upgrades`) the second independent program builds an image of version 1 or 2. `--new` has to run it as
+that program does, to upgrade it to the same bytes, and to run the upgraded image as it ran the old one.
 
 Seeds count from `--first` on, and a stage and a seed make one module. The last line has the counts. At the first difference the files of
 the module are left in the folder of `--keep`, the line is named, and the exit status is 1. A run that is told to end (SIGTERM) says how far it came.
@@ -48,9 +52,14 @@ MOST_TICKS = 2**40
 MOST_FRAME = 2**24
 MOST_WORK = 10**6
 MOST_FACTOR = 10**6
+MOST_PARTITIONS = 32
+MOST_WINDOWS = 64
+MOST_PROCESSES = 63
 # The independent program goes tick by tick, some microseconds each.
 MOST_ORACLE_TICKS = 10**5
 CHUNK = 1 << 20
+# The version of the images that are built.
+VERSION = 3
 COST_KEYS = (
     *("literal", "scalar", "array", "add", "mul", "div", "logic", "branch", "jump", "call", "return"),
     *("create", "message", "service", "end"),
@@ -61,6 +70,9 @@ TIMED = (
     "TIMED_WAIT|SUSPEND_SELF|REPLENISH|DELAYED_START|WAIT_SEMAPHORE|WAIT_EVENT|SEND_BUFFER|RECEIVE_BUFFER|READ_BLACKBOARD"
     "|SEND_QUEUING_MESSAGE|RECEIVE_QUEUING_MESSAGE"
 )
+
+# The services that send the first words of an array.
+SENDING = "SEND_BUFFER|DISPLAY_BLACKBOARD|WRITE_SAMPLING_MESSAGE|SEND_QUEUING_MESSAGE"
 
 
 class Differs(Exception):
@@ -114,7 +126,11 @@ class Oracle:
         chance = random.Random(f"{task.kind} {task.stage} {task.seed}")
         if task.kind == "stretched":
             return Stretch(chance, task.seed, self.longest, made).module()
-        if task.kind == "costs":
+        if task.kind == "wide":
+            return Wide(chance, made).module()
+        if task.kind == "upgrades" and version_of(task) == 1:
+            return made
+        if task.kind in ("costs", "upgrades"):
             return Module(with_costs(chance, made.table), made.sources, made.devices, made.ticks)
         if task.seed % 10 == 0:
             return Module(made.table, made.sources, made.devices, log_uniform(chance, LEAST_TICKS, MOST_ORACLE_TICKS))
@@ -123,19 +139,34 @@ class Oracle:
     def trace(self, made):
         """The trace; or the line of the refusal, and no trace."""
         try:
-            return self.module.run(made.table.encode(), [it.encode() for it in made.sources], made.devices.encode(), made.ticks, 2).encode(), b""
+            return self.module.run(made.table.encode(), [it.encode() for it in made.sources], made.devices.encode(), made.ticks, VERSION).encode(), b""
         except self.Refusal as refusal:
             return b"", f"mb: {refusal.message}\n".encode()
 
-    def image(self, made):
+    def image(self, made, version=VERSION):
         """The image that the second independent program builds."""
-        return self.machine.build(made.table.encode(), [it.encode() for it in made.sources], 2)
+        return self.machine.build(made.table.encode(), [it.encode() for it in made.sources], version)
+
+    def image_trace(self, image, made, version):
+        """What the second independent program writes of an image."""
+        lines = []
+        self.machine.run(image, made.devices.encode(), made.ticks, lines.append, version)
+        return text_from(lines)
 
     def replay(self, image, partition, inputs, ticks):
         """What the second independent program writes of a partition alone."""
         lines = []
-        self.machine.replay(image, partition, inputs, ticks, lines.append, 2)
-        return "".join(it if it.endswith("\n") else f"{it}\n" for it in lines).encode()
+        self.machine.replay(image, partition, inputs, ticks, lines.append, VERSION)
+        return text_from(lines)
+
+
+def text_from(lines):
+    return "".join(it if it.endswith("\n") else f"{it}\n" for it in lines).encode()
+
+
+def version_of(task):
+    """The version of the image that is upgraded."""
+    return 1 + task.seed % 2
 
 
 def with_costs(chance, table):
@@ -147,6 +178,91 @@ def with_costs(chance, table):
 
 def log_uniform(chance, least, most):
     return min(most, max(least, round(least * (most / least) ** chance.random())))
+
+
+class Wide:
+    """Makes a module larger than older versions of an image allow: four times the words of messages and arrays, up to 63 processes, and up to 32
+    partitions."""
+
+    def __init__(self, chance, made):
+        self.chance = chance
+        self.made = made
+
+    def module(self):
+        sources = [self.source(it) for it in self.made.sources]
+        table = re.sub(r"^words = (\d+)$", lambda it: f"words = {4 * int(it[1])}", self.made.table, flags=re.M)
+        table, added = self.with_partitions(table, sources)
+        return Module(table, sources + added, "".join(self.line(it) for it in self.made.devices.splitlines(keepends=True)), self.made.ticks)
+
+    def source(self, text):
+        """The source with larger arrays, objects and messages, and in most cases with more processes."""
+        text = re.sub(r"\b(array \w+)\[(\d+)\]", lambda it: f"{it[1]}[{4 * int(it[2])}]", text)
+        text = re.sub(r"\b(buffer \w+|blackboard \w+) (\d+)", lambda it: f"{it[1]} {4 * int(it[2])}", text)
+        text = re.sub(rf"\b({SENDING})\((\w+, \w+), (\d+)", lambda it: f"{it[1]}({it[2]}, {self.length(int(it[3]))}", text)
+        return self.with_processes(text) if self.chance.random() < 0.7 else text
+
+    def length(self, had):
+        return max(had, 4 * had - self.chance.randrange(4)) if self.chance.random() < 0.8 else had
+
+    def with_processes(self, text):
+        """The source with more processes behind its own, which INIT creates and starts."""
+        before, mode, after = text.partition("SET_PARTITION_MODE(3)")
+        had = len(re.findall(r"\bprocess \w+ priority", text))
+        most = MOST_PROCESSES - had
+        if not mode or most < 1 or "local a0" not in before:
+            return text
+        added = self.chance.choice((1, most, self.chance.randint(1, most)))
+        started = "".join(f"CREATE_PROCESS(w{it}) -> r, a0; START({had + it}) -> r; " for it in range(1, added + 1))
+        return before + started + mode + after + "".join(self.process(it, "array big[" in text) for it in range(1, added + 1))
+
+    def process(self, number, has_array):
+        does = ["work 1;", "GET_MY_ID() -> r, a0;", "SUSPEND_SELF(3) -> r;", f"RESUME({self.chance.randint(1, 40)}) -> r;"]
+        if has_array:
+            length, limit = self.chance.randint(1, 64), self.chance.randint(-1, 20)
+            does += [f"SEND_BUFFER(1, big, {length}, {limit}) -> r;", f"RECEIVE_BUFFER(1, big, {limit}) -> r, a0;"]
+            does += [f"DISPLAY_BLACKBOARD(1, big, {length}) -> r;", f"READ_BLACKBOARD(1, big, {limit}) -> r, a0;"]
+            does += [f"REPORT_APPLICATION_MESSAGE(big, {self.chance.randint(1, 17)}) -> r;"]
+        body = " ".join(self.chance.choices(does, k=self.chance.randint(1, 3)))
+        rest = f"TIMED_WAIT({self.chance.randint(1, 400)}) -> r;"
+        return f"process w{number} priority {self.chance.randint(1, 239)} period -1 capacity -1 stack 32 {{ local r; local a0; while 1 {{ {body} {rest} }} }}\n"
+
+    def with_partitions(self, table, sources):
+        """The table in a frame of twice the length, with partitions in what the windows leave free; and the sources of these."""
+        head, *parts = re.split(r"(?m)^(?=\[\[(?:partition|window|channel)\]\]$)", table)
+        rows = {it: [part for part in parts if part.startswith(f"[[{it}]]")] for it in ("partition", "window", "channel")}
+        frame = int(re.search(r"^frame = (\d+)$", head, re.M)[1])
+        lengths = [int(re.search(r"^length = (\d+)$", it, re.M)[1]) for it in rows["window"]]
+        most = min(MOST_PARTITIONS - len(sources), MOST_WINDOWS - len(lengths), len(lengths))
+        if 2 * frame > MOST_FRAME or most < 1 or self.chance.random() < 0.3:
+            return table, []
+        doubled = lambda text: re.sub(r"^(frame|period|offset) = (\d+)$", lambda it: f"{it[1]} = {2 * int(it[2])}", text, flags=re.M)
+        windows, partitions, added = [], [doubled(it) for it in rows["partition"]], []
+        for window, length in zip(rows["window"], lengths):
+            windows.append(doubled(window))
+            if len(added) < most:
+                number = self.chance.randrange(len(sources))
+                name = f"z{len(added)}"
+                end = int(re.search(r"^offset = (\d+)$", windows[-1], re.M)[1]) + length
+                windows.append(f'[[window]]\npartition = "{name}"\noffset = {end}\nlength = {length}\nrelease = true\n')
+                partitions.append(self.clone(rows["partition"][number], name, 2 * frame, length))
+                added.append(re.sub(r"\bperiod (\d+) capacity", f"period {2 * frame} capacity", sources[number]))
+        old = [re.sub(r"\bperiod (\d+) capacity", lambda it: f"period {2 * int(it[1])} capacity", it) for it in sources]
+        sources[:] = old
+        return doubled(head) + "".join(partitions + windows + rows["channel"]), added
+
+    def clone(self, row, name, period, duration):
+        row = re.sub(r'^name = "\w+"$', f'name = "{name}"', row, count=1, flags=re.M)
+        row = re.sub(r"^period = \d+$", f"period = {period}", row, count=1, flags=re.M)
+        return re.sub(r"^duration = \d+$", f"duration = {self.chance.randint(0, duration)}", row, count=1, flags=re.M)
+
+    def line(self, text):
+        """A device line, of which a message has more words."""
+        tick, kind, *words = text.split()
+        if kind != "MSG" or self.chance.random() < 0.3:
+            return text
+        channel, *message = words
+        more = [str(self.chance.randint(-(10**6), 10**6)) for _ in range(self.chance.randint(0, 3 * len(message)))]
+        return f"{' '.join([tick, kind, channel, *message, *more])}\n"
 
 
 class Stretch:
@@ -294,11 +410,30 @@ class Comparison:
         return len(names)
 
 
+def compare_upgrade(oracle, comparison, version, counts):
+    """Expects that an image of an older version runs, and that it is upgraded to the same bytes as by the independent program, which run alike."""
+    made, folder = comparison.made, comparison.folder
+    image = oracle.image(made, version)
+    (folder / "image").write_bytes(image)
+    upgraded = oracle.machine.upgrade(image)
+    expect("upgrade", f"upgraded {len(upgraded)} bytes\n".encode(), comparison.said("upgrade", "image", "upgraded"))
+    if (folder / "upgraded").read_bytes() != upgraded:
+        raise Differs("upgraded image")
+    wanted = oracle.image_trace(image, made, version)
+    for name in ("image", "upgraded"):
+        expect(f"trace of {name}", wanted, comparison.said("run", name, "devices", str(made.ticks)))
+    counts["modules"] += 1
+    counts["ticks"] += made.ticks
+
+
 def compare(task, settings, room, counts):
     """Makes the module of a stage and a seed, and expects the same of all programs."""
     oracle = Oracle(settings.oracle, settings.longest)
     made = oracle.make(task)
     comparison = Comparison(settings, made, room)
+    if task.kind == "upgrades":
+        compare_upgrade(oracle, comparison, version_of(task), counts)
+        return
     is_short = made.ticks <= MOST_ORACLE_TICKS
     refusal = comparison.images()
     if refusal is None:
@@ -314,7 +449,7 @@ def compare(task, settings, room, counts):
         expect("refusal of the independent program", wanted_refusal, refusal or b"")
         expect("trace of the independent program", wanted, trace)
         counts["modules compared with the independent program"] += 1
-        if task.kind == "costs" and refusal is None:
+        if task.kind in ("costs", "wide") and refusal is None:
             image = (comparison.folder / "image").read_bytes()
             if image != oracle.image(made):
                 raise Differs("image of the second independent program")
@@ -344,6 +479,8 @@ def words():
     told.add_argument("--stages", type=int, nargs="+", default=STAGES, help="the stages of the generator")
     told.add_argument("--count", type=int, default=0, help="how many modules of each stage")
     told.add_argument("--costs", type=int, default=0, help="how many modules of each stage with random costs")
+    told.add_argument("--wide", type=int, default=0, help="how many modules of each stage beyond the older limits")
+    told.add_argument("--upgrades", type=int, default=0, help="how many images of older versions of each stage")
     told.add_argument("--stretched", type=int, default=0, help="how many modules with long quiet stretches, with --old")
     told.add_argument("--longest", type=int, default=10**9, help="the most ticks of these, 100,000 at least")
     told.add_argument("--first", type=int, default=1, help="the first seed")
@@ -362,8 +499,13 @@ def tasks_of(given):
     stretched = [
         Task("stretched", given.stages[seed % len(given.stages)], seed) for seed in range(given.first, given.first + given.stretched)
     ]
-    costs = [Task("costs", stage, seed) for seed in range(given.first, given.first + given.costs) for stage in given.stages]
-    return plain + costs + stretched
+    others = [
+        Task(kind, stage, seed)
+        for kind, count in (("costs", given.costs), ("wide", given.wide), ("upgrades", given.upgrades))
+        for seed in range(given.first, given.first + count)
+        for stage in given.stages
+    ]
+    return plain + others + stretched
 
 
 def stop(*_):

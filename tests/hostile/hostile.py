@@ -172,7 +172,7 @@ def codes_of(image):
         raise Wrong("the file is no image")
     version = reader.number(2)
     reader.number(4 + 1)  # frame, module action
-    if version == 2:
+    if version > 1:
         reader.number(15 * 2)  # costs
     return dict(reader.code() for _ in range(reader.number(4)))
 

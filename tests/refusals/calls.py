@@ -5,6 +5,7 @@ import tempfile
 from dataclasses import dataclass
 from pathlib import Path
 
+import images
 import trial
 from trial import Answer, Told
 
@@ -18,6 +19,7 @@ REFUSED = {
     "parse": ["end 7"],
     "check": ["end 7"],
     "build": ["end memory"],
+    "upgrade": ["end 6"],
     "load_image": ["end 6", "end memory, 0 bytes"],
     "Machine::load": ["end 1", "end memory, 0 bytes"],
     "Machine::devices": ["end memory", "end memory, 0 bytes"],
@@ -106,6 +108,7 @@ class Module:
         for name, path in self.files.items():
             shutil.copy(path, folder / name)
         self.expect_done(mb, folder, "build", "table", "image", *self.sources)
+        images.lay_old(folder)
         inputs = self.expect_done(mb, folder, "inputs", "image", self.partition, "devices", str(self.ticks))
         (folder / "inputs").write_bytes(inputs)
 
@@ -150,7 +153,7 @@ class Command:
         self.name = f"{module.name} {name}"
         self.words = [mb, *module.commands()[name]]
         self.image = (folder / "image").read_bytes()
-        self.before = b"before" if name == "build" else self.image
+        self.before = b"before" if name in trial.WRITING else self.image
         self.right = trial.run(self.words, folder)
 
     def ask(self, library, **how):

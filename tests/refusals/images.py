@@ -14,6 +14,9 @@ from hostile import codes_of  # noqa: E402
 TRUNCATED, FOREIGN, LIMIT, ORDER, TRAILING = 1, 2, 3, 4, 5
 MOST_TICKS = 1 << 40
 COSTS = 15
+# The bytes of the costs, and the costs of a table that writes none.
+COST_BYTES = slice(15, 15 + 2 * COSTS)
+WRITTEN = (1, 1, 2, 1, 2, 4, 1, 1, 1, 3, 2, 8, 6, 4, 4)
 
 
 class Fault(Exception):
@@ -40,6 +43,18 @@ class Window:
     offset: int
     length: int
     release: int
+
+
+@dataclass(frozen=True)
+class Limits:
+    """What versions of an image differ in."""
+
+    partitions: int
+    processes: int
+    words: int
+
+
+LIMITS = {1: Limits(16, 31, 16), 2: Limits(16, 31, 16), 3: Limits(32, 63, 64)}
 
 
 class Reading:
@@ -80,7 +95,7 @@ class Reading:
     def port(self, used):
         self.name(used)
         kind, is_destination = self.number(1, 0, 1), self.number(1, 0, 1)
-        words = self.number(1, 1, 16)
+        words = self.number(1, 1, self.limits.words)
         self.number(8, 0, 0 if kind else MOST_TICKS)  # refresh
         self.number(1, kind, 32 if kind else 0)  # depth
         self.number(1, 0, kind)  # discipline
@@ -92,7 +107,7 @@ class Reading:
         self.number(1, 0, 1)
 
     def buffer(self):
-        self.number(1, 1, 16)
+        self.number(1, 1, self.limits.words)
         self.number(1, 1, 32)
         self.number(1, 0, 1)
 
@@ -127,10 +142,10 @@ class Reading:
         for _ in range(self.number(4, 0, 16)):
             self.buffer()
         for _ in range(self.number(4, 0, 16)):
-            self.number(1, 1, 16)  # blackboards
+            self.number(1, 1, self.limits.words)  # blackboards
         entries = [self.routine() for _ in range(self.number(4, 0, 256))]
         used = set()
-        entries += [self.process(used, partition_period) for _ in range(self.number(4, 0, 31))]
+        entries += [self.process(used, partition_period) for _ in range(self.number(4, 0, self.limits.processes))]
         entries.append(self.body())
         if self.number(1, 0, 1):
             entries.append(self.body())
@@ -216,15 +231,16 @@ def read(image):
     if reading.taken(8) != b"AP653IMG":
         raise Fault(FOREIGN)
     version = int.from_bytes(reading.taken(2), "little")
-    if version not in (1, 2):
+    if version not in LIMITS:
         raise Fault(FOREIGN)
+    reading.limits = LIMITS[version]
     frame = reading.number(4, 1, 1 << 24)
     reading.number(1, 0, 2)  # module action
-    if version == 2:
+    if version > 1:
         for _ in range(COSTS):
             reading.number(2, 1, 1000)
     used = set()
-    partitions = [reading.partition(used, frame) for _ in range(reading.number(4, 1, 16))]
+    partitions = [reading.partition(used, frame) for _ in range(reading.number(4, 1, reading.limits.partitions))]
     windows = reading.windows()
     used = set()
     channels = [reading.channel(used) for _ in range(reading.number(4, 0, 64))]
@@ -241,6 +257,18 @@ def verdict(image):
     except Fault as fault:
         return f"image {fault}"
     return "runs"
+
+
+def as_first(image):
+    """The image as one of version 1, where that version has its costs and its limits; else as it is."""
+    first = image[:8] + (1).to_bytes(2, "little") + image[10:15] + image[COST_BYTES.stop :]
+    written = b"".join(it.to_bytes(2, "little") for it in WRITTEN)
+    return first if image[COST_BYTES] == written and verdict(first) == "runs" else image
+
+
+def lay_old(folder):
+    """Lays the image in a folder once more, as an older one that may be upgraded to it."""
+    (folder / "old").write_bytes(as_first((folder / "image").read_bytes()))
 
 
 @dataclass(frozen=True)

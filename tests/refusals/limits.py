@@ -153,6 +153,9 @@ LIMITS = [
 
 # Constants that are no count or size of an input.
 APART = {
+    "FIRST_MOST_PARTITIONS": "the limit of older versions",
+    "FIRST_MOST_PROCESSES": "the limit of older versions",
+    "FIRST_MOST_WORDS": "the limit of older versions",
     "MOST_TICKS": "a duration",
     "LATEST_RELEASE_POINT": "a duration",
     "MOST_FRAME_TICKS": "a duration",
@@ -160,8 +163,14 @@ APART = {
     "MOST_COST": "a duration",
     "LEAST_STACK_WORDS": "a least number",
     "MOST_RUNNERS": "follows from the processes",
+    "MOST_ARGUMENT_WORDS": "follows from the rows of the services",
+    "PRIORITY_LEVELS": "follows from the priorities",
+    "MARK_BITS": "the bits of a word",
+    "INSTRUCTION_BYTES": "the bytes of an instruction",
     "MOST_EVENTS": "what a phase of a tick may show",
     "MOST_ACTIONS": "what a phase of a tick may ask",
+    "MOST_OUT_WORDS": "follows from the events, the actions and the words",
+    "MOST_KIND_BYTES": "the bytes of an event",
     "MOST_WORD_BYTES": "follows from the numbers",
     "MOST_HEAD_BYTES": "follows from the names",
     "MOST_LINE_BYTES": "follows from the names and the words",
@@ -242,6 +251,8 @@ def ask_all(mb, module, partition, folder):
     for name, words in trial.commands(lay(module, folder), partition, module.ticks).items():
         if name in ("check", "cost", "build") or (folder / "image").is_file():
             answers[name] = trial.run([mb, *words], folder)
+        if name == "build" and (folder / "image").is_file():
+            images.lay_old(folder)
         if name == "inputs" and name in answers:
             (folder / "inputs").write_bytes(answers[name].out)
     return answers
@@ -277,6 +288,8 @@ def judge(told, module, partition, outputs):
         told.wrong.append(f"{module.name}: the replay differs")
     if module.image_bytes and outputs["build"] != f"built {module.image_bytes} bytes\n":
         told.wrong.append(f"{module.name}: {outputs['build']}")
+    if outputs["upgrade"] != outputs["build"].replace("built", "upgraded"):
+        told.wrong.append(f"{module.name}: {outputs['upgrade']}")
 
 
 def part_of(trace, partition):

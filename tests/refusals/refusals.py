@@ -8,7 +8,7 @@ MB is the program `mb`, REFUSALS that of `crates/refusals`. The parts, all of th
     memory   each request for memory of the library's calls and of the commands is refused once; the commands with ever less address space
     sinks    a sink that fails behind each byte of a trace; a full device and a closed pipe
     images   damaged images, judged against a second reading of docs/IMAGE.md; with --whole each byte of two of them with every value
-    limits   an input at half of each limit and one at it, through all commands
+    limits   an input at half of each limit and one at it, through all commands; a module that is at all of its limits at once
 
 Each part prints its counts, what was not as it has to be, and a last line with what was tried. The exit status is 1 if anything was not
 as it has to be. Where there is no `cc`, refused memory is not tried; a line says so, and under `CI` this is a failure.
@@ -23,10 +23,15 @@ from pathlib import Path
 
 sys.dont_write_bytecode = True
 import calls  # noqa: E402
+import largest  # noqa: E402
 import limits  # noqa: E402
 import sinks  # noqa: E402
 import sweep  # noqa: E402
 import trial  # noqa: E402
+
+# The ticks of a run of the largest module, and of the replays of its partitions.
+RUN, REPLAYED = 10**6, 10**5
+
 
 def gathered(pool, tasks):
     """Does the tasks, each a function with what it is given, side by side; returns what they told together."""
@@ -79,7 +84,7 @@ def try_images(_, words):
 def try_limits(pool, words):
     """Inputs at the limits."""
     tasks = [(limits.try_input, words.mb, number) for number in range(len(limits.INPUTS))]
-    told = gathered(pool, [(limits.name_limits,), *tasks])
+    told = gathered(pool, [(limits.name_limits,), *tasks, (largest.try_largest, words.mb, RUN, REPLAYED)])
     return finish("limits", [told], counted(told))
 
 

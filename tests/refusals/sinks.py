@@ -44,7 +44,7 @@ def broken_output(kind):
 
 
 def break_outputs(mb):
-    """Gives each command an output that takes no byte. `build` writes IMAGE all the same."""
+    """Gives each command an output that takes no byte. `build` and `upgrade` write IMAGE all the same."""
     told = Told()
     with tempfile.TemporaryDirectory() as room:
         folder = Path(room)
@@ -53,7 +53,7 @@ def break_outputs(mb):
         image = (folder / "image").read_bytes()
         for name, words in module.commands().items():
             for kind in ("full device", "closed pipe"):
-                if name == "build":
+                if name in trial.WRITING:
                     (folder / "image").write_bytes(b"before")
                 output = broken_output(kind)
                 done = subprocess.run([mb, *words], cwd=folder, stdin=subprocess.DEVNULL, stdout=output, stderr=subprocess.PIPE, timeout=60)

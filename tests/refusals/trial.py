@@ -70,11 +70,16 @@ def commands(sources, partition, ticks):
         "check": ["check", "table", *sources],
         "cost": ["cost", "table", *sources],
         "build": ["build", "table", "image", *sources],
+        "upgrade": ["upgrade", "old", "image"],
         "dis": ["dis", "image"],
         "run": ["run", "image", "devices", str(ticks)],
         "inputs": ["inputs", "image", partition, "devices", str(ticks)],
         "replay": ["replay", "image", partition, "inputs", str(ticks)],
     }
+
+
+# The commands that write IMAGE.
+WRITING = ("build", "upgrade")
 
 
 def compiler():

@@ -1,13 +1,17 @@
+pub mod Actions
 pub mod CodeWords
 pub mod Costs
 pub mod Line
 pub mod Lines
 pub mod NameText
+pub mod OutView
+pub mod Output
 pub mod Places
 pub mod Room
 pub mod Runners
 pub mod ServiceCalls
 pub mod ServiceShape
+pub mod StepBytes
 pub mod Sink
 pub mod StoredName
 pub mod Versions

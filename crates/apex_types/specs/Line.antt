@@ -11,6 +11,10 @@ use Rattle.apex_types.specs.declared.event.Subject.{Subject}
 use Rattle.apex_types.specs.declared.event.Subject.TheVariants as subject
 use Rattle.std.specs.Io.KnownBytes.{Appends}
 
+-- the byte of a space, which stands between the words of a line
+abbrev pub space : ℕ
+space = 32
+
 -- a number in 13 digits, with zeros in front
 abbrev pub thirteen_digits : ℕ → List ℕ
 thirteen_digits n = map (λ unit. 48 + n / unit % 10) (1000000000000 ∷ 100000000000 ∷ 10000000000 ∷ 1000000000 ∷ 100000000 ∷ 10000000 ∷ 1000000 ∷ 100000 ∷ 10000 ∷ 1000 ∷ 100 ∷ 10 ∷ 1 ∷ [])
@@ -33,7 +37,7 @@ culprit_text (Some who) = subject_text who
 
 -- the words of a message: plain decimals, a space before each
 abbrev pub words_text : List ℤ → List ℕ
-words_text words = flat_map (λ word. 32 ∷ signed_decimal word) words
+words_text words = flat_map (λ word. space ∷ signed_decimal word) words
 
 -- the text of an event
 abbrev pub kind_text : EventKind → List ℕ

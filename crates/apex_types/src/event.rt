@@ -1,6 +1,8 @@
 //! The parts of a trace.
 
-ghost use Rattle.std.specs.Prelude.{◌≡◌};
+ghost use Rattle.std.specs.Prelude.{◌≡◌, ◌≤◌, length};
+ghost use Rattle.apex_types.specs.Output.{event_of, words_of};
+ghost use Rattle.apex_types.specs.declared.limits.TheConstants.{MOST_WORDS};
 
 use crate::codes::{ErrorKind, Mode, ProcessState, Response, ReturnCode};
 use crate::identity::Ticks;
@@ -48,6 +50,20 @@ pub enum EventKind {
     Out(Name, Words),
 }
 
+/// What a line says, without the words of its message.
+#[derive(Clone, Copy)]
+pub enum LineKind {
+    State(Subject, ProcessState),
+    Return(Subject, Service, ReturnCode),
+    Mode(Mode),
+    Error(ErrorKind, Option<Subject>, Response),
+    Report(Subject),
+    Move(Name),
+    Arrive(Name),
+    Lost(Name),
+    Out(Name),
+}
+
 /// A copy of the message.
 pub fn copied(message: &Words) -> Words
     ensures { result ≡ message.now }
@@ -57,21 +73,74 @@ pub fn copied(message: &Words) -> Words
     copy
 }
 
+/// Replaces the words of a message. Just so many words are written as the message gets.
+pub fn refill(message: &mut Words, words: &Words)
+    ensures { message.new ≡ words.now }
+{
+    message.clear();
+    message.try_extend_from_slice(words.as_slice()).unwrap();
+}
+
+/// A message of these words.
+pub fn message_of(words: &[i64]) -> Words
+    requires { length words.now ≤ MOST_WORDS }
+    ensures { result.items ≡ words.now }
+{
+    let mut message = Words::new();
+    message.try_extend_from_slice(words).unwrap();
+    message
+}
+
+impl LineKind {
+    /// The event of a line whose message has these words.
+    pub fn with_words(&self, words: &[i64]) -> EventKind
+        requires { length words.now ≤ MOST_WORDS }
+        ensures { result ≡ event_of self.now words.now }
+    {
+        match *self {
+            LineKind::State(who, state) => EventKind::State(who, state),
+            LineKind::Return(who, service, code) => EventKind::Return(who, service, code),
+            LineKind::Mode(mode) => EventKind::Mode(mode),
+            LineKind::Error(error, who, response) => EventKind::Error(error, who, response),
+            LineKind::Report(who) => EventKind::Report(who, message_of(words)),
+            LineKind::Move(port) => EventKind::Move(port, message_of(words)),
+            LineKind::Arrive(port) => EventKind::Arrive(port, message_of(words)),
+            LineKind::Lost(port) => EventKind::Lost(port, message_of(words)),
+            LineKind::Out(channel) => EventKind::Out(channel, message_of(words)),
+        }
+    }
+}
+
 impl EventKind {
-    /// A copy of the event.
-    pub fn copied(&self) -> EventKind
-        ensures { result ≡ self.now }
+    /// The line of the event, without the words of its message.
+    pub fn line(&self) -> LineKind
+        ensures { event_of result (words_of self.now) ≡ self.now }
+    {
+        match *self {
+            EventKind::State(who, state) => LineKind::State(who, state),
+            EventKind::Return(who, service, code) => LineKind::Return(who, service, code),
+            EventKind::Mode(mode) => LineKind::Mode(mode),
+            EventKind::Error(error, who, response) => LineKind::Error(error, who, response),
+            EventKind::Report(who, _) => LineKind::Report(who),
+            EventKind::Move(port, _) => LineKind::Move(port),
+            EventKind::Arrive(port, _) => LineKind::Arrive(port),
+            EventKind::Lost(port, _) => LineKind::Lost(port),
+            EventKind::Out(channel, _) => LineKind::Out(channel),
+        }
+    }
+
+    /// The words of its message; none if it has no message.
+    pub fn words(&self) -> &[i64]
+        ensures words { result.now ≡ words_of self.now }
+        ensures few { length result.now ≤ MOST_WORDS }
     {
         match self {
-            EventKind::State(who, state) => EventKind::State(*who, *state),
-            EventKind::Return(who, service, code) => EventKind::Return(*who, *service, *code),
-            EventKind::Mode(mode) => EventKind::Mode(*mode),
-            EventKind::Error(error, who, response) => EventKind::Error(*error, *who, *response),
-            EventKind::Report(who, words) => EventKind::Report(*who, copied(words)),
-            EventKind::Move(port, words) => EventKind::Move(*port, copied(words)),
-            EventKind::Arrive(port, words) => EventKind::Arrive(*port, copied(words)),
-            EventKind::Lost(port, words) => EventKind::Lost(*port, copied(words)),
-            EventKind::Out(channel, words) => EventKind::Out(*channel, copied(words)),
+            EventKind::Report(_, words)
+            | EventKind::Move(_, words)
+            | EventKind::Arrive(_, words)
+            | EventKind::Lost(_, words)
+            | EventKind::Out(_, words) => words.as_slice(),
+            _ => &[],
         }
     }
 }

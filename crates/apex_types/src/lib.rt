@@ -32,7 +32,7 @@ pub use codes::{
 pub use cost::{COST_KEYS, Costs, TickCost, UNKNOWN_COST};
 pub use denotation::{Denotation, ObjectKind};
 pub use device::{DeviceFault, DeviceInput, DeviceLine};
-pub use event::{Event, EventKind, Events, Subject, Words, copied};
+pub use event::{Event, EventKind, Events, LineKind, Subject, Words, copied, message_of, refill};
 pub use identity::{
     At, ChannelIndex, ListKey, Moment, PartitionId, PortId, Priority, ProcessIndex, Runner, Ticks,
 };
@@ -40,9 +40,9 @@ pub use instruction::{BinaryOperator, Instr, UnaryOperator};
 pub use limits::{MOST_COST, MOST_ERRORS, MOST_OBJECTS, MOST_PROCESSES, MOST_RUNNERS, MOST_TICKS};
 pub use log::EventLog;
 pub use name::Name;
-pub use out::{Actions, Happenings, Out};
+pub use out::Out;
 pub use place::Place;
-pub use process::{Action, Due, Entry, Lock, ProcessStatus, Wait, Waiting, WaitingError};
+pub use process::{ActionKind, Due, Entry, Lock, ProcessStatus, Wait, Waiting, WaitingError};
 pub use row::{
     BlackboardRow, BodyRow, BufferRow, ChannelEnd, HealthTable, PortDirection, PortKind, PortRow,
     ProcessRow, RoutineRow, Section, SemaphoreRow, WindowRow,
@@ -51,4 +51,4 @@ pub use service::{ArrayPlace, Call, SERVICES, Service};
 pub use shape::{ArgumentKind, ServiceClass, Shape};
 pub use sink::{Sink, SinkFault, WriterSink, put_all};
 pub use text::{TraceBuffer, write_event};
-pub use version::{FIRST_VERSION, ImageVersion, MAGIC, SECOND_VERSION};
+pub use version::{FIRST_VERSION, ImageVersion, MAGIC, SECOND_VERSION, THIRD_VERSION};

@@ -2,6 +2,26 @@
 //!
 //! Each limit is defined only here. Code, definitions and proofs use it from here.
 
+/// The limits that are not the same in every version of an image.
+#[derive(Clone, Copy, Debug, PartialEq, Eq)]
+pub struct Limits {
+    /// The most partitions of a module.
+    pub partitions: u8,
+    /// The most processes of a partition.
+    pub processes: u8,
+    /// The most words of a message.
+    pub words: u8,
+}
+
+/// The most partitions of a module with an image of version 1 or 2.
+pub const FIRST_MOST_PARTITIONS: u8 = 16;
+
+/// The most processes of a partition in an image of version 1 or 2.
+pub const FIRST_MOST_PROCESSES: u8 = 31;
+
+/// The most words of a message in a module with an image of version 1 or 2.
+pub const FIRST_MOST_WORDS: u8 = 16;
+
 /// The most ticks of a run. No tick, duration, period, time capacity, delay, time-out or refresh period
 /// is greater.
 pub const MOST_TICKS: u64 = 1 << 40;
@@ -16,7 +36,7 @@ pub const MOST_FRAME_TICKS: u32 = 1 << 24;
 pub const MOST_NAME_BYTES: usize = 30;
 
 /// The most partitions of a module.
-pub const MOST_PARTITIONS: u8 = 16;
+pub const MOST_PARTITIONS: u8 = 32;
 
 /// The most windows of a major frame.
 pub const MOST_WINDOWS: u8 = 64;
@@ -31,7 +51,7 @@ pub const MOST_DESTINATIONS: u8 = 16;
 pub const MOST_PORTS: u8 = 16;
 
 /// The most processes of a partition, besides INIT and the error handler.
-pub const MOST_PROCESSES: u8 = 31;
+pub const MOST_PROCESSES: u8 = 63;
 
 /// The most runners of a partition: INIT, the error handler and the processes.
 pub const MOST_RUNNERS: u8 = MOST_PROCESSES + 2;
@@ -42,6 +62,12 @@ pub const MOST_OBJECTS: u8 = 16;
 /// The greatest priority of a process; the least is 1.
 pub const GREATEST_PRIORITY: u8 = 239;
 
+/// The most levels of priority for which ready processes are listed: all that a byte numbers.
+pub const PRIORITY_LEVELS: u16 = 256;
+
+/// The bits of a word of marks, one for each level of priority or for each process.
+pub const MARK_BITS: u8 = 64;
+
 /// The greatest level of the preemption lock.
 pub const MOST_LOCK_LEVEL: u8 = 16;
 
@@ -49,7 +75,10 @@ pub const MOST_LOCK_LEVEL: u8 = 16;
 pub const MOST_ERRORS: u8 = 64;
 
 /// The most words of a message.
-pub const MOST_WORDS: usize = 16;
+pub const MOST_WORDS: usize = 64;
+
+/// The most words of the arguments of a service.
+pub const MOST_ARGUMENT_WORDS: usize = 5;
 
 /// The most messages that a buffer or a queuing port holds.
 pub const MOST_DEPTH: u8 = 32;
@@ -102,14 +131,23 @@ pub const MOST_REPORT_WORDS: u8 = 16;
 /// The most events of a phase of a tick, and the most lines of a step: each process may be
 /// released, miss its deadline and change its state once, and the choice and the end of a service
 /// add a few more.
-pub const MOST_EVENTS: usize = 256;
+pub const MOST_EVENTS: usize = 512;
 
 /// The most actions of a phase of a tick, on the processor, the data and the error queue: the words
 /// of a message and an answer for each process, the answer to a call, and the three of a Clear.
 pub const MOST_ACTIONS: usize = 2 * MOST_PROCESSES as usize + 4;
 
+/// The most words of the lines and the actions of a step.
+pub const MOST_OUT_WORDS: usize = MOST_WORDS * (MOST_EVENTS + MOST_ACTIONS);
+
+/// The bytes of an instruction in an image.
+pub const INSTRUCTION_BYTES: usize = 16;
+
 /// The most bytes of a word in a line: its digits, its sign and the space before it.
 pub const MOST_WORD_BYTES: usize = 21;
+
+/// The most bytes of an event besides the words of its message.
+pub const MOST_KIND_BYTES: usize = 64;
 
 /// The most bytes that a line has besides the words of a message: a tick, two names, and the event.
 pub const MOST_HEAD_BYTES: usize = 176;

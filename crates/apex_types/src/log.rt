@@ -2,7 +2,7 @@
 
 ghost use Rattle.std.specs.Prelude.{◌≡◌, ◌≤◌, ◌<◌, ◌+◌, ◌-◌, ◌++◌, ◌↔◌, ℕ, List, [], ◌∷◌, length, IsTrue};
 
-use crate::event::{Event, EventKind, Events};
+use crate::event::{Event, Events, LineKind};
 use crate::identity::Ticks;
 use crate::name::Name;
 
@@ -11,8 +11,9 @@ use crate::name::Name;
 /// It holds a list of pieces: a list of events holds the events themselves, and a buffer of a trace
 /// the bytes of their lines. No call allocates memory.
 pub trait EventLog {
+    ghost use Rattle.apex_types.specs.Output.{event_of};
     ghost use Rattle.apex_types.specs.declared.event.Event.{Event};
-    ghost use Rattle.apex_types.specs.declared.limits.TheConstants.{MOST_EVENTS};
+    ghost use Rattle.apex_types.specs.declared.limits.TheConstants.{MOST_EVENTS, MOST_WORDS};
 
     ghost Piece: { Type 0 };
 
@@ -25,12 +26,17 @@ pub trait EventLog {
     /// The number of further events that it has room for, whatever they are.
     ghost room: { Self → ℕ };
 
-    /// Records an event of a partition, or of the module itself.
-    fn tell(&mut self, tick: Ticks, partition: &Option<Name>, kind: &EventKind)
-        requires { 0 < room self.old }
+    /// Records an event of a partition, or of the module itself; `words` are those of its message.
+    fn tell(&mut self, tick: Ticks, partition: &Option<Name>, kind: &LineKind, words: &[i64])
+        requires room { 0 < room self.old }
+        requires few { length words.now ≤ MOST_WORDS }
         ensures held { held self.new
             ≡ held self.old
-            ++ pieces (record { tick = tick; partition = partition.now; kind = kind.now } ∷ []) }
+            ++ pieces (record {
+              tick = tick;
+              partition = partition.now;
+              kind = event_of kind.now words.now;
+            } ∷ []) }
         ensures room { room self.old ≤ room self.new + 1 };
 
     /// Whether it holds nothing.
@@ -69,11 +75,11 @@ impl EventLog for Events {
 
     ghost empty = { λ log h. room_of_none log.items h };
 
-    fn tell(&mut self, tick: Ticks, partition: &Option<Name>, kind: &EventKind) {
+    fn tell(&mut self, tick: Ticks, partition: &Option<Name>, kind: &LineKind, words: &[i64]) {
         self.push(Event {
             tick,
             partition: *partition,
-            kind: kind.copied(),
+            kind: kind.with_words(words),
         });
     }
 

@@ -92,22 +92,21 @@ pub struct WaitingError {
 }
 
 /// An action of a step of the kernel, on the processor, on the partition's data or on its error
-/// queue.
-#[derive(Default, Drop)]
-pub enum Action {
+/// queue, without the words of its answer or message.
+#[derive(Clone, Copy, Debug, PartialEq, Eq)]
+pub enum ActionKind {
     /// The process begins its body afresh.
     Begin(Runner),
     /// The process has nothing left to do.
     Stop(Runner),
     /// No process has anything left to do.
-    #[default]
     StopAll,
-    /// The answer to a service call: the code, then the outputs.
-    Reply(Runner, Words),
+    /// The answer to a service call, whose words are the code, then the outputs.
+    Reply(Runner),
     /// The data becomes the initial data.
     Restore,
     /// The words go into the data, from this place on.
-    Write(i64, Words),
-    /// The error waits for the error handler.
-    Queue(WaitingError),
+    Write(i64),
+    /// The error of a process waits for the error handler, with these words.
+    Queue(ErrorKind, ProcessIndex),
 }

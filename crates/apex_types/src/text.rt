@@ -1,15 +1,18 @@
 //! The text of a trace.
 
-ghost use Rattle.std.specs.Prelude.{◌≡◌, ℕ, ◌+◌, ◌-◌, ◌*◌, ◌/◌, ◌%◌, ◌^◌, ◌<◌, ◌≤◌, List, [], ◌∷◌, ◌++◌, codes, length, All, OnErr, OnOk};
+ghost use Rattle.std.specs.Prelude.{◌≡◌, ℕ, ◌+◌, ◌-◌, ◌*◌, ◌/◌, ◌%◌, ◌^◌, ◌<◌, ◌≤◌, List, [], ◌∷◌, ◌++◌, codes, length, All, IfOk, IsTrue, OnErr, OnOk, ◌↔◌};
 ghost use Rattle.std.specs.Fmt.{signed_decimal};
 ghost use Rattle.std.specs.Io.KnownBytes.{Appends};
+ghost use Rattle.apex_types.specs.Line.{space};
 ghost use Rattle.arrayvec.specs.ArrayVec.{array_vec_len};
 ghost use Rattle.apex_types.specs.Line.{culprit_text, kind_text, line_of, partition_text, subject_text, text_of, thirteen_digits, words_text};
 ghost use Rattle.apex_types.specs.Line.{TakesBeginning};
-ghost use Rattle.apex_types.specs.declared.limits.TheConstants.{MOST_LINE_BYTES, MOST_NAME_BYTES, MOST_WORD_BYTES, MOST_WORDS};
+ghost use Rattle.apex_types.specs.Output.{event_of};
+ghost use Rattle.apex_types.specs.declared.event.EventKind.TheVariants as event;
+ghost use Rattle.apex_types.specs.declared.limits.TheConstants.{MOST_KIND_BYTES, MOST_LINE_BYTES, MOST_NAME_BYTES, MOST_WORDS, MOST_WORD_BYTES};
 
 use crate::codes::{ErrorKind, Response, ReturnCode};
-use crate::event::{Event, EventKind, Subject};
+use crate::event::{Event, LineKind, Subject};
 use crate::identity::Ticks;
 use crate::limits::{MOST_LINE_BYTES, MOST_STEP_BYTES};
 use crate::log::EventLog;
@@ -17,13 +20,101 @@ use crate::name::Name;
 use crate::service::Service;
 use crate::sink::{Sink, SinkFault, put_all};
 use arrayvec::ArrayVec;
+use std::alloc::{AllocError, Global};
 use std::marker::Model;
 
 /// The bytes of one line.
 type Line = ArrayVec<u8, MOST_LINE_BYTES>;
 
-/// The bytes of the lines of a step.
-type Lines = ArrayVec<u8, MOST_STEP_BYTES>;
+/// Where the bytes of lines go, with room for so many more.
+trait Text {
+    ghost text: { Self → List ℕ };
+
+    ghost room: { Self → ℕ };
+
+    /// Appends bytes.
+    fn append(&mut self, bytes: &[u8])
+        requires { length bytes.now ≤ room self.old }
+        ensures text { text self.new ≡ text self.old ++ bytes.now }
+        ensures room { room self.old ≤ room self.new + length bytes.now };
+}
+
+impl<const N: usize> Text for ArrayVec<u8, N> {
+    ghost text = { λ line. line.items };
+
+    ghost room = { λ line. N - array_vec_len line };
+
+    fn append(&mut self, bytes: &[u8]) {
+        // Without bytes nothing is said of the room.
+        if !bytes.is_empty() {
+            self.try_extend_from_slice(bytes).unwrap();
+        }
+    }
+}
+
+/// The bytes of the lines of a step, in memory that is taken once. A contract sees the bytes.
+#[derive(Drop)]
+pub struct StepText {
+    /// As many as the lines of a step may have. Those behind the first `len` say nothing.
+    bytes: Vec<u8>,
+    len: usize,
+}
+
+impl Model for StepText {
+    ghost use Rattle.std.specs.Prelude.{ℕ, List, take};
+    ghost use Rattle.apex_types.specs.StepBytes.{AreStepBytes};
+
+    ghost Value = { List ℕ };
+
+    ghost view = { λ t. take t.len t.bytes.items };
+
+    ghost invariant = { λ t. AreStepBytes t.len t.bytes.items };
+}
+
+impl StepText {
+    /// No bytes, with memory for the lines of a step. `AllocError`: out of memory.
+    fn new(alloc: Global) -> Result<StepText, AllocError>
+        ensures { IfOk result (λ text. text ≡ []) }
+    {
+        let bytes = Vec::from_elem(alloc, 0, MOST_STEP_BYTES)?;
+        Ok(StepText { bytes, len: 0 })
+    }
+
+    /// The bytes.
+    pub fn as_slice(&self) -> &[u8]
+        ensures { result.now ≡ self.now }
+    {
+        &self.bytes[..self.len]
+    }
+
+    /// Whether there are none.
+    fn is_empty(&self) -> bool
+        ensures { IsTrue result ↔ (self.now ≡ []) }
+    {
+        self.as_slice().is_empty()
+    }
+
+    /// Drops all bytes.
+    fn clear(&mut self)
+        ensures { self.new ≡ [] }
+    {
+        self.len = 0;
+    }
+}
+
+impl Text for StepText {
+    ghost use Rattle.apex_types.specs.declared.limits.TheConstants.{MOST_STEP_BYTES};
+
+    ghost text = { λ t. t };
+
+    ghost room = { λ t. MOST_STEP_BYTES - length t };
+
+    fn append(&mut self, bytes: &[u8]) {
+        let end = self.len + bytes.len();
+        self.bytes[self.len..end].copy_from_slice(bytes);
+        self.len = end;
+    }
+}
 
 /// A tick with its digits, which the lines of this tick share. A contract sees it as the tick.
 #[derive(Drop)]
@@ -87,8 +178,9 @@ pub fn write_event<S: Sink>(event: &Event, sink: &mut S) -> Result<(), SinkFault
         (TakesBeginning (S.taken sink.old) (S.taken sink.new) (line_of event.now)) }
 {
     let stamp = Stamp::new(event.tick);
+    let (kind, words) = (event.kind.line(), event.kind.words());
     let mut line = Line::new();
-    push_line(&mut line, stamp.digits(), &event.partition, &event.kind);
+    push_line(&mut line, stamp.digits(), &event.partition, &kind, words);
     put_all(sink, line.as_slice())
 }
 
@@ -96,24 +188,24 @@ pub fn write_event<S: Sink>(event: &Event, sink: &mut S) -> Result<(), SinkFault
 /// last tick are kept for the next lines.
 #[derive(Drop)]
 pub struct TraceBuffer {
-    pub text: Lines,
+    pub text: StepText,
     stamp: Stamp,
 }
 
 impl TraceBuffer {
-    /// A buffer without lines.
-    pub fn new() -> TraceBuffer
-        ensures { result.text.items ≡ [] }
+    /// A buffer without lines, with memory for those of a step. `AllocError`: out of memory.
+    pub fn new(alloc: Global) -> Result<TraceBuffer, AllocError>
+        ensures { IfOk result (λ trace. trace.text ≡ []) }
     {
-        TraceBuffer {
-            text: Lines::new(),
+        Ok(TraceBuffer {
+            text: StepText::new(alloc)?,
             stamp: Stamp::new(Ticks(0)),
-        }
+        })
     }
 
     /// Drops all lines.
     pub fn clear(&mut self)
-        ensures { self.new.text.items ≡ [] }
+        ensures { self.new.text ≡ [] }
     {
         self.text.clear();
     }
@@ -123,12 +215,12 @@ impl TraceBuffer {
     pub fn write_events<S: Sink>(&mut self, sink: &mut S) -> Result<(), SinkFault>
         requires { S.failures sink.old < 2 ^ 64 - 1 }
         ensures ok { OnOk result
-            (Appends (S.taken sink.old) (S.taken sink.new) self.old.text.items) }
-        ensures empty { OnOk result (self.new.text.items ≡ []) }
+            (Appends (S.taken sink.old) (S.taken sink.new) self.old.text) }
+        ensures empty { OnOk result (self.new.text ≡ []) }
         ensures quiet { OnOk result (S.failures sink.new ≡ S.failures sink.old) }
         ensures failed { OnErr result (S.failures sink.new ≡ S.failures sink.old + 1) }
         ensures beginning { OnErr result
-            (TakesBeginning (S.taken sink.old) (S.taken sink.new) self.old.text.items) }
+            (TakesBeginning (S.taken sink.old) (S.taken sink.new) self.old.text) }
     {
         put_all(sink, self.text.as_slice())?;
         self.text.clear();
@@ -143,11 +235,11 @@ impl EventLog for TraceBuffer {
 
     ghost Piece = { ℕ };
 
-    ghost held = { λ log. log.text.items };
+    ghost held = { λ log. log.text };
 
     ghost pieces = { text_of };
 
-    ghost room = { λ log. lines_left log.text.items };
+    ghost room = { λ log. lines_left log.text };
 
     ghost none = { refl };
 
@@ -155,11 +247,11 @@ impl EventLog for TraceBuffer {
 
     ghost silent = { no_text };
 
-    ghost empty = { λ log h. whole_room log.text.items h };
+    ghost empty = { λ log h. whole_room log.text h };
 
-    fn tell(&mut self, tick: Ticks, partition: &Option<Name>, kind: &EventKind) {
+    fn tell(&mut self, tick: Ticks, partition: &Option<Name>, kind: &LineKind, words: &[i64]) {
         self.stamp.renew(tick);
-        push_line(&mut self.text, self.stamp.digits(), partition, kind);
+        push_line(&mut self.text, self.stamp.digits(), partition, kind, words);
     }
 
     fn is_empty(&self) -> bool {
@@ -168,40 +260,42 @@ impl EventLog for TraceBuffer {
 }
 
 /// Appends the line of an event.
-fn push_line<const N: usize>(
-    line: &mut ArrayVec<u8, N>,
+fn push_line<T: Text>(
+    line: &mut T,
     digits: &[u8; 13],
     partition: &Option<Name>,
-    kind: &EventKind,
+    kind: &LineKind,
+    words: &[i64],
 )
-    requires { array_vec_len line.old + MOST_LINE_BYTES ≤ N }
-    ensures items { line.new.items
-        ≡ line.old.items
+    requires room { MOST_LINE_BYTES ≤ T.room line.old }
+    requires few { length words.now ≤ MOST_WORDS }
+    ensures items { T.text line.new
+        ≡ T.text line.old
         ++ (digits.now ++ codes " " ++ partition_text partition.now ++ codes " "
-        ++ kind_text kind.now ++ 10
+        ++ kind_text (event_of kind.now words.now) ++ 10
         ∷ []) }
-    ensures len { array_vec_len line.new ≤ array_vec_len line.old + MOST_LINE_BYTES }
+    ensures room { T.room line.old ≤ T.room line.new + MOST_LINE_BYTES }
 {
     push_bytes(line, digits);
     push_text(line, " ");
     push_partition(line, partition);
     push_text(line, " ");
-    push_kind(line, kind);
+    push_kind(line, kind, words);
     push_text(line, "\n");
 }
 
-fn push_bytes<const N: usize>(line: &mut ArrayVec<u8, N>, bytes: &[u8])
-    requires { array_vec_len line.old + length bytes.now ≤ N }
-    ensures items { line.new.items ≡ line.old.items ++ bytes.now }
-    ensures len { array_vec_len line.new ≡ array_vec_len line.old + length bytes.now }
+fn push_bytes<T: Text>(line: &mut T, bytes: &[u8])
+    requires { length bytes.now ≤ T.room line.old }
+    ensures items { T.text line.new ≡ T.text line.old ++ bytes.now }
+    ensures room { T.room line.old ≤ T.room line.new + length bytes.now }
 {
-    line.try_extend_from_slice(bytes).unwrap();
+    line.append(bytes);
 }
 
-fn push_text<const N: usize>(line: &mut ArrayVec<u8, N>, text: &str)
-    requires { array_vec_len line.old + length text.now ≤ N }
-    ensures items { line.new.items ≡ line.old.items ++ text.now }
-    ensures len { array_vec_len line.new ≡ array_vec_len line.old + length text.now }
+fn push_text<T: Text>(line: &mut T, text: &str)
+    requires { length text.now ≤ T.room line.old }
+    ensures items { T.text line.new ≡ T.text line.old ++ text.now }
+    ensures room { T.room line.old ≤ T.room line.new + length text.now }
 {
     push_bytes(line, text.as_bytes());
 }
@@ -244,10 +338,10 @@ fn put_last_digits(digits: &mut [u8; 13], number: u64)
     digits[12] = digit(number, 1);
 }
 
-fn push_partition<const N: usize>(line: &mut ArrayVec<u8, N>, partition: &Option<Name>)
-    requires { array_vec_len line.old + MOST_NAME_BYTES ≤ N }
-    ensures items { line.new.items ≡ line.old.items ++ partition_text partition.now }
-    ensures len { array_vec_len line.new ≤ array_vec_len line.old + MOST_NAME_BYTES }
+fn push_partition<T: Text>(line: &mut T, partition: &Option<Name>)
+    requires { MOST_NAME_BYTES ≤ T.room line.old }
+    ensures items { T.text line.new ≡ T.text line.old ++ partition_text partition.now }
+    ensures room { T.room line.old ≤ T.room line.new + MOST_NAME_BYTES }
 {
     match partition {
         Some(name) => push_bytes(line, name.as_bytes()),
@@ -255,10 +349,10 @@ fn push_partition<const N: usize>(line: &mut ArrayVec<u8, N>, partition: &Option
     }
 }
 
-fn push_subject<const N: usize>(line: &mut ArrayVec<u8, N>, who: &Subject)
-    requires { array_vec_len line.old + MOST_NAME_BYTES ≤ N }
-    ensures items { line.new.items ≡ line.old.items ++ subject_text who.now }
-    ensures len { array_vec_len line.new ≤ array_vec_len line.old + MOST_NAME_BYTES }
+fn push_subject<T: Text>(line: &mut T, who: &Subject)
+    requires { MOST_NAME_BYTES ≤ T.room line.old }
+    ensures items { T.text line.new ≡ T.text line.old ++ subject_text who.now }
+    ensures room { T.room line.old ≤ T.room line.new + MOST_NAME_BYTES }
 {
     match who {
         Subject::Init => push_text(line, "INIT"),
@@ -267,10 +361,10 @@ fn push_subject<const N: usize>(line: &mut ArrayVec<u8, N>, who: &Subject)
     }
 }
 
-fn push_culprit<const N: usize>(line: &mut ArrayVec<u8, N>, who: &Option<Subject>)
-    requires { array_vec_len line.old + MOST_NAME_BYTES ≤ N }
-    ensures items { line.new.items ≡ line.old.items ++ culprit_text who.now }
-    ensures len { array_vec_len line.new ≤ array_vec_len line.old + MOST_NAME_BYTES }
+fn push_culprit<T: Text>(line: &mut T, who: &Option<Subject>)
+    requires { MOST_NAME_BYTES ≤ T.room line.old }
+    ensures items { T.text line.new ≡ T.text line.old ++ culprit_text who.now }
+    ensures room { T.room line.old ≤ T.room line.new + MOST_NAME_BYTES }
 {
     match who {
         Some(who) => push_subject(line, who),
@@ -278,21 +372,20 @@ fn push_culprit<const N: usize>(line: &mut ArrayVec<u8, N>, who: &Option<Subject
     }
 }
 
-fn push_word<const N: usize>(line: &mut ArrayVec<u8, N>, word: i64)
-    requires { array_vec_len line.old + MOST_WORD_BYTES ≤ N }
-    ensures items { line.new.items ≡ line.old.items ++ 32 ∷ signed_decimal word }
-    ensures len { array_vec_len line.new ≤ array_vec_len line.old + MOST_WORD_BYTES }
+fn push_word<T: Text>(line: &mut T, word: i64)
+    requires { MOST_WORD_BYTES ≤ T.room line.old }
+    ensures items { T.text line.new ≡ T.text line.old ++ space ∷ signed_decimal word }
+    ensures room { T.room line.old ≤ T.room line.new + MOST_WORD_BYTES }
 {
     let mut buffer = itoa::Buffer::new();
     push_text(line, " ");
     push_text(line, buffer.format(word));
 }
 
-fn push_words<const N: usize>(line: &mut ArrayVec<u8, N>, words: &[i64])
-    requires { array_vec_len line.old + MOST_WORD_BYTES * length words.now ≤ N }
-    ensures items { line.new.items ≡ line.old.items ++ words_text words.now }
-    ensures len { array_vec_len line.new
-        ≤ array_vec_len line.old + MOST_WORD_BYTES * length words.now }
+fn push_words<T: Text>(line: &mut T, words: &[i64])
+    requires { MOST_WORD_BYTES * length words.now ≤ T.room line.old }
+    ensures items { T.text line.new ≡ T.text line.old ++ words_text words.now }
+    ensures room { T.room line.old ≤ T.room line.new + MOST_WORD_BYTES * length words.now }
 {
     for word in words {
         push_word(line, *word);
@@ -300,26 +393,20 @@ fn push_words<const N: usize>(line: &mut ArrayVec<u8, N>, words: &[i64])
 }
 
 /// Appends the name of a port or channel, and the words of its message.
-fn push_message<const N: usize>(line: &mut ArrayVec<u8, N>, name: &Name, words: &[i64])
-    requires { array_vec_len line.old + MOST_NAME_BYTES + MOST_WORD_BYTES * length words.now ≤ N }
-    ensures items { line.new.items ≡ line.old.items ++ name.now ++ words_text words.now }
-    ensures len { array_vec_len line.new
-        ≤ array_vec_len line.old + MOST_NAME_BYTES + MOST_WORD_BYTES * length words.now }
+fn push_message<T: Text>(line: &mut T, name: &Name, words: &[i64])
+    requires { MOST_NAME_BYTES + MOST_WORD_BYTES * length words.now ≤ T.room line.old }
+    ensures items { T.text line.new ≡ T.text line.old ++ name.now ++ words_text words.now }
+    ensures room { T.room line.old ≤ T.room line.new + MOST_NAME_BYTES + MOST_WORD_BYTES * length words.now }
 {
     push_bytes(line, name.as_bytes());
     push_words(line, words);
 }
 
-fn push_return<const N: usize>(
-    line: &mut ArrayVec<u8, N>,
-    who: &Subject,
-    service: Service,
-    code: ReturnCode,
-)
-    requires { array_vec_len line.old + 70 + MOST_NAME_BYTES ≤ N }
-    ensures items { line.new.items
-        ≡ line.old.items ++ kind_text (EventKind.Return who.now service code) }
-    ensures len { array_vec_len line.new ≤ array_vec_len line.old + 70 + MOST_NAME_BYTES }
+fn push_return<T: Text>(line: &mut T, who: &Subject, service: Service, code: ReturnCode)
+    requires { 70 + MOST_NAME_BYTES ≤ T.room line.old }
+    ensures items { T.text line.new
+        ≡ T.text line.old ++ kind_text (event.Return who.now service code) }
+    ensures room { T.room line.old ≤ T.room line.new + 70 + MOST_NAME_BYTES }
 {
     let mut buffer = itoa::Buffer::new();
     push_text(line, "RET ");
@@ -330,16 +417,11 @@ fn push_return<const N: usize>(
     push_text(line, buffer.format(code.number()));
 }
 
-fn push_error<const N: usize>(
-    line: &mut ArrayVec<u8, N>,
-    error: ErrorKind,
-    who: &Option<Subject>,
-    response: Response,
-)
-    requires { array_vec_len line.old + 70 + MOST_NAME_BYTES ≤ N }
-    ensures items { line.new.items
-        ≡ line.old.items ++ kind_text (EventKind.Error error who.now response) }
-    ensures len { array_vec_len line.new ≤ array_vec_len line.old + 70 + MOST_NAME_BYTES }
+fn push_error<T: Text>(line: &mut T, error: ErrorKind, who: &Option<Subject>, response: Response)
+    requires { 70 + MOST_NAME_BYTES ≤ T.room line.old }
+    ensures items { T.text line.new
+        ≡ T.text line.old ++ kind_text (event.Error error who.now response) }
+    ensures room { T.room line.old ≤ T.room line.new + 70 + MOST_NAME_BYTES }
 {
     push_text(line, "HM ");
     push_text(line, error.word());
@@ -351,45 +433,46 @@ fn push_error<const N: usize>(
     push_text(line, response.action_word());
 }
 
-fn push_kind<const N: usize>(line: &mut ArrayVec<u8, N>, kind: &EventKind)
-    requires { array_vec_len line.old + 64 + MOST_WORD_BYTES * MOST_WORDS ≤ N }
-    ensures items { line.new.items ≡ line.old.items ++ kind_text kind.now }
-    ensures len { array_vec_len line.new
-        ≤ array_vec_len line.old + 64 + MOST_WORD_BYTES * MOST_WORDS }
+fn push_kind<T: Text>(line: &mut T, kind: &LineKind, words: &[i64])
+    requires room { MOST_KIND_BYTES + MOST_WORD_BYTES * MOST_WORDS ≤ T.room line.old }
+    requires few { length words.now ≤ MOST_WORDS }
+    ensures items { T.text line.new
+        ≡ T.text line.old ++ kind_text (event_of kind.now words.now) }
+    ensures room { T.room line.old ≤ T.room line.new + MOST_KIND_BYTES + MOST_WORD_BYTES * MOST_WORDS }
 {
     match kind {
-        EventKind::State(who, state) => {
+        LineKind::State(who, state) => {
             push_text(line, "STATE ");
             push_subject(line, who);
             push_text(line, " ");
             push_text(line, state.word());
         }
-        EventKind::Return(who, service, code) => push_return(line, who, *service, *code),
-        EventKind::Mode(mode) => {
+        LineKind::Return(who, service, code) => push_return(line, who, *service, *code),
+        LineKind::Mode(mode) => {
             push_text(line, "MODE ");
             push_text(line, mode.word());
         }
-        EventKind::Error(error, who, response) => push_error(line, *error, who, *response),
-        EventKind::Report(who, words) => {
+        LineKind::Error(error, who, response) => push_error(line, *error, who, *response),
+        LineKind::Report(who) => {
             push_text(line, "REPORT ");
             push_subject(line, who);
-            push_words(line, words.as_slice());
+            push_words(line, words);
         }
-        EventKind::Move(port, words) => {
+        LineKind::Move(port) => {
             push_text(line, "MOVE ");
-            push_message(line, port, words.as_slice());
+            push_message(line, port, words);
         }
-        EventKind::Arrive(port, words) => {
+        LineKind::Arrive(port) => {
             push_text(line, "ARRIVE ");
-            push_message(line, port, words.as_slice());
+            push_message(line, port, words);
         }
-        EventKind::Lost(port, words) => {
+        LineKind::Lost(port) => {
             push_text(line, "LOST ");
-            push_message(line, port, words.as_slice());
+            push_message(line, port, words);
         }
-        EventKind::Out(channel, words) => {
+        LineKind::Out(channel) => {
             push_text(line, "OUT ");
-            push_message(line, channel, words.as_slice());
+            push_message(line, channel, words);
         }
     }
 }

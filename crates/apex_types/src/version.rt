@@ -1,6 +1,10 @@
 //! The versions of an image.
 
 use crate::cost::Costs;
+use crate::limits::{
+    FIRST_MOST_PARTITIONS, FIRST_MOST_PROCESSES, FIRST_MOST_WORDS, Limits, MOST_PARTITIONS,
+    MOST_PROCESSES, MOST_WORDS,
+};
 
 /// The bytes that every image begins with.
 pub const MAGIC: [u8; 8] = *b"AP653IMG";
@@ -11,17 +15,22 @@ pub const FIRST_VERSION: u16 = 1;
 /// The number of the second version.
 pub const SECOND_VERSION: u16 = 2;
 
+/// The number of the third version.
+pub const THIRD_VERSION: u16 = 3;
+
 /// The version of an image, with what images of this version alone have. An image of the first version
-/// has no costs of its own: its constructs cost what is written of Pal.
+/// has no costs of its own: its constructs cost what is written of Pal. One of the third has larger
+/// limits.
 #[derive(Clone, Copy, Debug, PartialEq, Eq)]
 pub enum ImageVersion {
     First,
     Second { costs: Costs },
+    Third { costs: Costs },
 }
 
 impl ImageVersion {
     ghost use Rattle.std.specs.Prelude.{◌≡◌};
-    ghost use Rattle.apex_types.specs.Versions.{costs_of, number_of};
+    ghost use Rattle.apex_types.specs.Versions.{costs_of, limits_of, number_of};
 
     /// The number of the version, as the image has it.
     pub fn number(self) -> u16
@@ -29,7 +38,8 @@ impl ImageVersion {
     {
         match self {
             ImageVersion::First => FIRST_VERSION,
-            ImageVersion::Second { costs } => SECOND_VERSION,
+            ImageVersion::Second { .. } => SECOND_VERSION,
+            ImageVersion::Third { .. } => THIRD_VERSION,
         }
     }
 
@@ -39,7 +49,25 @@ impl ImageVersion {
     {
         match self {
             ImageVersion::First => Costs::written(),
-            ImageVersion::Second { costs } => costs,
+            ImageVersion::Second { costs } | ImageVersion::Third { costs } => costs,
+        }
+    }
+
+    /// The limits of a module with an image of this version.
+    pub fn limits(self) -> Limits
+        ensures { result ≡ limits_of self }
+    {
+        match self {
+            ImageVersion::First | ImageVersion::Second { .. } => Limits {
+                partitions: FIRST_MOST_PARTITIONS,
+                processes: FIRST_MOST_PROCESSES,
+                words: FIRST_MOST_WORDS,
+            },
+            ImageVersion::Third { .. } => Limits {
+                partitions: MOST_PARTITIONS,
+                processes: MOST_PROCESSES,
+                words: MOST_WORDS as u8,
+            },
         }
     }
 }

@@ -14,7 +14,7 @@ use Rattle.command_words.proofs.ErrorKinds.{help_or}
 use Rattle.command_line.specs.Answers.{AreNoCommand, IsAnswer, IsTold}
 use Rattle.command_line.specs.Done.{IsDone}
 use Rattle.command_line.specs.Lines.{line_of}
-use Rattle.command_line.specs.Orders.{Order, First, Check, Build, Run, Replay, Inputs, Cost, Dis}
+use Rattle.command_line.specs.Orders.{Order, First, Check, Build, Run, Replay, Inputs, Cost, Dis, Upgrade}
 use Rattle.command_line.specs.Refusals.{IsFailure, IsFailureOfWords, IsRefused, IsWrongTicks}
 use Rattle.command_line.specs.States.{IsSilent, State, state}
 use Rattle.command_line.specs.Told.{IsOfFailedFile}
@@ -41,6 +41,7 @@ memory_refused (Replay image partition text ticks) s = (inr refl, (refl, (refl, 
 memory_refused (Inputs image partition devices ticks) s = (inr refl, (refl, (refl, refl)))
 memory_refused (Cost table sources) s = ((refl, (refl, refl)), tt)
 memory_refused (Dis image) s = ((refl, (refl, refl)), tt)
+memory_refused (Upgrade old new) s = ((refl, refl), inl (refl, tt))
 
 -- words that the library takes, whose order is not done
 pub order_failed : (kinds : Kinds) (own order : Order) (before after : State) (answer : Result (Unit {0}) (Failure Refusal)) → kinds ≡ [] → own ≡ order

@@ -13,12 +13,13 @@ use Rattle.module.specs.Promises.{Means}
 use Rattle.module.specs.Replays.{Replays}
 use Rattle.module.specs.Runs.{Runs}
 use Rattle.module.specs.Telling.{Tells}
+use Rattle.module.specs.Upgrades.{IsUpgraded}
 use Rattle.module.specs.declared.costing.PartitionCosts.{PartitionCosts}
 use Rattle.module.specs.declared.fault.BuildAndRunFault.{BuildAndRunFault}
 use Rattle.module.specs.declared.inputs_fault.InputsFault.{InputsFault}
 use Rattle.module.specs.declared.fault.RunFault.{RunFault}
 use Rattle.streams.specs.Contents.{Contents, Holds, HoldAll, Spares}
-use Rattle.command_line.specs.Orders.{Order, First, Check, Build, Run, Replay, Inputs, Cost, Dis}
+use Rattle.command_line.specs.Orders.{Order, First, Check, Build, Run, Replay, Inputs, Cost, Dis, Upgrade}
 use Rattle.command_line.specs.States.{State}
 use Rattle.command_line.specs.declared.first_run.TheConstants.{SOURCE, TABLE, TICKS}
 
@@ -47,6 +48,12 @@ pub record IsImageIn (files : Option Contents) (name : List ℕ) (image : Image)
   pub in_image : Holds files name image_bytes
   pub loaded : image_at image_bytes ≡ Ok image
 
+-- An image, in the file of this name, is that of these bytes once it is upgraded.
+pub record IsUpgradedIn (files : Option Contents) (name : List ℕ) (bytes : List ℕ) : Type 0 where
+  pub image_bytes : List ℕ
+  pub in_image : Holds files name image_bytes
+  pub upgraded : IsUpgraded image_bytes bytes
+
 -- An image and a text of inputs from outside, in the files of these names.
 pub record ImageAndText (files : Option Contents) (image text : List ℕ) : Type 0 where
   pub image_bytes : List ℕ
@@ -62,6 +69,10 @@ accepted_text = codes "accepted" ++ 10 ∷ []
 -- the line with the length of the image
 abbrev pub size_text : ℕ → List ℕ
 size_text n = codes "built " ++ decimal n ++ codes " bytes" ++ 10 ∷ []
+
+-- the line with the length of an upgraded image
+abbrev pub upgraded_text : ℕ → List ℕ
+upgraded_text n = codes "upgraded " ++ decimal n ++ codes " bytes" ++ 10 ∷ []
 
 -- the output of a run of n ticks with this answer
 abbrev pub IsRunOf : {files : Option Contents} {image devices : List ℕ} → ImageAndText files image devices → ℕ → Option (List ℕ) → Option (List ℕ) → Result (Unit {0}) RunFault → Type 0
@@ -113,3 +124,6 @@ IsDone (Cost table sources) before after =
     (after.files ≡ before.files) × (costs : List PartitionCosts) × AreCosted before.files table sources costs × Appends before.out.taken after.out.taken (costs_text costs)
 IsDone (Dis name) before after =
     (after.files ≡ before.files) × (image : Image) × IsImageIn before.files name image × Appends before.out.taken after.out.taken (code_text image)
+IsDone (Upgrade old new) before after =
+    (bytes : List ℕ) × IsUpgradedIn before.files old bytes × Holds after.files new bytes × Spares new before.files after.files
+    × Appends before.out.taken after.out.taken (upgraded_text (length bytes))

@@ -14,6 +14,7 @@ pub data Order : Type 0 where
   Inputs : (image : List ℕ) (partition : List ℕ) (devices : List ℕ) (ticks : List ℕ) → Order
   Cost : (table : List ℕ) (sources : List (List ℕ)) → Order
   Dis : (image : List ℕ) → Order
+  Upgrade : (old : List ℕ) (new : List ℕ) → Order
 
 abbrev pub check_of : List Row → Order
 check_of rows = Check (word_at (codes "TABLE") rows) (words_at (codes "SOURCE") rows)
@@ -36,6 +37,9 @@ cost_of rows = Cost (word_at (codes "TABLE") rows) (words_at (codes "SOURCE") ro
 abbrev pub dis_of : List Row → Order
 dis_of rows = Dis (word_at (codes "IMAGE") rows)
 
+abbrev pub upgrade_of : List Row → Order
+upgrade_of rows = Upgrade (word_at (codes "OLD") rows) (word_at (codes "NEW") rows)
+
 -- a command by its name
 abbrev pub order_named : List ℕ → List Row → Order
 order_named name rows =
@@ -46,6 +50,7 @@ order_named name rows =
     else if bytes_eq name (codes "inputs") then inputs_of rows
     else if bytes_eq name (codes "cost") then cost_of rows
     else if bytes_eq name (codes "dis") then dis_of rows
+    else if bytes_eq name (codes "upgrade") then upgrade_of rows
     else First
 
 -- without a command the stored module

@@ -21,8 +21,8 @@ use Rattle.module.specs.declared.inputs_fault.InputsFault.TheVariants as input_f
 use Rattle.module.specs.declared.fault.RunFault.{RunFault}
 use Rattle.module.specs.declared.fault.RunFault.TheVariants as faults
 use Rattle.streams.specs.Contents.{Contents, Holds, Spares}
-use Rattle.command_line.specs.Done.{Texts, IsBuilt, AreCosted, IsImageIn, ImageAndText, IsRunOf, IsRunDone, IsReplayOf, IsReplayDone, AreInputsOf, AreInputsDone, IsFirstRun, is_ok}
-use Rattle.command_line.specs.Orders.{Order, First as first, Check as check, Build as build, Run as run, Replay as replay, Inputs as inputs, Cost as cost, Dis as dis}
+use Rattle.command_line.specs.Done.{Texts, IsBuilt, AreCosted, IsImageIn, IsUpgradedIn, ImageAndText, IsRunOf, IsRunDone, IsReplayOf, IsReplayDone, AreInputsOf, AreInputsDone, IsFirstRun, is_ok}
+use Rattle.command_line.specs.Orders.{Order, First as first, Check as check, Build as build, Run as run, Replay as replay, Inputs as inputs, Cost as cost, Dis as dis, Upgrade as upgrade}
 use Rattle.command_line.specs.States.{IsSilent, IsUntouched, State}
 use Rattle.command_line.specs.declared.refusal.Refusal.{Refusal}
 use Rattle.command_line.specs.declared.refusal.Refusal.TheVariants.{Build, Run, Replay, Inputs, File, Memory, Write}
@@ -71,6 +71,11 @@ IsNotLoaded files name _ = ⊥
 abbrev pub IsNotWritten : List ℕ → List (List ℕ) → List ℕ → State → State → Refusal → Type 0
 IsNotWritten table sources name before after r =
     ((image : List ℕ) × IsBuilt before.files table sources image) × Spares name before.files after.files × IsRefusalOfFile name r
+
+-- an image is upgraded, which is not written
+abbrev pub IsUpgradeNotWritten : List ℕ → List ℕ → State → State → Refusal → Type 0
+IsUpgradeNotWritten old new before after r =
+    ((bytes : List ℕ) × IsUpgradedIn before.files old bytes) × Spares new before.files after.files × IsRefusalOfFile new r
 
 -- ---- the commands; memory may run out at every step
 
@@ -150,12 +155,20 @@ IsDisRefused name before after Write =
     × (image : Image) × IsImageIn before.files name image × TakesBeginning before.out.taken after.out.taken (code_text image)
 IsDisRefused name before after r = IsUntouched before after × IsNotLoaded before.files name r
 
+abbrev pub IsUpgradeRefused : List ℕ → List ℕ → State → State → Refusal → Type 0
+IsUpgradeRefused old new before after Write =
+    HasFailed before.out after.out × (bytes : List ℕ) × IsUpgradedIn before.files old bytes × Holds after.files new bytes × Spares new before.files after.files
+IsUpgradeRefused old new before after r =
+    IsSilent before.out after.out
+    × (((after.files ≡ before.files) × IsNotLoaded before.files old r) ⊎ IsUpgradeNotWritten old new before after r)
+
 abbrev pub IsRefused : Order → State → State → Refusal → Type 0
 IsRefused first before after r = (after.files ≡ before.files) × IsStoredRefused before.out after.out r
 IsRefused (check table sources) before after r = IsCheckRefused table sources before after r
 IsRefused (build table image sources) before after r = IsBuildRefused table image sources before after r
 IsRefused (cost table sources) before after r = IsCostRefused table sources before after r
 IsRefused (dis image) before after r = IsDisRefused image before after r
+IsRefused (upgrade old new) before after r = IsUpgradeRefused old new before after r
 IsRefused (run image devices ticks) before after r =
     (IsNumeral 10 ticks ⊎ (r ≡ Memory)) × IsRunRefused image devices (digits_value 10 ticks) before after r
 IsRefused (replay image partition text ticks) before after r =

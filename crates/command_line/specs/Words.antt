@@ -43,7 +43,10 @@ cost_app = with_rule (with_rule (explained_app (codes "cost")) (word_rule (codes
 abbrev pub dis_app : App
 dis_app = with_rule (explained_app (codes "dis")) (word_rule (codes "IMAGE"))
 
+abbrev pub upgrade_app : App
+upgrade_app = with_rule (with_rule (explained_app (codes "upgrade")) (word_rule (codes "OLD"))) (word_rule (codes "NEW"))
+
 abbrev pub mb_app : App
 mb_app =
-    with_subcommand (with_subcommand (with_subcommand (with_subcommand (with_subcommand (with_subcommand (with_subcommand
-    (new_app (codes "mb")) check_app.top) build_app.top) run_app.top) replay_app.top) inputs_app.top) cost_app.top) dis_app.top
+    with_subcommand (with_subcommand (with_subcommand (with_subcommand (with_subcommand (with_subcommand (with_subcommand (with_subcommand
+    (new_app (codes "mb")) check_app.top) build_app.top) run_app.top) replay_app.top) inputs_app.top) cost_app.top) dis_app.top) upgrade_app.top

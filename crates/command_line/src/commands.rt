@@ -4,8 +4,8 @@ ghost use Rattle.std.specs.Prelude.{◌≡◌, ◌-◌, ◌^◌, ◌<◌, [], ma
 ghost use Rattle.clap.specs.Faults.{fault_of};
 ghost use Rattle.clap.specs.Simple.{subcommand_of, subcommand_rows_of};
 ghost use Rattle.command_line.specs.Done.{IsDone};
-ghost use Rattle.command_line.specs.Orders.{Build, Check, asks, order_of};
-ghost use Rattle.command_line.specs.Refusals.{IsBuildRefused, IsCheckRefused, IsFailure, IsFailureOfWords};
+ghost use Rattle.command_line.specs.Orders.{Build, Check, Upgrade, asks, order_of};
+ghost use Rattle.command_line.specs.Refusals.{IsBuildRefused, IsCheckRefused, IsFailure, IsFailureOfWords, IsUpgradeRefused};
 ghost use Rattle.command_line.specs.States.{state};
 ghost use Rattle.command_line.specs.Told.{IsOfFailed, IsOfFailedFile};
 ghost use Rattle.streams.specs.States.{IsFlushed, seen};
@@ -13,7 +13,7 @@ ghost use Rattle.command_line.specs.Words.{mb_app};
 
 use crate::explaining::Note;
 use crate::grammar::grammar;
-use crate::reading::build_named;
+use crate::reading::{build_named, upgrade_named};
 use crate::refusal::Refusal;
 use crate::replaying::{inputs, replay};
 use crate::running::{run, run_stored};
@@ -123,6 +123,10 @@ fn obey<F: Files, O: Stream>(
             Ok(cost(alloc, table, sources, files, out, note)?)
         }
         Some(("dis", found)) => Ok(dis(alloc, word(found, "IMAGE"), files, out)?),
+        Some(("upgrade", found)) => {
+            let (old, new) = (word(found, "OLD"), word(found, "NEW"));
+            Ok(upgrade(alloc, old, new, files, out)?)
+        }
         _ => Ok(run_stored(alloc, out)?),
     }
 }
@@ -186,4 +190,35 @@ fn build<F: Files, O: Stream>(
         return Err(Refusal::of_file(shown, fault));
     }
     Ok(write_line(out, format_args!("built {} bytes", image.len()))?)
+}
+
+/// Upgrades an image, and writes it.
+fn upgrade<F: Files, O: Stream>(
+    alloc: Global,
+    old: &str,
+    new: &str,
+    files: &mut F,
+    out: &mut O,
+) -> Result<(), Refusal>
+    requires { O.failures out.old < 2 ^ 64 - 1 }
+    ensures done { OnOk result
+        (IsDone (Upgrade old.now new.now)
+        (state (F.contents files.old) (seen O.taken O.failures O.is_flushed out.old))
+        (state (F.contents files.new) (seen O.taken O.failures O.is_flushed out.new))) }
+    ensures flushed { OnOk result
+        (IsFlushed (seen O.taken O.failures O.is_flushed out.old)
+        (seen O.taken O.failures O.is_flushed out.new)) }
+    ensures refused { IfErr result
+        (λ r. IsUpgradeRefused old.now new.now
+        (state (F.contents files.old) (seen O.taken O.failures O.is_flushed out.old))
+        (state (F.contents files.new) (seen O.taken O.failures O.is_flushed out.new)) r) }
+    ensures noted { OnOk result (F.failed files.new ≡ F.failed files.old) }
+    ensures named { IfErr result (λ r. IsOfFailed (F.failed files.old) (F.failed files.new) r) }
+{
+    let image = upgrade_named(alloc, old, files)?;
+    let shown = String::from_str(alloc, new)?;
+    if let Err(fault) = files.write(new, image.as_slice()) {
+        return Err(Refusal::of_file(shown, fault));
+    }
+    Ok(write_line(out, format_args!("upgraded {} bytes", image.len()))?)
 }

@@ -6,7 +6,7 @@ ghost use Rattle.clap.specs.Values.{kind_of};
 ghost use Rattle.clap.specs.Walk.{rule_of};
 ghost use Rattle.clap.specs.declared.error.kind.ErrorKind.TheVariants.{ValueValidation};
 ghost use Rattle.command_words.specs.Grammar.{IsCommand};
-ghost use Rattle.command_line.specs.Words.{sources_rule, explained_app, check_app, build_app, run_app, partition_app, replay_app, inputs_app, cost_app, dis_app, mb_app};
+ghost use Rattle.command_line.specs.Words.{sources_rule, explained_app, check_app, build_app, run_app, partition_app, replay_app, inputs_app, cost_app, dis_app, upgrade_app, mb_app};
 
 use clap::error::ErrorKind;
 use clap::{Arg, ArgAction, Command, Error};
@@ -24,7 +24,8 @@ pub fn grammar<'a>(alloc: Global) -> Result<Command<'a>, AllocError>
         .subcommand(replay(alloc)?)?
         .subcommand(inputs(alloc)?)?
         .subcommand(cost(alloc)?)?
-        .subcommand(dis(alloc)?)
+        .subcommand(dis(alloc)?)?
+        .subcommand(upgrade(alloc)?)
 }
 
 /// The program without its commands.
@@ -131,6 +132,20 @@ fn dis<'a>(alloc: Global) -> Result<Command<'a>, AllocError>
         .about("Writes the instructions of an image")
         .after_help("Example: mb dis module.image")
         .arg(required_word(alloc, "IMAGE", "The file of an image"))
+}
+
+fn upgrade<'a>(alloc: Global) -> Result<Command<'a>, AllocError>
+    ensures { IfOk result (λ command. IsCommand command upgrade_app) }
+{
+    explained(alloc, "upgrade")?
+        .about("Writes an image again as one of the newest version, which runs as before")
+        .after_help("Example: mb upgrade old.image new.image")
+        .arg(required_word(alloc, "OLD", "The file of an image of any version"))?
+        .arg(required_word(
+            alloc,
+            "NEW",
+            "The file that the upgraded image is written to",
+        ))
 }
 
 /// A command on one partition of an image.

@@ -4,18 +4,19 @@ ghost use Rattle.std.specs.Prelude.{◌≡◌, map, Ok, IfOk, IfErr, OnOk};
 ghost use Rattle.machine_meaning.specs.ImageReading.{image_at};
 ghost use Rattle.image.specs.Views.{image_of};
 ghost use Rattle.streams.specs.Contents.{HoldAll, Holds};
-ghost use Rattle.command_line.specs.Done.{AreCosted, IsBuilt, IsImageIn};
+ghost use Rattle.command_line.specs.Done.{AreCosted, IsBuilt, IsImageIn, IsUpgradedIn};
 ghost use Rattle.command_line.specs.Reading.{IsRefusedText, IsUncostedText, IsUnread, IsUnreadAmong, texts_of};
 ghost use Rattle.module.specs.Building.{IsImageOf};
 ghost use Rattle.module.specs.Costs.{AreCosts};
 ghost use Rattle.module.specs.Running.{IsRefused};
+ghost use Rattle.module.specs.Upgrades.{IsUpgraded};
 ghost use Rattle.command_line.specs.Refusals.{IsNotBuilt, IsNotCosted, IsNotLoaded};
 ghost use Rattle.command_line.specs.Told.{IsOfFailed};
 
 use crate::explaining::Note;
 use crate::refusal::Refusal;
 use image::{Image, load_image};
-use module::{PartitionCosts, RunFault};
+use module::{PartitionCosts, RunFault, upgrade};
 use std::alloc::{AllocError, Global};
 use streams::Files;
 
@@ -157,6 +158,27 @@ fn load(alloc: Global, bytes: &[u8]) -> Result<Image, RunFault>
     ensures refused { IfErr result (λ fault. IsRefused (image_at bytes.now) fault) }
 {
     Ok(load_image(alloc, bytes)?)
+}
+
+/// The image in the file of that name, upgraded.
+pub fn upgrade_named<F: Files>(alloc: Global, name: &str, files: &mut F) -> Result<Vec<u8>, Refusal>
+    ensures upgraded { IfOk result
+        (λ bytes. IsUpgradedIn (F.contents files.old) name.now bytes.items) }
+    ensures refused { IfErr result (λ r. IsNotLoaded (F.contents files.old) name.now r) }
+    ensures unchanged { F.contents files.new ≡ F.contents files.old }
+    ensures noted { OnOk result (F.failed files.new ≡ F.failed files.old) }
+    ensures named { IfErr result (λ r. IsOfFailed (F.failed files.old) (F.failed files.new) r) }
+{
+    let bytes = read(alloc, name, files)?;
+    Ok(upgraded(alloc, bytes.as_slice())?)
+}
+
+/// The image in the bytes, upgraded.
+fn upgraded(alloc: Global, bytes: &[u8]) -> Result<Vec<u8>, RunFault>
+    ensures upgraded { IfOk result (λ image. IsUpgraded bytes.now image.items) }
+    ensures refused { IfErr result (λ fault. IsRefused (image_at bytes.now) fault) }
+{
+    Ok(upgrade(alloc, bytes)?)
 }
 
 /// Each of them as a slice.

@@ -7,6 +7,7 @@ use Rattle.std.proofs.lemmas.Bool.{and_parts, leb-true, cond-true, cond_both, le
 use Rattle.std.proofs.lemmas.Int.{ints}
 use Rattle.std.proofs.lemmas.Option.{cond_some}
 use Rattle.std.proofs.lemmas.List.{length-map, length-replicate}
+use Rattle.apex_types.specs.Versions.{third_limits}
 use Rattle.apex_types.specs.declared.limits.TheConstants.{MOST_DATA_WORDS, MOST_DEPTH, MOST_OBJECTS, MOST_PORTS, MOST_PROCEDURES, MOST_SEMAPHORE_VALUE, MOST_WORDS}
 use Rattle.apex_types.specs.NameText.{is_name}
 use Rattle.apex_types.specs.declared.row.SemaphoreRow.{SemaphoreRow}
@@ -240,8 +241,8 @@ semaphore_is first (Some n) row h k v m =
 -- the objects of a declaration
 record ObjectsAre (k : written.Kind) : Type 0 where
   semaphores : AllByRecursion IsSemaphore (one_or_none (semaphore_of k))
-  buffers : AllByRecursion IsBuffer (one_or_none (buffer_of k))
-  blackboards : AllByRecursion IsBlackboard (one_or_none (blackboard_of k))
+  buffers : AllByRecursion (IsBuffer third_limits) (one_or_none (buffer_of k))
+  blackboards : AllByRecursion (IsBlackboard third_limits) (one_or_none (blackboard_of k))
 
 objects_are : (declared : List Entry) (k : written.Kind) → keeps_kind declared k ≡ true → ObjectsAre k
 objects_are declared (written.Variable value) h = record { semaphores = tt; buffers = tt; blackboards = tt }
@@ -263,8 +264,8 @@ each_option P (Some x) xs a b = (a.0, b)
 
 record AllObjectsAre (ds : List written.Declaration) : Type 0 where
   semaphores : AllByRecursion IsSemaphore (filter_map (λ (d : written.Declaration). semaphore_of d.kind) ds)
-  buffers : AllByRecursion IsBuffer (filter_map (λ (d : written.Declaration). buffer_of d.kind) ds)
-  blackboards : AllByRecursion IsBlackboard (filter_map (λ (d : written.Declaration). blackboard_of d.kind) ds)
+  buffers : AllByRecursion (IsBuffer third_limits) (filter_map (λ (d : written.Declaration). buffer_of d.kind) ds)
+  blackboards : AllByRecursion (IsBlackboard third_limits) (filter_map (λ (d : written.Declaration). blackboard_of d.kind) ds)
 
 all_objects_are : (declared : List Entry) (ds : List written.Declaration) → list_all (keeps_declaration declared) ds ≡ true → AllObjectsAre ds
 all_objects_are declared [] keeps = record { semaphores = tt; buffers = tt; blackboards = tt }
@@ -274,13 +275,13 @@ all_objects_are declared (d ∷ ds) keeps =
     let rest = all_objects_are declared ds kept.1 in
     record {
       semaphores = each_option IsSemaphore (semaphore_of d.kind) _ one.semaphores rest.semaphores;
-      buffers = each_option IsBuffer (buffer_of d.kind) _ one.buffers rest.buffers;
-      blackboards = each_option IsBlackboard (blackboard_of d.kind) _ one.blackboards rest.blackboards;
+      buffers = each_option (IsBuffer third_limits) (buffer_of d.kind) _ one.buffers rest.buffers;
+      blackboards = each_option (IsBlackboard third_limits) (blackboard_of d.kind) _ one.blackboards rest.blackboards;
     }
 
 -- The objects of a program that keeps its limits. Its data are words.
 pub objects_lawful : (ports : List PortRow) (p : written.Program) → keeps_counts no_counts p.declarations ≡ true → list_all (keeps_declaration (declared_entries ports p)) p.declarations ≡ true → All (FitsSigned w64) (resolve ports p).initial
-    → AreObjects (objects_in (section_of (resolve ports p)))
+    → AreObjects third_limits (objects_in (section_of (resolve ports p)))
 objects_lawful ports p counts keeps words =
     let declared = declared_entries ports p in
     let t = all_totals declared p.declarations counts keeps in
@@ -292,9 +293,9 @@ objects_lawful ports p counts keeps words =
       semaphores = each_beside IsSemaphore [] _ o.semaphores;
       events = record { least = omega arith; most = t.events };
       buffer_count = record { least = omega arith; most = omega (arith, t.buffers) };
-      buffers = each_beside IsBuffer [] _ o.buffers;
+      buffers = each_beside (IsBuffer third_limits) [] _ o.buffers;
       blackboard_count = record { least = omega arith; most = omega (arith, t.blackboards) };
-      blackboards = each_beside IsBlackboard [] _ o.blackboards;
+      blackboards = each_beside (IsBlackboard third_limits) [] _ o.blackboards;
     }
 
 -- ---- first values

@@ -7,7 +7,8 @@ use Rattle.std.proofs.lemmas.Bool.{and_parts, and_from, not-true, or_from, leb-t
 use Rattle.std.proofs.lemmas.List.{length-map, append-nil}
 use Rattle.std.proofs.lemmas.List.Sums.{sum_by-cons}
 use Rattle.std.proofs.lemmas.List.Folds.{list_any-append}
-use Rattle.apex_types.specs.declared.limits.TheConstants.{GREATEST_PRIORITY, LEAST_STACK_WORDS, MOST_INSTRUCTIONS, MOST_LOCALS, MOST_PARAMETERS, MOST_PROCESSES, MOST_STACK_WORDS, MOST_TICKS}
+use Rattle.apex_types.specs.Versions.{third_limits}
+use Rattle.apex_types.specs.declared.limits.TheConstants.{GREATEST_PRIORITY, INSTRUCTION_BYTES, LEAST_STACK_WORDS, MOST_INSTRUCTIONS, MOST_LOCALS, MOST_PARAMETERS, MOST_PROCESSES, MOST_STACK_WORDS, MOST_TICKS}
 use Rattle.apex_types.specs.NameText.{is_name}
 use Rattle.apex_types.specs.declared.denotation.Denotation.{Denotation}
 use Rattle.apex_types.specs.declared.row.ProcessRow.{ProcessRow}
@@ -192,13 +193,13 @@ process_count at (p ∷ ps) = ap suc (process_count (at + size_of_process p) ps)
 
 -- ---- the code
 
-sixteen_bytes : (is : List Instr) → AllByRecursion (λ bytes. length bytes ≡ 16) (map bytes_of is)
+sixteen_bytes : (is : List Instr) → AllByRecursion (λ bytes. length bytes ≡ INSTRUCTION_BYTES) (map bytes_of is)
 sixteen_bytes [] = tt
 sixteen_bytes (i ∷ is) = (refl, sixteen_bytes is)
 
 -- ---- the section
 
-bodies_lawful : (ports : List PortRow) (period : ℕ) (p : written.Program) → names_hold ports p ≡ true → limits_hold ports p ≡ true → periods_hold period p ≡ true → Fits (resolve ports p) → AreBodies period (bodies_in (section_of (resolve ports p)))
+bodies_lawful : (ports : List PortRow) (period : ℕ) (p : written.Program) → names_hold ports p ≡ true → limits_hold ports p ≡ true → periods_hold period p ≡ true → Fits (resolve ports p) → AreBodies third_limits period (bodies_in (section_of (resolve ports p)))
 bodies_lawful ports period p names limits periods fits =
     let r = resolve ports p in
     let declared = declared_entries ports p in
@@ -232,10 +233,10 @@ code_lawful r small =
     record {
       count = record { least = omega (arith, size); most = omega (arith, size) };
       entries = and_from _ _ (and_from _ _ (and_from _ _ routines processes) init) handler;
-      instructions = each_beside (λ bytes. length bytes ≡ 16) [] _ (sixteen_bytes (code_of r));
+      instructions = each_beside (λ bytes. length bytes ≡ INSTRUCTION_BYTES) [] _ (sixteen_bytes (code_of r));
     }
 
-section_lawful : (ports : List PortRow) (period : ℕ) (p : written.Program) → names_hold ports p ≡ true → limits_hold ports p ≡ true → periods_hold period p ≡ true → All (FitsSigned w64) (resolve ports p).initial → Fits (resolve ports p) → IsSection period (section_of (resolve ports p))
+section_lawful : (ports : List PortRow) (period : ℕ) (p : written.Program) → names_hold ports p ≡ true → limits_hold ports p ≡ true → periods_hold period p ≡ true → All (FitsSigned w64) (resolve ports p).initial → Fits (resolve ports p) → IsSection third_limits period (section_of (resolve ports p))
 section_lawful ports period p names limits periods words fits =
     let l1 = and_parts _ _ limits in
     let l2 = and_parts _ _ l1.0 in
@@ -249,16 +250,16 @@ section_lawful ports period p names limits periods words fits =
     }
 
 -- The section of an accepted program whose data are words, if its code is not too long.
-pub accepted_section : (ports : List PortRow) (period : ℕ) (p : written.Program) (r : program.Program) → verdict ports period p ≡ Ok r → size_of r ≤ MOST_INSTRUCTIONS → All (FitsSigned w64) r.initial → IsSection period (section_of r)
+pub accepted_section : (ports : List PortRow) (period : ℕ) (p : written.Program) (r : program.Program) → verdict ports period p ≡ Ok r → size_of r ≤ MOST_INSTRUCTIONS → All (FitsSigned w64) r.initial → IsSection third_limits period (section_of r)
 accepted_section ports period p r h small words =
     let a = accepted ports period p r h in
     let fits = well_formed_fits ports period p r h small in
     let back = sym a.is in
-    subst (λ (q : program.Program). IsSection period (section_of q)) a.is
+    subst (λ (q : program.Program). IsSection third_limits period (section_of q)) a.is
     (section_lawful ports period p a.names a.limits a.periods (subst (λ (q : program.Program). All (FitsSigned w64) q.initial) back words) (subst Fits back fits))
 
 -- the same if the first values in the tree are numbers as a text gives them
-pub well_formed_section : (ports : List PortRow) (period : ℕ) (p : written.Program) (r : program.Program) → AreWords p → verdict ports period p ≡ Ok r → size_of r ≤ MOST_INSTRUCTIONS → IsSection period (section_of r)
+pub well_formed_section : (ports : List PortRow) (period : ℕ) (p : written.Program) (r : program.Program) → AreWords p → verdict ports period p ≡ Ok r → size_of r ≤ MOST_INSTRUCTIONS → IsSection third_limits period (section_of r)
 well_formed_section ports period p r words h small =
     let a = accepted ports period p r h in
     accepted_section ports period p r h small (subst (λ (q : program.Program). All (FitsSigned w64) q.initial) a.is (initial_words ports p words))

@@ -2,6 +2,7 @@
 
 ghost use Rattle.std.specs.Prelude.{◌≡◌, ℕ, ◌*◌, ◌≤◌, List, length, Ok, All, FitsSigned};
 ghost use Rattle.std.specs.Int.{w64};
+ghost use Rattle.apex_types.specs.Versions.{third_limits};
 ghost use Rattle.apex_types.specs.declared.cost.Costs.{Costs};
 ghost use Rattle.apex_types.specs.declared.limits.TheConstants.{MOST_INSTRUCTIONS, MOST_SOURCE_BYTES};
 ghost use Rattle.apex_types.specs.declared.row.PortRow.{PortRow};
@@ -40,5 +41,5 @@ pub fn accepted_program_is_short()
 pub fn accepted_section_is_lawful()
     ensures { (ports : List PortRow) (period : ℕ) (p : written.Program) (r : program.Program)
         → verdict ports period p ≡ Ok r → size_of r ≤ MOST_INSTRUCTIONS
-        → All (FitsSigned w64) r.initial → IsSection period (section_of r) }
+        → All (FitsSigned w64) r.initial → IsSection third_limits period (section_of r) }
 {}

@@ -38,7 +38,7 @@ source_sentence source.Memory = codes "Memory ran out; this says nothing about t
 -- the faults of IMAGE.md
 abbrev pub image_sentence : ImageFault → List ℕ
 image_sentence image.Truncated = codes "A field of the image is not all there."
-image_sentence image.Foreign = codes "The file is not an image of version 1 or 2: the first eight bytes or the version are different."
+image_sentence image.Foreign = codes "The file is not an image of version 1, 2 or 3: the first eight bytes or the version are different."
 image_sentence image.Limit = codes "A value in the image is outside its limit, or breaks a rule of the module table."
 image_sentence image.Order = codes "A name was used before among its kind, or a window begins before the end of the one before it."
 image_sentence image.Trailing = codes "Bytes follow the last field of the image."

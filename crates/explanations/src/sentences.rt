@@ -87,7 +87,7 @@ pub fn image_sentence(fault: ImageFault) -> &'static str
     match fault {
         ImageFault::Truncated => "A field of the image is not all there.",
         ImageFault::Foreign => {
-            "The file is not an image of version 1 or 2: the first eight bytes or the version are different."
+            "The file is not an image of version 1, 2 or 3: the first eight bytes or the version are different."
         }
         ImageFault::Limit => {
             "A value in the image is outside its limit, or breaks a rule of the module table."

@@ -6,7 +6,7 @@
 //! The file `rows` lists them, one a line: `check FOLDER SOURCE..` for the verdict on a table and
 //! its sources, `run FOLDER TICKS SOURCE..` for the trace of their image, `refused FOLDER TICKS
 //! SOURCE..` for a run of it that is refused, `image FOLDER TICKS` for the trace of an image in the
-//! folder, `refused FOLDER TICKS` for a run of such an image that is refused, `replay FOLDER
+//! folder, as it is and upgraded, `refused FOLDER TICKS` for a run of such an image that is refused, `replay FOLDER
 //! PARTITION TICKS SOURCE..` and `inputs FOLDER PARTITION TICKS SOURCE..` for a partition of an
 //! image that is built, or, without sources, of an image in the folder, and `build FOLDER
 //! SOURCE..`, `cost FOLDER SOURCE..` and `dis FOLDER` for what these commands write. In the folder

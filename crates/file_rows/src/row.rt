@@ -22,7 +22,7 @@ enum Asked<'a> {
     Verdict,
     /// The trace of this number of ticks of the image that is built of the table and the sources.
     Trace(&'a str),
-    /// The trace of this number of ticks of the image in the folder.
+    /// The trace of this number of ticks of the image in the folder, as it is and upgraded.
     TraceOfImage(&'a str),
     /// The refusal of a run of this number of ticks, of the image that is built or in the folder.
     Refusal(&'a str),
@@ -59,7 +59,9 @@ impl<'a> Row<'a> {
         match self.asked {
             Asked::Verdict => self.has_verdict(rt),
             Asked::Trace(ticks) => Ok(self.build(rt)?.is_done() && self.has_trace(rt, ticks)?),
-            Asked::TraceOfImage(ticks) => self.has_trace(rt, ticks),
+            Asked::TraceOfImage(ticks) => {
+                Ok(self.has_trace(rt, ticks)? && self.has_trace_upgraded(rt, ticks)?)
+            }
             Asked::Refusal(ticks) => self.has_refusal(rt, ticks),
             Asked::Replay(partition, ticks) => self.has_replay(rt, partition, ticks),
             Asked::Inputs(partition, ticks) => self.has_inputs(rt, partition, ticks),
@@ -92,6 +94,17 @@ impl<'a> Row<'a> {
     fn has_trace<R: Files + AllocGlobal>(&self, rt: &R, ticks: &str) -> io::Result<bool> {
         let expected = self.read(rt, "trace")?;
         Ok(self.run(rt, ticks)?.is_done_with(expected.as_slice()))
+    }
+
+    /// Returns true if the image is upgraded, and then has the same trace of `ticks` ticks.
+    fn has_trace_upgraded<R: Files + AllocGlobal>(&self, rt: &R, ticks: &str) -> io::Result<bool> {
+        let image = self.path(rt.alloc(), "image")?;
+        let upgraded = self.path(rt.alloc(), "upgraded")?;
+        let upgrade = Answer::to(rt, &["mb", "upgrade", image.as_str(), upgraded.as_str()]);
+        let devices = self.text(rt, "devices")?;
+        let words = ["mb", "run", upgraded.as_str(), devices.as_str(), ticks];
+        let expected = self.read(rt, "trace")?;
+        Ok(upgrade.is_done() && Answer::to(rt, &words).is_done_with(expected.as_slice()))
     }
 
     /// Returns true if a run of `ticks` ticks is refused as expected.

@@ -1,10 +1,12 @@
 //! The errors that wait for the error handler of a partition.
 
-ghost use Rattle.std.specs.Prelude.{◌≡◌, ◌-◌, drop, length, slice_get, IfOk, IsNone};
+ghost use Rattle.std.specs.Prelude.{◌≡◌, ◌≤◌, ◌-◌, drop, length, slice_get, IfOk, IsNone};
+ghost use Rattle.apex_types.specs.declared.limits.TheConstants.{MOST_WORDS};
 ghost use Rattle.kernel_meaning.specs.Kernel as meaning;
 ghost use Rattle.kernel_meaning.specs.HealthServices.{is_waiting};
+ghost use Rattle.kernel_meaning.specs.Step.{message};
 
-use apex_types::{MOST_ERRORS, WaitingError, copied};
+use apex_types::{ErrorKind, MOST_ERRORS, ProcessIndex, WaitingError, message_of};
 use circular_buffer::HeapCircularBuffer;
 use std::alloc::{AllocError, Global};
 use std::marker::Model;
@@ -32,17 +34,6 @@ impl Model for Errors {
     ghost invariant = { HasRing };
 }
 
-/// A copy of the error.
-fn copied_error(error: &WaitingError) -> WaitingError
-    ensures { result ≡ error.now }
-{
-    WaitingError {
-        kind: error.kind,
-        process: error.process,
-        words: copied(&error.words),
-    }
-}
-
 impl Errors {
     /// Makes an empty queue of errors, with memory for 64; no other call allocates. `has_handler`
     /// says whether the partition's source has an error handler. `AllocError`: out of memory.
@@ -56,12 +47,20 @@ impl Errors {
         })
     }
 
-    /// Queues an error, with its message, behind the others. If 64 wait, it is lost.
-    pub fn queue(&mut self, error: &WaitingError)
-        ensures { self.new ≡ meaning.queued self.old error.now }
+    /// Queues an error of a process, with the words of its message, behind the others. If 64 wait,
+    /// it is lost.
+    pub fn queue(&mut self, kind: ErrorKind, process: ProcessIndex, words: &[i64])
+        requires { length words.now ≤ MOST_WORDS }
+        ensures { self.new
+            ≡ meaning.queued self.old
+            (record { kind = kind; process = process; words = message words.now }) }
     {
         if self.waiting.len() < PLACES {
-            let _ = self.waiting.try_push_back(copied_error(error));
+            let _ = self.waiting.try_push_back(WaitingError {
+                kind,
+                process,
+                words: message_of(words),
+            });
         }
     }
 

@@ -11,7 +11,9 @@ ghost use Rattle.process_table_base.specs.FoundView.{record_of};
 
 use crate::errors::Errors;
 use apex_types::limits::MOST_REPORT_WORDS;
-use apex_types::{Action, ArrayPlace, ErrorKind, Mode, Out, ReturnCode, Runner, Service};
+use apex_types::{
+    ActionKind, ArrayPlace, ErrorKind, Mode, Out, ReturnCode, Runner, Service, WaitingError,
+};
 use process_table_base::{
     Found, ProcessTable, Request, fill, is_dormant, is_large_enough, is_same,
 };
@@ -66,6 +68,15 @@ fn number_of_error(error: ErrorKind) -> i64
     error as i64
 }
 
+/// What a program is told of an error: its number, that of its process, and the length of its message.
+fn status_of(error: &WaitingError) -> [i64; 3]
+    ensures { result ≡ meaning.error_status error.now }
+{
+    let process = i64::from(error.process.0) + 1;
+    let length = error.words.len() as i64;
+    [number_of_error(error.kind), process, length]
+}
+
 /// Takes the first error, and writes its message into the array. NO_ACTION: no error waits.
 #[tactic(auto, using(crate::proofs::Taking::taking))]
 fn take_error(
@@ -84,11 +95,9 @@ fn take_error(
     let service = Service::GetErrorStatus;
     match errors.pop() {
         Some(error) => {
-            let process = i64::from(error.process.0) + 1;
-            let length = error.words.len() as i64;
-            let outputs = [number_of_error(error.kind), process, length];
+            let outputs = status_of(&error);
             table.answer(request.caller, service, ReturnCode::NoError, &outputs, out);
-            fill(Some(array), error.words, out);
+            fill(Some(array), &error.words, out);
         }
         None => table.refuse(request.caller, service, ReturnCode::NoAction, out),
     }
@@ -132,7 +141,7 @@ fn begin_if_dormant(table: &mut ProcessTable, out: &mut Out)
     if let Some(handler) = table.found(Runner::Handler) {
         if handler.row.created && is_dormant(&handler.row) {
             table.wake(&handler, out);
-            out.actions.push(Action::Begin(Runner::Handler));
+            out.act(ActionKind::Begin(Runner::Handler), &[]);
         }
     }
 }

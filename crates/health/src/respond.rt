@@ -9,8 +9,8 @@ ghost use Rattle.health.specs.Raising.{raises_of};
 
 use crate::errors::Errors;
 use apex_types::{
-    Action, ErrorKind, ErrorLevel, EventKind, HealthTable, Mode, Out, PartitionAction, Response,
-    Runner, Subject, WaitingError, Words,
+    ActionKind, ErrorKind, ErrorLevel, HealthTable, LineKind, Mode, Out, PartitionAction, Response,
+    Runner, Subject, Words,
 };
 use process_table_base::ProcessTable;
 
@@ -80,11 +80,7 @@ fn queue(runner: Runner, error: ErrorKind, words: Words, out: &mut Out)
     ensures grows { Grows 0 1 out.old out.new }
 {
     if let Runner::Process(process) = runner {
-        out.actions.push(Action::Queue(WaitingError {
-            kind: error,
-            process,
-            words,
-        }));
+        out.act(ActionKind::Queue(error, process), &words);
     }
 }
 
@@ -147,6 +143,6 @@ pub fn raise_error(
     } = raised;
     let level = level_of(mode, table, errors, runner);
     let response = response_at(level, action_of(health, error));
-    out.lines.push(EventKind::Error(error, Some(who), response));
+    out.tell(LineKind::Error(error, Some(who), response), &[]);
     wait_or_leave(runner, error, words, response, out)
 }

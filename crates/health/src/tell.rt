@@ -6,7 +6,7 @@ ghost use Rattle.kernel_meaning.specs.HealthServices as meaning;
 ghost use Rattle.kernel_meaning.specs.Made.{IsTold};
 
 use apex_types::limits::MOST_REPORT_WORDS;
-use apex_types::{EventKind, Out, ReturnCode, Service, Words};
+use apex_types::{LineKind, Out, ReturnCode, Service, Words};
 use process_table_base::{Handed, ProcessTable, Request, answer, first_words, name_of, refuse};
 
 /// Whether a message of `length` words may be handed in from an array of `size` words.
@@ -54,5 +54,5 @@ pub fn report_application_message(
         out,
     );
     let message = first_words(handed.length, words);
-    out.lines.push(EventKind::Report(name_of(&found), message));
+    out.tell(LineKind::Report(name_of(&found)), &message);
 }

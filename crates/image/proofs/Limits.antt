@@ -4,6 +4,8 @@ use Rattle.std.specs.Prelude.{◌==◌}
 use Rattle.std.specs.List.{list_any}
 use Rattle.std.proofs.lemmas.Bool.{or_from, ne_eqb}
 use Rattle.std.proofs.lemmas.List.{length-map}
+use Rattle.apex_types.specs.declared.limits.Limits.{Limits}
+use Rattle.apex_types.specs.Versions.{limits_of}
 use Rattle.apex_types.specs.declared.row.WindowRow.{WindowRow}
 use Rattle.apex_types.specs.declared.limits.TheConstants.{MOST_PARTITIONS}
 use Rattle.module_meaning.specs.Table.{Partition}
@@ -14,6 +16,7 @@ use Rattle.kernel_meaning.specs.Windows.{Schedule}
 use Rattle.kernel_meaning.specs.WindowFacts.{BeginWithin}
 use Rattle.machine_meaning.specs.ImageLimits.{EachBeside, IsItem, IsWithinLimits}
 use Rattle.machine_laws.proofs.ImageLaws.{fields_reads}
+use Rattle.machine_laws.proofs.VersionLimits.{limits_narrow}
 use Rattle.machine_laws.proofs.Releases.{windows_begin_within}
 use Rattle.window_table.specs.declared.table.ChannelRow.{ChannelRow}
 use Rattle.window_table.specs.Views.{partition_view}
@@ -30,16 +33,16 @@ rows_same (it ∷ its) = ap (λ (rows : List Partition). partition_view it.row �
 pub same_count : (its : List PartitionItem) → length (rows_of its) ≡ length its
 same_count its = length-map its (λ (it : PartitionItem). partition_view it.row)
 
-none_empty : (frame : ℕ) (before : List Item) (its : List PartitionItem) → EachBeside (IsItem frame) before (items_of its) → list_any (λ p. p.period == 0) (rows_of its) ≡ false
-none_empty frame before [] h = refl
-none_empty frame before (it ∷ its) h =
-    or_from (it.row.period == 0) _ (ne_eqb it.row.period 0 (λ e. omega (arith, e, h.0.partition.period.least))) (none_empty frame (before ++ item_of it ∷ []) its h.1)
+none_empty : (limits : Limits) (frame : ℕ) (before : List Item) (its : List PartitionItem) → EachBeside (IsItem limits frame) before (items_of its) → list_any (λ p. p.period == 0) (rows_of its) ≡ false
+none_empty limits frame before [] h = refl
+none_empty limits frame before (it ∷ its) h =
+    or_from (it.row.period == 0) _ (ne_eqb it.row.period 0 (λ e. omega (arith, e, h.0.partition.period.least))) (none_empty limits frame (before ++ item_of it ∷ []) its h.1)
 
 pub few_within : (f : Fields) → IsWithinLimits (fields_of f) → length f.partitions.items ≤ MOST_PARTITIONS
-few_within f h = omega (arith, length-map f.partitions.items item_of, h.item_count.most)
+few_within f h = omega (arith, length-map f.partitions.items item_of, h.item_count.most, (limits_narrow f.version).partitions)
 
 pub periods_within : (f : Fields) → IsWithinLimits (fields_of f) → list_any (λ p. p.period == 0) (rows_of f.partitions.items) ≡ false
-periods_within f h = none_empty f.frame [] f.partitions.items h.items
+periods_within f h = none_empty (limits_of f.version) f.frame [] f.partitions.items h.items
 
 -- an image whose fields were read
 pub read_limits : (bytes rest : List ℕ) (f : Fields) → ((i : ℕ) → Fits w8 (get_or bytes i 0)) → fields_at bytes ≡ Ok (fields_of f, rest) → IsWithinLimits (fields_of f)

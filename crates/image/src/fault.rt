@@ -14,7 +14,7 @@ pub enum ImageFault {
     #[error("the image is truncated")]
     Truncated,
     /// The image begins with another magic or version.
-    #[error("the bytes are no image of version 1 or 2")]
+    #[error("the bytes are no image of version 1, 2 or 3")]
     Foreign,
     /// A value is outside its limit, or breaks a rule of the module table.
     #[error("a value is outside its limit")]

@@ -9,6 +9,7 @@ mod item;
 mod load;
 mod reading;
 mod rules;
+mod upgrading;
 mod value;
 mod write;
 mod writing;

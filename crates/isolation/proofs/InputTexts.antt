@@ -4,6 +4,8 @@ use Rattle.std.specs.Prelude.{◌==◌, ◌&&◌, nat_le, nat_lt, if◌then◌el
 use Rattle.std.specs.Fmt.{decimal, signed_decimal}
 use Rattle.std.specs.List.{list_all}
 use Rattle.std.proofs.lemmas.Bool.{and_from, eq-eqb, lt-ltb, le-ltb, le-leb, cond-true, cond-false}
+use Rattle.apex_types.specs.Line.{space}
+use Rattle.apex_types.specs.Versions.{third_limits}
 use Rattle.apex_types.specs.declared.limits.TheConstants.{MOST_DEVICE_LINES, MOST_TICKS}
 use Rattle.apex_types.specs.NameText.{is_name}
 use Rattle.apex_types.specs.declared.device.DeviceFault.{DeviceFault}
@@ -25,13 +27,13 @@ use Rattle.isolation.proofs.OfImage.{any_at, get_front, get_last}
 use Rattle.isolation.proofs.Steps.{same_some}
 
 -- ---- ports by their names
-port_named : (before rows : List PortRow) → EachBeside IsPort before rows → (k : ℕ) (x : PortRow) → slice_get rows k ≡ Some x → is_name x.name ≡ true
+port_named : (before rows : List PortRow) → EachBeside (IsPort third_limits) before rows → (k : ℕ) (x : PortRow) → slice_get rows k ≡ Some x → is_name x.name ≡ true
 port_named before [] each k x e = absurd (cc)
 port_named before (r ∷ rs) each zero x e = subst (λ (y : PortRow). is_name y.name ≡ true) (same_some r x e) each.0.name
 port_named before (r ∷ rs) each (suc k) x e = port_named (before ++ r ∷ []) rs each.1 k x e
 
 -- an earlier port has another name
-other_name : (before rows : List PortRow) → EachBeside IsPort before rows → (j : ℕ) (y : PortRow) → slice_get before j ≡ Some y → (k : ℕ) (x : PortRow) → slice_get rows k ≡ Some x → same y.name x.name ≡ false
+other_name : (before rows : List PortRow) → EachBeside (IsPort third_limits) before rows → (j : ℕ) (y : PortRow) → slice_get before j ≡ Some y → (k : ℕ) (x : PortRow) → slice_get rows k ≡ Some x → same y.name x.name ≡ false
 other_name before [] each j y f k x e = absurd (cc)
 other_name before (r ∷ rs) each j y f zero x e =
     subst (λ (z : PortRow). same y.name z.name ≡ false) (same_some r x e) (any_at (λ z. same z.name r.name) before j y each.0.fresh f)
@@ -41,7 +43,7 @@ same_own : (a : List ℕ) → same a a ≡ true
 same_own [] = refl
 same_own (x ∷ xs) = and_from (x == x) (same xs xs) (eq-eqb x x refl) (same_own xs)
 
-found_first : (before rows : List PortRow) → EachBeside IsPort before rows → (n k : ℕ) (x : PortRow) → slice_get rows k ≡ Some x → first_from n (λ y. same y.name x.name) rows ≡ Some (n + k, x)
+found_first : (before rows : List PortRow) → EachBeside (IsPort third_limits) before rows → (n k : ℕ) (x : PortRow) → slice_get rows k ≡ Some x → first_from n (λ y. same y.name x.name) rows ≡ Some (n + k, x)
 unfolding first_from
 found_first before [] each n k x e = absurd (cc)
 found_first before (r ∷ rs) each n zero x e =
@@ -103,7 +105,7 @@ module _ (row : Partition) (names : HasNames row) where
 
   line_again : (l : InputLine) → l.tick.0 ≤ MOST_TICKS → IsInput row l.input → line_of (input_body row l) ≡ Some (record { tick = l.tick.0; written = said row l.input })
   line_again l low h =
-      ap line_of_pieces (pieces_join 32 (decimal l.tick.0) (input_parts row l.input) (ink_is_free 32 (decimal l.tick.0) (omega arith) (decimal_ink l.tick.0 (omega (arith, low)))) (all_free 32 (input_parts row l.input) (omega arith) (parts_ink l.input h)))
+      ap line_of_pieces (pieces_join space (decimal l.tick.0) (input_parts row l.input) (ink_is_free space (decimal l.tick.0) (omega arith) (decimal_ink l.tick.0 (omega (arith, low)))) (all_free space (input_parts row l.input) (omega arith) (parts_ink l.input h)))
       ∙ ap (λ (o : Option ℕ). line_with o (written_of (input_parts row l.input))) (plain_again MOST_TICKS l.tick.0 (lit< tt) low)
       ∙ ap (λ (o : Option Written). line_with (Some l.tick.0) o) (written_again l.input h)
 

@@ -3,6 +3,7 @@
 use Rattle.std.proofs.Common.{◌≡◌, sym, ℕ, zero, suc, ◌+◌, ◌≤◌, List, [], ◌∷◌, ◌++◌, length, map, Option, Some, None, Ok, refl, ap, subst, ◌∙◌, arith}
 use Rattle.std.specs.Prelude.{slice_get, is_some, option_map}
 use Rattle.std.proofs.lemmas.Option.{slice_get-map}
+use Rattle.apex_types.specs.Versions.{third_limits}
 use Rattle.apex_types.specs.declared.limits.TheConstants.{MOST_DEVICE_LINES, MOST_TICKS, MOST_WORDS}
 use Rattle.apex_types.specs.Versions.{costs_of}
 use Rattle.apex_types.specs.declared.cost.Costs.{Costs}
@@ -38,19 +39,20 @@ use Rattle.isolation.proofs.Steps.{same_some, starts_same}
 use Rattle.isolation.proofs.TakenLines.{accepted_from_device}
 use Rattle.isolation.proofs.TickSound.{tick_sound}
 use Rattle.isolation.proofs.Ways.{ports_in}
+use Rattle.machine_laws.proofs.Widened.{items_widened}
 
 -- ---- the facts of a lawful image about a partition's row
-names_in : (frame : ℕ) (before items : List Item) → EachBeside (IsItem frame) before items → (k : ℕ) (item : Item) → slice_get items k ≡ Some item → HasNames item.partition
+names_in : (frame : ℕ) (before items : List Item) → EachBeside (IsItem third_limits frame) before items → (k : ℕ) (item : Item) → slice_get items k ≡ Some item → HasNames item.partition
 names_in frame before [] each k item e = absurd (cc)
 names_in frame before (i ∷ is) each zero item e = subst (λ (x : Item). HasNames x.partition) (same_some i item e) (record { name = each.0.partition.name; ports = each.0.partition.ports })
 names_in frame before (i ∷ is) each (suc k) item e = names_in frame (before ++ i ∷ []) is each.1 k item e
 
 item_names : (image : Image) → IsLawful image → (p : ℕ) (item : Item) → at_number image.items p ≡ Some item → HasNames item.partition
 item_names image lawful zero item e = absurd (cc)
-item_names image lawful (suc place) item e = names_in image.schedule.frame [] image.items lawful.limits.items place item e
+item_names image lawful (suc place) item e = names_in image.schedule.frame [] image.items (items_widened image lawful.limits) place item e
 
 -- its ports take 16 words at most
-are_short : (before rows : List PortRow) → EachBeside IsPort before rows → AreShort rows
+are_short : (before rows : List PortRow) → EachBeside (IsPort third_limits) before rows → AreShort rows
 are_short before [] each k x e = absurd (cc)
 are_short before (r ∷ rs) each zero x e = subst (λ (y : PortRow). y.words ≤ MOST_WORDS) (same_some r x e) each.0.words.most
 are_short before (r ∷ rs) each (suc k) x e = are_short (before ++ r ∷ []) rs each.1 k x e
@@ -60,7 +62,7 @@ row_short image lawful place row e = there (slice_get image.items place) refl (s
   where
     there : (o : Option Item) → slice_get image.items place ≡ o → option_map (λ (it : Item). it.partition) o ≡ Some row → AreShort row.ports
     there None k f = absurd (cc)
-    there (Some item) k f = subst (λ (r : Partition). AreShort r.ports) (same_some item.partition row f) (are_short [] item.partition.ports (names_in image.schedule.frame [] image.items lawful.limits.items place item k).ports)
+    there (Some item) k f = subst (λ (r : Partition). AreShort r.ports) (same_some item.partition row f) (are_short [] item.partition.ports (names_in image.schedule.frame [] image.items (items_widened image lawful.limits) place item k).ports)
 
 -- ---- the invariant of each partition
 -- the ports of the partition at a place

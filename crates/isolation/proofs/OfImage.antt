@@ -4,6 +4,7 @@ use Rattle.std.specs.Prelude.{◌==◌, slice_get, nat_eq, find, flat_map, optio
 use Rattle.std.specs.List.{list_any}
 use Rattle.std.proofs.lemmas.Bool.{or_parts, and_parts, not-true, cases_lt, eqb-true, eqb-false, ne_eqb, cases_Bool}
 use Rattle.std.proofs.lemmas.Option.{slice_get-map}
+use Rattle.apex_types.specs.Versions.{third_limits}
 use Rattle.apex_types.specs.declared.identity.PortId.{PortId}
 use Rattle.apex_types.specs.declared.row.ChannelEnd.{ChannelEnd}
 use Rattle.apex_types.specs.declared.row.ChannelEnd.TheVariants as ends
@@ -17,6 +18,7 @@ use Rattle.module_meaning.specs.Table.{is_in_same_partition, sends_to_itself, ha
 use Rattle.isolation.proofs.Messages.{found_passes}
 use Rattle.isolation.proofs.OwnMessages.{IsOf, NoneOf, AreLawful, with_number}
 use Rattle.isolation.proofs.Steps.{IsApart, AreApart, same_some}
+use Rattle.machine_laws.proofs.Widened.{items_widened}
 
 -- ---- lists
 pub any_at : {A : Type 0} (test : A → Bool) (xs : List A) (k : ℕ) (x : A) → list_any test xs ≡ false → slice_get xs k ≡ Some x → test x ≡ false
@@ -59,14 +61,14 @@ abbrev pub name_in : Item → List ℕ
 name_in i = i.partition.name
 
 -- the names of items before them are others
-others_before : (frame : ℕ) (before items : List Item) → EachBeside (IsItem frame) before items → (k : ℕ) (a : Item) → slice_get before k ≡ Some a
+others_before : (frame : ℕ) (before items : List Item) → EachBeside (IsItem third_limits frame) before items → (k : ℕ) (a : Item) → slice_get before k ≡ Some a
     → (j : ℕ) (b : Item) → slice_get items j ≡ Some b → same (name_in a) (name_in b) ≡ false
 others_before frame before [] each k a e j b f = absurd (cc)
 others_before frame before (i ∷ is) each k a e zero b f =
     subst (λ (z : Item). same (name_in a) (name_in z) ≡ false) (same_some i b f) (any_at (λ it. same (name_in it) (name_in i)) before k a each.0.partition.fresh e)
 others_before frame before (i ∷ is) each k a e (suc j) b f = others_before frame (before ++ i ∷ []) is each.1 k a (get_front before (i ∷ []) k a e) j b f
 
-names_differ : (frame : ℕ) (before items : List Item) → EachBeside (IsItem frame) before items → (i j : ℕ) (a b : Item) → i < j → slice_get items i ≡ Some a → slice_get items j ≡ Some b → same (name_in a) (name_in b) ≡ false
+names_differ : (frame : ℕ) (before items : List Item) → EachBeside (IsItem third_limits frame) before items → (i j : ℕ) (a b : Item) → i < j → slice_get items i ≡ Some a → slice_get items j ≡ Some b → same (name_in a) (name_in b) ≡ false
 names_differ frame before [] each i j a b l e f = absurd (cc)
 names_differ frame before (x ∷ xs) each zero zero a b l e f = absurd (omega arith)
 names_differ frame before (x ∷ xs) each zero (suc j) a b l e f =
@@ -85,8 +87,8 @@ image_apart image lawful place item e = record {
   others = λ q other n f. let a = item_at image.items q other f in
       subst (λ (m : List ℕ). same (name_in item) m ≡ false) a.2
       (elim (cases_lt q place) [
-        | inl l ↦ same_turned (name_in a.0) (name_in item) (names_differ image.schedule.frame [] image.items lawful.limits.items q place a.0 item l a.1 e)
-        | inr g ↦ names_differ image.schedule.frame [] image.items lawful.limits.items place q item a.0 (above q n g) e a.1
+        | inl l ↦ same_turned (name_in a.0) (name_in item) (names_differ image.schedule.frame [] image.items (items_widened image lawful.limits) q place a.0 item l a.1 e)
+        | inr g ↦ names_differ image.schedule.frame [] image.items (items_widened image lawful.limits) place q item a.0 (above q n g) e a.1
       ]);
 }
   where

@@ -5,6 +5,7 @@ use Rattle.std.specs.Prelude.{◌==◌, replicate, slice_get, option_map}
 use Rattle.std.specs.List.{All}
 use Rattle.std.proofs.lemmas.Option.{slice_get-map}
 use Rattle.toml.specs.Data.{Members}
+use Rattle.apex_types.specs.Versions.{third_limits}
 use Rattle.apex_types.specs.declared.cost.Costs.{Costs}
 use Rattle.apex_types.specs.declared.device.DeviceLine.{DeviceLine}
 use Rattle.apex_types.specs.declared.row.WindowRow.{WindowRow}
@@ -38,7 +39,7 @@ use Rattle.isolation.proofs.Ways.{isolates}
 abbrev nothing_in : Section
 nothing_in = record { initial = []; semaphores = []; events = 0; buffers = []; blackboards = []; routines = []; processes = []; init = record { stack = 16; entry = 0; slots = 0; frame = 2 }; handler = None; code = replicate 16 0 ∷ [] }
 
-is_section : (unit : ℕ) → IsSection unit nothing_in
+is_section : (unit : ℕ) → IsSection third_limits unit nothing_in
 is_section unit = record {
   objects = record {
     words = record { least = omega arith; most = omega arith };
@@ -81,7 +82,7 @@ bare_rows : (ps : List Partition) → map row_in (map bare ps) ≡ ps
 bare_rows [] = refl
 bare_rows (p ∷ ps) = ap (λ (qs : List Partition). p ∷ qs) (bare_rows ps)
 
-bare_sections : (ps : List Partition) → All (λ (it : Item). IsSection it.partition.period it.section) (map bare ps)
+bare_sections : (ps : List Partition) → All (λ (it : Item). IsSection third_limits it.partition.period it.section) (map bare ps)
 bare_sections [] k d h = absurd (omega (arith, h))
 bare_sections (p ∷ ps) zero d h = is_section p.period
 bare_sections (p ∷ ps) (suc k) d h = bare_sections ps k d (omega (arith, h))

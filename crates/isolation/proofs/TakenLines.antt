@@ -4,6 +4,7 @@ use Rattle.std.proofs.Common.{◌≡◌, ℕ, suc, ◌+◌, ◌≤◌, codes, �
 use Rattle.std.specs.Prelude.{slice_get, ◌&&◌, nat_lt, nat_le, map, if◌then◌else◌}
 use Rattle.std.specs.List.{AllByRecursion}
 use Rattle.std.proofs.lemmas.Bool.{and_parts, leb-true}
+use Rattle.apex_types.specs.Line.{space}
 use Rattle.apex_types.specs.declared.limits.TheConstants.{MOST_TICKS}
 use Rattle.apex_types.specs.NameText.{is_name}
 use Rattle.apex_types.specs.declared.device.DeviceFault.{DeviceFault}
@@ -185,7 +186,7 @@ module _ (rows : List Partition) (channels : List Channel) where
   lines_are count before (last ∷ []) ls e = ends_is last ls e
   lines_are count before (line ∷ next ∷ more) ls e =
       and_is (taken rows channels count before (line_of line)) (λ l. lines_from rows channels (count + 1) l.tick.0 (next ∷ more)) ls
-      (λ l h. taken_is count before (line_of line) l (λ w k. pieces_say (pieces 32 line) w k) h)
+      (λ l h. taken_is count before (line_of line) l (λ w k. pieces_say (pieces space line) w k) h)
       (λ l ks h. lines_are (count + 1) l.tick.0 (next ∷ more) ks h) e
 
   -- Each line of an accepted text is taken.

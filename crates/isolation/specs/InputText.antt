@@ -2,7 +2,9 @@
 use Rattle.std.specs.Prelude.{◌≡◌, ℕ, ◌≤◌, ℤ, true, List, [], ◌∷◌, ◌++◌, length, map, flat_map, codes, Option, Some, None}
 use Rattle.std.specs.Fmt.{decimal, signed_decimal}
 use Rattle.std.specs.List.{join_with_byte}
+use Rattle.apex_types.specs.Line.{space}
 use Rattle.arrayvec.specs.ArrayVec.{ArrayVec}
+use Rattle.apex_types.specs.Versions.{third_limits}
 use Rattle.apex_types.specs.declared.limits.TheConstants.{MOST_TICKS}
 use Rattle.apex_types.specs.NameText.{is_name}
 use Rattle.apex_types.specs.declared.row.PortDirection.TheVariants as direction
@@ -25,7 +27,7 @@ input_parts row PartitionFault = codes "FAULT" ∷ row.name ∷ []
 
 -- a line without its line feed: plain numbers, single spaces
 abbrev pub input_body : Partition → InputLine → List ℕ
-input_body row l = join_with_byte 32 (decimal l.tick.0 ∷ input_parts row l.input)
+input_body row l = join_with_byte space (decimal l.tick.0 ∷ input_parts row l.input)
 
 abbrev pub input_text : Partition → InputLine → List ℕ
 input_text row l = input_body row l ++ 10 ∷ []
@@ -76,4 +78,4 @@ AreInputs row before (l ∷ ls) = (before ≤ l.tick.0) × (l.tick.0 ≤ MOST_TI
 -- the names of a partition's row
 pub record HasNames (row : Partition) : Type 0 where
   pub name : is_name row.name ≡ true
-  pub ports : EachBeside IsPort [] row.ports
+  pub ports : EachBeside (IsPort third_limits) [] row.ports

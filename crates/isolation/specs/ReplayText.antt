@@ -1,5 +1,6 @@
 -- The text of the inputs of one partition: the meaning of each line, and why a line is refused.
 use Rattle.std.specs.Prelude.{ℕ, ◌+◌, ℤ, Bool, true, false, ◌&&◌, nat_le, nat_lt, if◌then◌else◌, List, [], ◌∷◌, length, codes, Option, Some, None, Result, Ok, Err}
+use Rattle.apex_types.specs.Line.{space}
 use Rattle.apex_types.specs.declared.limits.TheConstants.{MOST_TICKS}
 use Rattle.apex_types.specs.declared.device.DeviceFault.{DeviceFault}
 use Rattle.apex_types.specs.declared.device.DeviceFault.TheVariants as fault
@@ -25,7 +26,7 @@ line_of_pieces [] = None
 line_of_pieces (tick ∷ rest) = line_with (plain_number MOST_TICKS tick) (written_of rest)
 
 abbrev pub line_of : List ℕ → Option WrittenLine
-line_of text = line_of_pieces (pieces 32 text)
+line_of text = line_of_pieces (pieces space text)
 
 -- ---- the meaning of a line
 abbrev pub is_destination : PortDirection → Bool

@@ -12,8 +12,8 @@ use Rattle.apex_types.specs.declared.event.Subject.TheVariants.{Init}
 use Rattle.apex_types.specs.declared.identity.At.{At}
 use Rattle.apex_types.specs.declared.identity.Runner.{Runner}
 use Rattle.apex_types.specs.declared.identity.Runner.TheVariants as runner
-use Rattle.apex_types.specs.declared.process.Action.{Action}
-use Rattle.apex_types.specs.declared.process.Action.TheVariants as action
+use Rattle.apex_types.specs.Actions.{Action}
+use Rattle.apex_types.specs.Actions as action
 use Rattle.apex_types.specs.declared.process.Lock.TheVariants as lock
 use Rattle.apex_types.specs.declared.process.ProcessStatus.{ProcessStatus}
 use Rattle.apex_types.specs.declared.process.Wait.TheVariants as wait

@@ -19,7 +19,7 @@ use Rattle.apex_types.specs.declared.codes.Response.TheVariants as level
 use Rattle.apex_types.specs.declared.codes.ReturnCode.TheVariants as code
 use Rattle.apex_types.specs.declared.event.EventKind.TheVariants as event
 use Rattle.apex_types.specs.declared.identity.ProcessIndex.{ProcessIndex}
-use Rattle.apex_types.specs.declared.process.Action.TheVariants as asks
+use Rattle.apex_types.specs.Actions as asks
 use Rattle.apex_types.specs.declared.process.Due.{Due}
 use Rattle.apex_types.specs.declared.process.Due.TheVariants as due_time
 use Rattle.apex_types.specs.declared.service.Service.TheVariants as service

@@ -2,6 +2,7 @@ mod dues;
 mod errors;
 mod memory;
 mod objects;
+mod outs;
 mod processes;
 mod ready;
 mod schedules;

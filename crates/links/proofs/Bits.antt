@@ -5,6 +5,7 @@ use Rattle.std.proofs.lemmas.Bool.{cases_lt, cases_eq}
 use Rattle.std.proofs.lemmas.Bool.Decides.{nat_tests}
 use Rattle.std.proofs.lemmas.List.{get_or-set_same, get_or-set_other}
 use Rattle.std.proofs.lemmas.Nat.Bits.{bit_at-zero}
+use Rattle.apex_types.specs.declared.limits.TheConstants.{MARK_BITS}
 use Rattle.apex_types.specs.declared.process.Entry.{Entry}
 use Rattle.kernel_meaning.specs.Queues.{without}
 use Rattle.kernel_meaning.specs.Queues.{list_in}
@@ -14,45 +15,45 @@ use Rattle.links.specs.Levels.{AreMarked, IsFirstMark, IsLowest, in_order, one_i
 use Rattle.links.proofs.Levels.{at_put_other, at_put_same, at_without, in_order_first, in_order_none, times_append, without_absent}
 
 -- one bit of one word changes
-pub put_bits : (marks : List ℕ) (word bit level x v : ℕ) → word < length marks → level ≡ 64 * word + bit → bit < 64 → bit_at x bit ≡ v → ((i : ℕ) → i < 64 → (i ≡ bit → ⊥) → bit_at x i ≡ bit_at (slice_index marks word) i) → (w b : ℕ) → b < 64 → bit_at (slice_index (slice_set marks word x) w) b ≡ cond (nat_eq (64 * w + b) level) v (bit_at (slice_index marks w) b)
+pub put_bits : (marks : List ℕ) (word bit level x v : ℕ) → word < length marks → level ≡ MARK_BITS * word + bit → bit < MARK_BITS → bit_at x bit ≡ v → ((i : ℕ) → i < MARK_BITS → (i ≡ bit → ⊥) → bit_at x i ≡ bit_at (slice_index marks word) i) → (w b : ℕ) → b < MARK_BITS → bit_at (slice_index (slice_set marks word x) w) b ≡ cond (nat_eq (MARK_BITS * w + b) level) v (bit_at (slice_index marks w) b)
 put_bits marks word bit level x v within is below set others w b lt = by_word (cases_eq w word)
   where
     old : ℕ
     old = bit_at (slice_index marks w) b
 
-    by_test : (t : Bool) → nat_eq (64 * w + b) level ≡ t → bit_at (slice_index (slice_set marks word x) w) b ≡ cond t v old → bit_at (slice_index (slice_set marks word x) w) b ≡ cond (nat_eq (64 * w + b) level) v old
+    by_test : (t : Bool) → nat_eq (MARK_BITS * w + b) level ≡ t → bit_at (slice_index (slice_set marks word x) w) b ≡ cond t v old → bit_at (slice_index (slice_set marks word x) w) b ≡ cond (nat_eq (MARK_BITS * w + b) level) v old
     by_test t e h = subst (λ (q : Bool). bit_at (slice_index (slice_set marks word x) w) b ≡ cond q v old) (sym e) h
 
-    by_bit : w ≡ word → (b ≡ bit) ⊎ (b ≡ bit → ⊥) → bit_at (slice_index (slice_set marks word x) w) b ≡ cond (nat_eq (64 * w + b) level) v old
+    by_bit : w ≡ word → (b ≡ bit) ⊎ (b ≡ bit → ⊥) → bit_at (slice_index (slice_set marks word x) w) b ≡ cond (nat_eq (MARK_BITS * w + b) level) v old
     by_bit same (inl here) =
-        let test : nat_eq (64 * w + b) level ≡ true = grind (arith, nat_tests) in
+        let test : nat_eq (MARK_BITS * w + b) level ≡ true = grind (arith, nat_tests) in
         by_test true test (ap (λ i. bit_at (slice_index (slice_set marks word x) i) b) same ∙ (ap (λ y. bit_at y b) (get_or-set_same marks word x 0 within) ∙ (ap (λ i. bit_at x i) here ∙ set)))
     by_bit same (inr other) =
-        let test : nat_eq (64 * w + b) level ≡ false = grind (arith, nat_tests) in
+        let test : nat_eq (MARK_BITS * w + b) level ≡ false = grind (arith, nat_tests) in
         by_test false test (ap (λ i. bit_at (slice_index (slice_set marks word x) i) b) same ∙ (ap (λ y. bit_at y b) (get_or-set_same marks word x 0 within) ∙ (others b lt other ∙ ap (λ i. bit_at (slice_index marks i) b) (sym same))))
 
-    by_word : (w ≡ word) ⊎ (w ≡ word → ⊥) → bit_at (slice_index (slice_set marks word x) w) b ≡ cond (nat_eq (64 * w + b) level) v old
+    by_word : (w ≡ word) ⊎ (w ≡ word → ⊥) → bit_at (slice_index (slice_set marks word x) w) b ≡ cond (nat_eq (MARK_BITS * w + b) level) v old
     by_word (inl same) = by_bit same (cases_eq b bit)
     by_word (inr other) =
-        let test : nat_eq (64 * w + b) level ≡ false = grind (arith, nat_tests) in
+        let test : nat_eq (MARK_BITS * w + b) level ≡ false = grind (arith, nat_tests) in
         by_test false test (ap (λ y. bit_at y b) (get_or-set_other marks word w x 0 other))
 
 -- ---- the marks of the lists
 -- the law of `put`
 abbrev pub PutsMark : List ℕ → List ℕ → ℕ → ℕ → Type 0
-PutsMark old new level v = (w b : ℕ) → b < 64 → bit_at (slice_index new w) b ≡ cond (nat_eq (64 * w + b) level) v (bit_at (slice_index old w) b)
+PutsMark old new level v = (w b : ℕ) → b < MARK_BITS → bit_at (slice_index new w) b ≡ cond (nat_eq (MARK_BITS * w + b) level) v (bit_at (slice_index old w) b)
 
 -- one list changes, and its mark with it
 pub marked_change : (old new : List ℕ) (lists next : List (List Entry)) (level v : ℕ) → AreMarked old lists → PutsMark old new level v → one_if_any (list_in next level) ≡ v → ((j : ℕ) → (j ≡ level → ⊥) → list_in next j ≡ list_in lists j) → AreMarked new next
-marked_change old new lists next level v h put here others w b lt = by_level (cases_eq (64 * w + b) level)
+marked_change old new lists next level v h put here others w b lt = by_level (cases_eq (MARK_BITS * w + b) level)
   where
-    by_level : (64 * w + b ≡ level) ⊎ (64 * w + b ≡ level → ⊥) → bit_at (slice_index new w) b ≡ one_if_any (list_in next (64 * w + b))
+    by_level : (MARK_BITS * w + b ≡ level) ⊎ (MARK_BITS * w + b ≡ level → ⊥) → bit_at (slice_index new w) b ≡ one_if_any (list_in next (MARK_BITS * w + b))
     by_level (inl same) =
-        let test : nat_eq (64 * w + b) level ≡ true = grind (arith, nat_tests) in
+        let test : nat_eq (MARK_BITS * w + b) level ≡ true = grind (arith, nat_tests) in
         put w b lt ∙ (ap (λ q. cond q v (bit_at (slice_index old w) b)) test ∙ (sym here ∙ ap (λ j. one_if_any (list_in next j)) (sym same)))
     by_level (inr other) =
-        let test : nat_eq (64 * w + b) level ≡ false = grind (arith, nat_tests) in
-        put w b lt ∙ (ap (λ q. cond q v (bit_at (slice_index old w) b)) test ∙ (h w b lt ∙ ap one_if_any (sym (others (64 * w + b) other))))
+        let test : nat_eq (MARK_BITS * w + b) level ≡ false = grind (arith, nat_tests) in
+        put w b lt ∙ (ap (λ q. cond q v (bit_at (slice_index old w) b)) test ∙ (h w b lt ∙ ap one_if_any (sym (others (MARK_BITS * w + b) other))))
 
 any_push : (xs : List Entry) (e : Entry) → one_if_any (xs ++ e ∷ []) ≡ 1
 any_push [] e = refl
@@ -74,25 +75,25 @@ zeros (suc (suc (suc zero))) = refl
 zeros (suc (suc (suc (suc w)))) = refl
 
 pub marked_none : (lists : List (List Entry)) → ((k : ℕ) → list_in lists k ≡ []) → AreMarked (0 ∷ 0 ∷ 0 ∷ 0 ∷ []) lists
-marked_none lists h w b lt = ap (λ x. bit_at x b) (zeros w) ∙ (bit_at-zero b ∙ ap one_if_any (sym (h (64 * w + b))))
+marked_none lists h w b lt = ap (λ x. bit_at x b) (zeros w) ∙ (bit_at-zero b ∙ ap one_if_any (sym (h (MARK_BITS * w + b))))
 
 -- ---- the first
 -- a level below another is a bit before it
-split : (j : ℕ) → (w : ℕ) × (b : ℕ) × (b < 64) × (j ≡ 64 * w + b)
+split : (j : ℕ) → (w : ℕ) × (b : ℕ) × (b < MARK_BITS) × (j ≡ MARK_BITS * w + b)
 split zero = (0, 0, omega arith, omega arith)
 split (suc j) = more (split j)
   where
-    more : ((w : ℕ) × (b : ℕ) × (b < 64) × (j ≡ 64 * w + b)) → (w : ℕ) × (b : ℕ) × (b < 64) × (suc j ≡ 64 * w + b)
-    more (w, b, lt, is) = by_end (cases_lt (suc b) 64)
+    more : ((w : ℕ) × (b : ℕ) × (b < MARK_BITS) × (j ≡ MARK_BITS * w + b)) → (w : ℕ) × (b : ℕ) × (b < MARK_BITS) × (suc j ≡ MARK_BITS * w + b)
+    more (w, b, lt, is) = by_end (cases_lt (suc b) MARK_BITS)
       where
-        by_end : (suc b < 64) ⊎ (64 ≤ suc b) → (v : ℕ) × (c : ℕ) × (c < 64) × (suc j ≡ 64 * v + c)
+        by_end : (suc b < MARK_BITS) ⊎ (MARK_BITS ≤ suc b) → (v : ℕ) × (c : ℕ) × (c < MARK_BITS) × (suc j ≡ MARK_BITS * v + c)
         by_end (inl inside) = (w, suc b, inside, omega (arith, is))
         by_end (inr last) = (suc w, 0, omega arith, omega (arith, is, last, lt))
 
 pub none_marked : (marks : List ℕ) (lists : List (List Entry)) → AreMarked marks lists → IsFirstMark marks None → (j : ℕ) → one_if_any (list_in lists j) ≡ 0
 none_marked marks lists h none j = at (split j)
   where
-    at : ((w : ℕ) × (b : ℕ) × (b < 64) × (j ≡ 64 * w + b)) → one_if_any (list_in lists j) ≡ 0
+    at : ((w : ℕ) × (b : ℕ) × (b < MARK_BITS) × (j ≡ MARK_BITS * w + b)) → one_if_any (list_in lists j) ≡ 0
     at (w, b, lt, is) = ap (λ k. one_if_any (list_in lists k)) is ∙ (sym (h w b lt) ∙ none w b lt)
 
 pub first_none : (marks : List ℕ) (lists : List (List Entry)) → AreMarked marks lists → IsFirstMark marks None → None ≡ slice_get (in_order lists) 0
@@ -107,7 +108,7 @@ first_marked marks lists level h l = sym (in_order_first level lists here before
     before : (j : ℕ) → j < level → one_if_any (list_in lists j) ≡ 0
     before j lt = at (split j)
       where
-        at : ((w : ℕ) × (b : ℕ) × (b < 64) × (j ≡ 64 * w + b)) → one_if_any (list_in lists j) ≡ 0
+        at : ((w : ℕ) × (b : ℕ) × (b < MARK_BITS) × (j ≡ MARK_BITS * w + b)) → one_if_any (list_in lists j) ≡ 0
         at (w, b, below, is) = ap (λ k. one_if_any (list_in lists k)) is ∙ (sym (h w b below) ∙ l.lowest w b below (omega (arith, is, lt)))
 
 -- ---- a process that leaves

@@ -3,19 +3,20 @@ use Rattle.std.proofs.Common.{◌≡◌, ◌⊎◌, inl, inr, ℕ, ◌+◌, ◌*
 use Rattle.std.specs.Int.{bit_at, trailing_zeros}
 use Rattle.std.proofs.lemmas.Bool.{cases_lt, cases_eq}
 use Rattle.std.proofs.lemmas.Nat.Bits.{bit_at-zero, bit_at-trailing_zeros}
+use Rattle.apex_types.specs.declared.limits.TheConstants.{MARK_BITS}
 use Rattle.links.specs.Levels.{IsLowest}
 
-pub lowest : (marks : List ℕ) (word : ℕ) → ((w : ℕ) → w < word → slice_index marks w ≡ 0) → 0 < slice_index marks word → slice_index marks word < 2 ^ 64 → IsLowest marks (word * 64 + trailing_zeros w64 (slice_index marks word))
+pub lowest : (marks : List ℕ) (word : ℕ) → ((w : ℕ) → w < word → slice_index marks w ≡ 0) → 0 < slice_index marks word → slice_index marks word < 2 ^ 64 → IsLowest marks (word * MARK_BITS + trailing_zeros w64 (slice_index marks word))
 lowest marks word before some small =
     let x = slice_index marks word in
     let h = bit_at-trailing_zeros w64 x some small in
     let n = trailing_zeros w64 x in
     record { word = word; bit = n; is = omega arith; below = h.0; set = h.1; lowest = λ w b lt less. at_word w b lt less }
   where
-    at_word : (w b : ℕ) → b < 64 → 64 * w + b < word * 64 + trailing_zeros w64 (slice_index marks word) → bit_at (slice_index marks w) b ≡ 0
+    at_word : (w b : ℕ) → b < MARK_BITS → MARK_BITS * w + b < word * MARK_BITS + trailing_zeros w64 (slice_index marks word) → bit_at (slice_index marks w) b ≡ 0
     at_word w b lt less = by_word (cases_lt w word) (cases_eq w word)
       where
-        h : (trailing_zeros w64 (slice_index marks word) < 64) × (bit_at (slice_index marks word) (trailing_zeros w64 (slice_index marks word)) ≡ 1) × ((i : ℕ) → i < trailing_zeros w64 (slice_index marks word) → bit_at (slice_index marks word) i ≡ 0)
+        h : (trailing_zeros w64 (slice_index marks word) < MARK_BITS) × (bit_at (slice_index marks word) (trailing_zeros w64 (slice_index marks word)) ≡ 1) × ((i : ℕ) → i < trailing_zeros w64 (slice_index marks word) → bit_at (slice_index marks word) i ≡ 0)
         h = bit_at-trailing_zeros w64 (slice_index marks word) some small
 
         by_word : (w < word) ⊎ (word ≤ w) → (w ≡ word) ⊎ (w ≡ word → ⊥) → bit_at (slice_index marks w) b ≡ 0

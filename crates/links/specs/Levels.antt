@@ -1,6 +1,7 @@
 -- A list for each priority, the highest first, and the marks of those that are not empty.
 use Rattle.std.specs.Prelude.{◌≡◌, ◌<◌, ℕ, suc, ◌+◌, ◌*◌, List, [], ◌∷◌, ◌++◌, Option, Some, None, slice_index}
 use Rattle.std.specs.Int.{bit_at}
+use Rattle.apex_types.specs.declared.limits.TheConstants.{MARK_BITS}
 use Rattle.apex_types.specs.declared.process.Entry.{Entry}
 use Rattle.kernel_meaning.specs.Queues.{list_in}
 
@@ -26,17 +27,17 @@ one_if_any (e ∷ es) = 1
 
 -- bit b of word w is set if the list of level 64 * w + b is not empty
 abbrev pub AreMarked : List ℕ → List (List Entry) → Type 0
-AreMarked marks lists = (w b : ℕ) → b < 64 → bit_at (slice_index marks w) b ≡ one_if_any (list_in lists (64 * w + b))
+AreMarked marks lists = (w b : ℕ) → b < MARK_BITS → bit_at (slice_index marks w) b ≡ one_if_any (list_in lists (MARK_BITS * w + b))
 
 -- the lowest bit that is set
 pub record IsLowest (marks : List ℕ) (level : ℕ) : Type 0 where
   pub word : ℕ
   pub bit : ℕ
-  pub is : level ≡ 64 * word + bit
-  pub below : bit < 64
+  pub is : level ≡ MARK_BITS * word + bit
+  pub below : bit < MARK_BITS
   pub set : bit_at (slice_index marks word) bit ≡ 1
-  pub lowest : (w b : ℕ) → b < 64 → 64 * w + b < level → bit_at (slice_index marks w) b ≡ 0
+  pub lowest : (w b : ℕ) → b < MARK_BITS → MARK_BITS * w + b < level → bit_at (slice_index marks w) b ≡ 0
 
 abbrev pub IsFirstMark : List ℕ → Option ℕ → Type 0
-IsFirstMark marks None = (w b : ℕ) → b < 64 → bit_at (slice_index marks w) b ≡ 0
+IsFirstMark marks None = (w b : ℕ) → b < MARK_BITS → bit_at (slice_index marks w) b ≡ 0
 IsFirstMark marks (Some level) = IsLowest marks level

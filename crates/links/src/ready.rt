@@ -6,12 +6,10 @@ ghost use Rattle.kernel_meaning.specs.Queues.{behind_equals, without};
 use crate::links::Links;
 use crate::lists::ListId;
 use crate::marks::{self, Marks};
+use apex_types::limits::PRIORITY_LEVELS;
 use apex_types::{Entry, MOST_PROCESSES, ProcessIndex};
 use std::alloc::{AllocError, Global};
 use std::marker::Model;
-
-/// A list for each number that a priority may have.
-const LEVELS: u16 = 256;
 
 /// The ready processes, a list for each priority. A contract sees the lists one behind another, the
 /// highest priority first.
@@ -40,7 +38,7 @@ impl ReadyLists {
         ensures { IfOk result (λ ready. ready ≡ []) }
     {
         Ok(ReadyLists {
-            lists: Links::new(alloc, LEVELS)?,
+            lists: Links::new(alloc, PRIORITY_LEVELS)?,
             marks: [0; 4],
         })
     }

@@ -4,6 +4,7 @@ use Rattle.std.specs.Prelude.{ℤ, ◌^◌}
 use Rattle.std.specs.Option.{option_map}
 use Rattle.std.proofs.lemmas.List.{length-map}
 use Rattle.std.proofs.lemmas.Option.{none-some, same_Some, slice_get-get_or}
+use Rattle.apex_types.specs.Versions.{third_limits}
 use Rattle.apex_types.specs.declared.cost.Costs.{Costs}
 use Rattle.apex_types.specs.declared.limits.TheConstants.{MOST_PARTITIONS, MOST_PORTS, MOST_TICKS}
 use Rattle.apex_types.specs.declared.row.BodyRow.{BodyRow}
@@ -24,6 +25,7 @@ use Rattle.machine_meaning.specs.MachineControl.{MachineControl}
 use Rattle.kernel_meaning.specs.Times.{ticks}
 use Rattle.machine_meaning.specs.MachineMeaning.{body_of_row, machine_row, section_engine, machine_member}
 use Rattle.kernel_meaning.specs.Fresh.{init_row, handler_row, no_control_for}
+use Rattle.image.specs.Views.{image_of}
 use Rattle.image.specs.declared.value.Image.{Image}
 use Rattle.image.specs.declared.item.PartitionItem.{PartitionItem}
 use Rattle.image.specs.Items.{item_of, items_of, partition_of, section_of}
@@ -33,13 +35,14 @@ use Rattle.partition_base.specs.Sections.{IsFittingSection, engine_of_section}
 use Rattle.processor.specs.Fitting.{IsFittingRoutine, AreFitting}
 use Rattle.process_table_base.specs.Bounds.{IsAtMost, IsShort, AreShort}
 use Rattle.lone_partition.specs.Loading.{IsFittingItem, AreFittingItems}
+use Rattle.machine_laws.proofs.Widened.{items_widened, count_widened}
 
 routines_fit : (before rows : List RoutineRow) → EachBeside (λ _. IsRoutine) before rows → AreFitting rows
 routines_fit before [] h place row e = absurd (none-some row e)
 routines_fit before (r ∷ rows) h zero row e = subst IsFittingRoutine (same_Some r row e) (record { parameters = h.0.slots.least; frame = h.0.frame.least; limit = h.0.frame.most })
 routines_fit before (r ∷ rows) h (suc place) row e = routines_fit (before ++ r ∷ []) rows h.1 place row e
 
-section_fits : (unit : ℕ) (s : Section) → IsSection unit (section_of s) → IsFittingSection s
+section_fits : (unit : ℕ) (s : Section) → IsSection third_limits unit (section_of s) → IsFittingSection s
 section_fits unit s h = record { code = h.code.count.most; routines = routines_fit [] s.routines.items h.bodies.routines }
 
 at_most : (d : Option ℕ) → IsDuration d → IsAtMost MOST_TICKS (option_map ticks d)
@@ -57,12 +60,12 @@ short_port : (row : PortRow) (kind : PortKind) → IsPortKind kind → refresh_o
 short_port row (kinds.Sampling refresh) h = h.most
 short_port row (kinds.Queuing depth discipline) h = omega arith
 
-short_ports : (before rows : List PortRow) → EachBeside IsPort before rows → ports.AreShort rows
+short_ports : (before rows : List PortRow) → EachBeside (IsPort third_limits) before rows → ports.AreShort rows
 short_ports before [] h place row e = absurd (none-some row e)
 short_ports before (r ∷ rows) h zero row e = subst (λ (p : PortRow). refresh_of p.kind ≤ MOST_TICKS) (same_Some r row e) (short_port r r.kind h.0.kind)
 short_ports before (r ∷ rows) h (suc place) row e = short_ports (before ++ r ∷ []) rows h.1 place row e
 
-rows_fit : (frame : ℕ) (before : List Item) (i : PartitionItem) → IsPartition frame before (partition_of i.row) → IsSection i.row.period (section_of i.section) → AreWithinLimits i.row.ports.items i.section
+rows_fit : (frame : ℕ) (before : List Item) (i : PartitionItem) → IsPartition third_limits frame before (partition_of i.row) → IsSection third_limits i.row.period (section_of i.section) → AreWithinLimits i.row.ports.items i.section
 rows_fit frame before i r h = record {
   processes = h.bodies.process_count.most;
   times = all_short i.row.period [] i.section.processes.items h.bodies.processes;
@@ -74,22 +77,22 @@ rows_fit frame before i r h = record {
   refresh = short_ports [] i.row.ports.items r.ports;
 }
 
-item_fits : (frame : ℕ) (before : List Item) (i : PartitionItem) → IsPartition frame before (partition_of i.row) → IsSection i.row.period (section_of i.section) → IsFittingItem i
+item_fits : (frame : ℕ) (before : List Item) (i : PartitionItem) → IsPartition third_limits frame before (partition_of i.row) → IsSection third_limits i.row.period (section_of i.section) → IsFittingItem i
 item_fits frame before i r h = record {
   section = section_fits i.row.period i.section h;
   rows = rows_fit frame before i r h;
 }
 
-items_fit : (frame : ℕ) (before : List Item) (items : List PartitionItem) → EachBeside (IsItem frame) before (items_of items) → AreFittingItems items
+items_fit : (frame : ℕ) (before : List Item) (items : List PartitionItem) → EachBeside (IsItem third_limits frame) before (items_of items) → AreFittingItems items
 items_fit frame before [] h place item e = absurd (none-some item e)
 items_fit frame before (i ∷ items) h zero item e = subst IsFittingItem (same_Some i item e) (item_fits frame before i h.0.partition h.0.section)
 items_fit frame before (i ∷ items) h (suc place) item e = items_fit frame (before ++ item_of i ∷ []) items h.1 place item e
 
 pub items_of_image_fit : (image : Image) → AreFittingItems image.partitions.items
-items_of_image_fit image = items_fit image.schedule.frame [] image.partitions.items image.lawful.limits.items
+items_of_image_fit image = items_fit image.schedule.frame [] image.partitions.items (items_widened (image_of image) image.lawful.limits)
 
 pub items_of_image_few : (image : Image) → length image.partitions.items ≤ MOST_PARTITIONS
-items_of_image_few image = let same = length-map image.partitions.items item_of in let most = image.lawful.limits.item_count.most in omega arith
+items_of_image_few image = let same = length-map image.partitions.items item_of in let most = (count_widened (image_of image) image.lawful.limits).most in omega arith
 
 -- the item at a place
 pub item_fits_here : (image : Image) (place : ℕ) (item : PartitionItem) → place < length image.partitions.items → item ≡ get_or image.partitions.items place item → IsFittingItem item

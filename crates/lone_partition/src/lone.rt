@@ -4,7 +4,7 @@ ghost use Rattle.lone_partition.specs.Only.{IsAlone};
 
 use crate::load::{fixed, load_memory, load_partition};
 use crate::surroundings::Surroundings;
-use apex_types::PartitionId;
+use apex_types::{PartitionId, TraceBuffer};
 use image::Image;
 use partition::Partition;
 use partition_base::PartitionProcessor;
@@ -18,6 +18,8 @@ pub struct LonePartition {
     pub(crate) partition: Partition<PartitionProcessor>,
     /// The memory of this partition alone.
     pub(crate) memory: Memory,
+    /// The lines of a step on their way to a sink.
+    pub(crate) trace: TraceBuffer,
     ghost alone: { IsAlone partition memory },
 }
 
@@ -50,6 +52,7 @@ impl LonePartition {
             surroundings,
             partition,
             memory,
+            trace: TraceBuffer::new(alloc)?,
         })
     }
 }

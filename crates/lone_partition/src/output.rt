@@ -51,7 +51,7 @@ impl<'a, S: Sink> Output<'a, S> {
     /// buffer until the next step clears it.
     pub fn write(&mut self)
         ensures { HasSent (sent_of S.Sink self.old) (sent_of S.Sink self.new)
-            self.old.trace.now.text.items }
+            self.old.trace.now.text }
     {
         if self.has_failed {
             return;

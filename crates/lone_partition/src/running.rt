@@ -68,9 +68,18 @@ impl LonePartition {
             surroundings,
             mut partition,
             mut memory,
+            mut trace,
         } = self;
         let mem = memory.lend(ONLY_PART);
-        run_alone(&surroundings, &mut partition, mem, inputs, ticks, sink)
+        run_alone(
+            &surroundings,
+            &mut partition,
+            mem,
+            inputs,
+            ticks,
+            &mut trace,
+            sink,
+        )
     }
 }
 
@@ -81,6 +90,7 @@ fn run_alone<E: Executor, S: Sink>(
     mem: &mut E::Mem,
     inputs: &[InputLine],
     ticks: u64,
+    trace: &mut TraceBuffer,
     sink: &mut S,
 ) -> Result<(), SinkFault>
     requires fits { E.laid mem.old ≡ E.layout partition.old.executor }
@@ -96,8 +106,7 @@ fn run_alone<E: Executor, S: Sink>(
         inputs.now ticks)
         (S.taken sink.old) (S.taken sink.new) (S.failures sink.old) (S.failures sink.new) result }
 {
-    let mut trace = TraceBuffer::new();
-    let mut output = Output::new(&mut trace, sink);
+    let mut output = Output::new(trace, sink);
     start_and_run(surroundings, partition, mem, inputs, ticks, &mut output);
     if output.has_failed() {
         return Err(SinkFault);

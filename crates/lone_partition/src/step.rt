@@ -10,7 +10,7 @@ ghost use Rattle.lone_partition.specs.Steps.{step_of};
 ghost use Rattle.lone_partition.specs.Written.{IsMade};
 
 use crate::output::Output;
-use apex_types::{Moment, Name, PortId, Sink, StartCondition, TraceBuffer, Words, copied};
+use apex_types::{Moment, Name, PortId, Sink, StartCondition, TraceBuffer, Words};
 use partition::Partition;
 use partition_base::Executor;
 
@@ -44,22 +44,18 @@ fn step_member<E: Executor>(
     ensures member { let x = member_of E.Executor partition.old mem.old in
         member_of E.Executor partition.new mem.new
         ≡ with_world x (step_of moment.at step.now x).world }
-    ensures lines { trace.new.text.items
+    ensures lines { trace.new.text
         ≡ text_of (step_of moment.at step.now (member_of E.Executor partition.old mem.old)).lines }
 {
     trace.clear();
     match step {
         PartitionStep::Start(condition) => partition.clear(mem, moment, *condition, trace),
         PartitionStep::Arrive(port, message) => partition.arrive(
-            mem,
-            moment,
-            *port,
-            copied(message),
-            trace,
+            mem, moment, *port, message, trace,
         ),
         PartitionStep::Admit(port) => partition.admit(mem, moment, *port, trace),
         PartitionStep::GoOut(channel, message) => {
-            partition.go_out(mem, moment, *channel, copied(message), trace)
+            partition.go_out(mem, moment, *channel, message, trace)
         }
         PartitionStep::BreakDown => partition.fault(mem, moment, trace),
         PartitionStep::Tick => partition.tick(mem, moment, trace),

@@ -2,6 +2,7 @@
 use Rattle.std.proofs.Common.{◌≡◌, ℕ, ◌+◌, ◌≤◌, true, false, List, [], ◌∷◌, length, map, Ok, refl, sym, subst}
 use Rattle.std.specs.List.{list_any, AllByRecursion, All}
 use Rattle.std.proofs.lemmas.Bool.{and_from, or_from, not_from_false, le-ltb}
+use Rattle.apex_types.specs.Versions.{third_limits}
 use Rattle.apex_types.specs.declared.row.WindowRow.{WindowRow}
 use Rattle.toml.specs.Data.{Members}
 use Rattle.module_meaning.specs.Table.{Table, Partition}
@@ -35,7 +36,7 @@ table_keeps text t a room =
     (not_from_false (has_wrong_ends t.partitions t.channels) a.ends)
 
 -- An accepted table with lawful sections is a lawful image.
-pub accepted_image : (ms : Members) (t : Table) (items : List Item) → verdict ms ≡ Ok t → map (λ (it : Item). it.partition) items ≡ t.partitions → All (λ (it : Item). IsSection it.partition.period it.section) items
+pub accepted_image : (ms : Members) (t : Table) (items : List Item) → verdict ms ≡ Ok t → map (λ (it : Item). it.partition) items ≡ t.partitions → All (λ (it : Item). IsSection third_limits it.partition.period it.section) items
     → IsLawful (image_of t items)
 accepted_image ms t items h rows sections =
     let a = accepted_table ms t h in

@@ -5,7 +5,8 @@ use Rattle.std.specs.List.{list_any, AllByRecursion, All}
 use Rattle.std.proofs.lemmas.Bool.{not-false, ltb-false, or_parts, or_from, and_left, ne_eqb}
 use Rattle.std.proofs.lemmas.List.{length-map}
 use Rattle.std.proofs.lemmas.List.Folds.{list_any-append}
-use Rattle.apex_types.specs.declared.version.ImageVersion.TheVariants.{Second}
+use Rattle.apex_types.specs.Versions.{third_limits}
+use Rattle.apex_types.specs.declared.version.ImageVersion.TheVariants.{Third}
 use Rattle.apex_types.specs.declared.limits.TheConstants.{MOST_CHANNELS, MOST_DEPTH, MOST_DESTINATIONS, MOST_FRAME_TICKS, MOST_PARTITIONS, MOST_PORTS, MOST_TICKS, MOST_WINDOWS, MOST_WORDS}
 use Rattle.apex_types.specs.NameText.{is_name}
 use Rattle.apex_types.specs.declared.row.PortRow.{PortRow}
@@ -133,7 +134,7 @@ unfolding exceeds_kind
 kind_inside (Sampling refresh) h = inside 0 (pos MOST_TICKS) refresh h
 kind_inside (Queuing depth discipline) h = inside 1 (pos MOST_DEPTH) depth h
 
-port_is : (before : List PortText) (p : PortText) → list_any (λ (b : PortText). same b.name p.name) before ≡ false → exceeds_port p ≡ false → IsPort (map port_row before) (port_row p)
+port_is : (before : List PortText) (p : PortText) → list_any (λ (b : PortText). same b.name p.name) before ≡ false → exceeds_port p ≡ false → IsPort third_limits (map port_row before) (port_row p)
 unfolding exceeds_port
 port_is before p fresh h =
     let k = or_parts _ (exceeds_kind p.kind) h in
@@ -152,7 +153,7 @@ record IsRow (frame : ℕ) (before : List Partition) (row : Partition) : Type 0 
   period : IsFrom 1 frame row.period
   duration : IsFrom 0 row.period row.duration
   port_count : IsFrom 0 MOST_PORTS (length row.ports)
-  ports : EachBeside IsPort [] row.ports
+  ports : EachBeside (IsPort third_limits) [] row.ports
 
 -- the rules that a partition of a text keeps
 record KeepsRow (frame : ℤ) (p : PartitionText) : Type 0 where
@@ -173,7 +174,7 @@ row_is frame before p fresh k =
       period = inside 1 frame p.period each.0;
       duration = inside 0 p.period p.duration each.1;
       port_count = record { least = omega arith; most = omega (arith, few.most, length-map p.ports port_row) };
-      ports = each_row IsPort (λ (q : PortText). exceeds_port q ≡ false) (λ (q r : PortText). same q.name r.name) port_row port_is [] p.ports (none_apart (λ (q r : PortText). same q.name r.name) p.ports) k.ports (none_of exceeds_port p.ports ports.1);
+      ports = each_row (IsPort third_limits) (λ (q : PortText). exceeds_port q ≡ false) (λ (q r : PortText). same q.name r.name) port_row port_is [] p.ports (none_apart (λ (q r : PortText). same q.name r.name) p.ports) k.ports (none_of exceeds_port p.ports ports.1);
     }
 
 keeps_rows : (frame : ℤ) (ps : List PartitionText) → list_any (exceeds_partition frame) ps ≡ false → list_any (λ (p : PartitionText). has_twice (λ (q r : PortText). same q.name r.name) p.ports) ps ≡ false → AllByRecursion (KeepsRow frame) ps
@@ -184,7 +185,7 @@ keeps_rows frame (p ∷ ps) limits names =
     (record { limits = l.0; ports = n.0 }, keeps_rows frame ps l.1 n.1)
 
 -- the partitions of items, each with a lawful section
-items_are : (frame : ℕ) (before items : List Item) → EachBeside (IsRow frame) (map (λ (it : Item). it.partition) before) (map (λ (it : Item). it.partition) items) → AllByRecursion (λ (it : Item). IsSection it.partition.period it.section) items → EachBeside (IsItem frame) before items
+items_are : (frame : ℕ) (before items : List Item) → EachBeside (IsRow frame) (map (λ (it : Item). it.partition) before) (map (λ (it : Item). it.partition) items) → AllByRecursion (λ (it : Item). IsSection third_limits it.partition.period it.section) items → EachBeside (IsItem third_limits frame) before items
 items_are frame before [] rows sections = tt
 items_are frame before (it ∷ items) rows sections =
     let row = rows.0 in
@@ -214,7 +215,7 @@ unfolding number_from
 number_small n test [] k h = absurd cc
 number_small n test (x ∷ xs) k h = number_first (test x) n (length xs) k (number_from (n + 1) test xs) (λ e. number_small (n + 1) test xs k e) h
 
-window_number_small : (ps : List PartitionText) (o : Option ℕ) → length ps ≤ MOST_PARTITIONS → ((k : ℕ) → o ≡ Some k → (1 ≤ k) × (k < 1 + length ps)) → unwrap_or o 0 < 256
+window_number_small : (ps : List PartitionText) (o : Option ℕ) → length ps ≤ MOST_PARTITIONS → ((k : ℕ) → o ≡ Some k → (1 ≤ k) × (k < 1 + length ps)) → unwrap_or o 0 < 2 ^ 8
 window_number_small ps None few h = omega arith
 window_number_small ps (Some k) few h = omega (arith, (h k refl).1)
 
@@ -250,13 +251,13 @@ port_or n o rest = elim o [ Some q ↦ Some (ends.Port (record { 0 = n }) (recor
 not_zero : (n : ℕ) → 1 ≤ n → (n == 0) ≡ false
 not_zero n h = ne_eqb n 0 (λ e. omega (arith, e))
 
-port_end : (n : ℕ) (o : Option ℕ) (rest : Option ChannelEnd) (e : ChannelEnd) → 1 ≤ n → n < 256 → ((q : ℕ) → o ≡ Some q → q < 256) → (rest ≡ Some e → IsEnd e) → port_or n o rest ≡ Some e → IsEnd e
+port_end : (n : ℕ) (o : Option ℕ) (rest : Option ChannelEnd) (e : ChannelEnd) → 1 ≤ n → n < 2 ^ 8 → ((q : ℕ) → o ≡ Some q → q < 2 ^ 8) → (rest ≡ Some e → IsEnd e) → port_or n o rest ≡ Some e → IsEnd e
 port_end n None rest e some few small others h = others h
 port_end n (Some q) rest e some few small others h =
     let is : ends.Port (record { 0 = n }) (record { 0 = q }) ≡ e = cc in
     subst IsEnd is (few, small q refl, and_left (n == 0) (q == 0) (not_zero n some))
 
-port_ends : (n : ℕ) (ps : List PartitionText) (text : List ℕ) (e : ChannelEnd) → 1 ≤ n → n + length ps ≤ 256 → AllByRecursion (λ (p : PartitionText). length p.ports ≤ MOST_PORTS) ps → port_from n ps text ≡ Some e → IsEnd e
+port_ends : (n : ℕ) (ps : List PartitionText) (text : List ℕ) (e : ChannelEnd) → 1 ≤ n → n + length ps ≤ 2 ^ 8 → AllByRecursion (λ (p : PartitionText). length p.ports ≤ MOST_PORTS) ps → port_from n ps text ≡ Some e → IsEnd e
 unfolding port_from
 port_ends n [] text e some few ports h = absurd cc
 port_ends n (p ∷ ps) text e some few ports h =
@@ -309,13 +310,13 @@ few_ports frame (p ∷ ps) h =
 
 -- the image of a table whose partitions have become items
 abbrev pub image_of : Table → List Item → Image
-image_of t items = record { schedule = t.schedule; fault = t.fault; version = Second t.costs; items = items; channels = t.channels }
+image_of t items = record { schedule = t.schedule; fault = t.fault; version = Third t.costs; items = items; channels = t.channels }
 
 -- each window ends within the frame
 abbrev pub HaveRoom : Table → Type 0
 HaveRoom t = AllByRecursion (λ (w : WindowRow). w.offset + w.length ≤ t.schedule.frame) t.schedule.windows
 
-text_limits : (text : TableText) (items : List Item) → exceeds_limits text ≡ false → has_same_names text ≡ false → overlaps text ≡ false → map (λ (it : Item). it.partition) items ≡ (numbered text).partitions → AllByRecursion (λ (it : Item). IsSection it.partition.period it.section) items
+text_limits : (text : TableText) (items : List Item) → exceeds_limits text ≡ false → has_same_names text ≡ false → overlaps text ≡ false → map (λ (it : Item). it.partition) items ≡ (numbered text).partitions → AllByRecursion (λ (it : Item). IsSection third_limits it.partition.period it.section) items
     → IsWithinLimits (image_of (numbered text) items) × HaveRoom (numbered text)
 unfolding numbered exceeds_counts exceeds_rows has_same_names
 text_limits text items limits names apart same_rows sections =
@@ -351,7 +352,7 @@ text_limits text items limits names apart same_rows sections =
       placed.1,
     )
 
-pub table_limits : (text : TableText) (t : Table) (items : List Item) → AcceptedTable text t → map (λ (it : Item). it.partition) items ≡ t.partitions → AllByRecursion (λ (it : Item). IsSection it.partition.period it.section) items
+pub table_limits : (text : TableText) (t : Table) (items : List Item) → AcceptedTable text t → map (λ (it : Item). it.partition) items ≡ t.partitions → AllByRecursion (λ (it : Item). IsSection third_limits it.partition.period it.section) items
     → IsWithinLimits (image_of t items) × HaveRoom t
 table_limits text t items a rows sections =
     let back = sym a.is in
@@ -359,7 +360,7 @@ table_limits text t items a rows sections =
     (text_limits text items a.limits a.names a.apart (subst (λ (x : Table). map (λ (it : Item). it.partition) items ≡ x.partitions) back rows) sections)
 
 -- An accepted table whose partitions have become lawful sections is within the limits of an image.
-pub accepted_limits : (ms : Members) (t : Table) (items : List Item) → verdict ms ≡ Ok t → map (λ (it : Item). it.partition) items ≡ t.partitions → All (λ (it : Item). IsSection it.partition.period it.section) items → IsWithinLimits (image_of t items)
+pub accepted_limits : (ms : Members) (t : Table) (items : List Item) → verdict ms ≡ Ok t → map (λ (it : Item). it.partition) items ≡ t.partitions → All (λ (it : Item). IsSection third_limits it.partition.period it.section) items → IsWithinLimits (image_of t items)
 accepted_limits ms t items h rows sections =
     let a = accepted_table ms t h in
     (table_limits a.0 t items a.1 rows (each_at _ items sections)).0

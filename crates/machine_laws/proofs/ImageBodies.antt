@@ -1,10 +1,12 @@
 -- The bodies of a source and its code.
-use Rattle.std.proofs.Common.{◌≡◌, ℕ, ◌+◌, ◌^◌, ◌≤◌, ℤ, pos, negsuc, Bool, true, false, cond, leb, eqb, List, [], ◌++◌, length, Option, Some, None, Result, Ok, Err, refl, sym, ap, subst, ◌∙◌, append_assoc, arith, lit<}
+use Rattle.std.proofs.Common.{◌≡◌, ℕ, ◌+◌, ◌^◌, ◌≤◌, ℤ, pos, negsuc, Bool, true, false, cond, leb, eqb, List, [], ◌++◌, length, Option, Some, None, Result, Ok, Err, refl, sym, ap, subst, ◌∙◌, append_assoc, arith, lit<, ◌<◌}
 use Rattle.std.specs.Prelude.{◌&&◌, FitsSigned}
 use Rattle.std.specs.List.{flat_map}
 use Rattle.std.specs.Int.{w16, w32, w64}
 use Rattle.std.proofs.lemmas.Bool.{leb-true, le-leb, eqb-true}
-use Rattle.apex_types.specs.declared.limits.TheConstants.{GREATEST_PRIORITY, LEAST_STACK_WORDS, MOST_INSTRUCTIONS, MOST_PARAMETERS, MOST_PROCEDURES, MOST_PROCESSES, MOST_SLOTS, MOST_STACK_WORDS, MOST_TICKS}
+use Rattle.apex_types.specs.declared.limits.Limits.{Limits}
+use Rattle.machine_laws.proofs.VersionLimits.{AreBytes}
+use Rattle.apex_types.specs.declared.limits.TheConstants.{GREATEST_PRIORITY, INSTRUCTION_BYTES, LEAST_STACK_WORDS, MOST_INSTRUCTIONS, MOST_PARAMETERS, MOST_PROCEDURES, MOST_SLOTS, MOST_STACK_WORDS, MOST_TICKS}
 use Rattle.apex_types.specs.declared.row.RoutineRow.{RoutineRow}
 use Rattle.apex_types.specs.declared.row.BodyRow.{BodyRow}
 use Rattle.apex_types.specs.declared.row.ProcessRow.{ProcessRow}
@@ -190,13 +192,13 @@ handler_reads = record {
 
 -- ---- all bodies, the code and the section
 
-pub bodies_reads : (unit : ℕ) → Reads (bodies_at unit) bodies (AreBodies unit)
+pub bodies_reads : (limits : Limits) → limits.processes < 2 ^ 8 → (unit : ℕ) → Reads (bodies_at limits unit) bodies (AreBodies limits unit)
 unfolding bodies_at bodies
-bodies_reads unit = said (bodies_at unit) _ bodies _ (AreBodies unit)
+bodies_reads limits small unit = said (bodies_at limits unit) _ bodies _ (AreBodies limits unit)
     (first (list_at 0 MOST_PROCEDURES (λ _. routine_at)) _ (λ (b : Bodies). b.routines) (list routine) (λ b. list process b.processes ++ (body b.init ++ handler b.handler)) _ _
     (list_reads (λ _. routine_at) routine (λ _. IsRoutine) 0 MOST_PROCEDURES (lit< tt) (λ _. routine_reads))
-    (λ routines p. first (list_at 0 MOST_PROCESSES (process_at unit)) _ (λ (b : Bodies). b.processes) (list process) (λ b. body b.init ++ handler b.handler) _ _
-    (list_reads (process_at unit) process (IsProcess unit) 0 MOST_PROCESSES (lit< tt) (process_reads unit))
+    (λ routines p. first (list_at 0 limits.processes (process_at unit)) _ (λ (b : Bodies). b.processes) (list process) (λ b. body b.init ++ handler b.handler) _ _
+    (list_reads (process_at unit) process (IsProcess unit) 0 limits.processes (omega (arith, small)) (process_reads unit))
     (λ processes q. first body_at _ (λ (b : Bodies). b.init) body (λ b. handler b.handler) IsBody _
     body_reads
     (λ init r. last handler_at (λ handler. record { routines = routines; processes = processes; init = init; handler = handler }) (λ (b : Bodies). b.handler) handler IsHandler handler_reads (λ a. refl))
@@ -207,9 +209,9 @@ bodies_reads unit = said (bodies_at unit) _ bodies _ (AreBodies unit)
     (λ b g. record { routine_count = g.0.0; routines = g.0.1; process_count = g.1.0.0; processes = g.1.0.1; init = g.1.1.0; handler = g.1.1.1.0 })
     (λ b g. ((g.routine_count, g.routines), ((g.process_count, g.processes), (g.init, (g.handler, refl)))))
 
-instruction_reads : Reads (bytes_at 16) instruction (λ bytes. length bytes ≡ 16)
+instruction_reads : Reads (bytes_at INSTRUCTION_BYTES) instruction (λ bytes. length bytes ≡ INSTRUCTION_BYTES)
 unfolding instruction
-instruction_reads = bytes_reads 16
+instruction_reads = bytes_reads INSTRUCTION_BYTES
 
 -- a test that held before a reading
 test_held : {A : Type 0} (b : Bool) (r : Result A Fault) (x : A) → cond b r (Err Limit) ≡ Ok x → (b ≡ true) × (r ≡ Ok x)
@@ -220,29 +222,29 @@ pub code_reads : (b : Bodies) → Reads (code_at b) (list instruction) (IsCode b
 unfolding code_at list
 code_reads b = record {
   takes = λ bytes x fits e.
-      let a = bind_ok (limited_at w32 1 MOST_INSTRUCTIONS bytes) (λ count. cond (enter_within count.0 b) (items_at (λ _. bytes_at 16) count.0 [] count.1) (Err Limit)) x e in
-      let h = test_held (enter_within a.0.0 b) (items_at (λ _. bytes_at 16) a.0.0 [] a.0.1) x a.2 in
+      let a = bind_ok (limited_at w32 1 MOST_INSTRUCTIONS bytes) (λ count. cond (enter_within count.0 b) (items_at (λ _. bytes_at INSTRUCTION_BYTES) count.0 [] count.1) (Err Limit)) x e in
+      let h = test_held (enter_within a.0.0 b) (items_at (λ _. bytes_at INSTRUCTION_BYTES) a.0.0 [] a.0.1) x a.2 in
       let p = (limited_reads w32 (2 ^ 32) wide32 1 MOST_INSTRUCTIONS (lit< tt)).takes bytes a.0 fits a.1 in
-      let q = items_take (λ _. bytes_at 16) instruction (λ _ bytes. length bytes ≡ 16) (λ _. instruction_reads) a.0.0 [] a.0.1 x p.0.rest_fits h.1 in
+      let q = items_take (λ _. bytes_at INSTRUCTION_BYTES) instruction (λ _ bytes. length bytes ≡ INSTRUCTION_BYTES) (λ _. instruction_reads) a.0.0 [] a.0.1 x p.0.rest_fits h.1 in
       let both = Takes-then bytes (u32 a.0.0) a.0.1 (flat_map instruction q.new) x.1 p.0 q.taken in
       let new_is : q.new ≡ x.0 = sym q.all_is in
       let count_is : a.0.0 ≡ length x.0 = sym q.count ∙ ap length new_is in
       let taken : Takes bytes (u32 (length x.0) ++ flat_map instruction x.0) x.1 = subst (λ (n : ℕ). Takes bytes (u32 n ++ flat_map instruction x.0) x.1) count_is (subst (λ (y : List (List ℕ)). Takes bytes (u32 a.0.0 ++ flat_map instruction y) x.1) new_is both) in
-      (taken, record { count = subst (IsFrom 1 MOST_INSTRUCTIONS) count_is p.1; entries = subst (λ (n : ℕ). enter_within n b ≡ true) count_is h.0; instructions = subst (EachBeside (λ _ bytes. length bytes ≡ 16) []) new_is q.good });
+      (taken, record { count = subst (IsFrom 1 MOST_INSTRUCTIONS) count_is p.1; entries = subst (λ (n : ℕ). enter_within n b ≡ true) count_is h.0; instructions = subst (EachBeside (λ _ bytes. length bytes ≡ INSTRUCTION_BYTES) []) new_is q.good });
   again = λ xs rest good.
-      ap (λ (y : List ℕ). limited_at w32 1 MOST_INSTRUCTIONS y >>= λ count. cond (enter_within count.0 b) (items_at (λ _. bytes_at 16) count.0 [] count.1) (Err Limit)) (append_assoc (u32 (length xs)) (flat_map instruction xs) rest)
-      ∙ ap (λ (y : Read ℕ). y >>= λ count. cond (enter_within count.0 b) (items_at (λ _. bytes_at 16) count.0 [] count.1) (Err Limit)) ((limited_reads w32 (2 ^ 32) wide32 1 MOST_INSTRUCTIONS (lit< tt)).again (length xs) (flat_map instruction xs ++ rest) good.count)
-      ∙ ap (λ (t : Bool). cond t (items_at (λ _. bytes_at 16) (length xs) [] (flat_map instruction xs ++ rest)) (Err Limit)) good.entries
-      ∙ items_again (λ _. bytes_at 16) instruction (λ _ bytes. length bytes ≡ 16) (λ _. instruction_reads) xs [] rest good.instructions;
+      ap (λ (y : List ℕ). limited_at w32 1 MOST_INSTRUCTIONS y >>= λ count. cond (enter_within count.0 b) (items_at (λ _. bytes_at INSTRUCTION_BYTES) count.0 [] count.1) (Err Limit)) (append_assoc (u32 (length xs)) (flat_map instruction xs) rest)
+      ∙ ap (λ (y : Read ℕ). y >>= λ count. cond (enter_within count.0 b) (items_at (λ _. bytes_at INSTRUCTION_BYTES) count.0 [] count.1) (Err Limit)) ((limited_reads w32 (2 ^ 32) wide32 1 MOST_INSTRUCTIONS (lit< tt)).again (length xs) (flat_map instruction xs ++ rest) good.count)
+      ∙ ap (λ (t : Bool). cond t (items_at (λ _. bytes_at INSTRUCTION_BYTES) (length xs) [] (flat_map instruction xs ++ rest)) (Err Limit)) good.entries
+      ∙ items_again (λ _. bytes_at INSTRUCTION_BYTES) instruction (λ _ bytes. length bytes ≡ INSTRUCTION_BYTES) (λ _. instruction_reads) xs [] rest good.instructions;
 }
 
-pub section_reads : (unit : ℕ) → Reads (section_at unit) section (IsSection unit)
+pub section_reads : (limits : Limits) → AreBytes limits → (unit : ℕ) → Reads (section_at limits unit) section (IsSection limits unit)
 unfolding section_at section
-section_reads unit = said (section_at unit) _ section _ (IsSection unit)
-    (first objects_at _ (λ (s : Section). objects_in s) objects (λ s. bodies (bodies_in s) ++ list instruction s.code) AreObjects _
-    objects_reads
-    (λ o p. first (bodies_at unit) _ (λ (s : Section). bodies_in s) bodies (λ s. list instruction s.code) (AreBodies unit) _
-    (bodies_reads unit)
+section_reads limits small unit = said (section_at limits unit) _ section _ (IsSection limits unit)
+    (first (objects_at limits) _ (λ (s : Section). objects_in s) objects (λ s. bodies (bodies_in s) ++ list instruction s.code) (AreObjects limits) _
+    (objects_reads limits small.words)
+    (λ o p. first (bodies_at limits unit) _ (λ (s : Section). bodies_in s) bodies (λ s. list instruction s.code) (AreBodies limits unit) _
+    (bodies_reads limits small.processes unit)
     (λ b q. last (code_at b) (λ code. record { initial = o.initial; semaphores = o.semaphores; events = o.events; buffers = o.buffers; blackboards = o.blackboards; routines = b.routines; processes = b.processes; init = b.init; handler = b.handler; code = code }) (λ (s : Section). s.code) (list instruction) (IsCode b) (code_reads b) (λ a. refl))
     (λ b s q g. ap bodies_in g.1))
     (λ o s p g. ap objects_in g.1.1))

@@ -1,4 +1,4 @@
--- What an image has as one of its version: the costs of the second.
+-- What an image has as one of its version: the costs of the second and the third.
 use Rattle.std.proofs.Common.{◌≡◌, ℕ, ◌^◌, ◌<◌, Bool, true, false, cond, eqb, ltb, List, [], ◌∷◌, ◌++◌, length, Option, Some, None, Ok, refl, sym, ap, subst, ◌∙◌, arith, lit<}
 use Rattle.std.specs.Prelude.{◌||◌, nat_le}
 use Rattle.std.specs.Int.{w16}
@@ -11,9 +11,9 @@ use Rattle.apex_types.proofs.TickCosts.{is_of_ticks}
 use Rattle.apex_types.specs.declared.cost.TickCost.{TickCost}
 use Rattle.apex_types.specs.declared.cost.Costs.{Costs}
 use Rattle.apex_types.specs.declared.limits.TheConstants.{MOST_COST}
-use Rattle.apex_types.specs.declared.version.TheConstants.{FIRST_VERSION, SECOND_VERSION}
+use Rattle.apex_types.specs.declared.version.TheConstants.{FIRST_VERSION, SECOND_VERSION, THIRD_VERSION}
 use Rattle.apex_types.specs.declared.version.ImageVersion.{ImageVersion}
-use Rattle.apex_types.specs.declared.version.ImageVersion.TheVariants.{First, Second}
+use Rattle.apex_types.specs.declared.version.ImageVersion.TheVariants.{First, Second, Third}
 use Rattle.machine_meaning.specs.ImageSpelling.{u16, costs, own_fields}
 use Rattle.machine_meaning.specs.ImageReading.{Read, ◌>>=◌, number_at, chosen, cost_at, costs_at, items_at, own_fields_at}
 use Rattle.machine_meaning.specs.ImageLimits.{EachBeside}
@@ -102,6 +102,22 @@ second_reads = record {
   again = elim [
     | First ↦ λ rest good. absurd (omega (arith, good))
     | Second c ↦ λ rest good. ap (λ (y : Read Costs). y >>= λ c. Ok (Second c.0, c.1)) (costs_reads.again c rest tt)
+    | Third c ↦ λ rest good. absurd (omega (arith, good))
+  ];
+}
+
+third_reads : Reads (λ bytes. costs_at bytes >>= λ c. Ok (Third c.0, c.1)) own_fields (IsNumbered THIRD_VERSION)
+unfolding own_fields
+third_reads = record {
+  takes = λ bytes x fits e.
+      let a = bind_ok (costs_at bytes) (λ c. Ok (Third c.0, c.1)) x e in
+      let p = costs_reads.takes bytes a.0 fits a.1 in
+      let i = ok_is (Third a.0.0, a.0.1) x a.2 in
+      subst (λ (y : ImageVersion × List ℕ). Takes bytes (own_fields y.0) y.1 × IsNumbered THIRD_VERSION y.0) i (p.0, refl);
+  again = elim [
+    | First ↦ λ rest good. absurd (omega (arith, good))
+    | Second c ↦ λ rest good. absurd (omega (arith, good))
+    | Third c ↦ λ rest good. ap (λ (y : Read Costs). y >>= λ c. Ok (Third c.0, c.1)) (costs_reads.again c rest tt)
   ];
 }
 
@@ -114,11 +130,12 @@ first_reads = record {
   again = elim [
     | First ↦ λ rest good. refl
     | Second c ↦ λ rest good. absurd (omega (arith, good))
+    | Third c ↦ λ rest good. absurd (omega (arith, good))
   ];
 }
 
 abbrev pub is_version : ℕ → Bool
-is_version n = eqb n FIRST_VERSION || eqb n SECOND_VERSION
+is_version n = eqb n FIRST_VERSION || eqb n SECOND_VERSION || eqb n THIRD_VERSION
 
 at_first : (number : ℕ) → number ≡ FIRST_VERSION → Reads (own_fields_at number) own_fields (IsNumbered number)
 unfolding own_fields_at
@@ -128,14 +145,20 @@ at_second : (number : ℕ) → number ≡ SECOND_VERSION → Reads (own_fields_a
 unfolding own_fields_at
 at_second number is = subst (λ (n : ℕ). Reads (own_fields_at n) own_fields (IsNumbered n)) (sym is) second_reads
 
+at_third : (number : ℕ) → number ≡ THIRD_VERSION → Reads (own_fields_at number) own_fields (IsNumbered number)
+unfolding own_fields_at
+at_third number is = subst (λ (n : ℕ). Reads (own_fields_at n) own_fields (IsNumbered n)) (sym is) third_reads
+
 pub own_fields_reads : (number : ℕ) → is_version number ≡ true → Reads (own_fields_at number) own_fields (IsNumbered number)
-own_fields_reads number known = either (eqb number FIRST_VERSION) (eqb number SECOND_VERSION) refl refl known
+own_fields_reads number known = either (eqb number FIRST_VERSION) (eqb number SECOND_VERSION) (eqb number THIRD_VERSION) refl refl refl known
   where
-    either : (a b : Bool) → eqb number FIRST_VERSION ≡ a → eqb number SECOND_VERSION ≡ b → (a || b) ≡ true → Reads (own_fields_at number) own_fields (IsNumbered number)
-    either true b e f h = at_first number (eqb-true number FIRST_VERSION e)
-    either false true e f h = at_second number (eqb-true number SECOND_VERSION f)
-    either false false e f h = absurd cc
+    either : (a b c : Bool) → eqb number FIRST_VERSION ≡ a → eqb number SECOND_VERSION ≡ b → eqb number THIRD_VERSION ≡ c → (a || b || c) ≡ true → Reads (own_fields_at number) own_fields (IsNumbered number)
+    either true b c e f g h = at_first number (eqb-true number FIRST_VERSION e)
+    either false true c e f g h = at_second number (eqb-true number SECOND_VERSION f)
+    either false false true e f g h = at_third number (eqb-true number THIRD_VERSION g)
+    either false false false e f g h = absurd cc
 
 pub numbered_known : (version : ImageVersion) → is_version (number_of version) ≡ true
 numbered_known First = refl
 numbered_known (Second c) = refl
+numbered_known (Third c) = refl

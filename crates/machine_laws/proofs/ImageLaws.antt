@@ -7,11 +7,12 @@ use Rattle.std.specs.Str.{bytes_eq}
 use Rattle.std.proofs.lemmas.Bool.{eqb-true}
 use Rattle.std.proofs.lemmas.List.{append-nil, nil_from_length}
 use Rattle.std.proofs.lemmas.Slice.Eq.{bytes_eq-Decides}
-use Rattle.apex_types.specs.declared.version.TheConstants.{FIRST_VERSION, SECOND_VERSION}
-use Rattle.apex_types.specs.declared.limits.TheConstants.{MOST_CHANNELS, MOST_FRAME_TICKS, MOST_PARTITIONS, MOST_WINDOWS}
+use Rattle.apex_types.specs.declared.version.TheConstants.{FIRST_VERSION, SECOND_VERSION, THIRD_VERSION}
+use Rattle.apex_types.specs.declared.limits.TheConstants.{MOST_CHANNELS, MOST_FRAME_TICKS, MOST_WINDOWS}
 use Rattle.machine_meaning.specs.Image.{Image}
 use Rattle.machine_meaning.specs.ImageSpelling.{u8, u16, u32, list, module_action, item, window, channel, own_fields, front, head, spelling}
-use Rattle.apex_types.specs.Versions.{number_of}
+use Rattle.apex_types.specs.Versions.{limits_of, number_of}
+use Rattle.machine_laws.proofs.VersionLimits.{limits_small}
 use Rattle.machine_meaning.specs.Image.{magic}
 use Rattle.machine_meaning.specs.ImageReading.{Fault, Foreign, Limit, Trailing, Read, ◌>>=◌, number_at, limited_at, bytes_at, choice_at, module_action_of, list_at, item_at, window_at, channel_at, magic_at, version_at, own_fields_at, fields_at, keeps_table_rules, image_at}
 use Rattle.machine_meaning.specs.ImageLimits.{IsFrom, IsItem, IsWindow, IsChannel, IsWithinLimits, IsLawful}
@@ -28,12 +29,13 @@ magic_is text h = (bytes_eq-Decides text magic).0 h
 
 -- a number of a version has 16 bits
 version_low : (n : ℕ) → is_version n ≡ true → n < 2 ^ 16
-version_low n known = either (eqb n FIRST_VERSION) (eqb n SECOND_VERSION) refl refl known
+version_low n known = either (eqb n FIRST_VERSION) (eqb n SECOND_VERSION) (eqb n THIRD_VERSION) refl refl refl known
   where
-    either : (a b : Bool) → eqb n FIRST_VERSION ≡ a → eqb n SECOND_VERSION ≡ b → (a || b) ≡ true → n < 2 ^ 16
-    either true b e f h = omega (arith, eqb-true n FIRST_VERSION e)
-    either false true e f h = omega (arith, eqb-true n SECOND_VERSION f)
-    either false false e f h = absurd cc
+    either : (a b c : Bool) → eqb n FIRST_VERSION ≡ a → eqb n SECOND_VERSION ≡ b → eqb n THIRD_VERSION ≡ c → (a || b || c) ≡ true → n < 2 ^ 16
+    either true b c e f g h = omega (arith, eqb-true n FIRST_VERSION e)
+    either false true c e f g h = omega (arith, eqb-true n SECOND_VERSION f)
+    either false false true e f g h = omega (arith, eqb-true n THIRD_VERSION g)
+    either false false false e f g h = absurd cc
 
 version_reads : Reads version_at (λ n. magic ++ u16 n) (λ n. is_version n ≡ true)
 unfolding version_at magic_at
@@ -66,8 +68,8 @@ fields_reads = said fields_at _ spelling _ IsWithinLimits
     module_action_reads
     (λ fault q. first (own_fields_at number) _ (λ (image : Image). image.version) own_fields (λ image. list item image.items ++ (list window image.schedule.windows ++ list channel image.channels)) _ _
     (own_fields_reads number o)
-    (λ version v. first (list_at 1 MOST_PARTITIONS (item_at frame)) _ (λ (image : Image). image.items) (list item) (λ image. list window image.schedule.windows ++ list channel image.channels) _ _
-    (list_reads (item_at frame) item (IsItem frame) 1 MOST_PARTITIONS (lit< tt) (item_reads frame (omega (arith, p.most))))
+    (λ version v. first (list_at 1 (limits_of version).partitions (item_at (limits_of version) frame)) _ (λ (image : Image). image.items) (list item) (λ image. list window image.schedule.windows ++ list channel image.channels) _ _
+    (list_reads (item_at (limits_of version) frame) item (IsItem (limits_of version) frame) 1 (limits_of version).partitions (omega (arith, (limits_small version).partitions)) (item_reads (limits_of version) (limits_small version) frame (omega (arith, p.most))))
     (λ items r. first (list_at 1 MOST_WINDOWS window_at) _ (λ (image : Image). image.schedule.windows) (list window) (λ image. list channel image.channels) _ _
     (list_reads window_at window IsWindow 1 MOST_WINDOWS (lit< tt) window_reads)
     (λ windows s. last (list_at 0 MOST_CHANNELS channel_at) (λ channels. record { schedule = record { frame = frame; windows = windows }; fault = fault; version = version; items = items; channels = channels }) (λ (image : Image). image.channels) (list channel) _

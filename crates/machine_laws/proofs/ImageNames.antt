@@ -105,7 +105,7 @@ chosen_ok rest (Some a) x e = let i = ok_is (a, rest) x e in (ap (λ (y : _ × L
 pub record Chooses {A : Type 0} (choose : ℕ → Option A) (number : A → ℕ) : Type 0 where
   pub back : (a : A) → choose (number a) ≡ Some a
   pub only : (n : ℕ) (a : A) → choose n ≡ Some a → n ≡ number a
-  pub small : (a : A) → number a < 256
+  pub small : (a : A) → number a < 2 ^ 8
 
 pub choice_reads : {A : Type 0} (choose : ℕ → Option A) (number : A → ℕ) → Chooses choose number → Reads (choice_at choose) (λ a. u8 (number a)) (λ _. Unit {0})
 unfolding choice_at

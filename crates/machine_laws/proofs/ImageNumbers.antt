@@ -57,12 +57,12 @@ number_again w limit wide n rest lt =
 pub number_reads : (w : Width) (limit : ℕ) → IsWide w limit → Reads (number_at w) (to_le_bytes w) (λ n. n < limit)
 number_reads w limit wide = record { takes = number_takes w limit wide; again = number_again w limit wide }
 
-byte_takes : (bytes : List ℕ) (x : ℕ × List ℕ) → IsBytes bytes → byte_at bytes ≡ Ok x → Takes bytes (u8 x.0) x.1 × (x.0 < 256)
+byte_takes : (bytes : List ℕ) (x : ℕ × List ℕ) → IsBytes bytes → byte_at bytes ≡ Ok x → Takes bytes (u8 x.0) x.1 × (x.0 < 2 ^ 8)
 byte_takes [] x fits e = absurd cc
 byte_takes (b ∷ bytes) x fits e =
-    subst (λ (y : ℕ × List ℕ). Takes (b ∷ bytes) (u8 y.0) y.1 × (y.0 < 256)) (ok_is (b, bytes) x e) (record { parts = refl; rest_fits = IsBytes-rest b bytes fits }, fits 0)
+    subst (λ (y : ℕ × List ℕ). Takes (b ∷ bytes) (u8 y.0) y.1 × (y.0 < 2 ^ 8)) (ok_is (b, bytes) x e) (record { parts = refl; rest_fits = IsBytes-rest b bytes fits }, fits 0)
 
-pub byte_reads : Reads byte_at u8 (λ n. n < 256)
+pub byte_reads : Reads byte_at u8 (λ n. n < 2 ^ 8)
 byte_reads = record { takes = byte_takes; again = λ n rest lt. refl }
 
 -- a test by two orders that did not fail
@@ -91,6 +91,6 @@ pub limited_reads : (w : Width) (limit : ℕ) → IsWide w limit → (low high :
 unfolding limited_at
 limited_reads w limit wide low high small = within_reads (number_at w) (to_le_bytes w) limit low high small (number_reads w limit wide)
 
-pub small_reads : (low high : ℕ) → high < 256 → Reads (small_at low high) u8 (IsFrom low high)
+pub small_reads : (low high : ℕ) → high < 2 ^ 8 → Reads (small_at low high) u8 (IsFrom low high)
 unfolding small_at
-small_reads low high small = within_reads byte_at u8 256 low high small byte_reads
+small_reads low high small = within_reads byte_at u8 (2 ^ 8) low high small byte_reads

@@ -1,8 +1,9 @@
 -- The objects of a source.
-use Rattle.std.proofs.Common.{◌^◌, max, ◌++◌, refl, ap, lit<}
+use Rattle.std.proofs.Common.{◌^◌, max, ◌++◌, refl, ap, lit<, ◌<◌}
 use Rattle.std.specs.Prelude.{FitsSigned}
 use Rattle.std.specs.Int.{w32, w64}
-use Rattle.apex_types.specs.declared.limits.TheConstants.{MOST_DATA_WORDS, MOST_DEPTH, MOST_OBJECTS, MOST_SEMAPHORE_VALUE, MOST_WORDS}
+use Rattle.apex_types.specs.declared.limits.Limits.{Limits}
+use Rattle.apex_types.specs.declared.limits.TheConstants.{MOST_DATA_WORDS, MOST_DEPTH, MOST_OBJECTS, MOST_SEMAPHORE_VALUE}
 use Rattle.apex_types.specs.declared.row.SemaphoreRow.{SemaphoreRow}
 use Rattle.apex_types.specs.declared.row.BufferRow.{BufferRow}
 use Rattle.apex_types.specs.declared.row.BlackboardRow.{BlackboardRow}
@@ -30,11 +31,11 @@ semaphore_reads = said semaphore_at _ semaphore _ IsSemaphore
     (λ r g. record { value = g.0; maximum = g.1.0 })
     (λ r g. (g.value, (g.maximum, (tt, refl))))
 
-pub buffer_reads : Reads buffer_at buffer IsBuffer
+pub buffer_reads : (limits : Limits) → limits.words < 2 ^ 8 → Reads (buffer_at limits) buffer (IsBuffer limits)
 unfolding buffer_at buffer
-buffer_reads = said buffer_at _ buffer _ IsBuffer
-    (first (small_at 1 MOST_WORDS) _ (λ (r : BufferRow). r.words) u8 (λ r. u8 r.depth ++ u8 (discipline r.discipline)) (IsFrom 1 MOST_WORDS) _
-    (small_reads 1 MOST_WORDS (lit< tt))
+buffer_reads limits small = said (buffer_at limits) _ buffer _ (IsBuffer limits)
+    (first (small_at 1 limits.words) _ (λ (r : BufferRow). r.words) u8 (λ r. u8 r.depth ++ u8 (discipline r.discipline)) (IsFrom 1 limits.words) _
+    (small_reads 1 limits.words small)
     (λ words p. first (small_at 1 MOST_DEPTH) _ (λ (r : BufferRow). r.depth) u8 (λ r. u8 (discipline r.discipline)) (IsFrom 1 MOST_DEPTH) _
     (small_reads 1 MOST_DEPTH (lit< tt))
     (λ depth q. last (choice_at discipline_of) (λ order. record { words = words; depth = depth; discipline = order }) (λ (r : BufferRow). r.discipline) (λ a. u8 (discipline a)) (λ _. Unit {0}) discipline_reads (λ a. refl))
@@ -44,27 +45,27 @@ buffer_reads = said buffer_at _ buffer _ IsBuffer
     (λ r g. record { words = g.0; depth = g.1.0 })
     (λ r g. (g.words, (g.depth, (tt, refl))))
 
-pub blackboard_reads : Reads blackboard_at blackboard IsBlackboard
+pub blackboard_reads : (limits : Limits) → limits.words < 2 ^ 8 → Reads (blackboard_at limits) blackboard (IsBlackboard limits)
 unfolding blackboard_at blackboard
-blackboard_reads = said blackboard_at _ blackboard _ IsBlackboard
-    (last (small_at 1 MOST_WORDS) (λ words. record { words = words }) (λ (r : BlackboardRow). r.words) u8 (IsFrom 1 MOST_WORDS) (small_reads 1 MOST_WORDS (lit< tt)) (λ a. refl))
+blackboard_reads limits small = said (blackboard_at limits) _ blackboard _ (IsBlackboard limits)
+    (last (small_at 1 limits.words) (λ words. record { words = words }) (λ (r : BlackboardRow). r.words) u8 (IsFrom 1 limits.words) (small_reads 1 limits.words small) (λ a. refl))
     (λ r. refl)
     (λ r g. record { words = g.0 })
     (λ r g. (g.words, refl))
 
-pub objects_reads : Reads objects_at objects AreObjects
+pub objects_reads : (limits : Limits) → limits.words < 2 ^ 8 → Reads (objects_at limits) objects (AreObjects limits)
 unfolding objects_at objects
-objects_reads = said objects_at _ objects _ AreObjects
+objects_reads limits small = said (objects_at limits) _ objects _ (AreObjects limits)
     (first (list_at 0 MOST_DATA_WORDS (λ _. word_at)) _ (λ (o : Objects). o.initial) (list i64) (λ o. list semaphore o.semaphores ++ (u8 o.events ++ (list buffer o.buffers ++ list blackboard o.blackboards))) _ _
     (list_reads (λ _. word_at) i64 (λ _. FitsSigned w64) 0 MOST_DATA_WORDS (lit< tt) (λ _. word_reads))
     (λ initial p. first (list_at 0 MOST_OBJECTS (λ _. semaphore_at)) _ (λ (o : Objects). o.semaphores) (list semaphore) (λ o. u8 o.events ++ (list buffer o.buffers ++ list blackboard o.blackboards)) _ _
     (list_reads (λ _. semaphore_at) semaphore (λ _. IsSemaphore) 0 MOST_OBJECTS (lit< tt) (λ _. semaphore_reads))
     (λ semaphores q. first (small_at 0 MOST_OBJECTS) _ (λ (o : Objects). o.events) u8 (λ o. list buffer o.buffers ++ list blackboard o.blackboards) (IsFrom 0 MOST_OBJECTS) _
     (small_reads 0 MOST_OBJECTS (lit< tt))
-    (λ events r. first (list_at 0 MOST_OBJECTS (λ _. buffer_at)) _ (λ (o : Objects). o.buffers) (list buffer) (λ o. list blackboard o.blackboards) _ _
-    (list_reads (λ _. buffer_at) buffer (λ _. IsBuffer) 0 MOST_OBJECTS (lit< tt) (λ _. buffer_reads))
-    (λ buffers s. last (list_at 0 MOST_OBJECTS (λ _. blackboard_at)) (λ blackboards. record { initial = initial; semaphores = semaphores; events = events; buffers = buffers; blackboards = blackboards }) (λ (o : Objects). o.blackboards) (list blackboard) _
-    (list_reads (λ _. blackboard_at) blackboard (λ _. IsBlackboard) 0 MOST_OBJECTS (lit< tt) (λ _. blackboard_reads)) (λ a. refl))
+    (λ events r. first (list_at 0 MOST_OBJECTS (λ _. buffer_at limits)) _ (λ (o : Objects). o.buffers) (list buffer) (λ o. list blackboard o.blackboards) _ _
+    (list_reads (λ _. buffer_at limits) buffer (λ _. IsBuffer limits) 0 MOST_OBJECTS (lit< tt) (λ _. buffer_reads limits small))
+    (λ buffers s. last (list_at 0 MOST_OBJECTS (λ _. blackboard_at limits)) (λ blackboards. record { initial = initial; semaphores = semaphores; events = events; buffers = buffers; blackboards = blackboards }) (λ (o : Objects). o.blackboards) (list blackboard) _
+    (list_reads (λ _. blackboard_at limits) blackboard (λ _. IsBlackboard limits) 0 MOST_OBJECTS (lit< tt) (λ _. blackboard_reads limits small)) (λ a. refl))
     (λ buffers o s g. ap (λ (o : Objects). o.buffers) g.1))
     (λ events o r g. ap (λ (o : Objects). o.events) g.1.1))
     (λ semaphores o q g. ap (λ (o : Objects). o.semaphores) g.1.1.1))

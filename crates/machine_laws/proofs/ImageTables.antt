@@ -3,7 +3,9 @@ use Rattle.std.proofs.Common.{◌≡◌, ℕ, zero, suc, ◌-◌, ◌^◌, ◌<�
 use Rattle.std.specs.Prelude.{◌&&◌, ◌==◌}
 use Rattle.std.specs.Int.{w32, w64}
 use Rattle.std.proofs.lemmas.Bool.{ltb-false, le-ltb, eqb-true}
-use Rattle.apex_types.specs.declared.limits.TheConstants.{MOST_DEPTH, MOST_DESTINATIONS, MOST_PORTS, MOST_TICKS, MOST_WORDS}
+use Rattle.apex_types.specs.declared.limits.Limits.{Limits}
+use Rattle.machine_laws.proofs.VersionLimits.{AreBytes}
+use Rattle.apex_types.specs.declared.limits.TheConstants.{MOST_DEPTH, MOST_DESTINATIONS, MOST_PORTS, MOST_TICKS}
 use Rattle.apex_types.specs.declared.codes.Discipline.{Discipline}
 use Rattle.apex_types.specs.declared.codes.Discipline.TheVariants.{Fifo}
 use Rattle.apex_types.specs.declared.codes.PartitionAction.{PartitionAction}
@@ -128,17 +130,17 @@ kind_reads zero h = sampling_reads
 kind_reads (suc zero) h = queuing_reads
 kind_reads (suc (suc n)) h = absurd (omega (arith, h.most))
 
-pub port_reads : (before : List PortRow) → Reads (port_at before) port (IsPort before)
+pub port_reads : (limits : Limits) → limits.words < 2 ^ 8 → (before : List PortRow) → Reads (port_at limits before) port (IsPort limits before)
 unfolding port_at port
-port_reads before = said (port_at before) _ port _ (IsPort before)
+port_reads limits small before = said (port_at limits before) _ port _ (IsPort limits before)
     (first (fresh_name_at (is_port before)) _ (λ (r : PortRow). r.name) name (λ r. u8 (port_kind r.kind) ++ (u8 (direction r.direction) ++ (u8 r.words ++ port_fields r.kind))) _ _
     (fresh_reads (is_port before))
     (λ text p. first (small_at 0 1) _ (λ (r : PortRow). port_kind r.kind) u8 (λ r. u8 (direction r.direction) ++ (u8 r.words ++ port_fields r.kind)) (IsFrom 0 1) _
     (small_reads 0 1 (lit< tt))
     (λ number q. first (choice_at direction_of) _ (λ (r : PortRow). r.direction) (λ a. u8 (direction a)) (λ r. u8 r.words ++ port_fields r.kind) _ _
     direction_reads
-    (λ way r. first (small_at 1 MOST_WORDS) _ (λ (r : PortRow). r.words) u8 (λ r. port_fields r.kind) (IsFrom 1 MOST_WORDS) _
-    (small_reads 1 MOST_WORDS (lit< tt))
+    (λ way r. first (small_at 1 limits.words) _ (λ (r : PortRow). r.words) u8 (λ r. port_fields r.kind) (IsFrom 1 limits.words) _
+    (small_reads 1 limits.words small)
     (λ words s. last (kind_at number) (λ kind. record { name = text; kind = kind; direction = way; words = words }) (λ (r : PortRow). r.kind) port_fields _ (kind_reads number q) (λ a. refl))
     (λ words row s g. ap (λ (r : PortRow). r.words) g.1))
     (λ way row r g. ap (λ (r : PortRow). r.direction) g.1.1))
@@ -150,9 +152,9 @@ port_reads before = said (port_at before) _ port _ (IsPort before)
 
 -- ---- partitions
 
-pub partition_reads : (frame : ℕ) → frame < 2 ^ 32 → (before : List Item) → Reads (partition_at frame before) partition (IsPartition frame before)
+pub partition_reads : (limits : Limits) → limits.words < 2 ^ 8 → (frame : ℕ) → frame < 2 ^ 32 → (before : List Item) → Reads (partition_at limits frame before) partition (IsPartition limits frame before)
 unfolding partition_at partition
-partition_reads frame small before = said (partition_at frame before) _ partition _ (IsPartition frame before)
+partition_reads limits words frame small before = said (partition_at limits frame before) _ partition _ (IsPartition limits frame before)
     (first (fresh_name_at (is_partition before)) _ (λ (r : Partition). r.name) name (λ r. u32 r.period ++ (u32 r.duration ++ (health r.health ++ list port r.ports))) _ _
     (fresh_reads (is_partition before))
     (λ text p. first (limited_at w32 1 frame) _ (λ (r : Partition). r.period) u32 (λ r. u32 r.duration ++ (health r.health ++ list port r.ports)) (IsFrom 1 frame) _
@@ -161,8 +163,8 @@ partition_reads frame small before = said (partition_at frame before) _ partitio
     (limited_reads w32 (2 ^ 32) wide32 0 period (omega (arith, q.most, small)))
     (λ duration r. first health_at _ (λ (r : Partition). r.health) health (λ r. list port r.ports) _ _
     health_reads
-    (λ table s. last (list_at 0 MOST_PORTS port_at) (λ ports. record { name = text; period = period; duration = duration; health = table; ports = ports }) (λ (r : Partition). r.ports) (list port) _
-    (list_reads port_at port IsPort 0 MOST_PORTS (lit< tt) port_reads) (λ a. refl))
+    (λ table s. last (list_at 0 MOST_PORTS (port_at limits)) (λ ports. record { name = text; period = period; duration = duration; health = table; ports = ports }) (λ (r : Partition). r.ports) (list port) _
+    (list_reads (port_at limits) port (IsPort limits) 0 MOST_PORTS (lit< tt) (port_reads limits words)) (λ a. refl))
     (λ table row s g. ap (λ (r : Partition). r.health) g.1))
     (λ duration row r g. ap (λ (r : Partition). r.duration) g.1.1))
     (λ period row q g. ap (λ (r : Partition). r.period) g.1.1.1))
@@ -171,12 +173,12 @@ partition_reads frame small before = said (partition_at frame before) _ partitio
     (λ r g. record { name = g.0.0; fresh = g.0.1; period = g.1.0; duration = g.1.1.0; port_count = g.1.1.1.1.0.0; ports = g.1.1.1.1.0.1 })
     (λ r g. ((g.name, g.fresh), (g.period, (g.duration, (tt, ((g.port_count, g.ports), refl))))))
 
-pub item_reads : (frame : ℕ) → frame < 2 ^ 32 → (before : List Item) → Reads (item_at frame before) item (IsItem frame before)
+pub item_reads : (limits : Limits) → AreBytes limits → (frame : ℕ) → frame < 2 ^ 32 → (before : List Item) → Reads (item_at limits frame before) item (IsItem limits frame before)
 unfolding item_at item
-item_reads frame small before = said (item_at frame before) _ item _ (IsItem frame before)
-    (first (partition_at frame before) _ (λ (it : Item). it.partition) partition (λ it. section it.section) (IsPartition frame before) _
-    (partition_reads frame small before)
-    (λ row p. last (section_at row.period) (λ s. record { partition = row; section = s }) (λ (it : Item). it.section) section (IsSection row.period) (section_reads row.period) (λ a. refl))
+item_reads limits bytes frame small before = said (item_at limits frame before) _ item _ (IsItem limits frame before)
+    (first (partition_at limits frame before) _ (λ (it : Item). it.partition) partition (λ it. section it.section) (IsPartition limits frame before) _
+    (partition_reads limits bytes.words frame small before)
+    (λ row p. last (section_at limits row.period) (λ s. record { partition = row; section = s }) (λ (it : Item). it.section) section (IsSection limits row.period) (section_reads limits bytes row.period) (λ a. refl))
     (λ row it p g. ap (λ (it : Item). it.partition) g.1))
     (λ it. refl)
     (λ it g. record { partition = g.0; section = g.1.0 })
@@ -237,20 +239,20 @@ both_zero p q false b f g h = absurd cc
 between : (p q : ℕ) → (partition_of (end_between p q) ≡ p) × (port_of (end_between p q) ≡ q)
 between p q = ends_back p q ((p == 0) && (q == 0)) (both_zero p q (eqb p 0) (eqb q 0) (eqb-true p 0) (eqb-true q 0))
 
-end_good : (p q : ℕ) (b : Bool) → p < 256 → q < 256 → ((p == 0) && (q == 0)) ≡ b → IsEnd (cond b Device (Port (record { 0 = p }) (record { 0 = q })))
+end_good : (p q : ℕ) (b : Bool) → p < 2 ^ 8 → q < 2 ^ 8 → ((p == 0) && (q == 0)) ≡ b → IsEnd (cond b Device (Port (record { 0 = p }) (record { 0 = q })))
 end_good p q true a b h = tt
 end_good p q false a b h = (a, b, h)
 
-is_end : (e : ChannelEnd) → IsEnd e → (partition_of e < 256) × ((port_of e < 256) × (e ≡ end_between (partition_of e) (port_of e)))
+is_end : (e : ChannelEnd) → IsEnd e → (partition_of e < 2 ^ 8) × ((port_of e < 2 ^ 8) × (e ≡ end_between (partition_of e) (port_of e)))
 is_end Device good = (lit< tt, (lit< tt, refl))
 is_end (Port p q) good = (good.0, (good.1, rw (good.2) refl))
 
 pub end_reads : Reads channel_end_at channel_end IsEnd
 unfolding channel_end_at channel_end
 end_reads = said_where channel_end_at (λ e. u8 (partition_of e) ++ u8 (port_of e)) channel_end _ IsEnd
-    (first byte_at _ partition_of u8 (λ e. u8 (port_of e)) _ (λ p e. (port_of e < 256) × (e ≡ end_between p (port_of e)))
+    (first byte_at _ partition_of u8 (λ e. u8 (port_of e)) _ (λ p e. (port_of e < 2 ^ 8) × (e ≡ end_between p (port_of e)))
     byte_reads
-    (λ p small. last byte_at (λ q. end_between p q) port_of u8 (λ n. n < 256) byte_reads (λ q. (between p q).1))
+    (λ p small. last byte_at (λ q. end_between p q) port_of u8 (λ n. n < 2 ^ 8) byte_reads (λ q. (between p q).1))
     (λ p e small g. ap partition_of g.1 ∙ (between p (port_of e)).0))
     (elim [ Device ↦ λ g. refl | Port p q ↦ λ g. refl ])
     (λ e g. subst IsEnd (sym g.1.1) (end_good (partition_of e) (port_of e) ((partition_of e == 0) && (port_of e == 0)) g.0 g.1.0 refl))

@@ -1,4 +1,5 @@
 pub mod StackLength
+pub mod VersionLimits
 pub mod ImageFields
 pub mod ImageNumbers
 pub mod ImageNames
@@ -8,6 +9,7 @@ pub mod ImageChoices
 pub mod ImageObjects
 pub mod ImageBodies
 pub mod ImageTables
+pub mod Widened
 pub mod ImageLaws
 pub mod AcceptedTable
 pub mod KnownPorts

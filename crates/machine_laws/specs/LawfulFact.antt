@@ -2,6 +2,7 @@
 use Rattle.std.specs.Prelude.{ℕ, List, [], ◌∷◌, ◌++◌, Option, Some, None}
 use Rattle.std.specs.Coded.{×_prop, Unit-prop}
 use Rattle.std.proofs.Props.{props}
+use Rattle.apex_types.specs.declared.limits.Limits.{Limits}
 use Rattle.apex_types.specs.declared.row.BodyRow.{BodyRow}
 use Rattle.apex_types.specs.declared.row.ProcessRow.{ProcessRow}
 use Rattle.apex_types.specs.declared.row.PortRow.{PortRow}
@@ -27,8 +28,8 @@ duration_prop : (o : Option ℕ) → IsProp (IsDuration o)
 duration_prop None = Unit-prop
 duration_prop (Some n) = from_prop 1 _ n
 
-objects_prop : (o : Objects) → IsProp (AreObjects o)
-objects_prop o = hlevel (props, each_prop)
+objects_prop : (limits : Limits) (o : Objects) → IsProp (AreObjects limits o)
+objects_prop limits o = hlevel (props, each_prop)
 
 body_prop : (row : BodyRow) → IsProp (IsBody row)
 body_prop row = hlevel props
@@ -40,27 +41,27 @@ handler_prop (Some row) = body_prop row
 process_prop : (unit : ℕ) (before : List ProcessRow) (row : ProcessRow) → IsProp (IsProcess unit before row)
 process_prop unit before row = hlevel (props, duration_prop, body_prop)
 
-bodies_prop : (unit : ℕ) (b : Bodies) → IsProp (AreBodies unit b)
-bodies_prop unit b = hlevel (props, each_prop, process_prop, body_prop, handler_prop)
+bodies_prop : (limits : Limits) (unit : ℕ) (b : Bodies) → IsProp (AreBodies limits unit b)
+bodies_prop limits unit b = hlevel (props, each_prop, process_prop, body_prop, handler_prop)
 
 code_prop : (b : Bodies) (code : List (List ℕ)) → IsProp (IsCode b code)
 code_prop b code = hlevel (props, each_prop)
 
-section_prop : (unit : ℕ) (s : Section) → IsProp (IsSection unit s)
-section_prop unit s = hlevel (objects_prop, bodies_prop, code_prop)
+section_prop : (limits : Limits) (unit : ℕ) (s : Section) → IsProp (IsSection limits unit s)
+section_prop limits unit s = hlevel (objects_prop, bodies_prop, code_prop)
 
 kind_prop : (k : PortKind) → IsProp (IsPortKind k)
 kind_prop (Sampling refresh) = from_prop 0 _ refresh
-kind_prop (Queuing depth order) = from_prop 1 32 depth
+kind_prop (Queuing depth order) = from_prop 1 _ depth
 
-port_prop : (before : List PortRow) (row : PortRow) → IsProp (IsPort before row)
-port_prop before row = hlevel (props, kind_prop)
+port_prop : (limits : Limits) (before : List PortRow) (row : PortRow) → IsProp (IsPort limits before row)
+port_prop limits before row = hlevel (props, kind_prop)
 
-partition_prop : (frame : ℕ) (before : List Item) (row : Partition) → IsProp (IsPartition frame before row)
-partition_prop frame before row = hlevel (props, each_prop, port_prop)
+partition_prop : (limits : Limits) (frame : ℕ) (before : List Item) (row : Partition) → IsProp (IsPartition limits frame before row)
+partition_prop limits frame before row = hlevel (props, each_prop, port_prop)
 
-item_prop : (frame : ℕ) (before : List Item) (it : Item) → IsProp (IsItem frame before it)
-item_prop frame before it = hlevel (partition_prop, section_prop)
+item_prop : (limits : Limits) (frame : ℕ) (before : List Item) (it : Item) → IsProp (IsItem limits frame before it)
+item_prop limits frame before it = hlevel (partition_prop, section_prop)
 
 window_prop : (before : List WindowRow) (row : WindowRow) → IsProp (IsWindow before row)
 window_prop before row = hlevel props

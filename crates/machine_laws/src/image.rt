@@ -1,6 +1,6 @@
 //! Images and their spellings.
 
-ghost use Rattle.std.specs.Prelude.{◌≡◌, ℕ, ◌<◌, ◌≤◌, ◌++◌, List, [], length, Ok, slice_index};
+ghost use Rattle.std.specs.Prelude.{◌≡◌, ℕ, ◌^◌, ◌<◌, ◌≤◌, ◌++◌, List, [], length, Ok, slice_index};
 ghost use Rattle.apex_types.specs.declared.identity.At.{At};
 ghost use Rattle.machine_meaning.specs.Image.{Image};
 ghost use Rattle.module_meaning.specs.Table.{Partition};
@@ -15,7 +15,7 @@ ghost use Rattle.kernel_meaning.specs.Windows.{next_release};
 
 /// An image that is read is lawful, and the bytes are its spelling.
 pub fn read_is_spelled()
-    ensures { (bytes : List ℕ) (image : Image) → ((i : ℕ) → slice_index bytes i < 256)
+    ensures { (bytes : List ℕ) (image : Image) → ((i : ℕ) → slice_index bytes i < 2 ^ 8)
         → image_at bytes ≡ Ok image → IsLawful image × (bytes ≡ spelling image) }
 {}
 

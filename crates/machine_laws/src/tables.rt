@@ -1,8 +1,9 @@
 //! Module tables that are accepted, and the images that they describe.
 
 ghost use Rattle.std.specs.Prelude.{◌≡◌, ◌≤◌, ℕ, List, length, map, Ok, All};
+ghost use Rattle.apex_types.specs.Versions.{third_limits};
 ghost use Rattle.apex_types.specs.declared.identity.At.{At};
-ghost use Rattle.apex_types.specs.declared.version.ImageVersion.TheVariants.{Second};
+ghost use Rattle.apex_types.specs.declared.version.ImageVersion.TheVariants.{Third};
 ghost use Rattle.toml.specs.Data.{Members};
 ghost use Rattle.module_meaning.specs.Table.{Table, Partition};
 ghost use Rattle.machine_meaning.specs.Image.{Item};
@@ -18,12 +19,12 @@ ghost use Rattle.kernel_meaning.specs.Windows.{next_release};
 pub fn accepted_table_is_within_limits()
     ensures { (ms : Members) (t : Table) (items : List Item) → verdict ms ≡ Ok t
         → map (λ it. it.partition) items ≡ t.partitions
-        → All (λ it. IsSection it.partition.period it.section) items
+        → All (λ it. IsSection third_limits it.partition.period it.section) items
         → IsWithinLimits
         (record {
           schedule = t.schedule;
           fault = t.fault;
-          version = Second t.costs;
+          version = Third t.costs;
           items = items;
           channels = t.channels;
         }) }
@@ -33,12 +34,12 @@ pub fn accepted_table_is_within_limits()
 pub fn accepted_table_is_lawful()
     ensures { (ms : Members) (t : Table) (items : List Item) → verdict ms ≡ Ok t
         → map (λ it. it.partition) items ≡ t.partitions
-        → All (λ it. IsSection it.partition.period it.section) items
+        → All (λ it. IsSection third_limits it.partition.period it.section) items
         → IsLawful
         (record {
           schedule = t.schedule;
           fault = t.fault;
-          version = Second t.costs;
+          version = Third t.costs;
           items = items;
           channels = t.channels;
         }) }

@@ -7,7 +7,9 @@ use Rattle.apex_types.specs.declared.row.RoutineRow.{RoutineRow}
 use Rattle.apex_types.specs.declared.row.ProcessRow.{ProcessRow}
 use Rattle.apex_types.specs.declared.row.BodyRow.{BodyRow}
 use Rattle.apex_types.specs.declared.codes.ModuleAction.{ModuleAction}
+use Rattle.apex_types.specs.Versions.{costs_of}
 use Rattle.apex_types.specs.declared.version.ImageVersion.{ImageVersion}
+use Rattle.apex_types.specs.declared.version.ImageVersion.TheVariants.{Third}
 use Rattle.kernel_meaning.specs.Windows.{Schedule}
 use Rattle.module_meaning.specs.Table.{Channel, Partition}
 use Rattle.machine_meaning.specs.Section.{Section}
@@ -44,3 +46,7 @@ pub record Image : Type 0 where
   pub version : ImageVersion
   pub items : List Item
   pub channels : List Channel
+
+-- the same image as one of the third version, which costs the same
+abbrev pub upgraded : Image → Image
+upgraded image = record image { version = Third (costs_of image.version) }

@@ -4,15 +4,17 @@ use Rattle.std.specs.Prelude.{ℕ, zero, suc, ◌+◌, ◌-◌, ◌%◌, ◌^◌
 use Rattle.std.specs.List.{list_all, list_any}
 use Rattle.std.specs.Str.{bytes_eq}
 use Rattle.std.specs.Int.{Width, w16, w32, w64, byte_len, from_le_bytes, cast_signed}
-use Rattle.apex_types.specs.declared.limits.TheConstants.{GREATEST_PRIORITY, LEAST_STACK_WORDS, MOST_CHANNELS, MOST_DATA_WORDS, MOST_DEPTH, MOST_DESTINATIONS, MOST_FRAME_TICKS, MOST_INSTRUCTIONS, MOST_NAME_BYTES, MOST_OBJECTS, MOST_PARTITIONS, MOST_PORTS, MOST_PROCEDURES, MOST_PROCESSES, MOST_SEMAPHORE_VALUE, MOST_SLOTS, MOST_STACK_WORDS, MOST_TICKS, MOST_WINDOWS, MOST_WORDS}
+use Rattle.apex_types.specs.declared.limits.TheConstants.{GREATEST_PRIORITY, INSTRUCTION_BYTES, LEAST_STACK_WORDS, MOST_CHANNELS, MOST_DATA_WORDS, MOST_DEPTH, MOST_DESTINATIONS, MOST_FRAME_TICKS, MOST_INSTRUCTIONS, MOST_NAME_BYTES, MOST_OBJECTS, MOST_PORTS, MOST_PROCEDURES, MOST_SEMAPHORE_VALUE, MOST_SLOTS, MOST_STACK_WORDS, MOST_TICKS, MOST_WINDOWS}
 use Rattle.apex_types.specs.Costs.{cost_of_ticks, from_order}
 use Rattle.apex_types.specs.declared.cost.TheConstants.{COST_KEYS}
 use Rattle.apex_types.specs.NameText.{is_name}
 use Rattle.apex_types.specs.declared.cost.TickCost.{TickCost}
 use Rattle.apex_types.specs.declared.cost.Costs.{Costs}
-use Rattle.apex_types.specs.declared.version.TheConstants.{FIRST_VERSION, SECOND_VERSION}
+use Rattle.apex_types.specs.Versions.{limits_of}
+use Rattle.apex_types.specs.declared.limits.Limits.{Limits}
+use Rattle.apex_types.specs.declared.version.TheConstants.{FIRST_VERSION, SECOND_VERSION, THIRD_VERSION}
 use Rattle.apex_types.specs.declared.version.ImageVersion.{ImageVersion}
-use Rattle.apex_types.specs.declared.version.ImageVersion.TheVariants.{First, Second}
+use Rattle.apex_types.specs.declared.version.ImageVersion.TheVariants.{First, Second, Third}
 use Rattle.module_meaning.specs.Table.{keeps_rules}
 use Rattle.apex_types.specs.declared.codes.Discipline.{Discipline}
 use Rattle.apex_types.specs.declared.codes.Discipline.TheVariants.{Fifo, Priority}
@@ -179,25 +181,25 @@ is_port rows name = list_any (λ row. bytes_eq row.name name) rows
 unfoldable pub kind_at : ℕ → List ℕ → Read PortKind
 kind_at number bytes = if number == 0 then sampling_at bytes else queuing_at bytes
 
-unfoldable pub port_at : List PortRow → List ℕ → Read PortRow
-port_at before bytes = do
+unfoldable pub port_at : Limits → List PortRow → List ℕ → Read PortRow
+port_at limits before bytes = do
   name ← fresh_name_at (is_port before) bytes
   kind ← small_at 0 1 name.1
   direction ← choice_at direction_of kind.1
-  words ← small_at 1 MOST_WORDS direction.1
+  words ← small_at 1 limits.words direction.1
   fields ← kind_at kind.0 words.1
   Ok (record { name = name.0; kind = fields.0; direction = direction.0; words = words.0 }, fields.1)
 
 abbrev pub is_partition : List Item → List ℕ → Bool
 is_partition items name = list_any (λ it. bytes_eq it.partition.name name) items
 
-unfoldable pub partition_at : ℕ → List Item → List ℕ → Read Partition
-partition_at frame before bytes = do
+unfoldable pub partition_at : Limits → ℕ → List Item → List ℕ → Read Partition
+partition_at limits frame before bytes = do
   name ← fresh_name_at (is_partition before) bytes
   period ← limited_at w32 1 frame name.1
   duration ← limited_at w32 0 period.0 period.1
   health ← health_at duration.1
-  ports ← list_at 0 MOST_PORTS port_at health.1
+  ports ← list_at 0 MOST_PORTS (port_at limits) health.1
   Ok (record { name = name.0; period = period.0; duration = duration.0; health = health.0; ports = ports.0 }, ports.1)
 
 -- ---- the section of a partition
@@ -209,16 +211,16 @@ semaphore_at bytes = do
   order ← choice_at discipline_of maximum.1
   Ok (record { value = value.0; maximum = maximum.0; discipline = order.0 }, order.1)
 
-unfoldable pub buffer_at : List ℕ → Read BufferRow
-buffer_at bytes = do
-  words ← small_at 1 MOST_WORDS bytes
+unfoldable pub buffer_at : Limits → List ℕ → Read BufferRow
+buffer_at limits bytes = do
+  words ← small_at 1 limits.words bytes
   depth ← small_at 1 MOST_DEPTH words.1
   order ← choice_at discipline_of depth.1
   Ok (record { words = words.0; depth = depth.0; discipline = order.0 }, order.1)
 
-unfoldable pub blackboard_at : List ℕ → Read BlackboardRow
-blackboard_at bytes = do
-  words ← small_at 1 MOST_WORDS bytes
+unfoldable pub blackboard_at : Limits → List ℕ → Read BlackboardRow
+blackboard_at limits bytes = do
+  words ← small_at 1 limits.words bytes
   Ok (record { words = words.0 }, words.1)
 
 -- The frame of a procedure has room for its slots and two words more. Entries are judged when the
@@ -277,19 +279,19 @@ handler_at bytes = do
   there ← choice_at truth_of bytes
   if there.0 then (body_at there.1 >>= λ body. Ok (Some body.0, body.1)) else Ok (None, there.1)
 
-unfoldable pub objects_at : List ℕ → Read Objects
-objects_at bytes = do
+unfoldable pub objects_at : Limits → List ℕ → Read Objects
+objects_at limits bytes = do
   initial ← list_at 0 MOST_DATA_WORDS (λ _. word_at) bytes
   semaphores ← list_at 0 MOST_OBJECTS (λ _. semaphore_at) initial.1
   events ← small_at 0 MOST_OBJECTS semaphores.1
-  buffers ← list_at 0 MOST_OBJECTS (λ _. buffer_at) events.1
-  blackboards ← list_at 0 MOST_OBJECTS (λ _. blackboard_at) buffers.1
+  buffers ← list_at 0 MOST_OBJECTS (λ _. buffer_at limits) events.1
+  blackboards ← list_at 0 MOST_OBJECTS (λ _. blackboard_at limits) buffers.1
   Ok (record { initial = initial.0; semaphores = semaphores.0; events = events.0; buffers = buffers.0; blackboards = blackboards.0 }, blackboards.1)
 
-unfoldable pub bodies_at : ℕ → List ℕ → Read Bodies
-bodies_at unit bytes = do
+unfoldable pub bodies_at : Limits → ℕ → List ℕ → Read Bodies
+bodies_at limits unit bytes = do
   routines ← list_at 0 MOST_PROCEDURES (λ _. routine_at) bytes
-  processes ← list_at 0 MOST_PROCESSES (process_at unit) routines.1
+  processes ← list_at 0 limits.processes (process_at unit) routines.1
   init ← body_at processes.1
   handler ← handler_at init.1
   Ok (record { routines = routines.0; processes = processes.0; init = init.0; handler = handler.0 }, handler.1)
@@ -309,19 +311,19 @@ enter_within count bodies =
 unfoldable pub code_at : Bodies → List ℕ → Read (List (List ℕ))
 code_at bodies bytes = do
   count ← limited_at w32 1 MOST_INSTRUCTIONS bytes
-  if enter_within count.0 bodies then items_at (λ _. bytes_at 16) count.0 [] count.1 else Err Limit
+  if enter_within count.0 bodies then items_at (λ _. bytes_at INSTRUCTION_BYTES) count.0 [] count.1 else Err Limit
 
-unfoldable pub section_at : ℕ → List ℕ → Read Section
-section_at unit bytes = do
-  o ← objects_at bytes
-  b ← bodies_at unit o.1
+unfoldable pub section_at : Limits → ℕ → List ℕ → Read Section
+section_at limits unit bytes = do
+  o ← objects_at limits bytes
+  b ← bodies_at limits unit o.1
   code ← code_at b.0 b.1
   Ok (record { initial = o.0.initial; semaphores = o.0.semaphores; events = o.0.events; buffers = o.0.buffers; blackboards = o.0.blackboards; routines = b.0.routines; processes = b.0.processes; init = b.0.init; handler = b.0.handler; code = code.0 }, code.1)
 
-unfoldable pub item_at : ℕ → List Item → List ℕ → Read Item
-item_at frame before bytes = do
-  row ← partition_at frame before bytes
-  section ← section_at row.0.period row.1
+unfoldable pub item_at : Limits → ℕ → List Item → List ℕ → Read Item
+item_at limits frame before bytes = do
+  row ← partition_at limits frame before bytes
+  section ← section_at limits row.0.period row.1
   Ok (record { partition = row.0; section = section.0 }, section.1)
 
 -- ---- windows and channels
@@ -381,7 +383,7 @@ unfoldable pub version_at : List ℕ → Read ℕ
 version_at bytes = do
   text ← magic_at bytes
   number ← number_at w16 text.1
-  if (number.0 == FIRST_VERSION) || (number.0 == SECOND_VERSION) then Ok number else Err Foreign
+  if (number.0 == FIRST_VERSION) || (number.0 == SECOND_VERSION) || (number.0 == THIRD_VERSION) then Ok number else Err Foreign
 
 unfoldable pub cost_at : List ℕ → Read TickCost
 cost_at bytes = do
@@ -396,7 +398,9 @@ costs_at bytes = do
 
 -- what an image has as one of the version with this number
 unfoldable pub own_fields_at : ℕ → List ℕ → Read ImageVersion
-own_fields_at number bytes = if number == FIRST_VERSION then Ok (First, bytes) else (costs_at bytes >>= λ costs. Ok (Second costs.0, costs.1))
+own_fields_at number bytes =
+    if number == FIRST_VERSION then Ok (First, bytes)
+    else (costs_at bytes >>= λ costs. Ok (if number == SECOND_VERSION then Second costs.0 else Third costs.0, costs.1))
 
 -- all fields, and the bytes behind them
 unfoldable pub fields_at : List ℕ → Read Image
@@ -405,7 +409,7 @@ fields_at bytes = do
   frame ← limited_at w32 1 MOST_FRAME_TICKS number.1
   fault ← choice_at module_action_of frame.1
   version ← own_fields_at number.0 fault.1
-  items ← list_at 1 MOST_PARTITIONS (item_at frame.0) version.1
+  items ← list_at 1 (limits_of version.0).partitions (item_at (limits_of version.0) frame.0) version.1
   windows ← list_at 1 MOST_WINDOWS window_at items.1
   channels ← list_at 0 MOST_CHANNELS channel_at windows.1
   Ok (record { schedule = record { frame = frame.0; windows = windows.0 }; fault = fault.0; version = version.0; items = items.0; channels = channels.0 }, channels.1)

@@ -29,7 +29,7 @@ use Rattle.apex_types.specs.Costs.{in_order}
 use Rattle.apex_types.specs.Versions.{number_of}
 use Rattle.apex_types.specs.declared.cost.Costs.{Costs}
 use Rattle.apex_types.specs.declared.version.ImageVersion.{ImageVersion}
-use Rattle.apex_types.specs.declared.version.ImageVersion.TheVariants.{First, Second}
+use Rattle.apex_types.specs.declared.version.ImageVersion.TheVariants.{First, Second, Third}
 use Rattle.machine_meaning.specs.Image.{Item, Image, Bodies, Objects, magic}
 
 -- ---- numbers, names and lists
@@ -181,6 +181,7 @@ costs c = flat_map (λ cost. u16 cost.ticks) (in_order c)
 unfoldable pub own_fields : ImageVersion → List ℕ
 own_fields First = []
 own_fields (Second c) = costs c
+own_fields (Third c) = costs c
 
 -- what images of every version begin with
 unfoldable pub front : Image → List ℕ

@@ -2,7 +2,7 @@
 
 ghost use Rattle.std.specs.Prelude.{◌≡◌, ◌∷◌, ◌++◌, [], Some, None, Ok, Err, codes};
 ghost use Rattle.apex_types.specs.Costs.{written_costs};
-ghost use Rattle.apex_types.specs.declared.version.ImageVersion.TheVariants.{Second};
+ghost use Rattle.apex_types.specs.declared.version.ImageVersion.TheVariants.{Third};
 ghost use Rattle.apex_types.specs.declared.codes.ModuleAction.TheVariants as of_module;
 ghost use Rattle.machine_meaning.specs.ImageReading.{Truncated, Trailing, image_at};
 ghost use Rattle.meaning_rows.specs.Rows.{image_of_sources, lines, plain_partition, recursive_image, release_window, reporting_image, single_table, smallest_image, text_of_image};
@@ -19,7 +19,7 @@ fn an_image_is_read()
     ensures { image_at smallest_image ≡ Ok (record {
       schedule = record { frame = 128; windows = release_window 1 0 128 ∷ [] };
       fault = of_module.Ignore;
-      version = Second written_costs;
+      version = Third written_costs;
       items = record {
         partition = plain_partition (codes "a") 128 128;
         section = record {

@@ -69,7 +69,7 @@ fn sources_are_judged()
         codes "var abcdefghijklmnopqrstuvwxyzabcde; init stack 16 { local r; SET_PARTITION_MODE(3) -> r; } " ∷
         codes "semaphore s 2 1 fifo; init stack 16 { local r; SET_PARTITION_MODE(3) -> r; } " ∷
         codes "semaphore s 0 0 fifo; init stack 16 { local r; SET_PARTITION_MODE(3) -> r; } " ∷
-        codes "buffer b 17 1 fifo; init stack 16 { local r; SET_PARTITION_MODE(3) -> r; } " ∷
+        codes "buffer b 65 1 fifo; init stack 16 { local r; SET_PARTITION_MODE(3) -> r; } " ∷
         codes "blackboard b 0; init stack 16 { local r; SET_PARTITION_MODE(3) -> r; } " ∷
         codes "init stack 16 { local a0; local a1; local a2; local a3; local a4; local a5; local a6; local a7; local a8; local a9; local a10; local a11; local a12; local a13; local a14; }" ∷
         codes "proc f(a, b, c, d, e, g, h, i, j) { } init stack 16 { local r; SET_PARTITION_MODE(3) -> r; } " ∷

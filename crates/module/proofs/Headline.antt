@@ -3,6 +3,7 @@ use Rattle.std.proofs.Common.{◌≡◌, ℕ, List, [], ◌∷◌, map, Option, 
 use Rattle.std.specs.List.{All}
 use Rattle.std.specs.Io.KnownBytes.{Appends}
 use Rattle.std.proofs.lemmas.List.Elements.{All-nil, All-cons}
+use Rattle.apex_types.specs.Versions.{third_limits}
 use Rattle.apex_types.specs.Line.{text_of}
 use Rattle.apex_types.specs.Line.{TakesBeginning}
 use Rattle.compiling_laws.specs.CompiledCode.{section_of}
@@ -34,12 +35,12 @@ use Rattle.module.proofs.Built.{are_compiled}
 use Rattle.module.proofs.SameTraces.{traces_same}
 
 -- the result of a build is a section that an image may have
-lawful_section : (row : Partition) (source : List ℕ) (p : Program) → IsAccepted row source p → IsCoded p → IsSection row.period (section_of p)
+lawful_section : (row : Partition) (source : List ℕ) (p : Program) → IsAccepted row source p → IsCoded p → IsSection third_limits row.period (section_of p)
 lawful_section row source p a h = accepted_section row.ports row.period a.tree p a.judged h.size h.words
 
 -- a partition and its section, which an image may have
 abbrev IsLawfulItem : Item → Type 0
-IsLawfulItem it = IsSection it.partition.period it.section
+IsLawfulItem it = IsSection third_limits it.partition.period it.section
 
 -- the result of a build has the table's rows, and lawful sections
 items_lawful : (rows : List Partition) (sources : List (List ℕ)) (ps : List Program) → AreAccepted rows sources ps → AreCoded ps → (map (λ (it : Item). it.partition) (built_items rows ps) ≡ rows) × All IsLawfulItem (built_items rows ps)

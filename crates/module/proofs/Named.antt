@@ -3,6 +3,7 @@ use Rattle.std.proofs.Common.{◌≡◌, ℕ, zero, suc, ◌+◌, ◌-◌, ◌<�
 use Rattle.std.proofs.lemmas.Bool.{and_parts, eqb-true}
 use Rattle.std.proofs.lemmas.List.Elements.{All-nil, All-cons}
 use Rattle.std.proofs.lemmas.Option.{none-some, same_Some, slice_get-map}
+use Rattle.apex_types.specs.Versions.{third_limits}
 use Rattle.apex_types.specs.declared.row.PortRow.{PortRow}
 use Rattle.apex_types.specs.declared.limits.TheConstants.{MOST_WORDS}
 use Rattle.module_meaning.specs.DeviceText.{first_from}
@@ -18,6 +19,7 @@ use Rattle.isolation.specs.Replays.{numbered}
 use Rattle.isolation.specs.Slices.{Slice, slice, slice_of}
 use Rattle.isolation.proofs.Law.{sliced}
 use Rattle.module_base.specs.Rows.{HasPorts}
+use Rattle.machine_laws.proofs.Widened.{items_widened}
 
 -- ---- what is found by a name
 
@@ -103,15 +105,15 @@ slice_number image number s is = ap (λ (t : Slice). t.number) (sliced image num
 
 -- ---- the ports of a row
 
-few_words : (before rows : List PortRow) → EachBeside IsPort before rows → All (λ (x : PortRow). x.words ≤ MOST_WORDS) rows
+few_words : (before rows : List PortRow) → EachBeside (IsPort third_limits) before rows → All (λ (x : PortRow). x.words ≤ MOST_WORDS) rows
 few_words before [] h = All-nil (λ (x : PortRow). x.words ≤ MOST_WORDS)
 few_words before (x ∷ rows) h = All-cons (λ (y : PortRow). y.words ≤ MOST_WORDS) x rows h.0.words.most (few_words (before ++ x ∷ []) rows h.1)
 
-rows_have_ports : (frame : ℕ) (before : List Item) (items : List PartitionItem) → EachBeside (IsItem frame) before (items_of items) → (place : ℕ) (item : PartitionItem) → slice_get items place ≡ Some item → HasPorts (partition_of item.row)
+rows_have_ports : (frame : ℕ) (before : List Item) (items : List PartitionItem) → EachBeside (IsItem third_limits frame) before (items_of items) → (place : ℕ) (item : PartitionItem) → slice_get items place ≡ Some item → HasPorts (partition_of item.row)
 rows_have_ports frame before [] h place item e = absurd (none-some item e)
 rows_have_ports frame before (i ∷ items) h zero item e =
     subst (λ (j : PartitionItem). HasPorts (partition_of j.row)) (same_Some i item e) (record { count = h.0.partition.port_count.most; words = few_words [] i.row.ports.items h.0.partition.ports })
 rows_have_ports frame before (i ∷ items) h (suc place) item e = rows_have_ports frame (before ++ item_of i ∷ []) items h.1 place item e
 
 pub has_ports : (image : code.Image) (place : ℕ) (item : PartitionItem) → slice_get image.partitions.items place ≡ Some item → HasPorts (partition_of item.row)
-has_ports image place item e = rows_have_ports image.schedule.frame [] image.partitions.items image.lawful.limits.items place item e
+has_ports image place item e = rows_have_ports image.schedule.frame [] image.partitions.items (items_widened (image_of image) image.lawful.limits) place item e

@@ -1,13 +1,18 @@
--- Many ticks of a machine within a run.
-use Rattle.std.proofs.Common.{◌≡◌, ◌≤◌, ◌+◌, ℕ, List, Option, Err, refl, subst}
+-- Many ticks of a machine within a run, and a run that its device text refuses.
+use Rattle.std.proofs.Common.{◌≡◌, ◌≤◌, ◌+◌, ℕ, List, Option, Result, Ok, Err, refl, sym, ap, subst, ◌∙◌}
 use Rattle.apex_types.specs.Line.{text_of}
 use Rattle.apex_types.specs.Line.{TakesBeginning}
 use Rattle.apex_types.proofs.Writing.{IsUnderWay}
+use Rattle.apex_types.specs.declared.limits.TheConstants.{MOST_TICKS}
+use Rattle.apex_types.specs.declared.device.DeviceFault.{DeviceFault}
 use Rattle.apex_types.specs.declared.device.DeviceLine.{DeviceLine}
 use Rattle.machine_meaning.specs.Image.{Image}
-use Rattle.machine_meaning.specs.MachineMeaning.{machine_module}
+use Rattle.machine_meaning.specs.ImageReading.{Fault}
+use Rattle.machine_meaning.specs.MachineMeaning.{machine_module, verdict_for}
 use Rattle.module.specs.Machines.{Machine, HasRunOn}
 use Rattle.module.specs.Pieces.{HasRun, IsBrokenOff}
+use Rattle.module.specs.Running.{AreRefused}
+use Rattle.module.specs.Runs.{IsDeviceRefusal, Runs}
 use Rattle.module.specs.Standing.{lines_of}
 use Rattle.module.specs.declared.fault.RunFault.{RunFault}
 use Rattle.module.specs.declared.fault.RunFault.TheVariants as fault
@@ -36,3 +41,26 @@ pub breaks_by : {old mid new : Option (List ℕ)} {text : List ℕ} {before betw
     → TakesBeginning old new text
 breaks_by {mid = mid} {new = new} {before = before} {between = between} image m lines left k few same way h =
     breaks_off (machine_module image).plan lines m.standing left k few way (subst (λ (i : Image). IsBrokenOff (machine_module i).plan lines k m.standing mid new before between) same h)
+
+-- ---- a device text that is refused
+
+by_verdict : (read : Result Image Fault) (image : Image) (devices : List ℕ) (n : ℕ) (old : Option (List ℕ)) (v : Result (List DeviceLine) DeviceFault) (f : RunFault) → read ≡ Ok image → n ≤ MOST_TICKS → verdict_for image devices ≡ v → AreRefused v f
+    → Runs read devices n old old (Err f)
+by_verdict read image devices n old (Err g) (fault.Device f) is few e h = (few, subst (λ (r : Result Image Fault). IsDeviceRefusal r devices f) (sym is) (e ∙ ap (λ (x : DeviceFault). Err x) h), refl)
+by_verdict read image devices n old v fault.Memory is few e h = refl
+by_verdict read image devices n old (Ok lines) fault.Ticks is few e h = absurd h
+by_verdict read image devices n old (Ok lines) (fault.Image f) is few e h = absurd h
+by_verdict read image devices n old (Ok lines) fault.Partition is few e h = absurd h
+by_verdict read image devices n old (Ok lines) fault.Write is few e h = absurd h
+by_verdict read image devices n old (Ok lines) fault.Failed is few e h = absurd h
+by_verdict read image devices n old (Ok lines) (fault.Device f) is few e h = absurd h
+by_verdict read image devices n old (Err g) fault.Ticks is few e h = absurd h
+by_verdict read image devices n old (Err g) (fault.Image f) is few e h = absurd h
+by_verdict read image devices n old (Err g) fault.Partition is few e h = absurd h
+by_verdict read image devices n old (Err g) fault.Write is few e h = absurd h
+by_verdict read image devices n old (Err g) fault.Failed is few e h = absurd h
+
+-- a run with such a text writes nothing
+pub device_refused : (read : Result Image Fault) (image : Image) (devices : List ℕ) (n : ℕ) (old : Option (List ℕ)) (f : RunFault) → read ≡ Ok image → n ≤ MOST_TICKS → AreRefused (verdict_for image devices) f
+    → Runs read devices n old old (Err f)
+device_refused read image devices n old f is few h = by_verdict read image devices n old (verdict_for image devices) f is few refl h

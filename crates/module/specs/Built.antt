@@ -3,7 +3,7 @@ use Rattle.std.specs.Prelude.{◌≡◌, ◌≤◌, ℕ, false, List, [], ◌∷
 use Rattle.std.specs.Int.{w64}
 use Rattle.std.specs.List.{list_any}
 use Rattle.apex_types.specs.declared.limits.TheConstants.{MOST_INSTRUCTIONS}
-use Rattle.apex_types.specs.declared.version.ImageVersion.TheVariants.{Second}
+use Rattle.apex_types.specs.declared.version.ImageVersion.TheVariants.{Third}
 use Rattle.pal_meaning.specs.Program.{size_of}
 use Rattle.pal_meaning.specs.Program.{Program}
 use Rattle.compiling_laws.specs.CompiledCode.{code_of, section_of}
@@ -27,7 +27,7 @@ built_items (row ∷ rows) [] = []
 built_items (row ∷ rows) (p ∷ ps) = built_item row p ∷ built_items rows ps
 
 abbrev pub built_image : Table → List Program → Image
-built_image t programs = record { schedule = t.schedule; fault = t.fault; version = Second t.costs; items = built_items t.partitions programs; channels = t.channels }
+built_image t programs = record { schedule = t.schedule; fault = t.fault; version = Third t.costs; items = built_items t.partitions programs; channels = t.channels }
 
 -- A program of at most 65,536 instructions, which are read again from their bytes, and of words of 64
 -- bits.

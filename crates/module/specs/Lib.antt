@@ -16,5 +16,6 @@ pub mod Runs
 pub mod Replays
 pub mod Running
 pub mod Telling
+pub mod Upgrades
 pub mod Views
 pub mod Written

@@ -110,7 +110,7 @@ fn build_image(alloc: Global, table: ModuleTable, sources: &[Checked]) -> Result
     Ok(Image {
         schedule,
         fault,
-        version: ImageVersion::Second { costs },
+        version: ImageVersion::Third { costs },
         partitions,
         channels,
     })

@@ -28,6 +28,7 @@ mod running;
 mod step;
 mod telling;
 mod ticks;
+mod upgrading;
 mod watching;
 
 pub use building::build;
@@ -40,3 +41,4 @@ pub use replaying::replay;
 pub use running::{build_and_run, run};
 pub use telling::inputs;
 pub use ticks::split_tick;
+pub use upgrading::upgrade;

@@ -51,7 +51,7 @@ impl Machine {
         let module = Module::load(alloc, image)?;
         Ok(Machine {
             module,
-            trace: TraceBuffer::new(),
+            trace: TraceBuffer::new(alloc)?,
             has_failed: false,
         })
     }

@@ -8,7 +8,7 @@ ghost use Rattle.module.specs.Written.{IsCourse, IsMade};
 
 use crate::member::Members;
 use apex_types::{
-    At, ErrorKind, EventKind, EventLog, ModuleAction, Moment, Response, Sink, StartCondition,
+    At, ErrorKind, EventLog, LineKind, ModuleAction, Moment, Response, Sink, StartCondition,
 };
 use lone_partition::{Output, PartitionStep};
 use partition_base::Executor;
@@ -40,9 +40,9 @@ impl<E: Executor<Mem = PartitionMem>> Members<E> {
             (members_in E.Executor self.now) (sent_of S.Sink output.old)
             (sent_of S.Sink output.new) }
     {
-        let error = EventKind::Error(ErrorKind::HardwareFault, None, Response::Module(action));
+        let error = LineKind::Error(ErrorKind::HardwareFault, None, Response::Module(action));
         output.trace.clear();
-        output.trace.tell(moment.at.now, &None, &error);
+        output.trace.tell(moment.at.now, &None, &error, &[]);
         output.write();
     }
 

@@ -116,7 +116,7 @@ pub fn collect(
         (HasNoRoom
         (length (machine_inputs (image_of module.old.image) watched.0 devices.now ticks))) }
 {
-    let mut trace = TraceBuffer::new();
+    let mut trace = TraceBuffer::new(alloc)?;
     let mut nowhere = Forgetful;
     let mut output = Output::new(&mut trace, &mut nowhere);
     let mut inputs = Collected::new(alloc);

@@ -1,6 +1,7 @@
 -- Device texts and replay texts are read as the lines of any text are.
 use Rattle.std.proofs.Common.{◌≡◌, ℕ, ◌+◌, codes, List, [], ◌∷◌, Option, Some, None, Ok, Err, Result, refl, sym, ap, ◌∙◌}
 use Rattle.std.specs.Prelude.{◌^◌}
+use Rattle.apex_types.specs.Line.{space}
 use Rattle.apex_types.specs.declared.limits.TheConstants.{MOST_TICKS}
 use Rattle.apex_types.specs.declared.device.DeviceFault.{DeviceFault}
 use Rattle.apex_types.specs.declared.device.DeviceLine.{DeviceLine}
@@ -17,7 +18,7 @@ device_written [] = refl
 device_written (kind ∷ rest) = refl
 
 device_line : (text : List ℕ) → device.line_of text ≡ line_by (codes "MSG") text
-device_line text = ap (line_with (plain_number MOST_TICKS (piece 32 text))) (device_written (pieces_behind_marks 32 text))
+device_line text = ap (line_with (plain_number MOST_TICKS (piece space text))) (device_written (pieces_behind_marks space text))
 
 device_named : (rows : List Partition) (channels : List Channel) (count before : ℕ) (o : Option WrittenLine) → device.taken rows channels count before o ≡ taken_by (device.named rows channels) count before o
 device_named rows channels count before None = refl
@@ -62,7 +63,7 @@ input_written [] = refl
 input_written (kind ∷ rest) = refl
 
 input_line : (text : List ℕ) → replay.line_of text ≡ line_by (codes "ARRIVE") text
-input_line text = ap (line_with (plain_number MOST_TICKS (piece 32 text))) (input_written (pieces_behind_marks 32 text))
+input_line text = ap (line_with (plain_number MOST_TICKS (piece space text))) (input_written (pieces_behind_marks space text))
 
 input_named : (row : Partition) (count before : ℕ) (o : Option WrittenLine) → replay.taken row count before o ≡ taken_by (replay.named row) count before o
 input_named row count before None = refl

@@ -7,6 +7,7 @@ use Rattle.std.proofs.lemmas.List.{length-map}
 use Rattle.std.proofs.lemmas.List.Elements.{All-from_recursion}
 use Rattle.std.proofs.lemmas.Option.{none-some, same_Some, slice_get_read, slice_get_past, slice_get-map}
 use Rattle.arrayvec.specs.ArrayVec.{ArrayVec}
+use Rattle.apex_types.specs.Versions.{third_limits}
 use Rattle.apex_types.specs.Places.{place_of_number}
 use Rattle.apex_types.specs.declared.identity.PartitionId.{PartitionId}
 use Rattle.apex_types.specs.declared.identity.PortId.{PortId}
@@ -29,12 +30,13 @@ use Rattle.module_base.specs.Rows.{HasPorts}
 use Rattle.module_base.specs.Seen.{fitting}
 use Rattle.module_base.specs.declared.line.MessageWords.TheVariants as held
 use Rattle.module_base.specs.Views.{rows_in}
+use Rattle.machine_laws.proofs.Widened.{items_widened, count_widened}
 
 pub few_channels : (image : Image) → length image.channels.items ≤ MOST_CHANNELS
 few_channels image = let same = length-map image.channels.items channel_of in let most = image.lawful.limits.channel_count.most in omega arith
 
 pub few_partitions : (image : Image) → length image.partitions.items ≤ MOST_PARTITIONS
-few_partitions image = let same = length-map image.partitions.items item_of in let most = image.lawful.limits.item_count.most in omega arith
+few_partitions image = let same = length-map image.partitions.items item_of in let most = (count_widened (image_of image) image.lawful.limits).most in omega arith
 
 -- at the place that a number gives
 pub from_place : {A : Type 0} (xs : List A) (n place : ℕ) → place_of_number n ≡ Some place → at_number xs n ≡ slice_get xs place
@@ -67,23 +69,23 @@ words_past image e p q items i place is known at same past =
 
 -- no port takes more words than a message has
 
-words_of_each : (before ports : List PortRow) (n : ℕ) → EachBeside IsPort before ports → words_of_port (slice_get ports n) ≤ MOST_WORDS
+words_of_each : (before ports : List PortRow) (n : ℕ) → EachBeside (IsPort third_limits) before ports → words_of_port (slice_get ports n) ≤ MOST_WORDS
 words_of_each before [] n h = omega arith
 words_of_each before (p ∷ ports) zero h = h.0.words.most
 words_of_each before (p ∷ ports) (suc n) h = words_of_each (before ++ p ∷ []) ports n h.1
 
-words_of_numbered : (ports : List PortRow) (n : ℕ) → EachBeside IsPort [] ports → words_of_port (at_number ports n) ≤ MOST_WORDS
+words_of_numbered : (ports : List PortRow) (n : ℕ) → EachBeside (IsPort third_limits) [] ports → words_of_port (at_number ports n) ≤ MOST_WORDS
 words_of_numbered ports zero h = omega arith
 words_of_numbered ports (suc n) h = words_of_each [] ports n h
 
-words_of_item : (frame : ℕ) (before items : List Item) (n port : ℕ) → EachBeside (IsItem frame) before items → words_of_partition (slice_get (map row_of_item items) n) port ≤ MOST_WORDS
+words_of_item : (frame : ℕ) (before items : List Item) (n port : ℕ) → EachBeside (IsItem third_limits frame) before items → words_of_partition (slice_get (map row_of_item items) n) port ≤ MOST_WORDS
 words_of_item frame before [] n port h = omega arith
 words_of_item frame before (it ∷ items) zero port h = words_of_numbered it.partition.ports port h.0.partition.ports
 words_of_item frame before (it ∷ items) (suc n) port h = words_of_item frame (before ++ it ∷ []) items n port h.1
 
 words_of_row : (image : Image) (n port : ℕ) → words_of_partition (at_number (rows_in image) n) port ≤ MOST_WORDS
 words_of_row image zero port = omega arith
-words_of_row image (suc n) port = words_of_item image.schedule.frame [] (items_of image.partitions.items) n port image.lawful.limits.items
+words_of_row image (suc n) port = words_of_item image.schedule.frame [] (items_of image.partitions.items) n port (items_widened (image_of image) image.lawful.limits)
 
 few_words : (image : Image) (ends : List ChannelEnd) → words_of_ends (rows_in image) ends ≤ MOST_WORDS
 few_words image [] = omega arith
@@ -97,18 +99,18 @@ cut false m e = refl
 -- more words than a message has are too many for each channel
 pub long_message : (image : Image) (ends : List ChannelEnd) (ws : List ℤ) → held.TooMany ≡ fitting ws → nat_le (length ws) (words_of_ends (rows_in image) ends) ≡ false
 long_message image ends ws e =
-    lt-leb (length ws) (words_of_ends (rows_in image) ends) (omega (arith, few_words image ends, leb-false (length ws) 16 (cut (nat_le (length ws) 16) (message ws) e)))
+    lt-leb (length ws) (words_of_ends (rows_in image) ends) (omega (arith, few_words image ends, leb-false (length ws) MOST_WORDS (cut (nat_le (length ws) MOST_WORDS) (message ws) e)))
 
 -- so are they for a port of at most 16
 pub long_arrival : (most : ℕ) (ws : List ℤ) → most ≤ MOST_WORDS → held.TooMany ≡ fitting ws → nat_le (length ws) most ≡ false
-long_arrival most ws few e = lt-leb (length ws) most (omega (arith, few, leb-false (length ws) 16 (cut (nat_le (length ws) 16) (message ws) e)))
+long_arrival most ws few e = lt-leb (length ws) most (omega (arith, few, leb-false (length ws) MOST_WORDS (cut (nat_le (length ws) MOST_WORDS) (message ws) e)))
 
 -- ---- the ports of a row
-few_words_each : (before ports : List PortRow) → EachBeside IsPort before ports → AllByRecursion (λ (x : PortRow). x.words ≤ MOST_WORDS) ports
+few_words_each : (before ports : List PortRow) → EachBeside (IsPort third_limits) before ports → AllByRecursion (λ (x : PortRow). x.words ≤ MOST_WORDS) ports
 few_words_each before [] h = tt
 few_words_each before (p ∷ ports) h = (h.0.words.most, few_words_each (before ++ p ∷ []) ports h.1)
 
-ports_of_item : (frame : ℕ) (before items : List Item) (n : ℕ) (it : Item) → EachBeside (IsItem frame) before items → slice_get items n ≡ Some it → HasPorts it.partition
+ports_of_item : (frame : ℕ) (before items : List Item) (n : ℕ) (it : Item) → EachBeside (IsItem third_limits frame) before items → slice_get items n ≡ Some it → HasPorts it.partition
 ports_of_item frame before [] n it h e = absurd cc
 ports_of_item frame before (x ∷ items) zero it h e =
     let is : x ≡ it = same_Some x it e in
@@ -120,7 +122,7 @@ ports_of_item frame before (x ∷ items) (suc n) it h e = ports_of_item frame (b
 
 -- the row of each partition of a lawful image has its ports
 pub lawful_ports : (image : meant.Image) (n : ℕ) (it : Item) → IsLawful image → slice_get image.items n ≡ Some it → HasPorts it.partition
-lawful_ports image n it lawful e = ports_of_item image.schedule.frame [] image.items n it lawful.limits.items e
+lawful_ports image n it lawful e = ports_of_item image.schedule.frame [] image.items n it (items_widened image lawful.limits) e
 
 -- and so has the row of each partition of an image in the code
 pub row_ports : (image : Image) (n : ℕ) (it : PartitionItem) → slice_get image.partitions.items n ≡ Some it → HasPorts (partition_of it.row)

@@ -3,7 +3,7 @@ use Rattle.std.proofs.Common.{◌≡◌, ℕ, ℤ, codes, List, [], ◌∷◌, �
 use Rattle.std.specs.Prelude.{flat_map}
 use Rattle.std.specs.Fmt.{decimal, signed_decimal}
 use Rattle.std.specs.List.{join_with_byte}
-use Rattle.apex_types.specs.Line.{words_text}
+use Rattle.apex_types.specs.Line.{words_text, space}
 use Rattle.module_meaning.specs.Table.{Partition, at_number}
 use Rattle.isolation.specs.declared.input.Input.{Input}
 use Rattle.isolation.specs.declared.input.Input.TheVariants.{Arrive, ModuleFault, PartitionFault}
@@ -13,17 +13,17 @@ use Rattle.module_base.specs.LineText.{behind_tick, line_text}
 
 -- parts, each behind a space
 spaced : List (List ℕ) → List ℕ
-spaced ps = flat_map (λ (p : List ℕ). 32 ∷ p) ps
+spaced ps = flat_map (λ (p : List ℕ). space ∷ p) ps
 
-join_spaced : (p : List ℕ) (ps : List (List ℕ)) → join_with_byte 32 (p ∷ ps) ≡ p ++ spaced ps
+join_spaced : (p : List ℕ) (ps : List (List ℕ)) → join_with_byte space (p ∷ ps) ≡ p ++ spaced ps
 unfolding spaced
 join_spaced p [] = sym (append-nil p)
-join_spaced p (q ∷ ps) = ap (λ (xs : List ℕ). p ++ 32 ∷ xs) (join_spaced q ps)
+join_spaced p (q ∷ ps) = ap (λ (xs : List ℕ). p ++ space ∷ xs) (join_spaced q ps)
 
 words_spaced : (ws : List ℤ) → spaced (map signed_decimal ws) ≡ words_text ws
 unfolding spaced
 words_spaced [] = refl
-words_spaced (w ∷ ws) = ap (λ (xs : List ℕ). (32 ∷ signed_decimal w) ++ xs) (words_spaced ws)
+words_spaced (w ∷ ws) = ap (λ (xs : List ℕ). (space ∷ signed_decimal w) ++ xs) (words_spaced ws)
 
 parts_spaced : (row : Partition) (i : Input) → spaced (input_parts row i) ≡ behind_tick row i
 unfolding spaced

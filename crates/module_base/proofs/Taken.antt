@@ -1,6 +1,7 @@
 -- The meaning of a line as the code holds it is the meaning of the line.
 use Rattle.std.proofs.Common.{◌≡◌, ℕ, ℤ, Bool, true, false, cond, List, Option, Some, None, Err, Result, refl, sym, ap, ◌∙◌}
 use Rattle.std.specs.Prelude.{option_map, nat_lt, if◌then◌else◌}
+use Rattle.apex_types.specs.Line.{space}
 use Rattle.apex_types.specs.declared.limits.TheConstants.{MOST_TICKS}
 use Rattle.apex_types.specs.declared.device.DeviceFault.{DeviceFault}
 use Rattle.apex_types.specs.declared.device.DeviceFault.TheVariants as fault
@@ -28,9 +29,9 @@ held_with tick w (Some n) None e h = cc
 held_with tick w (Some n) (Some v) e h = let t : tick ≡ n = cc in let s : w ≡ seen v = cc in rw (t, s) refl
 
 -- a line consists of its first piece, which is its tick, and the meaning of the pieces behind it
-pub held_line : (mark text front : List ℕ) (rest : Option (List ℕ)) (tick : ℕ) (w : Written) → front ≡ piece 32 text → pieces_behind_marks 32 text ≡ pieces_of 32 rest → Some tick ≡ plain_number MOST_TICKS front → Some w ≡ option_map seen (written_by mark (pieces_of 32 rest)) → Some (record { tick = record { 0 = tick }; written = w }) ≡ option_map seen_line (line_by mark text)
+pub held_line : (mark text front : List ℕ) (rest : Option (List ℕ)) (tick : ℕ) (w : Written) → front ≡ piece space text → pieces_behind_marks space text ≡ pieces_of space rest → Some tick ≡ plain_number MOST_TICKS front → Some w ≡ option_map seen (written_by mark (pieces_of space rest)) → Some (record { tick = record { 0 = tick }; written = w }) ≡ option_map seen_line (line_by mark text)
 held_line mark text front rest tick w f b t h =
-    held_with tick w (plain_number MOST_TICKS (piece 32 text)) (written_by mark (pieces_behind_marks 32 text))
+    held_with tick w (plain_number MOST_TICKS (piece space text)) (written_by mark (pieces_behind_marks space text))
     (t ∙ ap (plain_number MOST_TICKS) f) (h ∙ ap (λ (ps : List (List ℕ)). option_map seen (written_by mark ps)) (sym b))
 
 none_with : (t : Option ℕ) (o : Option meant.Written) → None ≡ option_map seen o → None ≡ option_map seen_line (line_with t o)
@@ -39,9 +40,9 @@ none_with (Some n) None h = refl
 none_with (Some n) (Some w) h = cc
 
 -- if the pieces behind the first one mean nothing, there is no line
-pub unsaid_line : (mark text : List ℕ) (rest : Option (List ℕ)) → pieces_behind_marks 32 text ≡ pieces_of 32 rest → None ≡ option_map seen (written_by mark (pieces_of 32 rest)) → None ≡ option_map seen_line (line_by mark text)
+pub unsaid_line : (mark text : List ℕ) (rest : Option (List ℕ)) → pieces_behind_marks space text ≡ pieces_of space rest → None ≡ option_map seen (written_by mark (pieces_of space rest)) → None ≡ option_map seen_line (line_by mark text)
 unsaid_line mark text rest b h =
-    none_with (plain_number MOST_TICKS (piece 32 text)) (written_by mark (pieces_behind_marks 32 text))
+    none_with (plain_number MOST_TICKS (piece space text)) (written_by mark (pieces_behind_marks space text))
     (h ∙ ap (λ (ps : List (List ℕ)). option_map seen (written_by mark ps)) (sym b))
 
 pub taken_line : {L : Type 0} (named : Taking L) (count before : ℕ) (o : Option meant.WrittenLine) (line : WrittenLine) (r : Result L DeviceFault) → Some line ≡ option_map seen_line o → ((l : meant.WrittenLine) → line ≡ seen_line l → r ≡ taken_by named count before (Some l)) → r ≡ taken_by named count before o

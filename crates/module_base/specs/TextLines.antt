@@ -1,5 +1,6 @@
 -- The lines of a text, whatever they mean: device texts and replay texts are read alike.
 use Rattle.std.specs.Prelude.{ℕ, ◌+◌, ◌^◌, nat_lt, if◌then◌else◌, List, [], ◌∷◌, codes, Option, Some, None, Result, Ok, Err}
+use Rattle.apex_types.specs.Line.{space}
 use Rattle.apex_types.specs.declared.limits.TheConstants.{MOST_TICKS}
 use Rattle.apex_types.specs.declared.device.DeviceFault.{DeviceFault}
 use Rattle.apex_types.specs.declared.device.DeviceFault.TheVariants as fault
@@ -21,7 +22,7 @@ line_by_pieces mark (tick ∷ rest) = line_with (plain_number MOST_TICKS tick) (
 -- A line without its line feed: a tick of at most 2^40, then the mark with a name and words, or FAULT, alone or
 -- with a partition; single spaces between them.
 abbrev pub line_by : List ℕ → List ℕ → Option WrittenLine
-line_by mark text = line_by_pieces mark (pieces 32 text)
+line_by mark text = line_by_pieces mark (pieces space text)
 
 -- ---- the meaning of a line
 -- the meaning of a line of this tick after `count` others, by the names in it; or why it is refused

@@ -1,6 +1,7 @@
 //! The lines of a text by themselves, before their names are known.
 
 ghost use Rattle.std.specs.Prelude.{◌≡◌, option_map, option_copied};
+ghost use Rattle.apex_types.specs.Line.{space};
 ghost use Rattle.module_meaning.specs.DeviceText as meant;
 ghost use Rattle.module_meaning.specs.DeviceText.{pieces};
 ghost use Rattle.text_lines.specs.Pieces.{pieces_of};
@@ -52,7 +53,7 @@ pub fn line_of(mark: &[u8], text: &[u8]) -> Option<WrittenLine>
 /// The content of the line after its tick.
 fn written_of(mark: &[u8], text: Option<&[u8]>) -> Option<Written>
     ensures { result
-        ≡ option_map seen (written_by mark.now (pieces_of 32 (option_copied text.entry))) }
+        ≡ option_map seen (written_by mark.now (pieces_of space (option_copied text.entry))) }
 {
     let (kind, rest) = split_at(b' ', text?);
     if kind == mark {
@@ -67,7 +68,7 @@ fn written_of(mark: &[u8], text: Option<&[u8]>) -> Option<Written>
 /// The name of a channel or a port, and the words of a message.
 fn message_of(text: Option<&[u8]>) -> Option<Written>
     ensures { result
-        ≡ option_map seen (meant.message_of (pieces_of 32 (option_copied text.entry))) }
+        ≡ option_map seen (meant.message_of (pieces_of space (option_copied text.entry))) }
 {
     let (name, rest) = split_at(b' ', text?);
     let name = Name::new(name)?;
@@ -77,7 +78,7 @@ fn message_of(text: Option<&[u8]>) -> Option<Written>
 
 /// Nothing, or the name of a partition.
 fn fault_of(text: Option<&[u8]>) -> Option<Written>
-    ensures { result ≡ option_map seen (meant.fault_of (pieces_of 32 (option_copied text.entry))) }
+    ensures { result ≡ option_map seen (meant.fault_of (pieces_of space (option_copied text.entry))) }
 {
     let Some(text) = text else {
         return Some(Written::ModuleFault);
@@ -91,7 +92,7 @@ fn fault_of(text: Option<&[u8]>) -> Option<Written>
 /// The words of a text, if all its pieces are words.
 #[tactic(auto, unfolding(module_meaning::specs::DeviceText::words))]
 fn words(text: &[u8]) -> Option<MessageWords>
-    ensures { result ≡ option_map fitting (meant.words (pieces 32 text.now)) }
+    ensures { result ≡ option_map fitting (meant.words (pieces space text.now)) }
 {
     let mut words = Words::new();
     let mut is_long = false;

@@ -4,7 +4,8 @@ ghost use Rattle.std.specs.Prelude.{◌≡◌, ◌+◌, ◌-◌, ◌*◌, ◌^�
 ghost use Rattle.std.specs.Fmt.{decimal, signed_decimal};
 ghost use Rattle.std.specs.Int.{w64};
 ghost use Rattle.std.specs.Io.KnownBytes.{Appends};
-ghost use Rattle.apex_types.specs.declared.limits.TheConstants.{MOST_LINE_BYTES, MOST_NAME_BYTES, MOST_WORDS, MOST_WORD_BYTES};
+ghost use Rattle.apex_types.specs.Line.{space};
+ghost use Rattle.apex_types.specs.declared.limits.TheConstants.{MOST_KIND_BYTES, MOST_LINE_BYTES, MOST_NAME_BYTES, MOST_WORDS, MOST_WORD_BYTES};
 ghost use Rattle.arrayvec.specs.ArrayVec.{array_vec_len};
 ghost use Rattle.apex_types.specs.Line.{words_text};
 ghost use Rattle.apex_types.specs.Line.{TakesBeginning};
@@ -85,11 +86,11 @@ fn line_bytes(row: &PartitionRow, line: &InputLine) -> Line
 
 /// Appends the content of the line after its tick.
 fn push_input(line: &mut Line, row: &PartitionRow, input: &Input)
-    requires { array_vec_len line.old + 64 + MOST_WORD_BYTES * MOST_WORDS ≤ MOST_LINE_BYTES }
+    requires { array_vec_len line.old + MOST_KIND_BYTES + MOST_WORD_BYTES * MOST_WORDS ≤ MOST_LINE_BYTES }
     ensures items { line.new.items
         ≡ line.old.items ++ behind_tick (partition_of row.now) input.now }
     ensures len { array_vec_len line.new
-        ≤ array_vec_len line.old + 64 + MOST_WORD_BYTES * MOST_WORDS }
+        ≤ array_vec_len line.old + MOST_KIND_BYTES + MOST_WORD_BYTES * MOST_WORDS }
     ensures words { IsWritable input.now }
 {
     match input {
@@ -136,7 +137,7 @@ fn push_words(line: &mut Line, words: &[i64])
 
 fn push_word(line: &mut Line, word: i64)
     requires { array_vec_len line.old + MOST_WORD_BYTES ≤ MOST_LINE_BYTES }
-    ensures items { line.new.items ≡ line.old.items ++ 32 ∷ signed_decimal word }
+    ensures items { line.new.items ≡ line.old.items ++ space ∷ signed_decimal word }
     ensures len { array_vec_len line.new ≤ array_vec_len line.old + MOST_WORD_BYTES }
     ensures word { FitsSigned w64 word }
 {

@@ -1,6 +1,7 @@
 -- The text of the devices: the meaning of each line, and why a line is refused.
 use Rattle.std.specs.Prelude.{ℕ, zero, suc, ◌+◌, ◌-◌, ◌^◌, ℤ, pos, negsuc, Bool, true, false, not, ◌&&◌, ◌==◌, nat_lt, nat_le, if◌then◌else◌, List, [], ◌∷◌, length, codes, Option, Some, None, Result, Ok, Err}
 use Rattle.std.specs.List.{list_all}
+use Rattle.apex_types.specs.Line.{space}
 use Rattle.apex_types.specs.declared.limits.TheConstants.{MOST_DEVICE_LINES, MOST_TICKS}
 use Rattle.apex_types.specs.NameText.{is_name}
 use Rattle.apex_types.specs.declared.device.DeviceFault.{DeviceFault}
@@ -114,7 +115,7 @@ line_of_pieces (tick ∷ rest) = line_with (plain_number MOST_TICKS tick) (writt
 -- A line without its line feed: a tick of at most 2^40, then MSG with a channel and words, or FAULT, alone or
 -- with a partition; single spaces between them.
 abbrev pub line_of : List ℕ → Option WrittenLine
-line_of text = line_of_pieces (pieces 32 text)
+line_of text = line_of_pieces (pieces space text)
 
 -- ---- the names of a line
 

@@ -1,6 +1,7 @@
 -- If the words of a program are refused, those before that place begin one.
-use Rattle.std.proofs.Common.{◌≡◌, ℕ, true, false, List, [], ◌∷◌, ◌++◌, length, Option, Some, None, Err, refl, sym, ap, ◌∙◌, subst}
+use Rattle.std.proofs.Common.{◌-◌, ◌≡◌, ℕ, true, false, List, [], ◌∷◌, ◌++◌, length, Option, Some, None, Err, refl, sym, ap, ◌∙◌, subst}
 use Rattle.std.specs.Prelude.{codes}
+use Rattle.apex_types.specs.declared.limits.TheConstants.{MOST_LEVELS}
 use Rattle.apex_types.specs.declared.codes.Discipline.TheVariants as discipline
 use Rattle.pal_meaning.specs.Grammar.{Word, Name, Number, Mark}
 use Rattle.pal_meaning.specs.Grammar.{integer_words, all_words, names_words, local_words, body_words, discipline_word, first_words, declaration_words, stack_body_words, handler_words, process_words, IsBody, Each, IsHandler, IsProgram}
@@ -97,9 +98,9 @@ body_begins ws n h = refused (expect (codes "{") ws) _ n h
     (λ e. stopped body_words IsBody ws ws n (λ us. us) a_body body_end (λ rest more. refl) refl (expect_left _ ws n e) tt (λ rest. refl))
     (λ vs e h. refused (locals_at vs) _ n h
     (λ f. inside (all_words local_words) (Each No) body_words IsBody ws vs n (λ us. Mark (codes "{") ∷ us) (λ xs. record { locals = xs; block = tree.NoStmt }) block_end (λ rest more. refl) (expect_spells _ ws vs e) (λ xs q. tt) (λ xs rest. refl) (locals_begin vs n f))
-    (λ xs f h. refused (statements_at 63 xs.1) _ n h
-    (λ g. inside braced_words (Holds 63) body_words IsBody ws xs.1 n (λ us. Mark (codes "{") ∷ all_words local_words xs.0 us) (λ b. record { locals = xs.0; block = b }) []
-    (λ rest more. ap (λ (us : List Word). Mark (codes "{") ∷ us) (locals_extend xs.0 rest more)) (expect_spells _ ws vs e ∙ ap (λ (us : List Word). Mark (codes "{") ∷ us) (locals_spell vs xs.1 xs.0 f)) (λ b q. q) (λ b rest. refl) (statements_at_begin 63 xs.1 n g))
+    (λ xs f h. refused (statements_at (MOST_LEVELS - 1) xs.1) _ n h
+    (λ g. inside braced_words (Holds (MOST_LEVELS - 1)) body_words IsBody ws xs.1 n (λ us. Mark (codes "{") ∷ all_words local_words xs.0 us) (λ b. record { locals = xs.0; block = b }) []
+    (λ rest more. ap (λ (us : List Word). Mark (codes "{") ∷ us) (locals_extend xs.0 rest more)) (expect_spells _ ws vs e ∙ ap (λ (us : List Word). Mark (codes "{") ∷ us) (locals_spell vs xs.1 xs.0 f)) (λ b q. q) (λ b rest. refl) (statements_at_begin (MOST_LEVELS - 1) xs.1 n g))
     (λ b g i. something n _ i)))
 
 -- declarations, behind the word of their kind

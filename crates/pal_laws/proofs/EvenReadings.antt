@@ -2,6 +2,7 @@
 use Rattle.std.proofs.Common.{◌≡◌, ℕ, zero, suc, ◌-◌, true, false, nat_eq, List, [], ◌∷◌, ◌++◌, ◌++◌, Option, Some, None, Ok, Err, refl, sym, ap, ◌∙◌}
 use Rattle.std.specs.Prelude.{codes, is_ok}
 use Rattle.std.proofs.lemmas.List.{map-append}
+use Rattle.apex_types.specs.declared.limits.TheConstants.{MOST_LEVELS}
 use Rattle.apex_types.specs.declared.instruction.BinaryOperator.{BinaryOperator}
 use Rattle.apex_types.specs.declared.service.Service.{Service}
 use Rattle.pal_meaning.specs.Grammar.{Word, Rank, Disjunction, Conjunction, Comparison, Sum, Product}
@@ -226,7 +227,7 @@ locals_even ws = repeat_even _ (each_even (codes "local") local_at (local_even))
 
 body_even : Alike body_at
 unfolding body_at
-body_even ws = next_even (codes "{") _ _ (then_even locals_at locals_at _ _ locals_even (λ xs xs'. then_even (statements_at 63) (statements_at 63) _ _ (statements_at_even 63) (λ b b'. ok_even _ _))) ws
+body_even ws = next_even (codes "{") _ _ (then_even locals_at locals_at _ _ locals_even (λ xs xs'. then_even (statements_at (MOST_LEVELS - 1)) (statements_at (MOST_LEVELS - 1)) _ _ (statements_at_even (MOST_LEVELS - 1)) (λ b b'. ok_even _ _))) ws
 
 -- declarations
 first_value_even : Alike first_value_at

@@ -1,6 +1,7 @@
 -- A program that is written is read as it.
-use Rattle.std.proofs.Common.{◌≡◌, ℕ, Bool, true, false, List, [], ◌∷◌, length, Option, Some, None, Ok, Err, refl, sym, ap, ◌∙◌}
+use Rattle.std.proofs.Common.{◌-◌, ◌≡◌, ℕ, Bool, true, false, List, [], ◌∷◌, length, Option, Some, None, Ok, Err, refl, sym, ap, ◌∙◌}
 use Rattle.std.specs.Prelude.{codes}
+use Rattle.apex_types.specs.declared.limits.TheConstants.{MOST_LEVELS}
 use Rattle.apex_types.specs.declared.codes.Discipline.{Discipline}
 use Rattle.apex_types.specs.declared.codes.Discipline.TheVariants as discipline
 use Rattle.pal_meaning.specs.Grammar.{Word, Name, Number, Mark}
@@ -62,7 +63,7 @@ unfolding body_at expect
 body_reads b rest is =
     let block = block_words b.block (Mark (codes "}") ∷ rest) in
     then_reads (locals_at (all_words local_words b.locals block)) _ _ _ (locals_read b.locals block (block_start b.block (codes "local") rest (refl, refl, refl, refl) refl))
-    (then_reads (statements_at 63 block) _ _ _ (statements_read b.block 63 rest is) refl)
+    (then_reads (statements_at (MOST_LEVELS - 1) block) _ _ _ (statements_read b.block (MOST_LEVELS - 1) rest is) refl)
 
 -- declarations
 first_value_reads : (value : Option tree.Integer) (rest : List Word) → first_value_at (first_words value (Mark (codes ";") ∷ rest)) ≡ Ok (value, Mark (codes ";") ∷ rest)

@@ -2,6 +2,7 @@
 -- levels than it may.
 use Rattle.std.proofs.Common.{◌≡◌, ◌≤◌, ℕ, zero, suc, ◌-◌, Bool, true, false, cond, nat_eq, List, [], ◌∷◌, length, Option, Some, None, Ok, Err, refl, arith, subst}
 use Rattle.std.specs.Prelude.{codes, nat_lt}
+use Rattle.apex_types.specs.declared.limits.TheConstants.{MOST_LEVELS}
 use Rattle.apex_types.specs.declared.instruction.BinaryOperator.{BinaryOperator}
 use Rattle.apex_types.specs.declared.instruction.UnaryOperator.TheVariants as unary
 use Rattle.apex_types.specs.declared.service.Service.{Service}
@@ -292,7 +293,7 @@ statements_at_shape k ws us b h = statements_shape k (λ vs. stmt_with (block_at
 -- bodies and what holds them
 pub body_shapes : Shapes tree.Body IsBody body_at
 unfolding body_at
-body_shapes ws us b h = and_then (expect _ ws) _ _ h (λ vs e h. and_then (locals_at vs) _ _ h (λ xs f h. and_then (statements_at 63 xs.1) _ _ h (λ c g h. so IsBody c.1 us (record { locals = xs.0; block = c.0 }) b (statements_at_shape 63 xs.1 c.1 c.0 g) h)))
+body_shapes ws us b h = and_then (expect _ ws) _ _ h (λ vs e h. and_then (locals_at vs) _ _ h (λ xs f h. and_then (statements_at (MOST_LEVELS - 1) xs.1) _ _ h (λ c g h. so IsBody c.1 us (record { locals = xs.0; block = c.0 }) b (statements_at_shape (MOST_LEVELS - 1) xs.1 c.1 c.0 g) h)))
 
 abbrev pub IsDeclared : tree.Declaration → Type 0
 IsDeclared d = IsKind d.kind

@@ -2,6 +2,7 @@
 use Rattle.std.proofs.Common.{◌≡◌, ℕ, zero, suc, ◌-◌, Bool, true, false, cond, nat_eq, List, [], ◌∷◌, length, Option, Some, None, Ok, Err, refl, sym, ◌∙◌, ap}
 use Rattle.std.specs.Prelude.{codes, nat_lt}
 use Rattle.std.specs.Cmp.Lexicographic.{same_text}
+use Rattle.apex_types.specs.declared.limits.TheConstants.{MOST_LEVELS}
 use Rattle.apex_types.specs.declared.instruction.BinaryOperator.{BinaryOperator}
 use Rattle.apex_types.specs.declared.instruction.UnaryOperator.TheVariants as unary
 use Rattle.apex_types.specs.declared.codes.Discipline.{Discipline}
@@ -401,7 +402,7 @@ locals_spell ws us xs h = repeat_spells local_words local_turn local_spells ws u
 pub body_spells : Spells tree.Body body_words body_at
 unfolding body_at
 body_spells ws us b h = and_then _ _ _ h (λ vs e h. and_then _ _ _ h (λ xs f h. and_then _ _ _ h (λ c g h. ends body_words ws c.1 us (record { locals = xs.0; block = c.0 }) b
-    (expect_spells _ ws vs e ∙ ap (λ v. Mark (codes "{") ∷ v) (locals_spell vs xs.1 xs.0 f ∙ ap (all_words local_words xs.0) (statements_at_spell 63 xs.1 c.1 c.0 g))) h)))
+    (expect_spells _ ws vs e ∙ ap (λ v. Mark (codes "{") ∷ v) (locals_spell vs xs.1 xs.0 f ∙ ap (all_words local_words xs.0) (statements_at_spell (MOST_LEVELS - 1) xs.1 c.1 c.0 g))) h)))
 
 -- declarations, behind the word of their kind
 pub first_spells : Spells (Option tree.Integer) first_words first_value_at

@@ -1,6 +1,7 @@
 -- Each part of a program is read so that no word behind the one where it stops is looked at.
 use Rattle.std.proofs.Common.{◌≡◌, ℕ, zero, suc, ◌-◌, nat_eq, List, [], ◌∷◌, ◌++◌, length, Option, Some, None, Ok, Err, refl, sym, ap, ◌∙◌, ◌+◌, ◌<◌, ◌≤◌, arith}
 use Rattle.std.specs.Prelude.{codes}
+use Rattle.apex_types.specs.declared.limits.TheConstants.{MOST_LEVELS}
 use Rattle.apex_types.specs.declared.service.Service.{Service}
 use Rattle.pal_meaning.specs.Grammar.{Word, Rank, Disjunction, Conjunction, Comparison, Sum, Product}
 use Rattle.pal_meaning.specs.Syntax as tree
@@ -210,7 +211,7 @@ locals_steady ws more = repeat_steady _ (each_steady (codes "local") local_at (s
 
 body_steady : Steady body_at
 unfolding body_at
-body_steady ws more = mark_next (codes "{") _ (then_steady same locals_at _ locals_steady (λ xs. then_steady same (statements_at 63) _ (statements_at_steady 63) (λ b. ok_steady _))) ws more
+body_steady ws more = mark_next (codes "{") _ (then_steady same locals_at _ locals_steady (λ xs. then_steady same (statements_at (MOST_LEVELS - 1)) _ (statements_at_steady (MOST_LEVELS - 1)) (λ b. ok_steady _))) ws more
 
 -- declarations
 first_value_steady : Steady first_value_at

@@ -1,6 +1,7 @@
 -- Reading a program from its words, from left to right and without backtracking. Laws say that this finds the one
 -- program that the grammar writes with these words, and otherwise where they leave the grammar.
 use Rattle.std.specs.Prelude.{ℕ, zero, suc, ◌-◌, ◌==◌, nat_lt, true, false, if◌then◌else◌, List, [], ◌∷◌, length, Option, Some, None, Result, Ok, Err, codes}
+use Rattle.apex_types.specs.declared.limits.TheConstants.{MOST_LEVELS}
 use Rattle.apex_types.specs.declared.instruction.BinaryOperator.{BinaryOperator}
 use Rattle.apex_types.specs.declared.instruction.BinaryOperator.TheVariants as binary
 use Rattle.apex_types.specs.declared.instruction.UnaryOperator.{UnaryOperator}
@@ -295,7 +296,7 @@ unfoldable pub locals_at : Reading (List (List ℕ))
 locals_at ws = repeat (λ ws. each (expect (codes "local") ws) local_at) ws
 
 unfoldable pub body_at : Reading tree.Body
-body_at ws = expect (codes "{") ws >>= λ rest. locals_at rest >>= λ xs. statements_at 63 xs.1 >>= λ b.
+body_at ws = expect (codes "{") ws >>= λ rest. locals_at rest >>= λ xs. statements_at (MOST_LEVELS - 1) xs.1 >>= λ b.
     Ok (record { locals = xs.0; block = b.0 }, b.1)
 
 abbrev pub declared : List ℕ → tree.Kind → tree.Declaration

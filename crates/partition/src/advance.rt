@@ -13,6 +13,7 @@ ghost use Rattle.processor.specs.Views.{asks_of};
 ghost use Rattle.partition.specs.declared.rooms.TheConstants.{LINES_FOR_TICK, LINES_TO_SERVE};
 
 use crate::partition::Partition;
+use crate::tick::hand;
 use apex_types::{At, EventLog, Moment, Runner, Ticks};
 use partition_base::Executor;
 use processor::{Burst, Outcome};
@@ -63,9 +64,9 @@ impl<E: Executor> Partition<E> {
             x (member_of E.Executor self.new mem.new) (IsTold L.EventLog log.old log.new) }
     {
         let name = self.kernel.name();
-        let words = self.given(mem, &outcome);
-        let out = &mut self.out;
-        self.kernel.treat(moment, runner, outcome, &words, out);
+        hand(&mut self.handed, &self.executor, mem, &outcome);
+        let (words, out) = (&self.handed, &mut self.out);
+        self.kernel.treat(moment, runner, outcome, words, out);
         self.finish(mem, name, moment, log);
     }
 

@@ -9,7 +9,7 @@ ghost use Rattle.partition.specs.declared.rooms.TheConstants.{ACTIONS_TO_CLEAR, 
 
 use crate::kernel::Kernel;
 use apex_types::{
-    ArrayPlace, ErrorKind, EventKind, Mode, Moment, Out, PartitionAction, Response, Runner,
+    ArrayPlace, ErrorKind, LineKind, Mode, Moment, Out, PartitionAction, Response, Runner,
     StartCondition, Words,
 };
 use health::{
@@ -121,7 +121,7 @@ impl Kernel {
         let error = ErrorKind::HardwareFault;
         let action = self.action_of(error);
         let response = Response::Partition(action);
-        out.lines.push(EventKind::Error(error, None, response));
+        out.tell(LineKind::Error(error, None, response), &[]);
         self.then_clear(mode_of_action(action), out);
     }
 

@@ -14,7 +14,7 @@ ghost use Rattle.process_table_base.specs.declared.rooms.TheConstants.{ACTIONS_T
 
 use crate::kernel::Kernel;
 use crate::partition::Partition;
-use apex_types::{EventKind, EventLog, Moment, Name, Out, PortId, Words};
+use apex_types::{EventLog, LineKind, Moment, Name, Out, PortId, Words};
 use partition_base::Executor;
 use ports::{admit, arrive};
 
@@ -27,11 +27,11 @@ fn place_of(port: PortId) -> u8
 
 impl Kernel {
     /// A message arrives at a port.
-    fn arrive(&mut self, moment: Moment, port: PortId, message: Words, out: &mut Out)
+    fn arrive(&mut self, moment: Moment, port: PortId, message: &Words, out: &mut Out)
         requires { HasRoom 3 2 out.old }
         ensures step { IsMade
             (of_ports self.old
-            (arrival.arrives moment.at (with_ports self.old) (meaning.place_of_port port) message))
+            (arrival.arrives moment.at (with_ports self.old) (meaning.place_of_port port) message.now))
             self.new out.old out.new }
         ensures grows { Grows 3 2 out.old out.new }
     {
@@ -104,14 +104,14 @@ impl<E: Executor> Partition<E> {
         mem: &mut E::Mem,
         moment: Moment,
         port: PortId,
-        message: Words,
+        message: &Words,
         log: &mut L,
     )
         requires fits { E.laid mem.old ≡ E.layout self.old.executor }
         requires empty { L.held log.old ≡ [] }
         ensures fits { E.laid mem.new ≡ E.layout self.new.executor }
         ensures moved { let x = member_of E.Executor self.old mem.old in
-            IsMoved (meaning.arrives moment.at port message x) x
+            IsMoved (meaning.arrives moment.at port message.now x) x
             (member_of E.Executor self.new mem.new) (IsTold L.EventLog log.old log.new) }
     {
         let name = self.kernel.name();
@@ -172,15 +172,15 @@ impl<E: Executor> Partition<E> {
         mem: &E::Mem,
         moment: Moment,
         channel: Name,
-        message: Words,
+        message: &Words,
         log: &mut L,
     )
         requires room { 0 < L.room log.old }
         ensures moved { let x = member_of E.Executor self.now mem.now in
-            IsMoved (meaning.goes_out moment.at channel message x) x x
+            IsMoved (meaning.goes_out moment.at channel message.now x) x x
             (IsTold L.EventLog log.old log.new) }
     {
         let name = Some(self.kernel.name());
-        log.tell(moment.at.now, &name, &EventKind::Out(channel, message));
+        log.tell(moment.at.now, &name, &LineKind::Out(channel), message);
     }
 }

@@ -10,7 +10,7 @@ ghost use Rattle.partition.specs.declared.rooms.TheConstants.{ACTIONS_TO_CLEAR, 
 
 use crate::kernel::Kernel;
 use apex_types::{
-    Action, EventKind, Mode, Moment, Out, ProcessState, ReturnCode, Runner, Service,
+    ActionKind, LineKind, Mode, Moment, Out, ProcessState, ReturnCode, Runner, Service,
     StartCondition, Subject,
 };
 use process_table::stop_self;
@@ -23,15 +23,14 @@ impl Kernel {
         ensures step { IsMade (meaning.clears self.old mode condition) self.new out.old out.new }
         ensures grows { Grows LINES_TO_CLEAR ACTIONS_TO_CLEAR out.old out.new }
     {
-        out.lines.push(EventKind::Mode(mode));
-        out.actions.push(Action::StopAll);
+        out.tell(LineKind::Mode(mode), &[]);
+        out.act(ActionKind::StopAll, &[]);
         if mode == Mode::ColdStart {
-            out.actions.push(Action::Restore);
+            out.act(ActionKind::Restore, &[]);
         }
         if mode != Mode::Idle {
-            out.lines
-                .push(EventKind::State(Subject::Init, ProcessState::Ready));
-            out.actions.push(Action::Begin(Runner::Init));
+            out.tell(LineKind::State(Subject::Init, ProcessState::Ready), &[]);
+            out.act(ActionKind::Begin(Runner::Init), &[]);
         }
         self.mode = mode;
         self.condition = condition;
@@ -60,7 +59,7 @@ impl Kernel {
         ensures step { IsMade (meaning.enters_normal self.old) self.new out.old out.new }
         ensures grows { Grows 1 0 out.old out.new }
     {
-        out.lines.push(EventKind::Mode(Mode::Normal));
+        out.tell(LineKind::Mode(Mode::Normal), &[]);
         self.mode = Mode::Normal;
     }
 

@@ -7,7 +7,7 @@ ghost use Rattle.partition.specs.WithinFact.{within_prop};
 
 use crate::fixed::Fixed;
 use crate::kernel::Kernel;
-use apex_types::{Out, PortRow, Section};
+use apex_types::{Out, PortRow, Section, Words};
 use partition_base::Executor;
 use std::alloc::{AllocError, Global};
 
@@ -27,6 +27,8 @@ pub struct Partition<E: Executor> {
     pub(crate) executor: E,
     /// The lines and the actions of a phase, before they are done.
     pub(crate) out: Out,
+    /// The words that a call hands in, while it is served.
+    pub(crate) handed: Words,
 }
 
 impl<E: Executor + Drop> Partition<E> {
@@ -47,7 +49,8 @@ impl<E: Executor + Drop> Partition<E> {
         Ok(Partition {
             kernel: Kernel::new(alloc, fixed, rows)?,
             executor,
-            out: Out::new(),
+            out: Out::new(alloc)?,
+            handed: Words::new(),
         })
     }
 }

@@ -13,7 +13,7 @@ ghost use Rattle.process_table_base.specs.declared.rooms.TheConstants.{LINES_TO_
 use crate::acting::{act_all, tell};
 use crate::partition::Partition;
 use apex_types::limits::MOST_WORDS;
-use apex_types::{EventLog, Mode, Moment, Name, Out, Runner, StartCondition, Words, array_of};
+use apex_types::{EventLog, Mode, Moment, Name, Runner, StartCondition, Words, array_of};
 use partition_base::Executor;
 use processor::Outcome;
 
@@ -27,26 +27,21 @@ impl<E: Executor> Partition<E> {
         log: &mut L,
     )
         requires fits { E.laid mem.old ≡ E.layout self.old.executor }
-        requires room { length self.old.out.lines.items ≤ L.room log.old }
+        requires room { length self.old.out.lines ≤ L.room log.old }
         ensures fits { E.laid mem.new ≡ E.layout self.new.executor }
         ensures member { member_of E.Executor self.new mem.new
-            ≡ acts_all self.old.out.actions.items (member_of E.Executor self.old mem.old) }
+            ≡ acts_all self.old.out.actions (member_of E.Executor self.old mem.old) }
         ensures told { IsTold L.EventLog log.old log.new
-            (meaning.told name moment.at self.old.out.lines.items) }
-        ensures few { L.room log.old ≤ L.room log.new + length self.old.out.lines.items }
+            (meaning.told name moment.at self.old.out.lines) }
+        ensures few { L.room log.old ≤ L.room log.new + length self.old.out.lines }
         ensures empty { IsEmpty self.new.out }
     {
-        if is_empty(&self.out) {
+        if self.out.is_empty() {
             return;
         }
-        act_all(
-            &mut self.kernel,
-            &mut self.executor,
-            mem,
-            self.out.actions.as_slice(),
-        );
-        self.out.actions.clear();
-        tell(name, moment, &mut self.out.lines, log);
+        act_all(&mut self.kernel, &mut self.executor, mem, &self.out);
+        tell(name, moment, &self.out, log);
+        self.out.clear();
     }
 
     /// Clears to a cold start, for a reason (ARINC 653 Part 1, partition management).
@@ -196,9 +191,9 @@ impl<E: Executor> Partition<E> {
     {
         let name = self.kernel.name();
         let outcome = self.executor.tick(mem, runner);
-        let words = self.given(mem, &outcome);
-        let out = &mut self.out;
-        self.kernel.treat(moment, runner, outcome, &words, out);
+        hand(&mut self.handed, &self.executor, mem, &outcome);
+        let (words, out) = (&self.handed, &mut self.out);
+        self.kernel.treat(moment, runner, outcome, words, out);
         self.finish(mem, name, moment, log);
     }
 
@@ -215,20 +210,6 @@ impl<E: Executor> Partition<E> {
     {
         if let Some(runner) = self.kernel.running() {
             self.spend(mem, moment, runner, log);
-        }
-    }
-
-    /// The words that a call hands in: those of its array, at most those of a message.
-    #[tactic(auto, using(kernel_laws::proofs::Numbers::handed_words))]
-    pub(crate) fn given(&self, mem: &E::Mem, outcome: &Outcome) -> Words
-        ensures { result.items ≡ meaning.given (asks_of outcome.now) (E.words mem.now) }
-    {
-        match outcome {
-            Outcome::Call(call) => match array_of(*call) {
-                Some(array) => { self.executor.read(mem, array.base, most_words(array.size)) }
-                None => Words::new(),
-            },
-            _ => Words::new(),
         }
     }
 
@@ -262,11 +243,19 @@ impl<E: Executor> Partition<E> {
     }
 }
 
-/// Whether there are no lines and no actions.
-fn is_empty(out: &Out) -> bool
-    ensures { result ≡ true → IsEmpty out.now }
+/// Takes the words that a call hands in: those of its array, at most those of a message. They are
+/// copied into memory that is there, since most calls hand in none.
+#[tactic(auto, using(kernel_laws::proofs::Numbers::handed_words))]
+pub(crate) fn hand<E: Executor>(handed: &mut Words, executor: &E, mem: &E::Mem, outcome: &Outcome)
+    ensures { handed.new.items ≡ meaning.given (asks_of outcome.now) (E.words mem.now) }
 {
-    out.lines.is_empty() && out.actions.is_empty()
+    handed.clear();
+    if let Outcome::Call(call) = outcome {
+        if let Some(array) = array_of(*call) {
+            let words = executor.read(mem, array.base, most_words(array.size));
+            handed.try_extend_from_slice(words).unwrap();
+        }
+    }
 }
 
 /// How many words of an array of `size` words a call hands in, at most those of a message.

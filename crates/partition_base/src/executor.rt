@@ -9,7 +9,7 @@ ghost use Rattle.bursts.specs.Bursts.{is_nothing};
 ghost use Rattle.processor.specs.Views.{asks_of};
 ghost use Rattle.partition_base.specs.Bursting.{burst_at};
 
-use apex_types::{Runner, Words};
+use apex_types::Runner;
 use processor::{Burst, Outcome};
 
 /// Runs INIT, the error handler and the processes of one partition. A runner without a control has
@@ -96,7 +96,7 @@ pub trait Executor {
         ensures whole { is_nothing (asks_of result.outcome) ≡ true → result.ticks ≡ k };
 
     /// Gives the answer to the runner's service call: the code, then the outputs.
-    fn reply(&mut self, mem: &mut Self::Mem, runner: Runner, answer: &Words)
+    fn reply(&mut self, mem: &mut Self::Mem, runner: Runner, answer: &[i64])
         requires { laid mem.old ≡ layout self.old }
         ensures fits { laid mem.new ≡ layout self.new }
         ensures engine { engine self.new ≡ engine self.old }
@@ -104,21 +104,20 @@ pub trait Executor {
         ensures controls { controls self.new mem.new
             ≡ slice_set (controls self.old mem.old) (place_of runner)
             (replied (engine self.old) (control_at (controls self.old mem.old) (place_of runner))
-            answer.now.items) }
+            answer.now) }
         ensures words { words mem.new ≡ words mem.old };
 
-    /// At most 16 words of the data, from `place` on.
-    fn read(&self, mem: &Self::Mem, place: i64, count: u8) -> Words
-        requires { count ≤ MOST_WORDS }
-        ensures { result.items ≡ message_from place count (words mem.now) };
+    /// At most so many words of the data, from `place` on.
+    fn read<'a>(&self, mem: &'a Self::Mem, place: i64, count: u8) -> &'a [i64]
+        ensures { result.now ≡ message_from place count (words mem.now) };
 
     /// Writes words into the data, one after another from `place` on. A word whose place is outside
     /// of the data is dropped.
-    fn write(&self, mem: &mut Self::Mem, place: i64, array: &Words)
+    fn write(&self, mem: &mut Self::Mem, place: i64, array: &[i64])
         requires { laid mem.old ≡ layout self.now }
         ensures fits { laid mem.new ≡ layout self.now }
         ensures controls { controls self.now mem.new ≡ controls self.now mem.old }
-        ensures words { words mem.new ≡ written place array.now.items (words mem.old) };
+        ensures words { words mem.new ≡ written place array.now (words mem.old) };
 
     /// Restores the initial data.
     fn restore(&self, mem: &mut Self::Mem)

@@ -13,7 +13,7 @@ ghost use Rattle.partition_base.specs.Slots.{stack_of_body, is_begun};
 
 use crate::executor::Executor;
 use crate::slot::{self, Slot};
-use apex_types::{BodyRow, Costs, ProcessRow, Runner, Section, Words};
+use apex_types::{BodyRow, Costs, ProcessRow, Runner, Section};
 use processor::{Burst, Code, CodeRows, Outcome};
 use regions::{MemoryPlan, PartitionMem, Region};
 use std::alloc::{AllocError, Global};
@@ -92,20 +92,20 @@ pub fn memory_plan(alloc: Global, section: &Section) -> Result<MemoryPlan, Alloc
     })
 }
 
-/// At most 16 words, from `place` on.
-pub fn message(words: &[i64], place: i64, count: u8) -> Words
-    requires { count ≤ MOST_WORDS }
-    ensures { result.items ≡ message_from place count words.now }
+/// At most so many words, from `place` on.
+pub fn message(words: &[i64], place: i64, count: u8) -> &[i64]
+    ensures { result.now ≡ message_from place count words.now }
 {
-    let mut message = Words::new();
     if place < 0 {
-        return message;
+        return &[];
     }
-    if let Some(rest) = words.get(place.unsigned_abs() as usize..) {
-        let count = rest.len().min(usize::from(count));
-        message.try_extend_from_slice(&rest[..count]).unwrap();
+    match words.get(place.unsigned_abs() as usize..) {
+        Some(rest) => {
+            let count = rest.len().min(usize::from(count));
+            &rest[..count]
+        }
+        None => &[],
     }
-    message
 }
 
 /// Writes words into the data, one after another from `place` on, as far as the data reach.
@@ -231,15 +231,15 @@ impl Executor for PartitionProcessor {
         slot::advance_at(&mut self.slots, runner.place(), mem, &self.code, k)
     }
 
-    fn reply(&mut self, mem: &mut PartitionMem, runner: Runner, answer: &Words) {
+    fn reply(&mut self, mem: &mut PartitionMem, runner: Runner, answer: &[i64]) {
         slot::reply_at(&mut self.slots, runner.place(), mem, answer);
     }
 
-    fn read(&self, mem: &PartitionMem, place: i64, count: u8) -> Words {
+    fn read<'a>(&self, mem: &'a PartitionMem, place: i64, count: u8) -> &'a [i64] {
         message(mem.data(), place, count)
     }
 
-    fn write(&self, mem: &mut PartitionMem, place: i64, array: &Words) {
+    fn write(&self, mem: &mut PartitionMem, place: i64, array: &[i64]) {
         if place >= 0 {
             put(mem, place.unsigned_abs() as usize, array);
         }

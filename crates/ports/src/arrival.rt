@@ -10,12 +10,13 @@ ghost use Rattle.kernel_meaning.specs.Sharing.{both};
 ghost use Rattle.kernel_meaning.specs.Made.{IsMade};
 ghost use Rattle.kernel_meaning.specs.Sharing.{first_waiting};
 ghost use Rattle.ports.specs.Status.{placed_port, port_status};
+ghost use Rattle.process_table_base.specs.FoundView.{pair_of};
 ghost use Rattle.process_table_base.specs.declared.rooms.TheConstants.{ACTIONS_TO_RELEASE_ALL, LINES_TO_RELEASE_ALL};
 
 use crate::port::PortStatus;
 use crate::ports::Ports;
-use apex_types::{Entry, EventKind, ListKey, Moment, Out, ReturnCode, Words, copied};
-use process_table_base::ProcessTable;
+use apex_types::{Entry, LineKind, ListKey, Moment, Out, ReturnCode, Words};
+use process_table_base::{Found, ProcessTable};
 
 /// Replaces the message of a sampling port, and its tick of arrival.
 fn arrive_sampling(
@@ -24,7 +25,7 @@ fn arrive_sampling(
     moment: Moment,
     place: u8,
     port: PortStatus,
-    message: Words,
+    message: &Words,
     out: &mut Out,
 )
     requires status { port ≡ port_status (placed_port ports.old place) }
@@ -32,12 +33,11 @@ fn arrive_sampling(
     requires room { HasRoom 1 0 out.old }
     ensures step { IsMade
         (meaning.arrives_sampling moment.at (both table.now ports.old) place
-        (placed_port ports.old place) message)
+        (placed_port ports.old place) message.now)
         (both table.now ports.new) out.old out.new }
     ensures grows { Grows 1 0 out.old out.new }
 {
-    let line = EventKind::Arrive(port.row.name, copied(&message));
-    out.lines.push(line);
+    out.tell(LineKind::Arrive(port.row.name), message);
     ports.put_arrived(place, message, moment.at.now);
 }
 
@@ -47,25 +47,46 @@ fn store(
     ports: &mut Ports,
     place: u8,
     port: PortStatus,
-    message: Words,
+    message: &Words,
     out: &mut Out,
 )
     requires status { port ≡ port_status (placed_port ports.old place) }
     requires room { HasRoom 1 0 out.old }
     ensures step { IsMade
         (meaning.arrives_queuing (both table.now ports.old) place (placed_port ports.old place)
-        message None)
+        message.now None)
         (both table.now ports.new) out.old out.new }
     ensures grows { Grows 1 0 out.old out.new }
 {
     if !port.is_full() {
-        let line = EventKind::Arrive(port.row.name, copied(&message));
-        out.lines.push(line);
+        out.tell(LineKind::Arrive(port.row.name), message);
         ports.push_message(place, message);
     } else {
-        out.lines.push(EventKind::Lost(port.row.name, message));
+        out.tell(LineKind::Lost(port.row.name), message);
         ports.lose_message(place);
     }
+}
+
+/// Gives the message to a receiver that waits at the port.
+fn hand_over(
+    table: &mut ProcessTable,
+    ports: &Ports,
+    place: u8,
+    port: PortStatus,
+    receiver: &Found,
+    message: &Words,
+    out: &mut Out,
+)
+    requires status { port ≡ port_status (placed_port ports.now place) }
+    requires room { HasRoom 3 2 out.old }
+    ensures step { IsMade
+        (meaning.arrives_queuing (both table.old ports.now) place (placed_port ports.now place)
+        message.now (pair_of (Some receiver.now)))
+        (both table.new ports.now) out.old out.new }
+    ensures grows { Grows 3 2 out.old out.new }
+{
+    out.tell(LineKind::Arrive(port.row.name), message);
+    table.give(receiver, message, out);
 }
 
 /// Gives the message to the first waiting receiver. Without one, appends it; if the port is full,
@@ -75,7 +96,7 @@ fn arrive_queuing(
     ports: &mut Ports,
     place: u8,
     port: PortStatus,
-    message: Words,
+    message: &Words,
     out: &mut Out,
 )
     requires place { place < MOST_OBJECTS }
@@ -83,16 +104,12 @@ fn arrive_queuing(
     requires room { HasRoom 3 2 out.old }
     ensures step { IsMade
         (meaning.arrives_queuing (both table.old ports.old) place (placed_port ports.old place)
-        message (first_waiting table.old (list place)))
+        message.now (first_waiting table.old (list place)))
         (both table.new ports.new) out.old out.new }
     ensures grows { Grows 3 2 out.old out.new }
 {
     match table.first_waiting(ListKey::Port(place)) {
-        Some(receiver) => {
-            let line = EventKind::Arrive(port.row.name, copied(&message));
-            out.lines.push(line);
-            table.give(&receiver, message, out);
-        }
+        Some(receiver) => hand_over(table, ports, place, port, &receiver, message, out),
         None => store(table, ports, place, port, message, out),
     }
 }
@@ -106,11 +123,11 @@ pub fn arrive(
     ports: &mut Ports,
     moment: Moment,
     place: u8,
-    message: Words,
+    message: &Words,
     out: &mut Out,
 )
     requires { HasRoom 3 2 out.old }
-    ensures step { IsMade (meaning.arrives moment.at (both table.old ports.old) place message)
+    ensures step { IsMade (meaning.arrives moment.at (both table.old ports.old) place message.now)
         (both table.new ports.new) out.old out.new }
     ensures grows { Grows 3 2 out.old out.new }
 {
@@ -139,7 +156,7 @@ fn admit_one(table: &mut ProcessTable, ports: &mut Ports, entry: Entry, place: u
         return;
     }
     if let Some(sender) = table.numbered(entry.process) {
-        ports.push_message(place, table.handed_by(sender.runner));
+        ports.push_message(place, &table.handed_by(sender.runner));
         table.release(&sender, ReturnCode::NoError, out);
     }
 }

@@ -5,7 +5,7 @@ ghost use Rattle.apex_types.specs.Room.{HasRoom, Grows};
 ghost use Rattle.kernel_meaning.specs.Made.{IsTold};
 ghost use Rattle.ports.specs.Delivering.{delivers};
 
-use apex_types::{Action, ArrayPlace, Out, ReturnCode, Service, Words};
+use apex_types::{ActionKind, ArrayPlace, Out, ReturnCode, Service, Words};
 use process_table_base::{ProcessTable, Request};
 
 /// Ends the service with a code and its outputs, and writes the message into the caller's array.
@@ -26,5 +26,5 @@ pub(crate) fn deliver(
     ensures grows { Grows 1 2 out.old out.new }
 {
     table.answer(request.caller, service, code, outputs, out);
-    out.actions.push(Action::Write(array.base, message));
+    out.act(ActionKind::Write(array.base), &message);
 }

@@ -10,6 +10,7 @@ use apex_types::{Discipline, Moment, PortDirection, PortKind, PortRow, Ticks, Wo
 use circular_buffer::HeapCircularBuffer;
 use std::alloc::{AllocError, Global};
 use std::marker::Model;
+use sync_objects_base::append;
 
 /// A port, with memory for its messages. A contract sees it as the port of the definitions.
 #[derive(Drop)]
@@ -191,12 +192,12 @@ impl Port {
     }
 
     /// Replaces the message of the port.
-    pub(crate) fn put_sample(&mut self, message: Words)
+    pub(crate) fn put_sample(&mut self, message: &Words)
         requires { 1 ≤ meaning.depth_of self.old.row.kind }
-        ensures { self.new ≡ meaning.with_sample self.old message }
+        ensures { self.new ≡ meaning.with_sample self.old message.now }
     {
         self.messages.clear();
-        let _ = self.messages.try_push_back(message);
+        append(&mut self.messages, message);
     }
 
     /// Sets the tick in which its message arrived.
@@ -228,11 +229,11 @@ impl Port {
     }
 
     /// Appends a message.
-    pub(crate) fn push(&mut self, message: Words)
+    pub(crate) fn push(&mut self, message: &Words)
         requires { length self.old.messages < meaning.depth_of self.old.row.kind }
-        ensures { self.new ≡ meaning.with_message self.old message }
+        ensures { self.new ≡ meaning.with_message self.old message.now }
     {
-        let _ = self.messages.try_push_back(message);
+        append(&mut self.messages, message);
     }
 
     /// Takes the first message.

@@ -12,7 +12,7 @@ ghost use Rattle.ports.specs.Held.{message_behind};
 ghost use Rattle.ports.specs.Status.{placed_port, port_of_status, port_status, port_with_status, without_first};
 
 use crate::port::{Port, PortStatus};
-use apex_types::{EventKind, Moment, Out, PortRow, Ticks, Words, copied};
+use apex_types::{LineKind, Moment, Out, PortRow, Ticks, Words};
 use std::alloc::{AllocError, Global};
 use std::marker::Model;
 use sync_objects_base::place_of;
@@ -183,11 +183,11 @@ impl Ports {
 
     /// Replaces the message of a sampling port.
     #[tactic(auto, using(crate::proofs::Depth::depths))]
-    pub(crate) fn put_sample(&mut self, place: u8, message: Words)
+    pub(crate) fn put_sample(&mut self, place: u8, message: &Words)
         requires { meaning.is_sampling (placed_port self.old place) ≡ true }
         ensures { self.new
             ≡ meaning.put_port self.old place
-            (meaning.with_sample (placed_port self.old place) message) }
+            (meaning.with_sample (placed_port self.old place) message.now) }
     {
         if let Some(port) = self.ports.get_mut(usize::from(place)) {
             port.put_sample(message);
@@ -196,11 +196,11 @@ impl Ports {
 
     /// Replaces the message of a sampling port with one that arrives in the tick `now`.
     #[tactic(auto, using(crate::proofs::Depth::depths))]
-    pub(crate) fn put_arrived(&mut self, place: u8, message: Words, now: Ticks)
+    pub(crate) fn put_arrived(&mut self, place: u8, message: &Words, now: Ticks)
         requires { meaning.is_sampling (placed_port self.old place) ≡ true }
         ensures { self.new
             ≡ meaning.put_port self.old place
-            (record (meaning.with_sample (placed_port self.old place) message)
+            (record (meaning.with_sample (placed_port self.old place) message.now)
             { arrival = now }) }
     {
         if let Some(port) = self.ports.get_mut(usize::from(place)) {
@@ -231,12 +231,12 @@ impl Ports {
     }
 
     /// Appends a message to a port.
-    pub(crate) fn push_message(&mut self, place: u8, message: Words)
+    pub(crate) fn push_message(&mut self, place: u8, message: &Words)
         requires { let x = placed_port self.old place in
             length x.messages < meaning.depth_of x.row.kind }
         ensures { self.new
             ≡ meaning.put_port self.old place
-            (meaning.with_message (placed_port self.old place) message) }
+            (meaning.with_message (placed_port self.old place) message.now) }
     {
         if let Some(port) = self.ports.get_mut(usize::from(place)) {
             port.push(message);
@@ -309,8 +309,7 @@ impl Ports {
     {
         let port = self.status(place)?;
         let message = self.take_first(place)?;
-        let line = EventKind::Move(port.row.name, copied(&message));
-        out.lines.push(line);
+        out.tell(LineKind::Move(port.row.name), &message);
         Some(message)
     }
 }

@@ -70,7 +70,7 @@ fn send(
     ports: &mut Ports,
     request: Request,
     limit: i64,
-    message: Words,
+    message: &Words,
     place: u8,
     port: PortStatus,
     out: &mut Out,
@@ -81,7 +81,7 @@ fn send(
     requires room { HasRoom 1 1 out.old }
     ensures step { IsMade
         (meaning.sends request.moment.at (both table.old ports.old)
-        request.caller limit message place (placed_port ports.old place))
+        request.caller limit message.now place (placed_port ports.old place))
         (both table.new ports.new) out.old out.new }
     ensures grows { Grows 1 1 out.old out.new }
 {
@@ -138,7 +138,7 @@ pub fn send_queuing_message(
         return table.refuse(request.caller, service, ReturnCode::InvalidParam, out);
     }
     let message = first_words(handed.length, words);
-    send(table, ports, request, limit, message, place, port, out);
+    send(table, ports, request, limit, &message, place, port, out);
 }
 
 /// The return code of a receive; the first after an overflow reports it.
@@ -187,7 +187,7 @@ fn receive(
         discipline,
         array: Some(array),
     };
-    table.block(request, limit, waiting, Words::new(), out);
+    table.block(request, limit, waiting, &Words::new(), out);
 }
 
 /// RECEIVE_QUEUING_MESSAGE (ARINC 653 Part 1, interpartition communication): takes the first

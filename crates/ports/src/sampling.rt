@@ -93,7 +93,7 @@ pub fn write_sampling_message(
         return table.refuse(request.caller, service, ReturnCode::InvalidParam, out);
     }
     table.answer(request.caller, service, ReturnCode::NoError, &[], out);
-    ports.put_sample(place, first_words(handed.length, words));
+    ports.put_sample(place, &first_words(handed.length, words));
 }
 
 /// Copies the port's message into the array; the message stays in the port. NO_ACTION: the port

@@ -15,7 +15,7 @@ use Rattle.apex_types.specs.declared.identity.ProcessIndex.{ProcessIndex}
 use Rattle.apex_types.specs.declared.identity.Runner.{Runner}
 use Rattle.apex_types.specs.declared.identity.Runner.TheVariants as runner
 use Rattle.apex_types.specs.declared.identity.Ticks.{Ticks}
-use Rattle.apex_types.specs.declared.out.Out.{Out}
+use Rattle.apex_types.specs.Output.{Output}
 use Rattle.apex_types.specs.declared.process.Due.{Due}
 use Rattle.apex_types.specs.declared.process.Due.TheVariants as due_time
 use Rattle.apex_types.specs.declared.process.ProcessStatus.{ProcessStatus}
@@ -208,28 +208,28 @@ none_left at action place count free s h = skips_rest at action count place free
 
 -- After some processes were treated: the rest from `place` on, behind what was written, gives the
 -- whole.
-pub record IsUnderWay (at : At) (action : PartitionAction) (mask free : ℕ) (s : Processes) (out first : Out) (whole : Treated) : Type 0 where
+pub record IsUnderWay (at : At) (action : PartitionAction) (mask free : ℕ) (s : Processes) (out first : Output) (whole : Treated) : Type 0 where
   pub place : ℕ
   pub count : ℕ
   pub is_left : IsLeft at.now.0 mask s.rows place count
   pub few : place + count ≤ MOST_PROCESSES
   pub part : (due_from at action count place free s).step.part ≡ whole.step.part
-  pub lines : out.lines.items ++ (due_from at action count place free s).step.lines ≡ first.lines.items ++ whole.step.lines
-  pub actions : out.actions.items ++ (due_from at action count place free s).step.actions ≡ first.actions.items ++ whole.step.actions
+  pub lines : out.lines ++ (due_from at action count place free s).step.lines ≡ first.lines ++ whole.step.lines
+  pub actions : out.actions ++ (due_from at action count place free s).step.actions ≡ first.actions ++ whole.step.actions
   pub free_left : (due_from at action count place free s).free ≡ whole.free
   pub clears : (due_from at action count place free s).clears ≡ whole.clears
-  pub lines_room : length out.lines.items ≤ length first.lines.items + 3 * place
-  pub actions_room : length out.actions.items ≤ length first.actions.items + 2 * place
+  pub lines_room : length out.lines ≤ length first.lines + 3 * place
+  pub actions_room : length out.actions ≤ length first.actions + 2 * place
 
 -- When no process has a bit any longer, what was written is the whole.
-pub ended : (at : At) (action : PartitionAction) (mask free : ℕ) (s : Processes) (out first : Out) (whole : Treated) → mask ≡ 0 → IsUnderWay at action mask free s out first whole →
-    ((s ≡ whole.step.part) × (out.lines.items ≡ first.lines.items ++ whole.step.lines) × (out.actions.items ≡ first.actions.items ++ whole.step.actions)) × (free ≡ whole.free) × (None ≡ whole.clears)
+pub ended : (at : At) (action : PartitionAction) (mask free : ℕ) (s : Processes) (out first : Output) (whole : Treated) → mask ≡ 0 → IsUnderWay at action mask free s out first whole →
+    ((s ≡ whole.step.part) × (out.lines ≡ first.lines ++ whole.step.lines) × (out.actions ≡ first.actions ++ whole.step.actions)) × (free ≡ whole.free) × (None ≡ whole.clears)
 ended at action mask free s out first whole none w =
     let e = none_left at action w.place w.count free s (subst (λ (m : ℕ). IsLeft at.now.0 m s.rows w.place w.count) none w.is_left) in (
       (
         sym (ap (λ (t : Treated). t.step.part) e) ∙ w.part,
-        sym (append-nil out.lines.items) ∙ sym (ap (λ (t : Treated). out.lines.items ++ t.step.lines) e) ∙ w.lines,
-        sym (append-nil out.actions.items) ∙ sym (ap (λ (t : Treated). out.actions.items ++ t.step.actions) e) ∙ w.actions,
+        sym (append-nil out.lines) ∙ sym (ap (λ (t : Treated). out.lines ++ t.step.lines) e) ∙ w.lines,
+        sym (append-nil out.actions) ∙ sym (ap (λ (t : Treated). out.actions ++ t.step.actions) e) ∙ w.actions,
       ),
       sym (ap (λ (t : Treated). t.free) e) ∙ w.free_left,
       sym (ap (λ (t : Treated). t.clears) e) ∙ w.clears,

@@ -1,6 +1,8 @@
 //! Changes of one process, each with its line, and the answers of services.
 
 ghost use Rattle.std.specs.Prelude.{◌≡◌, ◌<◌, ◌≤◌, ◌+◌, ◌++◌, [], ◌∷◌, pos, length};
+ghost use Rattle.apex_types.specs.Actions as action;
+ghost use Rattle.apex_types.specs.declared.event.EventKind.TheVariants as event;
 ghost use Rattle.apex_types.specs.Room.{HasRoom, Grows};
 ghost use Rattle.apex_types.specs.Runners.{place_of};
 ghost use Rattle.kernel_meaning.specs.Processes as meaning;
@@ -11,8 +13,8 @@ ghost use Rattle.process_table_base.specs.Bounds.{IsBounded, IsDelayed};
 
 use crate::table::ProcessTable;
 use apex_types::{
-    Action, Due, EventKind, MOST_RUNNERS, Out, ProcessState, ProcessStatus, ReturnCode, Runner,
-    Service, Subject, Wait, Words,
+    ActionKind, Due, EventKind, LineKind, MOST_RUNNERS, Out, ProcessState, ProcessStatus,
+    ReturnCode, Runner, Service, Subject, Wait,
 };
 
 /// Ends a service with a code and its outputs: its line, then the answer to the process.
@@ -26,40 +28,28 @@ pub fn answer(
 )
     requires outputs { length outputs.now ≤ 6 }
     requires room { HasRoom 1 1 out.old }
-    ensures lines { out.new.lines.items
-        ≡ out.old.lines.items ++ EventKind.Return who service code ∷ [] }
-    ensures actions { out.new.actions.items
-        ≡ out.old.actions.items
-        ++ Action.Reply runner (message (pos (code_number code) ∷ outputs.now))
+    ensures lines { out.new.lines
+        ≡ out.old.lines ++ event.Return who service code ∷ [] }
+    ensures actions { out.new.actions
+        ≡ out.old.actions
+        ++ action.Reply runner (message (pos (code_number code) ∷ outputs.now))
         ∷ [] }
 {
-    out.lines.push(EventKind::Return(who, service, code));
-    out.actions
-        .push(Action::Reply(runner, answer_of(code, outputs)));
+    out.tell(LineKind::Return(who, service, code), &[]);
+    out.reply(runner, code as i64, outputs);
 }
 
 /// Refuses a service of a runner: its outputs are 0.
 pub fn refuse(runner: Runner, who: Subject, service: Service, code: ReturnCode, out: &mut Out)
     requires room { HasRoom 1 1 out.old }
-    ensures lines { out.new.lines.items
-        ≡ out.old.lines.items ++ EventKind.Return who service code ∷ [] }
-    ensures actions { out.new.actions.items
-        ≡ out.old.actions.items
-        ++ Action.Reply runner (message (pos (code_number code) ∷ step.zeros service))
+    ensures lines { out.new.lines
+        ≡ out.old.lines ++ event.Return who service code ∷ [] }
+    ensures actions { out.new.actions
+        ≡ out.old.actions
+        ++ action.Reply runner (message (pos (code_number code) ∷ step.zeros service))
         ∷ [] }
 {
     answer(runner, who, service, code, zeros(service), out);
-}
-
-/// The words of an answer: the code, then the outputs.
-fn answer_of(code: ReturnCode, outputs: &[i64]) -> Words
-    requires { length outputs.now ≤ 6 }
-    ensures { result ≡ message (pos (code_number code) ∷ outputs.now) }
-{
-    let mut words = Words::new();
-    words.push(code as i64);
-    words.try_extend_from_slice(outputs).unwrap();
-    words
 }
 
 /// The outputs of a service that has nothing to answer.
@@ -92,16 +82,14 @@ fn zeros_of_wait(wait: Wait) -> &'static [i64]
 /// Writes the line of a runner that begins to wait; no line if it waited before.
 fn tell_waiting(row: &ProcessStatus, out: &mut Out)
     requires { HasRoom 1 0 out.old }
-    ensures lines { out.new.lines.items
-        ≡ out.old.lines.items ++ meaning.waiting_lines row.now.who row.now.state }
-    ensures actions { out.new.actions.items ≡ out.old.actions.items }
+    ensures lines { out.new.lines
+        ≡ out.old.lines ++ meaning.waiting_lines row.now.who row.now.state }
+    ensures actions { out.new.actions ≡ out.old.actions }
     ensures grows { Grows 1 0 out.old out.new }
 {
     match row.state {
         ProcessState::Waiting => {}
-        _ => out
-            .lines
-            .push(EventKind::State(row.who, ProcessState::Waiting)),
+        _ => out.tell(LineKind::State(row.who, ProcessState::Waiting), &[]),
     }
 }
 
@@ -131,8 +119,7 @@ impl ProcessTable {
             };
             return self.put_unready(runner, &suspended);
         }
-        out.lines
-            .push(EventKind::State(row.who, ProcessState::Ready));
+        out.tell(LineKind::State(row.who, ProcessState::Ready), &[]);
         let ready = ProcessStatus {
             state: ProcessState::Ready,
             wait: Wait::Nothing,
@@ -179,8 +166,7 @@ impl ProcessTable {
         ensures step { IsMade (meaning.rests self.old runner row.now) self.new out.old out.new }
         ensures grows { Grows 1 1 out.old out.new }
     {
-        out.lines
-            .push(EventKind::State(row.who, ProcessState::Dormant));
+        out.tell(LineKind::State(row.who, ProcessState::Dormant), &[]);
         let dormant = ProcessStatus {
             state: ProcessState::Dormant,
             suspended: false,
@@ -190,7 +176,7 @@ impl ProcessTable {
             ..*row
         };
         self.put_dormant(runner, &dormant);
-        out.actions.push(Action::Stop(runner));
+        out.act(ActionKind::Stop(runner), &[]);
     }
 
     /// Answers the service in which a process waits, if it waits in one.

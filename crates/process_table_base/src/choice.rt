@@ -9,7 +9,7 @@ ghost use Rattle.kernel_meaning.specs.Made.{IsMade};
 ghost use Rattle.kernel_meaning.specs.Step.{nothing};
 
 use crate::table::{ProcessTable, is_same};
-use apex_types::{EventKind, Lock, Mode, Out, ProcessState, ProcessStatus, Runner};
+use apex_types::{LineKind, Lock, Mode, Out, ProcessState, ProcessStatus, Runner};
 
 impl ProcessTable {
     /// Chooses the runner: before the normal start INIT; then the handler if it is ready, the
@@ -55,8 +55,7 @@ impl ProcessTable {
     {
         if let Some(runner) = running {
             if let Some(row) = self.row(runner) {
-                out.lines
-                    .push(EventKind::State(row.who, ProcessState::Ready));
+                out.tell(LineKind::State(row.who, ProcessState::Ready), &[]);
                 self.set_state(runner, ProcessState::Ready);
                 self.set_running(None);
             }
@@ -71,8 +70,7 @@ impl ProcessTable {
     {
         if let Some(runner) = chosen {
             if let Some(row) = self.row(runner) {
-                out.lines
-                    .push(EventKind::State(row.who, ProcessState::Running));
+                out.tell(LineKind::State(row.who, ProcessState::Running), &[]);
                 self.set_state(runner, ProcessState::Running);
                 self.set_running(Some(runner));
             }

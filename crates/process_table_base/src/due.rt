@@ -16,8 +16,8 @@ use crate::start::released_at;
 use crate::table::ProcessTable;
 use apex_types::limits::MOST_RUNNERS;
 use apex_types::{
-    Action, Due, ErrorKind, EventKind, Mode, Moment, Out, PartitionAction, ProcessIndex,
-    ProcessStatus, Response, ReturnCode, Runner, Service, Ticks, Wait, WaitingError, Words,
+    ActionKind, Due, ErrorKind, LineKind, Mode, Moment, Out, PartitionAction, ProcessIndex,
+    ProcessStatus, Response, ReturnCode, Runner, Service, Ticks, Wait,
 };
 
 /// The result of treating the processes, besides its lines: how many more errors may wait for the
@@ -87,19 +87,20 @@ impl ProcessTable {
         self.put_row(Runner::Process(process), &row_now);
         let error = ErrorKind::DeadlineMissed;
         if free > 0 {
-            out.lines
-                .push(EventKind::Error(error, Some(row.who), Response::Handler));
-            out.actions.push(Action::Queue(WaitingError {
-                kind: error,
-                process,
-                words: Words::new(),
-            }));
+            out.tell(
+                LineKind::Error(error, Some(row.who), Response::Handler),
+                &[],
+            );
+            out.act(ActionKind::Queue(error, process), &[]);
             Treated {
                 free: free - 1,
                 clears: None,
             }
         } else {
-            out.lines.push(EventKind::Error(error, Some(row.who), Response::Partition(action)));
+            out.tell(
+                LineKind::Error(error, Some(row.who), Response::Partition(action)),
+                &[],
+            );
             Treated {
                 free: 0,
                 clears: mode_of_action(action),

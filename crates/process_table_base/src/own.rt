@@ -65,9 +65,9 @@ impl ProcessTable {
 
     /// Gives a message to a receiver: the words go into its array, its call answers how many they
     /// are, and it is ready.
-    pub fn give(&mut self, found: &Found, message: Words, out: &mut Out)
+    pub fn give(&mut self, found: &Found, message: &Words, out: &mut Out)
         requires { HasRoom 2 2 out.old }
-        ensures step { IsMade (gives self.old found.now.runner found.now.row message)
+        ensures step { IsMade (gives self.old found.now.runner found.now.row message.now)
             self.new out.old out.new }
         ensures grows { Grows 2 2 out.old out.new }
     {

@@ -12,7 +12,7 @@ ghost use Rattle.process_table_base.specs.Bounds.{IsAtMost, IsBounded};
 use crate::found::Found;
 use crate::table::ProcessTable;
 use apex_types::{
-    Action, Due, MOST_PROCESSES, MOST_RUNNERS, Mode, Moment, Out, ProcessIndex, ProcessStatus,
+    ActionKind, Due, MOST_PROCESSES, MOST_RUNNERS, Mode, Moment, Out, ProcessIndex, ProcessStatus,
     Runner, Ticks, Wait,
 };
 
@@ -69,7 +69,7 @@ impl ProcessTable {
             current_priority: found.row.base_priority,
             ..found.row
         };
-        out.actions.push(Action::Begin(process));
+        out.act(ActionKind::Begin(process), &[]);
         if mode == Mode::Normal {
             self.start_in_normal(points, process, delay, &fresh, out);
         } else {

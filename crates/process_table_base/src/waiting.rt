@@ -22,30 +22,30 @@ use crate::found::Found;
 use crate::request::Request;
 use crate::table::ProcessTable;
 use apex_types::{
-    Action, ArrayPlace, Entry, ListKey, MOST_RUNNERS, Out, ProcessIndex, ProcessStatus, ReturnCode,
-    Runner, Wait, Waiting, Words, copied,
+    ActionKind, ArrayPlace, Entry, ListKey, MOST_RUNNERS, Out, ProcessIndex, ProcessStatus,
+    ReturnCode, Runner, Wait, Waiting, Words, copied, refill,
 };
 use links::Entries;
 
 /// Stores the message of `process`, if the process exists.
-fn put_message(handed: &mut Vec<Words>, process: ProcessIndex, message: Words)
-    ensures { handed.new.items ≡ slice_set handed.old.items process.0 message }
+fn put_message(handed: &mut Vec<Words>, process: ProcessIndex, message: &Words)
+    ensures { handed.new.items ≡ slice_set handed.old.items process.0 message.now }
 {
     if let Some(place) = handed.get_mut(usize::from(process.0)) {
-        *place = message;
+        refill(place, message);
     }
 }
 
 /// Writes the words to the array, if one is given.
-pub fn fill(array: Option<ArrayPlace>, message: Words, out: &mut Out)
+pub fn fill(array: Option<ArrayPlace>, message: &Words, out: &mut Out)
     requires { HasRoom 0 1 out.old }
-    ensures lines { out.new.lines.items ≡ out.old.lines.items }
-    ensures actions { out.new.actions.items
-        ≡ out.old.actions.items ++ meaning.writes array message }
+    ensures lines { out.new.lines ≡ out.old.lines }
+    ensures actions { out.new.actions
+        ≡ out.old.actions ++ meaning.writes array message.now }
     ensures grows { Grows 0 1 out.old out.new }
 {
     if let Some(array) = array {
-        out.actions.push(Action::Write(array.base, message));
+        out.act(ActionKind::Write(array.base), message);
     }
 }
 
@@ -110,9 +110,9 @@ impl ProcessTable {
     }
 
     /// Adds a process to the list of its object, with the message that its call hands in.
-    fn enter(&mut self, runner: Runner, waiting: Waiting, message: Words, row: &ProcessStatus)
+    fn enter(&mut self, runner: Runner, waiting: Waiting, message: &Words, row: &ProcessStatus)
         requires { place_of runner < MOST_RUNNERS }
-        ensures { self.new ≡ meaning.enters self.old runner waiting message row.now }
+        ensures { self.new ≡ meaning.enters self.old runner waiting message.now row.now }
     {
         if let Runner::Process(process) = runner {
             let entry = Entry {
@@ -131,13 +131,13 @@ impl ProcessTable {
         request: Request,
         limit: i64,
         waiting: Waiting,
-        message: Words,
+        message: &Words,
         out: &mut Out,
     )
         requires limit { is_duration limit ≡ true }
         requires room { HasRoom 1 1 out.old }
         ensures step { IsMade
-            (meaning.blocks request.moment.at self.old request.caller limit waiting message)
+            (meaning.blocks request.moment.at self.old request.caller limit waiting message.now)
             self.new out.old out.new }
         ensures grows { Grows 1 1 out.old out.new }
     {
@@ -203,13 +203,13 @@ impl ProcessTable {
         &mut self,
         runner: Runner,
         row: &ProcessStatus,
-        message: Words,
+        message: &Words,
         out: &mut Out,
     )
         requires runner { place_of runner < MOST_RUNNERS }
         requires bounded { IsBounded row.now }
         requires room { HasRoom 2 2 out.old }
-        ensures step { IsMade (meaning.gives self.old runner row.now message)
+        ensures step { IsMade (meaning.gives self.old runner row.now message.now)
             self.new out.old out.new }
         ensures grows { Grows 2 2 out.old out.new }
     {
@@ -229,7 +229,7 @@ impl ProcessTable {
         ensures grows { Grows 2 2 out.old out.new }
     {
         if let Some(found) = self.numbered(process) {
-            self.give_as(found.runner, &found.row, copied(message), out);
+            self.give_as(found.runner, &found.row, message, out);
         }
     }
 

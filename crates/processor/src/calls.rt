@@ -1,7 +1,7 @@
 //! Routines and services: CALL, RET and SVC.
 
 ghost use Rattle.std.specs.Prelude.{◌≡◌, ◌-◌, ◌+◌, ◌≤◌, ◌++◌, ◌∷◌, [], option_map, pos, replicate, slice_get, slice_set};
-ghost use Rattle.apex_types.specs.declared.limits.TheConstants.{MOST_WORDS};
+ghost use Rattle.apex_types.specs.declared.limits.TheConstants.{MOST_ARGUMENT_WORDS};
 ghost use Rattle.machine_meaning.specs.MachineControl.{popped, saved_within};
 ghost use Rattle.engine_meaning.specs.Operators.{put_words};
 ghost use Rattle.processor.specs.Fitting.{IsFittingRoutine};
@@ -12,9 +12,13 @@ use crate::context::{Context, stack_word};
 use crate::outcome::Outcome;
 use crate::registers::Registers;
 use crate::turn::Turn;
-use apex_types::limits::MOST_INSTRUCTIONS;
-use apex_types::{Call, ErrorKind, RoutineRow, Service, Words, array_of, call_of};
+use apex_types::limits::{MOST_ARGUMENT_WORDS, MOST_INSTRUCTIONS};
+use apex_types::{Call, ErrorKind, RoutineRow, Service, array_of, call_of};
+use arrayvec::ArrayVec;
 use regions::{PartitionMem, Reach};
+
+/// The words that a service takes from the stack.
+type Arguments = ArrayVec<i64, MOST_ARGUMENT_WORDS>;
 
 /// Changes the word of a stack at `place`, if there is such a word.
 #[tactic(auto, using(std::proofs::lemmas::List::set_past))]
@@ -51,13 +55,13 @@ fn save(stack: &mut [i64], frame: u32, routine: &RoutineRow, next: u32, caller: 
     set(stack, slots + 1, i64::from(caller));
 }
 
-/// The words of the own stack from `from` up to `to`, at most 16.
-fn popped(memory: &PartitionMem, from: u32, to: u32) -> Words
+/// The words of the own stack from `from` up to `to`, as many as a service may take.
+fn popped(memory: &PartitionMem, from: u32, to: u32) -> Arguments
     requires order { from ≤ to }
-    requires few { to ≤ from + MOST_WORDS }
+    requires few { to ≤ from + MOST_ARGUMENT_WORDS }
     ensures { result.items ≡ popped (to - from) memory.now.stack to [] }
 {
-    let mut words = Words::new();
+    let mut words = Arguments::new();
     for place in from..to {
         words.push(stack_word(memory, place));
     }
@@ -162,20 +166,22 @@ impl Context {
     ghost use Rattle.apex_types.specs.ServiceShape.{argument_words};
     ghost use Rattle.apex_types.specs.ServiceCalls.{call_of};
 
-    /// The call whose arguments are the operands on top.
+    /// The call whose arguments are the operands on top, so many words.
     #[tactic(auto, using(crate::proofs::Arguments::few))]
-    fn called(&self, memory: &PartitionMem, service: Service) -> Call
-        requires { argument_words service ≤ self.now.sp }
+    fn called(&self, memory: &PartitionMem, service: Service, words: u32) -> Call
+        requires words { words ≡ argument_words service }
+        requires operands { words ≤ self.now.sp }
         ensures { result ≡ call_of service (arguments service (control_of self.now memory.now)) }
     {
-        let words = popped(memory, self.sp - service.argument_words(), self.sp);
-        call_of(service, &words)
+        let arguments = popped(memory, self.sp - words, self.sp);
+        call_of(service, &arguments)
     }
 
-    /// Calls a service whose arguments are on the stack.
-    fn call_service(&mut self, memory: &PartitionMem, service: Service) -> Outcome
+    /// Calls a service whose arguments, so many words, are on the stack.
+    fn call_service(&mut self, memory: &PartitionMem, service: Service, words: u32) -> Outcome
         requires next { self.old.pc + 1 < 2 ^ 32 }
-        requires operands { argument_words service ≤ self.old.sp }
+        requires words { words ≡ argument_words service }
+        requires operands { words ≤ self.old.sp }
         ensures control { control_of self.new memory.now
             ≡ (calls service (control_of self.old memory.now) memory.now.words).control }
         ensures memory { IsChanged (calls service (control_of self.old memory.now) memory.now.words)
@@ -183,11 +189,11 @@ impl Context {
         ensures outcome { result
             ≡ outcome_of (calls service (control_of self.old memory.now) memory.now.words).asks }
     {
-        let call = self.called(memory, service);
+        let call = self.called(memory, service, words);
         if !holds(memory, array_of(call)) {
             return Outcome::Fault(ErrorKind::MemoryViolation);
         }
-        let sp = self.sp - service.argument_words();
+        let sp = self.sp - words;
         let awaits = service.answer_words();
         if memory.stack_len() < sp as usize + usize::from(awaits) {
             return Outcome::Fault(ErrorKind::StackOverflow);
@@ -215,10 +221,11 @@ impl Context {
     {
         match Service::from_number(x) {
             Some(service) => {
-                if self.operands() < service.argument_words() {
+                let words = service.argument_words();
+                if self.operands() < words {
                     return Outcome::Fault(ErrorKind::IllegalRequest);
                 }
-                self.call_service(memory, service)
+                self.call_service(memory, service, words)
             }
             None => Outcome::Fault(ErrorKind::IllegalRequest),
         }

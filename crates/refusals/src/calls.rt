@@ -4,7 +4,7 @@
 use crate::row::Row;
 use crate::sinks::Narrow;
 use crate::steps::{begin, drive, end};
-use module::{RunFault, build, replay, run};
+use module::{RunFault, build, replay, run, upgrade};
 use pal::{Checked, check};
 use pal_base::parse::parse;
 use pal_base::syntax::Program;
@@ -18,6 +18,9 @@ pub fn tell(rt: &HostRuntime, row: &Row) -> io::Result<()> {
     }
     let Some(image) = built(rt, row) else {
         return println!(rt; "nothing is built");
+    };
+    let Some(image) = upgraded(rt, image.as_slice()) else {
+        return println!(rt; "nothing is upgraded");
     };
     let image = image.as_slice();
     for call in ["Machine::tick", "run", "replay"] {
@@ -102,6 +105,25 @@ fn built(rt: &HostRuntime, row: &Row) -> Option<Vec<u8>> {
     None
 }
 
+/// The image, which is of the newest version, upgraded.
+fn upgraded(rt: &HostRuntime, image: &[u8]) -> Option<Vec<u8>> {
+    for _ in 0..2 {
+        begin(rt, "upgrade");
+        match upgrade(rt.alloc(), image) {
+            Ok(upgraded) if upgraded.as_slice() != image => {
+                end(rt, "another image");
+                return None;
+            }
+            Ok(upgraded) => {
+                end(rt, "the same image");
+                return Some(upgraded);
+            }
+            Err(fault) => end(rt, fault.number()),
+        }
+    }
+    None
+}
+
 /// Runs the image, one tick after another or by one call, or replays its partition, and prints the
 /// answer. Returns true if the call was not refused.
 fn writes(rt: &HostRuntime, row: &Row, image: &[u8], call: &str) -> bool {
@@ -117,7 +139,10 @@ fn writes(rt: &HostRuntime, row: &Row, image: &[u8], call: &str) -> bool {
             begin(rt, call);
             replay(rt.alloc(), image, "a", inputs, ticks, &mut sink)
         }
-        _ => drive(rt, image, devices, ticks, &mut sink),
+        _ => match drive(rt, image, devices, ticks, &mut sink) {
+            Ok(_) => Ok(()),
+            Err(fault) => Err(fault),
+        },
     };
     tell_answer(rt, &answer, &sink);
     answer.is_ok()

@@ -6,6 +6,8 @@
 //! - `calls FOLDER TICKS` makes the calls that take memory, one after another, on the module in
 //!   that folder, and runs it for `TICKS` ticks. Each call has a line when it begins and one with
 //!   its answer. A refused call is made again.
+//! - `drive FOLDER TICKS` builds the module, makes one tick a call, and tells the tick and whether
+//!   the module is shut down.
 //! - `sinks FOLDER TICKS` runs the module into sinks that fail, each after another number of bytes.
 //! - `base FILE` reads an image.
 //! - `image LENGTH TICKS PLACE=BYTE ..` copies it to `LENGTH` bytes, changes bytes, and runs the
@@ -17,6 +19,7 @@
 
 mod calls;
 mod damage;
+mod driving;
 mod failing;
 mod row;
 mod sinks;
@@ -35,6 +38,9 @@ fn main(rt: HostRuntime) -> io::Result<()> {
         match (words.next(), words.next(), words.next()) {
             (Some("calls"), Some(folder), Some(ticks)) => {
                 calls::tell(&rt, &Row::read(&rt, folder, ticks)?)?
+            }
+            (Some("drive"), Some(folder), Some(ticks)) => {
+                driving::tell(&rt, &Row::read(&rt, folder, ticks)?)?
             }
             (Some("sinks"), Some(folder), Some(ticks)) => {
                 failing::tell(&rt, &Row::read(&rt, folder, ticks)?)?

@@ -75,13 +75,14 @@ fn device_lines(
 }
 
 /// Loads the image, and runs it for `ticks` ticks, one by one, with the lines of the device text.
+/// Returns the machine behind them.
 pub fn drive<S: Sink>(
     rt: &HostRuntime,
     image: &[u8],
     text: &[u8],
     ticks: u64,
     sink: &mut S,
-) -> Result<(), RunFault>
+) -> Result<Machine, RunFault>
     requires { S.failures sink.old ≡ 0 }
 {
     let image = read(rt, image)?;
@@ -94,5 +95,5 @@ pub fn drive<S: Sink>(
         machine.tick(now, sink)?;
         lines = later;
     }
-    Ok(())
+    Ok(machine)
 }

@@ -5,7 +5,7 @@ ghost use Rattle.kernel_meaning.specs.Partition.{no_control};
 ghost use Rattle.scripted.specs.Plays.{control_of, script_of};
 
 use crate::part::Part;
-use apex_types::{Runner, Words};
+use apex_types::Runner;
 use partition_base::{Executor, message, put};
 use processor::{Burst, Outcome};
 use regions::PartitionMem;
@@ -115,13 +115,13 @@ impl Executor for Scripted {
     }
 
     #[tactic(auto, using(crate::proofs::Parts::views))]
-    fn reply(&mut self, _mem: &mut PartitionMem, _runner: Runner, _answer: &Words) {}
+    fn reply(&mut self, _mem: &mut PartitionMem, _runner: Runner, _answer: &[i64]) {}
 
-    fn read(&self, mem: &PartitionMem, place: i64, count: u8) -> Words {
+    fn read<'a>(&self, mem: &'a PartitionMem, place: i64, count: u8) -> &'a [i64] {
         message(mem.data(), place, count)
     }
 
-    fn write(&self, mem: &mut PartitionMem, place: i64, array: &Words) {
+    fn write(&self, mem: &mut PartitionMem, place: i64, array: &[i64]) {
         if place >= 0 {
             put(mem, place.unsigned_abs() as usize, array);
         }

@@ -14,7 +14,7 @@ ghost use Rattle.sync_objects.specs.Both.{number_of_occupied};
 ghost use Rattle.process_table_base.specs.declared.rooms.TheConstants.{ACTIONS_TO_GIVE_ALL, LINES_TO_GIVE_ALL};
 
 use apex_types::{
-    Action, ArrayPlace, Discipline, ListKey, Out, ReturnCode, Service, Waiting, Words,
+    ActionKind, ArrayPlace, Discipline, ListKey, Out, ReturnCode, Service, Waiting, Words,
 };
 use process_table_base::{
     Handed, ProcessTable, Request, first_words, is_duration, is_large_enough, is_length,
@@ -172,7 +172,7 @@ fn read(
     if let Some(message) = objects.shown(place) {
         let count = message.len() as i64;
         table.answer(request.caller, service, ReturnCode::NoError, &[count], out);
-        out.actions.push(Action::Write(array.base, message));
+        out.act(ActionKind::Write(array.base), &message);
         return;
     }
     let waiting = Waiting {
@@ -181,7 +181,7 @@ fn read(
         discipline: Discipline::Fifo,
         array: Some(array),
     };
-    table.block(request, limit, waiting, Words::new(), out);
+    table.block(request, limit, waiting, &Words::new(), out);
 }
 
 /// READ_BLACKBOARD (ARINC 653 Part 1, intrapartition communication): copies the displayed message

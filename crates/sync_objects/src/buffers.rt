@@ -12,7 +12,7 @@ ghost use Rattle.kernel_meaning.specs.Sharing.{both};
 ghost use Rattle.sync_objects.specs.Both.{delivers};
 
 use apex_types::{
-    Action, ArrayPlace, Discipline, ListKey, Out, ReturnCode, Service, Waiting, Words,
+    ActionKind, ArrayPlace, Discipline, ListKey, Out, ReturnCode, Service, Waiting, Words,
 };
 use process_table_base::{
     Handed, ProcessTable, Request, first_words, is_duration, is_large_enough, is_length,
@@ -72,7 +72,7 @@ fn send(
     objects: &mut Objects,
     request: Request,
     limit: i64,
-    message: Words,
+    message: &Words,
     place: u8,
     buffer: BufferStatus,
     out: &mut Out,
@@ -83,7 +83,7 @@ fn send(
     requires room { HasRoom 3 3 out.old }
     ensures step { IsMade
         (meaning.sends request.moment.at (both table.old objects.old)
-        request.caller limit message place (buffer_at objects.old place))
+        request.caller limit message.now place (buffer_at objects.old place))
         (both table.new objects.new) out.old out.new }
     ensures grows { Grows 3 3 out.old out.new }
 {
@@ -140,7 +140,7 @@ pub fn send_buffer(
         return table.refuse(request.caller, service, ReturnCode::InvalidParam, out);
     }
     let message = first_words(handed.length, words);
-    send(table, objects, request, limit, message, place, buffer, out);
+    send(table, objects, request, limit, &message, place, buffer, out);
 }
 
 /// Appends the message of the first waiting sender, if any, to the buffer, and releases the sender.
@@ -155,7 +155,7 @@ fn admit(table: &mut ProcessTable, objects: &mut Objects, place: u8, out: &mut O
     ensures grows { Grows 2 1 out.old out.new }
 {
     if let Some(sender) = table.first_waiting(ListKey::Buffer(place)) {
-        objects.push_message(place, table.handed_by(sender.runner));
+        objects.push_message(place, &table.handed_by(sender.runner));
         table.release(&sender, ReturnCode::NoError, out);
     }
 }
@@ -182,7 +182,7 @@ fn deliver(
     let service = Service::ReceiveBuffer;
     let count = message.len() as i64;
     table.answer(request.caller, service, ReturnCode::NoError, &[count], out);
-    out.actions.push(Action::Write(array.base, message));
+    out.act(ActionKind::Write(array.base), &message);
     admit(table, objects, place, out);
 }
 
@@ -219,7 +219,7 @@ fn receive(
         discipline,
         array: Some(array),
     };
-    table.block(request, limit, waiting, Words::new(), out);
+    table.block(request, limit, waiting, &Words::new(), out);
 }
 
 /// RECEIVE_BUFFER (ARINC 653 Part 1, intrapartition communication): takes the first message of a

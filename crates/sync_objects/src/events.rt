@@ -141,7 +141,7 @@ pub fn wait_event(
         discipline: Discipline::Fifo,
         array: None,
     };
-    table.block(request, limit, waiting, Words::new(), out);
+    table.block(request, limit, waiting, &Words::new(), out);
 }
 
 /// 0 for down, 1 for up.

@@ -95,7 +95,7 @@ pub fn wait_semaphore(
         discipline: semaphore.discipline(),
         array: None,
     };
-    table.block(request, limit, waiting, Words::new(), out);
+    table.block(request, limit, waiting, &Words::new(), out);
 }
 
 /// SIGNAL_SEMAPHORE (ARINC 653 Part 1, intrapartition communication): releases the first process

@@ -4,6 +4,7 @@ ghost use Rattle.std.specs.Prelude.{◌≡◌, ◌<◌, ◌≤◌, ◌++◌, [],
 ghost use Rattle.kernel_meaning.specs.Objects as meaning;
 ghost use Rattle.sync_objects_base.specs.Status.{buffer_status};
 
+use crate::messages::append;
 use apex_types::{BufferRow, Words};
 use circular_buffer::HeapCircularBuffer;
 use std::alloc::{AllocError, Global};
@@ -67,11 +68,11 @@ impl Buffer {
     }
 
     /// Appends a message.
-    pub(crate) fn push(&mut self, message: Words)
+    pub(crate) fn push(&mut self, message: &Words)
         requires { length self.old.messages < self.old.row.depth }
-        ensures { self.new ≡ record self.old { messages = self.old.messages ++ message ∷ [] } }
+        ensures { self.new ≡ record self.old { messages = self.old.messages ++ message.now ∷ [] } }
     {
-        let _ = self.messages.try_push_back(message);
+        append(&mut self.messages, message);
     }
 
     /// Takes the first message.

@@ -6,6 +6,7 @@ mod blackboard;
 mod buffer;
 mod event;
 mod find;
+mod messages;
 mod objects;
 mod semaphore;
 
@@ -13,5 +14,6 @@ pub use blackboard::BlackboardStatus;
 pub use buffer::BufferStatus;
 pub use event::ApexEvent;
 pub use find::place_of;
+pub use messages::append;
 pub use objects::Objects;
 pub use semaphore::Semaphore;

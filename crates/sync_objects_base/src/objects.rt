@@ -226,13 +226,13 @@ impl Objects {
     }
 
     /// Appends a message to the buffer at `place`.
-    pub fn push_message(&mut self, place: u8, message: Words)
+    pub fn push_message(&mut self, place: u8, message: &Words)
         requires { length (buffer_at self.old place).messages
             < (buffer_at self.old place).row.depth }
         ensures { let x = buffer_at self.old place in
             self.new
             ≡ meaning.put_buffer self.old place
-            (record x { messages = x.messages ++ message ∷ [] }) }
+            (record x { messages = x.messages ++ message.now ∷ [] }) }
     {
         if let Some(buffer) = self.buffers.get_mut(usize::from(place)) {
             buffer.push(message);

@@ -5,6 +5,7 @@ use Rattle.std.specs.Prelude.{not, ◌==◌, nat_lt}
 use Rattle.std.specs.List.{prefix_len, join_with_byte, list_all}
 use Rattle.std.proofs.lemmas.Bool.{and_parts, and_from, eqb-true, eq-eqb, not_from_false, ne_eqb, ltb-true}
 use Rattle.std.proofs.lemmas.List.Folds.{list_all-append}
+use Rattle.apex_types.specs.Line.{space}
 use Rattle.module_meaning.specs.DeviceText.{pieces, pieces_behind_marks}
 
 -- no byte is the mark
@@ -13,32 +14,32 @@ is_free mark bs = list_all (λ b. not (b == mark)) bs
 
 -- a byte behind the space: neither a space nor a line feed
 abbrev pub is_ink : ℕ → Bool
-is_ink b = nat_lt 32 b
+is_ink b = nat_lt space b
 
-pub ink_is_free : (mark : ℕ) (bs : List ℕ) → mark ≤ 32 → list_all is_ink bs ≡ true → is_free mark bs ≡ true
+pub ink_is_free : (mark : ℕ) (bs : List ℕ) → mark ≤ space → list_all is_ink bs ≡ true → is_free mark bs ≡ true
 ink_is_free mark [] low h = refl
 ink_is_free mark (b ∷ bs) low h =
     let parts = and_parts (is_ink b) (list_all is_ink bs) h in
-    let other : (b == mark) ≡ false = ne_eqb b mark (λ (e : b ≡ mark). omega (arith, e, low, ltb-true 32 b parts.0)) in
+    let other : (b == mark) ≡ false = ne_eqb b mark (λ (e : b ≡ mark). omega (arith, e, low, ltb-true space b parts.0)) in
     and_from (not (b == mark)) (is_free mark bs) (not_from_false (b == mark) other) (ink_is_free mark bs low parts.1)
 
 abbrev pub AreInk : List (List ℕ) → Type 0
 AreInk ps = list_all (list_all is_ink) ps ≡ true
 
-pub all_free : (mark : ℕ) (ps : List (List ℕ)) → mark ≤ 32 → AreInk ps → list_all (is_free mark) ps ≡ true
+pub all_free : (mark : ℕ) (ps : List (List ℕ)) → mark ≤ space → AreInk ps → list_all (is_free mark) ps ≡ true
 all_free mark [] low h = refl
 all_free mark (p ∷ ps) low h =
     let g = and_parts (list_all is_ink p) (list_all (list_all is_ink) ps) h in
     and_from (is_free mark p) (list_all (is_free mark) ps) (ink_is_free mark p low g.0) (all_free mark ps low g.1)
 
 -- pieces with a space between them have no line feed
-pub join_free : (ps : List (List ℕ)) → AreInk ps → is_free 10 (join_with_byte 32 ps) ≡ true
+pub join_free : (ps : List (List ℕ)) → AreInk ps → is_free 10 (join_with_byte space ps) ≡ true
 join_free [] h = refl
 join_free (p ∷ []) h = ink_is_free 10 p (omega arith) (and_parts (list_all is_ink p) true h).0
 join_free (p ∷ q ∷ ps) h =
     let g = and_parts (list_all is_ink p) (list_all (list_all is_ink) (q ∷ ps)) h in
-    list_all-append (λ b. not (b == 10)) p (32 ∷ join_with_byte 32 (q ∷ ps))
-    ∙ and_from (is_free 10 p) (is_free 10 (32 ∷ join_with_byte 32 (q ∷ ps))) (ink_is_free 10 p (omega arith) g.0) (join_free (q ∷ ps) g.1)
+    list_all-append (λ b. not (b == 10)) p (space ∷ join_with_byte space (q ∷ ps))
+    ∙ and_from (is_free 10 p) (is_free 10 (space ∷ join_with_byte space (q ∷ ps))) (ink_is_free 10 p (omega arith) g.0) (join_free (q ∷ ps) g.1)
 
 -- the bytes that are still to come, with one more for a text that is there
 abbrev pub rest_length : Option (List ℕ) → ℕ

@@ -8,6 +8,7 @@ use Rattle.std.proofs.lemmas.Bool.{and_parts, and_from, leb-true, le-leb, lt-ltb
 use Rattle.std.proofs.lemmas.Option.{same_Some}
 use Rattle.std.proofs.lemmas.Fmt.{digits_decimal, digits_value-decimal, decimal-digits_value, decimal_nonempty, first_decimal, decimal_digit}
 use Rattle.std.proofs.lemmas.Str.Parse.{IsNumeralModel, numerals_by_fold}
+use Rattle.apex_types.specs.Line.{space}
 use Rattle.module_meaning.specs.DeviceText.{is_plain, if_at_most, plain_number, positive, negative, word, words, put_word, piece, pieces_behind_marks}
 use Rattle.engine_meaning.specs.Digits.{is_digit, decimal_value}
 use Rattle.text_lines.specs.Pieces.{pieces_of}
@@ -28,7 +29,7 @@ digits_ink : (ds : List ℕ) → AreDigits ds → list_all is_ink ds ≡ true
 digits_ink [] h = refl
 digits_ink (d ∷ ds) h =
     let p = and_parts (is_digit d) (list_all is_digit ds) h in
-    and_from (is_ink d) (list_all is_ink ds) (lt-ltb 32 d (omega (arith, digit_low d p.0))) (digits_ink ds p.1)
+    and_from (is_ink d) (list_all is_ink ds) (lt-ltb space d (omega (arith, digit_low d p.0))) (digits_ink ds p.1)
 
 -- a plain number is digits, at least one, and has no 0 before others
 plain_digits : (ds : List ℕ) → is_plain ds ≡ true → AreDigits ds × (0 < length ds) × (get_or ds 0 0 ≡ 48 → length ds ≡ 1)
@@ -146,9 +147,9 @@ words_ink [] good = refl
 words_ink (w ∷ ws) good = and_from (list_all is_ink (signed_decimal w)) (list_all (list_all is_ink) (map signed_decimal ws)) (word_ink w good.0) (words_ink ws good.1)
 
 -- the words from here are the next one and those behind it
-pub next_word : (text front : List ℕ) (more : Option (List ℕ)) (w : Option ℤ) → front ≡ piece 32 text → pieces_behind_marks 32 text ≡ pieces_of 32 more → w ≡ word front → words (pieces_of 32 (Some text)) ≡ put_word w (words (pieces_of 32 more))
+pub next_word : (text front : List ℕ) (more : Option (List ℕ)) (w : Option ℤ) → front ≡ piece space text → pieces_behind_marks space text ≡ pieces_of space more → w ≡ word front → words (pieces_of space (Some text)) ≡ put_word w (words (pieces_of space more))
 unfolding words
 next_word text front more w f b e =
-    ap (λ (p : List ℕ). put_word (word p) (words (pieces_behind_marks 32 text))) (sym f)
-    ∙ ap (λ (o : Option ℤ). put_word o (words (pieces_behind_marks 32 text))) (sym e)
+    ap (λ (p : List ℕ). put_word (word p) (words (pieces_behind_marks space text))) (sym f)
+    ∙ ap (λ (o : Option ℤ). put_word o (words (pieces_behind_marks space text))) (sym e)
     ∙ ap (λ (ps : List (List ℕ)). put_word w (words ps)) b

@@ -5,9 +5,10 @@ use Rattle.std.specs.Prelude.{nat_le, IsTrue}
 use Rattle.std.specs.Fmt.{signed_decimal}
 use Rattle.std.specs.List.{list_all, join_with_byte}
 use Rattle.std.proofs.lemmas.Bool.{and_from, leb-true, le-leb, cond-true}
+use Rattle.apex_types.specs.declared.limits.TheConstants.{MOST_WORDS}
 use Rattle.arrayvec.specs.ArrayVec.{ArrayVec}
 use Rattle.apex_types.specs.CodeWords.{mode_word, state_word, error_word, level_word, level_of_response, action_word}
-use Rattle.apex_types.specs.Line.{subject_text, culprit_text, words_text, kind_text}
+use Rattle.apex_types.specs.Line.{subject_text, culprit_text, words_text, kind_text, space}
 use Rattle.apex_types.specs.NameText.{is_name}
 use Rattle.apex_types.specs.ServiceShape.{service_word}
 use Rattle.apex_types.specs.declared.codes.ErrorKind.{ErrorKind}
@@ -53,9 +54,9 @@ few_is : (t : Bool) (ws : List ℤ) (m : ArrayVec ℤ) → cond t (Some (message
 few_is true ws m e = (refl, same_some (message ws) m e)
 few_is false ws m e = cc
 
-few_some : (o : Option (List ℤ)) (m : ArrayVec ℤ) → few o ≡ Some m → (ws : List ℤ) × (o ≡ Some ws) × (length ws ≤ 16) × (message ws ≡ m)
+few_some : (o : Option (List ℤ)) (m : ArrayVec ℤ) → few o ≡ Some m → (ws : List ℤ) × (o ≡ Some ws) × (length ws ≤ MOST_WORDS) × (message ws ≡ m)
 few_some None m e = cc
-few_some (Some ws) m e = let g = few_is (nat_le (length ws) 16) ws m e in (ws, refl, leb-true (length ws) 16 g.0, g.1)
+few_some (Some ws) m e = let g = few_is (nat_le (length ws) MOST_WORDS) ws m e in (ws, refl, leb-true (length ws) MOST_WORDS g.0, g.1)
 
 some_words : (ws : List ℤ) (t : List ℕ) (ts : List (List ℕ)) → map signed_decimal ws ≡ t ∷ ts → 1 ≤ length ws
 some_words [] t ts e = cc
@@ -72,7 +73,7 @@ message_back (t ∷ ts) m e =
 message_again : (ws : List ℤ) → IsMessage ws → words_of (map signed_decimal ws) ≡ Some (message ws)
 message_again [] good = absurd (omega (arith, good.some))
 message_again (w ∷ ws) good =
-    ap few (words_again (w ∷ ws) good.fit) ∙ cond-true (nat_le (length (w ∷ ws)) 16) (Some (message (w ∷ ws))) None (le-leb (length (w ∷ ws)) 16 good.few)
+    ap few (words_again (w ∷ ws) good.fit) ∙ cond-true (nat_le (length (w ∷ ws)) MOST_WORDS) (Some (message (w ∷ ws))) None (le-leb (length (w ∷ ws)) MOST_WORDS good.few)
 
 -- ---- the parts of a kind of event
 
@@ -87,30 +88,30 @@ parts_of (event.Arrive port ws) = codes "ARRIVE" ∷ port ∷ map signed_decimal
 parts_of (event.Lost port ws) = codes "LOST" ∷ port ∷ map signed_decimal ws.items
 parts_of (event.Out channel ws) = codes "OUT" ∷ channel ∷ map signed_decimal ws.items
 
-join_words : (p : List ℕ) (ws : List ℤ) → join_with_byte 32 (p ∷ map signed_decimal ws) ≡ p ++ words_text ws
+join_words : (p : List ℕ) (ws : List ℤ) → join_with_byte space (p ∷ map signed_decimal ws) ≡ p ++ words_text ws
 join_words p [] = sym (append-nil p)
-join_words p (w ∷ ws) = ap (λ (xs : List ℕ). p ++ 32 ∷ xs) (join_words (signed_decimal w) ws)
+join_words p (w ∷ ws) = ap (λ (xs : List ℕ). p ++ space ∷ xs) (join_words (signed_decimal w) ws)
 
 -- the text of a line groups its fields to the left
-field_left : (a b rest : List ℕ) → a ++ 32 ∷ (b ++ rest) ≡ a ++ 32 ∷ [] ++ b ++ rest
-field_left a b rest = sym (append_assoc a (32 ∷ []) (b ++ rest)) ∙ sym (append_assoc (a ++ 32 ∷ []) b rest)
+field_left : (a b rest : List ℕ) → a ++ space ∷ (b ++ rest) ≡ a ++ space ∷ [] ++ b ++ rest
+field_left a b rest = sym (append_assoc a (space ∷ []) (b ++ rest)) ∙ sym (append_assoc (a ++ space ∷ []) b rest)
 
-last_left : (a b : List ℕ) → a ++ 32 ∷ b ≡ a ++ 32 ∷ [] ++ b
-last_left a b = sym (append_assoc a (32 ∷ []) b)
+last_left : (a b : List ℕ) → a ++ space ∷ b ≡ a ++ space ∷ [] ++ b
+last_left a b = sym (append_assoc a (space ∷ []) b)
 
 -- the text is that of the parts, a space between them
-pub kind_joined : (k : EventKind) → join_with_byte 32 (parts_of k) ≡ kind_text k
+pub kind_joined : (k : EventKind) → join_with_byte space (parts_of k) ≡ kind_text k
 kind_joined (event.State who state) = ap (λ (xs : List ℕ). codes "STATE " ++ xs) (last_left (subject_text who) (state_word state))
 kind_joined (event.Return who service code) =
     ap (λ (xs : List ℕ). codes "RET " ++ xs)
-    (field_left (subject_text who) (service_word service) (32 ∷ code_text code)
-    ∙ last_left (subject_text who ++ 32 ∷ [] ++ service_word service) (code_text code))
+    (field_left (subject_text who) (service_word service) (space ∷ code_text code)
+    ∙ last_left (subject_text who ++ space ∷ [] ++ service_word service) (code_text code))
 kind_joined (event.Mode mode) = refl
 kind_joined (event.Error error who response) =
     ap (λ (xs : List ℕ). codes "HM " ++ xs)
-    (field_left (error_word error) (culprit_text who) (32 ∷ (level_word (level_of_response response) ++ 32 ∷ action_word response))
-    ∙ field_left (error_word error ++ 32 ∷ [] ++ culprit_text who) (level_word (level_of_response response)) (32 ∷ action_word response)
-    ∙ last_left (error_word error ++ 32 ∷ [] ++ culprit_text who ++ 32 ∷ [] ++ level_word (level_of_response response)) (action_word response))
+    (field_left (error_word error) (culprit_text who) (space ∷ (level_word (level_of_response response) ++ space ∷ action_word response))
+    ∙ field_left (error_word error ++ space ∷ [] ++ culprit_text who) (level_word (level_of_response response)) (space ∷ action_word response)
+    ∙ last_left (error_word error ++ space ∷ [] ++ culprit_text who ++ space ∷ [] ++ level_word (level_of_response response)) (action_word response))
 kind_joined (event.Report who ws) = ap (λ (xs : List ℕ). codes "REPORT " ++ xs) (join_words (subject_text who) ws.items)
 kind_joined (event.Move port ws) = ap (λ (xs : List ℕ). codes "MOVE " ++ xs) (join_words port ws.items)
 kind_joined (event.Arrive port ws) = ap (λ (xs : List ℕ). codes "ARRIVE " ++ xs) (join_words port ws.items)

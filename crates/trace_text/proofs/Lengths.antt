@@ -6,9 +6,9 @@ use Rattle.std.specs.Int.{w64}
 use Rattle.std.specs.List.{list_all}
 use Rattle.std.proofs.lemmas.Bool.{and_parts, leb-true}
 use Rattle.std.proofs.lemmas.Fmt.{length-decimal-le, length_signed_le}
-use Rattle.apex_types.specs.declared.limits.TheConstants.{MOST_LINE_BYTES, MOST_NAME_BYTES}
+use Rattle.apex_types.specs.declared.limits.TheConstants.{MOST_KIND_BYTES, MOST_LINE_BYTES, MOST_NAME_BYTES, MOST_WORDS}
 use Rattle.apex_types.specs.CodeWords.{return_code_number, mode_word, state_word, error_word, level_word, level_of_response, action_word}
-use Rattle.apex_types.specs.Line.{thirteen_digits, partition_text, subject_text, culprit_text, words_text, kind_text, line_of}
+use Rattle.apex_types.specs.Line.{thirteen_digits, partition_text, subject_text, culprit_text, words_text, kind_text, line_of, space}
 use Rattle.apex_types.specs.NameText.{is_name, is_lower_case, is_name_byte}
 use Rattle.apex_types.specs.ServiceShape.{service_word}
 use Rattle.apex_types.specs.declared.codes.ErrorKind.{ErrorKind}
@@ -100,9 +100,9 @@ word_short (negsuc n) fits = length_signed_le 19 (negsuc n) (omega (arith, fits.
 
 words_short : (ws : List ℤ) → AreWords ws → length (words_text ws) ≤ 21 * length ws
 words_short [] good = omega arith
-words_short (w ∷ ws) good = omega (arith, word_short w good.0, words_short ws good.1, length-append (32 ∷ signed_decimal w) (words_text ws))
+words_short (w ∷ ws) good = omega (arith, word_short w good.0, words_short ws good.1, length-append (space ∷ signed_decimal w) (words_text ws))
 
-message_short : (ws : List ℤ) → IsMessage ws → length (words_text ws) ≤ 336
+message_short : (ws : List ℤ) → IsMessage ws → length (words_text ws) ≤ 21 * MOST_WORDS
 message_short ws good = omega (arith, words_short ws good.fit, good.few)
 
 -- ---- lines
@@ -111,14 +111,14 @@ sum : (a b : List ℕ) (m n : ℕ) → length a ≤ m → length b ≤ n → len
 sum a b m n h k = omega (arith, h, k, length-append a b)
 
 -- a word, a name and a message
-named_short : (word name : List ℕ) (ws : List ℤ) → length word ≤ 7 → length name ≤ 30 → IsMessage ws → length (word ++ name ++ words_text ws) ≤ 400
+named_short : (word name : List ℕ) (ws : List ℤ) → length word ≤ 7 → length name ≤ 30 → IsMessage ws → length (word ++ name ++ words_text ws) ≤ MOST_KIND_BYTES + 21 * MOST_WORDS
 named_short word name ws h k good = omega (arith, h, k, message_short ws good, length-append (word ++ name) (words_text ws), length-append word name)
 
 -- fields with a space between them
 spaced : (a b : List ℕ) (m n : ℕ) → length a ≤ m → length b ≤ n → length (a ++ codes " " ++ b) ≤ m + 1 + n
 spaced a b m n h k = omega (arith, h, k, length-append (a ++ codes " ") b, length-append a (codes " "))
 
-kind_short : (k : EventKind) → HasParts k → length (kind_text k) ≤ 400
+kind_short : (k : EventKind) → HasParts k → length (kind_text k) ≤ MOST_KIND_BYTES + 21 * MOST_WORDS
 kind_short (event.State who state) good = omega (arith, spaced (codes "STATE " ++ subject_text who) (state_word state) 36 30 (sum (codes "STATE ") (subject_text who) 6 30 (lit≤ tt) (subject_short who good)) (state_short state))
 kind_short (event.Return who service code) good =
     omega (
@@ -132,7 +132,7 @@ kind_short (event.Error error who response) good =
     omega (
       arith,
       spaced (codes "HM " ++ error_word error ++ codes " " ++ culprit_text who ++ codes " " ++ level_word (level_of_response response)) (action_word response) 95 30
-          (spaced (codes "HM " ++ error_word error ++ codes " " ++ culprit_text who) (level_word (level_of_response response)) 64 30
+          (spaced (codes "HM " ++ error_word error ++ codes " " ++ culprit_text who) (level_word (level_of_response response)) MOST_KIND_BYTES 30
           (spaced (codes "HM " ++ error_word error) (culprit_text who) 33 30 (sum (codes "HM ") (error_word error) 3 30 (lit≤ tt) (error_short error)) (culprit_short who good))
           (level_short response))
           (action_short response),
@@ -149,5 +149,5 @@ digits_short n = lit≤ tt
 pub line_short : (e : Event) → CanBeWritten e → length (line_of e) ≤ MOST_LINE_BYTES
 line_short e can =
     let front = spaced (thirteen_digits e.tick.0) (partition_text e.partition) 13 30 (digits_short e.tick.0) (partition_short e.partition can.partition) in
-    let both = spaced (thirteen_digits e.tick.0 ++ codes " " ++ partition_text e.partition) (kind_text e.kind) 44 400 front (kind_short e.kind can.parts) in
-    omega (arith, sum (thirteen_digits e.tick.0 ++ codes " " ++ partition_text e.partition ++ codes " " ++ kind_text e.kind) (10 ∷ []) 445 1 both (lit≤ tt))
+    let both = spaced (thirteen_digits e.tick.0 ++ codes " " ++ partition_text e.partition) (kind_text e.kind) 44 (MOST_KIND_BYTES + 21 * MOST_WORDS) front (kind_short e.kind can.parts) in
+    omega (arith, sum (thirteen_digits e.tick.0 ++ codes " " ++ partition_text e.partition ++ codes " " ++ kind_text e.kind) (10 ∷ []) (44 + 1 + (MOST_KIND_BYTES + 21 * MOST_WORDS)) 1 both (lit≤ tt))

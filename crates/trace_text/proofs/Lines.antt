@@ -4,7 +4,7 @@ use Rattle.std.proofs.Common.{◌≡◌, ℕ, ◌<◌, Bool, true, false, cond, 
 use Rattle.std.specs.Prelude.{IsTrue}
 use Rattle.std.specs.List.{list_all, join_with_byte}
 use Rattle.std.proofs.lemmas.Bool.{and_from, cond-true}
-use Rattle.apex_types.specs.Line.{thirteen_digits, partition_text, kind_text, line_of}
+use Rattle.apex_types.specs.Line.{thirteen_digits, partition_text, kind_text, line_of, space}
 use Rattle.apex_types.specs.declared.event.Event.{Event}
 use Rattle.apex_types.specs.declared.event.EventKind.{EventKind}
 use Rattle.apex_types.specs.declared.event.EventKind.TheVariants as event
@@ -23,9 +23,9 @@ behind_tick e = partition_text e.partition ∷ parts_of e.kind
 
 -- a line without its line feed
 abbrev pub body_of : Event → List ℕ
-body_of e = join_with_byte 32 (thirteen_digits e.tick.0 ∷ behind_tick e)
+body_of e = join_with_byte space (thirteen_digits e.tick.0 ∷ behind_tick e)
 
-join_front : (p : List ℕ) (ps : List (List ℕ)) → 0 < length ps → join_with_byte 32 (p ∷ ps) ≡ p ++ 32 ∷ join_with_byte 32 ps
+join_front : (p : List ℕ) (ps : List (List ℕ)) → 0 < length ps → join_with_byte space (p ∷ ps) ≡ p ++ space ∷ join_with_byte space ps
 join_front p [] some = absurd (omega (arith, some))
 join_front p (q ∷ ps) some = refl
 
@@ -33,14 +33,14 @@ some_parts : (k : EventKind) → 0 < length (parts_of k)
 some_parts (event.State who state) = omega arith
 some_parts _ = omega arith
 
-joined_kind : (k : EventKind) (p : List ℕ) → join_with_byte 32 (p ∷ parts_of k) ≡ p ++ 32 ∷ kind_text k
-joined_kind k p = join_front p (parts_of k) (some_parts k) ∙ ap (λ (xs : List ℕ). p ++ 32 ∷ xs) (kind_joined k)
+joined_kind : (k : EventKind) (p : List ℕ) → join_with_byte space (p ∷ parts_of k) ≡ p ++ space ∷ kind_text k
+joined_kind k p = join_front p (parts_of k) (some_parts k) ∙ ap (λ (xs : List ℕ). p ++ space ∷ xs) (kind_joined k)
 
 -- the text of a line groups its parts to the left
 pub body_is : (e : Event) → body_of e ++ 10 ∷ [] ≡ line_of e
 body_is e =
-    ap (λ (xs : List ℕ). thirteen_digits e.tick.0 ++ 32 ∷ (xs ++ 10 ∷ []))
-    (joined_kind e.kind (partition_text e.partition) ∙ sym (append_assoc (partition_text e.partition) (32 ∷ []) (kind_text e.kind)))
+    ap (λ (xs : List ℕ). thirteen_digits e.tick.0 ++ space ∷ (xs ++ 10 ∷ []))
+    (joined_kind e.kind (partition_text e.partition) ∙ sym (append_assoc (partition_text e.partition) (space ∷ []) (kind_text e.kind)))
 
 -- ---- from a line
 
@@ -77,8 +77,8 @@ event_back (t ∷ p ∷ ks) e h =
 -- an event that is read from a line without its line feed has this line, and can be written
 pub body_back : (body : List ℕ) (e : Event) → event_in body ≡ Some e → (body_of e ≡ body) × CanBeWritten e
 body_back body e h =
-    let g = event_back (pieces 32 body) e h in
-    (ap (join_with_byte 32) g.0 ∙ join_pieces 32 body, g.1)
+    let g = event_back (pieces space body) e h in
+    (ap (join_with_byte space) g.0 ∙ join_pieces space body, g.1)
 
 -- ---- from an event
 
@@ -96,7 +96,7 @@ body_free e can =
 -- the line of an event that can be written is read as it
 pub body_again : (e : Event) → CanBeWritten e → event_in (body_of e) ≡ Some e
 body_again e can =
-    ap event_of (pieces_join 32 (thirteen_digits e.tick.0) (behind_tick e) (ink_is_free 32 (thirteen_digits e.tick.0) (omega arith) (tick_ink e can)) (all_free 32 (behind_tick e) (omega arith) (behind_ink e can)))
+    ap event_of (pieces_join space (thirteen_digits e.tick.0) (behind_tick e) (ink_is_free space (thirteen_digits e.tick.0) (omega arith) (tick_ink e can)) (all_free space (behind_tick e) (omega arith) (behind_ink e can)))
     ∙ ap (λ (o : Option Ticks). event_with o (partition_of (partition_text e.partition)) (kind_of (parts_of e.kind))) (tick_spells.again e.tick can.tick)
     ∙ ap (λ (o : Option (Option (List ℕ))). event_with (Some e.tick) o (kind_of (parts_of e.kind))) (partition_spells.again e.partition can.partition)
     ∙ ap (λ (o : Option EventKind). event_with (Some e.tick) (Some e.partition) o) (kind_again e.kind can.parts)

@@ -4,7 +4,7 @@ use Rattle.std.specs.Prelude.{fold, nat_le, ◌&&◌, ◌==◌}
 use Rattle.std.specs.List.{list_all}
 use Rattle.std.proofs.Math.Nat.{div-div-eq-div-mul, pow-suc}
 use Rattle.std.proofs.lemmas.Bool.{and_parts, and_from, leb-true, le-leb, lt-ltb, eqb-true, cond-true}
-use Rattle.apex_types.specs.Line.{thirteen_digits}
+use Rattle.apex_types.specs.Line.{thirteen_digits, space}
 use Rattle.apex_types.specs.declared.identity.Ticks.{Ticks}
 use Rattle.module_meaning.specs.DeviceText.{if_at_most}
 use Rattle.engine_meaning.specs.Digits.{is_digit, decimal_value}
@@ -71,7 +71,7 @@ all_digits (u ∷ us) n = and_from (is_digit (48 + n / u % 10)) (list_all is_dig
 
 all_ink : (us : List ℕ) (n : ℕ) → list_all is_ink (digits_at us n) ≡ true
 all_ink [] n = refl
-all_ink (u ∷ us) n = and_from (is_ink (48 + n / u % 10)) (list_all is_ink (digits_at us n)) (lt-ltb 32 (48 + n / u % 10) (omega arith)) (all_ink us n)
+all_ink (u ∷ us) n = and_from (is_ink (48 + n / u % 10)) (list_all is_ink (digits_at us n)) (lt-ltb space (48 + n / u % 10) (omega arith)) (all_ink us n)
 
 thirteen : (n : ℕ) → thirteen_digits n ≡ digits_at (units 13) n
 thirteen n = refl

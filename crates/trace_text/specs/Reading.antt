@@ -1,6 +1,7 @@
 -- How a line is read, field by field.
 use Rattle.std.specs.Prelude.{ℕ, ℤ, ◌&&◌, ◌==◌, nat_le, if◌then◌else◌, List, [], ◌∷◌, length, codes, find, Option, Some, None, option_map, slice_get}
 use Rattle.std.specs.List.{list_all}
+use Rattle.apex_types.specs.Line.{space}
 use Rattle.apex_types.specs.CodeWords.{mode_word, state_word, error_word, level_word, level_of_response, action_word}
 use Rattle.apex_types.specs.NameText.{is_name}
 use Rattle.apex_types.specs.ServiceShape.{services}
@@ -211,4 +212,4 @@ event_of _ = None
 
 -- the event of a line without its line feed: its parts stand one space apart
 abbrev pub event_in : List ℕ → Option Event
-event_in body = event_of (pieces 32 body)
+event_in body = event_of (pieces space body)

@@ -1,5 +1,6 @@
 -- Which events a run can write, and which lists of events are a trace.
 use Rattle.std.specs.Prelude.{◌≡◌, ℕ, ◌+◌, ◌^◌, ◌<◌, ◌≤◌, ℤ, Bool, false, true, ◌&&◌, List, [], ◌∷◌, ◌++◌, length, Option, Some, None, is_some, is_none, IsTrue}
+use Rattle.apex_types.specs.declared.limits.TheConstants.{MOST_WORDS}
 use Rattle.apex_types.specs.Line.{line_of, text_of}
 use Rattle.apex_types.specs.NameText.{is_name}
 use Rattle.apex_types.specs.declared.codes.Response.{Response}
@@ -18,7 +19,7 @@ use Rattle.text_lines.specs.Words.{AreWords}
 -- 1 to 16 words
 pub record IsMessage (words : List ℤ) : Type 0 where
   pub some : 1 ≤ length words
-  pub few : length words ≤ 16
+  pub few : length words ≤ MOST_WORDS
   pub fit : AreWords words
 
 abbrev pub IsSubject : Subject → Type 0

@@ -1,6 +1,7 @@
 //! The kind of an event, by its word and its fields.
 
 ghost use Rattle.std.specs.Prelude.{◌≡◌, option_copied};
+ghost use Rattle.apex_types.specs.Line.{space};
 ghost use Rattle.text_lines.specs.Pieces.{pieces_of};
 ghost use Rattle.trace_text.specs.Reading as meant;
 
@@ -13,7 +14,7 @@ use text_lines::{split_at, word};
 
 /// The kind of an event, from the text behind the partition.
 pub fn kind_of(text: Option<&[u8]>) -> Option<EventKind>
-    ensures { result ≡ meant.kind_of (pieces_of 32 (option_copied text.entry)) }
+    ensures { result ≡ meant.kind_of (pieces_of space (option_copied text.entry)) }
 {
     let (word, fields) = split_at(b' ', text?);
     match keyword_of(word)? {
@@ -42,7 +43,7 @@ pub fn kind_of(text: Option<&[u8]>) -> Option<EventKind>
 }
 
 fn state_line(text: Option<&[u8]>) -> Option<EventKind>
-    ensures { result ≡ meant.state_line (pieces_of 32 (option_copied text.entry)) }
+    ensures { result ≡ meant.state_line (pieces_of space (option_copied text.entry)) }
 {
     let (who, rest) = split_at(b' ', text?);
     match split_at(b' ', rest?) {
@@ -56,7 +57,7 @@ fn state_line(text: Option<&[u8]>) -> Option<EventKind>
 }
 
 fn return_line(text: Option<&[u8]>) -> Option<EventKind>
-    ensures { result ≡ meant.return_line (pieces_of 32 (option_copied text.entry)) }
+    ensures { result ≡ meant.return_line (pieces_of space (option_copied text.entry)) }
 {
     let (who, rest) = split_at(b' ', text?);
     let (service, rest) = split_at(b' ', rest?);
@@ -72,7 +73,7 @@ fn return_line(text: Option<&[u8]>) -> Option<EventKind>
 }
 
 fn mode_line(text: Option<&[u8]>) -> Option<EventKind>
-    ensures { result ≡ meant.mode_line (pieces_of 32 (option_copied text.entry)) }
+    ensures { result ≡ meant.mode_line (pieces_of space (option_copied text.entry)) }
 {
     match split_at(b' ', text?) {
         (mode, None) => Some(EventKind::Mode(mode_of(mode)?)),
@@ -81,7 +82,7 @@ fn mode_line(text: Option<&[u8]>) -> Option<EventKind>
 }
 
 fn error_line(text: Option<&[u8]>) -> Option<EventKind>
-    ensures { result ≡ meant.error_line (pieces_of 32 (option_copied text.entry)) }
+    ensures { result ≡ meant.error_line (pieces_of space (option_copied text.entry)) }
 {
     let (error, rest) = split_at(b' ', text?);
     let (who, rest) = split_at(b' ', rest?);
@@ -98,7 +99,7 @@ fn error_line(text: Option<&[u8]>) -> Option<EventKind>
 }
 
 fn report_line(text: Option<&[u8]>) -> Option<EventKind>
-    ensures { result ≡ meant.report_line (pieces_of 32 (option_copied text.entry)) }
+    ensures { result ≡ meant.report_line (pieces_of space (option_copied text.entry)) }
 {
     let (who, rest) = split_at(b' ', text?);
     let who = subject_of(who)?;
@@ -108,7 +109,7 @@ fn report_line(text: Option<&[u8]>) -> Option<EventKind>
 
 /// The name of a port or channel, and the words of its message.
 fn message_of(text: Option<&[u8]>) -> Option<(Name, Words)>
-    ensures { result ≡ meant.message_of (pieces_of 32 (option_copied text.entry)) }
+    ensures { result ≡ meant.message_of (pieces_of space (option_copied text.entry)) }
 {
     let (name, rest) = split_at(b' ', text?);
     let name = name_of(name)?;
@@ -119,7 +120,7 @@ fn message_of(text: Option<&[u8]>) -> Option<(Name, Words)>
 /// The words of a message, 1 to 16.
 #[tactic(auto, unfolding(module_meaning::specs::DeviceText::words))]
 fn words_of(text: Option<&[u8]>) -> Option<Words>
-    ensures { result ≡ meant.words_of (pieces_of 32 (option_copied text.entry)) }
+    ensures { result ≡ meant.words_of (pieces_of space (option_copied text.entry)) }
 {
     let mut words = Words::new();
     let mut rest = Some(text?);

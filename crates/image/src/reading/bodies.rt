@@ -2,7 +2,7 @@
 
 ghost use Rattle.std.specs.Prelude.{◌≡◌, ◌<◌, [], nat_lt};
 ghost use Rattle.std.specs.List.{list_all};
-ghost use Rattle.apex_types.specs.declared.limits.TheConstants.{MOST_PROCESSES};
+ghost use Rattle.apex_types.specs.declared.limits.TheConstants.{INSTRUCTION_BYTES, MOST_PROCESSES};
 ghost use Rattle.machine_meaning.specs.ImageReading.{is_process, fresh_name_at, duration_at, period_at, duration_of, is_infinite_or_multiple, routine_at, body_at, process_at, items_at, list_at, handler_at, bodies_at, enter_within, handler_enters, code_at, bytes_at};
 ghost use Rattle.image.specs.Views.{Gives, bodies_of};
 
@@ -13,8 +13,8 @@ use crate::reading::numbers::{
 };
 use crate::reading::rows::{Row, list_at, rows_at};
 use apex_types::limits::{
-    GREATEST_PRIORITY, LEAST_STACK_WORDS, MOST_INSTRUCTIONS, MOST_PARAMETERS, MOST_PROCEDURES,
-    MOST_PROCESSES, MOST_SLOTS, MOST_STACK_WORDS, MOST_TICKS,
+    GREATEST_PRIORITY, INSTRUCTION_BYTES, LEAST_STACK_WORDS, Limits, MOST_INSTRUCTIONS,
+    MOST_PARAMETERS, MOST_PROCEDURES, MOST_SLOTS, MOST_STACK_WORDS, MOST_TICKS,
 };
 use apex_types::{BodyRow, Name, Priority, ProcessRow, RoutineRow};
 use std::alloc::Global;
@@ -29,10 +29,11 @@ pub struct Bodies {
 }
 
 impl Row for RoutineRow {
-    ghost reads = { λ _. routine_at };
+    ghost reads = { λ _ _. routine_at };
 
     #[tactic(auto, unfolding(machine_meaning::specs::ImageReading::routine_at))]
     fn read<'a>(
+        _limits: Limits,
         _before: &[RoutineRow],
         bytes: &'a [u8],
     ) -> Result<(RoutineRow, &'a [u8]), ImageFault> {
@@ -186,14 +187,15 @@ fn processes_at(
 #[tactic(auto, unfolding(machine_meaning::specs::ImageReading::list_at))]
 fn process_list_at(
     alloc: Global,
+    limits: Limits,
     unit: u32,
     bytes: &[u8],
 ) -> Result<(Vec<ProcessRow>, &[u8]), ImageFault>
     requires { 0 < unit }
     ensures { Gives (λ x. (x.0.items, x.1.now)) result
-        (list_at 0 MOST_PROCESSES (process_at unit) bytes.now) }
+        (list_at 0 limits.processes (process_at unit) bytes.now) }
 {
-    let (count, rest) = u32_within(bytes, 0, u32::from(MOST_PROCESSES))?;
+    let (count, rest) = u32_within(bytes, 0, u32::from(limits.processes))?;
     processes_at(alloc, unit, count, rest)
 }
 
@@ -211,12 +213,17 @@ fn handler_at(bytes: &[u8]) -> Result<(Option<BodyRow>, &[u8]), ImageFault>
 
 /// The bodies of a partition with a period of `unit` ticks.
 #[tactic(auto, unfolding(machine_meaning::specs::ImageReading::bodies_at))]
-pub fn bodies_at(alloc: Global, unit: u32, bytes: &[u8]) -> Result<(Bodies, &[u8]), ImageFault>
+pub fn bodies_at(
+    alloc: Global,
+    limits: Limits,
+    unit: u32,
+    bytes: &[u8],
+) -> Result<(Bodies, &[u8]), ImageFault>
     requires { 0 < unit }
-    ensures { Gives (λ x. (bodies_of x.0, x.1.now)) result (bodies_at unit bytes.now) }
+    ensures { Gives (λ x. (bodies_of x.0, x.1.now)) result (bodies_at limits unit bytes.now) }
 {
-    let (routines, rest) = list_at(alloc, bytes, 0, MOST_PROCEDURES as u32)?;
-    let (processes, rest) = process_list_at(alloc, unit, rest)?;
+    let (routines, rest) = list_at(alloc, limits, bytes, 0, MOST_PROCEDURES as u32)?;
+    let (processes, rest) = process_list_at(alloc, limits, unit, rest)?;
     let (init, rest) = body_at(rest)?;
     let (handler, rest) = handler_at(rest)?;
     let bodies = Bodies {
@@ -260,11 +267,15 @@ fn enter_within(count: u32, bodies: &Bodies) -> bool
 }
 
 impl Row for [u8; 16] {
-    ghost reads = { λ _. bytes_at 16 };
+    ghost reads = { λ _ _. bytes_at INSTRUCTION_BYTES };
 
     #[tactic(auto, unfolding(machine_meaning::specs::ImageReading::bytes_at))]
-    fn read<'a>(_before: &[[u8; 16]], bytes: &'a [u8]) -> Result<([u8; 16], &'a [u8]), ImageFault> {
-        match bytes.split_first_chunk::<16>() {
+    fn read<'a>(
+        _limits: Limits,
+        _before: &[[u8; 16]],
+        bytes: &'a [u8],
+    ) -> Result<([u8; 16], &'a [u8]), ImageFault> {
+        match bytes.split_first_chunk::<INSTRUCTION_BYTES>() {
             Some((instruction, rest)) => Ok((*instruction, rest)),
             None => Err(ImageFault::Truncated),
         }
@@ -275,6 +286,7 @@ impl Row for [u8; 16] {
 #[tactic(auto, unfolding(machine_meaning::specs::ImageReading::code_at))]
 pub fn code_at<'a>(
     alloc: Global,
+    limits: Limits,
     bodies: &Bodies,
     bytes: &'a [u8],
 ) -> Result<(Vec<[u8; 16]>, &'a [u8]), ImageFault>
@@ -284,5 +296,5 @@ pub fn code_at<'a>(
     if !enter_within(count, bodies) {
         return Err(ImageFault::Limit);
     }
-    rows_at(alloc, count, rest)
+    rows_at(alloc, limits, count, rest)
 }

@@ -12,16 +12,17 @@ use crate::fault::ImageFault;
 use crate::reading::numbers::{byte_at, name_at, same_name, u32_within};
 use crate::reading::rows;
 use crate::reading::rows::Row;
-use apex_types::limits::{MOST_CHANNELS, MOST_DESTINATIONS};
+use apex_types::limits::{Limits, MOST_CHANNELS, MOST_DESTINATIONS};
 use apex_types::{ChannelEnd, Name, PartitionId, PortId};
 use std::alloc::Global;
 use window_table::ChannelRow;
 
 impl Row for ChannelEnd {
-    ghost reads = { λ _. channel_end_at };
+    ghost reads = { λ _ _. channel_end_at };
 
     #[tactic(auto, unfolding(machine_meaning::specs::ImageReading::channel_end_at))]
     fn read<'a>(
+        _limits: Limits,
         _before: &[ChannelEnd],
         bytes: &'a [u8],
     ) -> Result<(ChannelEnd, &'a [u8]), ImageFault> {
@@ -57,6 +58,7 @@ fn channel_name_at<'a>(
 #[tactic(auto, unfolding(machine_meaning::specs::ImageReading::channel_at))]
 fn channel_at<'a>(
     alloc: Global,
+    limits: Limits,
     before: &[ChannelRow],
     bytes: &'a [u8],
 ) -> Result<(ChannelRow, &'a [u8]), ImageFault>
@@ -67,8 +69,8 @@ fn channel_at<'a>(
         Ok(found) => found,
         Err(fault) => return Err(fault),
     };
-    let (source, rest) = ChannelEnd::read(&[], rest)?;
-    let (destinations, rest) = rows::list_at(alloc, rest, 1, MOST_DESTINATIONS as u32)?;
+    let (source, rest) = ChannelEnd::read(limits, &[], rest)?;
+    let (destinations, rest) = rows::list_at(alloc, limits, rest, 1, MOST_DESTINATIONS as u32)?;
     let row = ChannelRow {
         name,
         source,
@@ -79,6 +81,7 @@ fn channel_at<'a>(
 
 fn channels_at(
     alloc: Global,
+    limits: Limits,
     count: u32,
     bytes: &[u8],
 ) -> Result<(Vec<ChannelRow>, &[u8]), ImageFault>
@@ -88,7 +91,7 @@ fn channels_at(
     let mut rows: Vec<ChannelRow> = Vec::new(alloc);
     let mut rest = bytes;
     for _ in 0..count {
-        let (row, after) = match channel_at(alloc, &rows, rest) {
+        let (row, after) = match channel_at(alloc, limits, &rows, rest) {
             Ok(found) => found,
             Err(fault) => return Err(fault),
         };
@@ -100,10 +103,14 @@ fn channels_at(
 
 /// The channels.
 #[tactic(auto, unfolding(machine_meaning::specs::ImageReading::list_at))]
-pub fn channel_list_at(alloc: Global, bytes: &[u8]) -> Result<(Vec<ChannelRow>, &[u8]), ImageFault>
+pub fn channel_list_at(
+    alloc: Global,
+    limits: Limits,
+    bytes: &[u8],
+) -> Result<(Vec<ChannelRow>, &[u8]), ImageFault>
     ensures { Gives (λ x. (channels_of x.0.items, x.1.now)) result
         (list_at 0 MOST_CHANNELS channel_at bytes.now) }
 {
     let (count, rest) = u32_within(bytes, 0, MOST_CHANNELS as u32)?;
-    channels_at(alloc, count, rest)
+    channels_at(alloc, limits, count, rest)
 }

@@ -7,14 +7,19 @@ ghost use Rattle.image.specs.Views.{Gives};
 use crate::fault::ImageFault;
 use crate::reading::numbers::u16_at;
 use crate::reading::rows::{Row, rows_at};
-use apex_types::{COST_KEYS, Costs, FIRST_VERSION, ImageVersion, TickCost};
+use apex_types::limits::Limits;
+use apex_types::{COST_KEYS, Costs, FIRST_VERSION, ImageVersion, SECOND_VERSION, TickCost};
 use std::alloc::Global;
 
 impl Row for TickCost {
-    ghost reads = { λ _. cost_at };
+    ghost reads = { λ _ _. cost_at };
 
     #[tactic(auto, unfolding(machine_meaning::specs::ImageReading::cost_at))]
-    fn read<'a>(_before: &[TickCost], bytes: &'a [u8]) -> Result<(TickCost, &'a [u8]), ImageFault> {
+    fn read<'a>(
+        _limits: Limits,
+        _before: &[TickCost],
+        bytes: &'a [u8],
+    ) -> Result<(TickCost, &'a [u8]), ImageFault> {
         let (ticks, rest) = u16_at(bytes)?;
         let cost = TickCost::new(u32::from(ticks)).ok_or(ImageFault::Limit)?;
         Ok((cost, rest))
@@ -26,11 +31,16 @@ impl Row for TickCost {
 fn costs_at(alloc: Global, bytes: &[u8]) -> Result<(Costs, &[u8]), ImageFault>
     ensures { Gives (λ x. (x.0, x.1.now)) result (costs_at bytes.now) }
 {
-    let (costs, rest) = rows_at::<TickCost>(alloc, COST_KEYS as u32, bytes)?;
+    let (costs, rest) = rows_at::<TickCost>(
+        alloc,
+        ImageVersion::First.limits(),
+        COST_KEYS as u32,
+        bytes,
+    )?;
     Ok((Costs::from_order(&costs), rest))
 }
 
-/// The fields of images of the version with this number: the first has none, the second its costs.
+/// The fields of images of the version with this number: the first has none, the others their costs.
 #[tactic(auto, unfolding(machine_meaning::specs::ImageReading::own_fields_at))]
 pub fn own_fields_at(
     alloc: Global,
@@ -43,5 +53,9 @@ pub fn own_fields_at(
         return Ok((ImageVersion::First, bytes));
     }
     let (costs, rest) = costs_at(alloc, bytes)?;
-    Ok((ImageVersion::Second { costs }, rest))
+    let version = match number {
+        SECOND_VERSION => ImageVersion::Second { costs },
+        _ => ImageVersion::Third { costs },
+    };
+    Ok((version, rest))
 }

@@ -13,7 +13,9 @@ use crate::reading::items::item_list_at;
 use crate::reading::numbers::{bytes_at, u16_at, u32_within};
 use crate::reading::rows::list_at;
 use apex_types::limits::{MOST_FRAME_TICKS, MOST_WINDOWS};
-use apex_types::{FIRST_VERSION, ImageVersion, MAGIC, ModuleAction, SECOND_VERSION, WindowRow};
+use apex_types::{
+    FIRST_VERSION, ImageVersion, MAGIC, ModuleAction, SECOND_VERSION, THIRD_VERSION, WindowRow,
+};
 use std::alloc::Global;
 use window_table::ChannelRow;
 
@@ -45,7 +47,7 @@ fn version_at(bytes: &[u8]) -> Result<(u16, &[u8]), ImageFault>
 {
     let (_, rest) = magic_at(bytes)?;
     let (number, rest) = u16_at(rest)?;
-    if number != FIRST_VERSION && number != SECOND_VERSION {
+    if number != FIRST_VERSION && number != SECOND_VERSION && number != THIRD_VERSION {
         return Err(ImageFault::Foreign);
     }
     Ok((number, rest))
@@ -60,9 +62,10 @@ pub fn fields_at(alloc: Global, bytes: &[u8]) -> Result<(Fields, &[u8]), ImageFa
     let (frame, rest) = u32_within(rest, 1, MOST_FRAME_TICKS)?;
     let (fault, rest) = module_action_at(rest)?;
     let (version, rest) = own_fields_at(alloc, number, rest)?;
-    let (partitions, rest) = item_list_at(alloc, frame, rest)?;
-    let (windows, rest) = list_at(alloc, rest, 1, MOST_WINDOWS as u32)?;
-    let (channels, rest) = channel_list_at(alloc, rest)?;
+    let limits = version.limits();
+    let (partitions, rest) = item_list_at(alloc, limits, frame, rest)?;
+    let (windows, rest) = list_at(alloc, limits, rest, 1, MOST_WINDOWS as u32)?;
+    let (channels, rest) = channel_list_at(alloc, limits, rest)?;
     let fields = Fields {
         frame,
         fault,

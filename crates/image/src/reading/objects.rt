@@ -8,9 +8,7 @@ use crate::fault::ImageFault;
 use crate::reading::choices::discipline_at;
 use crate::reading::numbers::{i64_at, u8_within, u32_within};
 use crate::reading::rows::{Row, list_at};
-use apex_types::limits::{
-    MOST_DATA_WORDS, MOST_DEPTH, MOST_OBJECTS, MOST_SEMAPHORE_VALUE, MOST_WORDS,
-};
+use apex_types::limits::{Limits, MOST_DATA_WORDS, MOST_DEPTH, MOST_OBJECTS, MOST_SEMAPHORE_VALUE};
 use apex_types::{BlackboardRow, BufferRow, SemaphoreRow};
 use std::alloc::Global;
 
@@ -25,18 +23,23 @@ pub struct Objects {
 }
 
 impl Row for i64 {
-    ghost reads = { λ _. word_at };
+    ghost reads = { λ _ _. word_at };
 
-    fn read<'a>(_before: &[i64], bytes: &'a [u8]) -> Result<(i64, &'a [u8]), ImageFault> {
+    fn read<'a>(
+        _limits: Limits,
+        _before: &[i64],
+        bytes: &'a [u8],
+    ) -> Result<(i64, &'a [u8]), ImageFault> {
         i64_at(bytes)
     }
 }
 
 impl Row for SemaphoreRow {
-    ghost reads = { λ _. semaphore_at };
+    ghost reads = { λ _ _. semaphore_at };
 
     #[tactic(auto, unfolding(machine_meaning::specs::ImageReading::semaphore_at))]
     fn read<'a>(
+        _limits: Limits,
         _before: &[SemaphoreRow],
         bytes: &'a [u8],
     ) -> Result<(SemaphoreRow, &'a [u8]), ImageFault> {
@@ -53,14 +56,15 @@ impl Row for SemaphoreRow {
 }
 
 impl Row for BufferRow {
-    ghost reads = { λ _. buffer_at };
+    ghost reads = { λ limits _. buffer_at limits };
 
     #[tactic(auto, unfolding(machine_meaning::specs::ImageReading::buffer_at))]
     fn read<'a>(
+        limits: Limits,
         _before: &[BufferRow],
         bytes: &'a [u8],
     ) -> Result<(BufferRow, &'a [u8]), ImageFault> {
-        let (words, rest) = u8_within(bytes, 1, MOST_WORDS as u8)?;
+        let (words, rest) = u8_within(bytes, 1, limits.words)?;
         let (depth, rest) = u8_within(rest, 1, MOST_DEPTH)?;
         let (discipline, rest) = discipline_at(rest)?;
         let row = BufferRow {
@@ -73,27 +77,32 @@ impl Row for BufferRow {
 }
 
 impl Row for BlackboardRow {
-    ghost reads = { λ _. blackboard_at };
+    ghost reads = { λ limits _. blackboard_at limits };
 
     #[tactic(auto, unfolding(machine_meaning::specs::ImageReading::blackboard_at))]
     fn read<'a>(
+        limits: Limits,
         _before: &[BlackboardRow],
         bytes: &'a [u8],
     ) -> Result<(BlackboardRow, &'a [u8]), ImageFault> {
-        let (words, rest) = u8_within(bytes, 1, MOST_WORDS as u8)?;
+        let (words, rest) = u8_within(bytes, 1, limits.words)?;
         Ok((BlackboardRow { words }, rest))
     }
 }
 
 #[tactic(auto, unfolding(machine_meaning::specs::ImageReading::objects_at))]
-pub fn objects_at(alloc: Global, bytes: &[u8]) -> Result<(Objects, &[u8]), ImageFault>
-    ensures { Gives (λ x. (objects_of x.0, x.1.now)) result (objects_at bytes.now) }
+pub fn objects_at(
+    alloc: Global,
+    limits: Limits,
+    bytes: &[u8],
+) -> Result<(Objects, &[u8]), ImageFault>
+    ensures { Gives (λ x. (objects_of x.0, x.1.now)) result (objects_at limits bytes.now) }
 {
-    let (initial, rest) = list_at(alloc, bytes, 0, MOST_DATA_WORDS)?;
-    let (semaphores, rest) = list_at(alloc, rest, 0, MOST_OBJECTS as u32)?;
+    let (initial, rest) = list_at(alloc, limits, bytes, 0, MOST_DATA_WORDS)?;
+    let (semaphores, rest) = list_at(alloc, limits, rest, 0, MOST_OBJECTS as u32)?;
     let (events, rest) = u8_within(rest, 0, MOST_OBJECTS)?;
-    let (buffers, rest) = list_at(alloc, rest, 0, MOST_OBJECTS as u32)?;
-    let (blackboards, rest) = list_at(alloc, rest, 0, MOST_OBJECTS as u32)?;
+    let (buffers, rest) = list_at(alloc, limits, rest, 0, MOST_OBJECTS as u32)?;
+    let (blackboards, rest) = list_at(alloc, limits, rest, 0, MOST_OBJECTS as u32)?;
     let objects = Objects {
         initial,
         semaphores,

@@ -12,7 +12,7 @@ use crate::item::PartitionItem;
 use crate::reading::choices::{direction_at, discipline_at, partition_action_at};
 use crate::reading::numbers::{name_at, same_name, u8_within, u32_within, u64_within};
 use crate::reading::rows::{Row, list_at};
-use apex_types::limits::{MOST_DEPTH, MOST_PORTS, MOST_TICKS, MOST_WORDS};
+use apex_types::limits::{Limits, MOST_DEPTH, MOST_PORTS, MOST_TICKS};
 use apex_types::{HealthTable, Name, PortKind, PortRow};
 use std::alloc::Global;
 use window_table::PartitionRow;
@@ -92,14 +92,18 @@ impl Row for PortRow {
     ghost reads = { port_at };
 
     #[tactic(auto, unfolding(machine_meaning::specs::ImageReading::port_at))]
-    fn read<'a>(before: &[PortRow], bytes: &'a [u8]) -> Result<(PortRow, &'a [u8]), ImageFault> {
+    fn read<'a>(
+        limits: Limits,
+        before: &[PortRow],
+        bytes: &'a [u8],
+    ) -> Result<(PortRow, &'a [u8]), ImageFault> {
         let (name, rest) = match port_name_at(before, bytes) {
             Ok(found) => found,
             Err(fault) => return Err(fault),
         };
         let (number, rest) = u8_within(rest, 0, 1)?;
         let (direction, rest) = direction_at(rest)?;
-        let (words, rest) = u8_within(rest, 1, MOST_WORDS as u8)?;
+        let (words, rest) = u8_within(rest, 1, limits.words)?;
         let (kind, rest) = kind_at(number, rest)?;
         let row = PortRow {
             name,
@@ -135,13 +139,14 @@ fn partition_name_at<'a>(
 #[tactic(auto, unfolding(machine_meaning::specs::ImageReading::partition_at))]
 pub fn partition_at<'a>(
     alloc: Global,
+    limits: Limits,
     frame: u32,
     before: &[PartitionItem],
     bytes: &'a [u8],
 ) -> Result<(PartitionRow, &'a [u8]), ImageFault>
     ensures period { IfOk result (λ x. 0 < x.0.period) }
     ensures exact { Gives (λ x. (partition_of x.0, x.1.now)) result
-        (partition_at frame (items_of before.now) bytes.now) }
+        (partition_at limits frame (items_of before.now) bytes.now) }
 {
     let (name, rest) = match partition_name_at(before, bytes) {
         Ok(found) => found,
@@ -150,7 +155,7 @@ pub fn partition_at<'a>(
     let (period, rest) = u32_within(rest, 1, frame)?;
     let (duration, rest) = u32_within(rest, 0, period)?;
     let (health, rest) = health_at(rest)?;
-    let (ports, rest) = list_at(alloc, rest, 0, MOST_PORTS as u32)?;
+    let (ports, rest) = list_at(alloc, limits, rest, 0, MOST_PORTS as u32)?;
     let row = PartitionRow {
         name,
         period,

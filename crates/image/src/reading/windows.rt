@@ -8,6 +8,7 @@ use crate::fault::ImageFault;
 use crate::reading::choices::truth_at;
 use crate::reading::numbers::{byte_at, u32_at, u32_within};
 use crate::reading::rows::Row;
+use apex_types::limits::Limits;
 use apex_types::{PartitionId, WindowRow};
 
 /// The tick after the window's last one, counted from the frame's start.
@@ -40,10 +41,11 @@ fn offset_at(end: u64, bytes: &[u8]) -> Result<(u32, &[u8]), ImageFault>
 }
 
 impl Row for WindowRow {
-    ghost reads = { window_at };
+    ghost reads = { λ _. window_at };
 
     #[tactic(auto, unfolding(machine_meaning::specs::ImageReading::window_at))]
     fn read<'a>(
+        _limits: Limits,
         before: &[WindowRow],
         bytes: &'a [u8],
     ) -> Result<(WindowRow, &'a [u8]), ImageFault> {

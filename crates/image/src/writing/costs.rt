@@ -23,13 +23,13 @@ fn put_costs(out: &mut Vec<u8>, own: &Costs) -> Result<(), AllocError>
     put_rows(out, &own.in_order())
 }
 
-/// The fields of images of this version: the first has none, the second its costs.
+/// The fields of images of this version: the first has none, the others their costs.
 #[tactic(auto, unfolding(machine_meaning::specs::ImageSpelling::own_fields))]
 pub fn put_own_fields(out: &mut Vec<u8>, version: ImageVersion) -> Result<(), AllocError>
     ensures { OnOk result (out.new.items ≡ out.old.items ++ own_fields version) }
 {
     match version {
         ImageVersion::First => Ok(()),
-        ImageVersion::Second { costs } => put_costs(out, &costs),
+        ImageVersion::Second { costs } | ImageVersion::Third { costs } => put_costs(out, &costs),
     }
 }

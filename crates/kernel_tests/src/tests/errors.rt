@@ -2,10 +2,10 @@
 
 ghost use Rattle.apex_types.specs.Room.{HasRoom};
 
+use super::outs::{expect_action, expect_line, no_output};
 use apex_types::{
-    Action, ArrayPlace, At, BodyRow, ErrorKind, ErrorLevel, Event, HealthTable, Mode, Moment, Name,
-    Out, PartitionAction, Priority, ProcessIndex, ProcessRow, Response, Runner, Ticks,
-    WaitingError, Words, WriterSink, write_event,
+    ActionKind, ArrayPlace, At, BodyRow, ErrorKind, ErrorLevel, HealthTable, Mode, Moment, Name,
+    Out, PartitionAction, Priority, ProcessIndex, ProcessRow, Response, Runner, Ticks, Words,
 };
 use health::{
     Errors, action_of, create_error_handler, free_places, get_error_status, handler_stays,
@@ -26,6 +26,9 @@ const HEALTH: HealthTable = HealthTable {
 };
 
 const PROCESS: Runner = Runner::Process(ProcessIndex(0));
+
+/// The answer to a call of the handler.
+const REPLY: ActionKind = ActionKind::Reply(Runner::Handler);
 
 const NUMERIC: ErrorKind = ErrorKind::NumericError;
 
@@ -55,7 +58,7 @@ fn no_errors(rt: &impl Abort, alloc: Global) -> Errors {
 fn errors(rt: &impl Abort, alloc: Global, waiting: u8) -> Errors {
     let mut errors = no_errors(rt, alloc);
     for _ in 0..waiting {
-        errors.queue(&raised());
+        errors.queue(ErrorKind::ApplicationError, ProcessIndex(0), &[7, -8]);
     }
     errors
 }
@@ -90,54 +93,11 @@ fn words(first: i64, second: i64) -> Words {
     words
 }
 
-/// The error of the process that it raised, with two words.
-fn raised() -> WaitingError {
-    WaitingError {
-        kind: ErrorKind::ApplicationError,
-        process: ProcessIndex(0),
-        words: words(7, -8),
-    }
-}
-
-/// Expects that a step wrote this line last, as that of partition `a` at tick 3.
-fn expect_line(rt: &impl Abort, alloc: Global, out: &mut Out, line: &str) {
-    let event = Event {
-        tick: Ticks(3),
-        partition: Name::new(b"a"),
-        kind: out.lines.pop().expect(rt, "a line"),
-    };
-    let mut sink = WriterSink::new(Vec::new(alloc));
-    let _ = write_event(&event, &mut sink);
-    assert_eq!(rt; sink.writer.as_slice(), line.as_bytes());
-}
-
-/// Expects that a step asked for this answer last, to the handler.
-fn expect_answer(rt: &impl Abort, out: &mut Out, answer: &[i64]) {
-    match out.actions.pop() {
-        Some(Action::Reply(runner, words)) => {
-            assert_eq!(rt; runner, Runner::Handler);
-            assert_eq!(rt; words.as_slice(), answer);
-        }
-        _ => panic!(rt; "no answer"),
-    }
-}
-
-/// Expects that a step asked for these words last, at this place of the data.
-fn expect_words(rt: &impl Abort, out: &mut Out, at: i64, written: &[i64]) {
-    match out.actions.pop() {
-        Some(Action::Write(place, words)) => {
-            assert_eq!(rt; place, at);
-            assert_eq!(rt; words.as_slice(), written);
-        }
-        _ => panic!(rt; "no words"),
-    }
-}
-
 /// The output of the start of the handler, if `waiting` errors wait.
 fn started(rt: &impl Abort, alloc: Global, waiting: u8) -> Out {
-    let mut out = Out::new();
+    let mut out = no_output(rt, alloc);
     let mut table = with_handler(rt, alloc, &mut out);
-    let mut out = Out::new();
+    let mut out = no_output(rt, alloc);
     let errors = errors(rt, alloc, waiting);
     start_handler(&mut table, &errors, Mode::Normal, &mut out);
     out
@@ -145,7 +105,7 @@ fn started(rt: &impl Abort, alloc: Global, waiting: u8) -> Out {
 
 /// The response to an error, if the handler is created and `waiting` errors wait.
 fn response(rt: &impl Abort, alloc: Global, waiting: u8, runner: Runner) -> Response {
-    let mut out = Out::new();
+    let mut out = no_output(rt, alloc);
     let table = with_handler(rt, alloc, &mut out);
     let errors = errors(rt, alloc, waiting);
     match level_of(Mode::Normal, &table, &errors, runner) {
@@ -156,7 +116,7 @@ fn response(rt: &impl Abort, alloc: Global, waiting: u8, runner: Runner) -> Resp
 
 /// The number of further errors that may wait, if the handler is created and `waiting` errors wait.
 fn places(rt: &impl Abort, alloc: Global, waiting: u8, mode: Mode) -> u8 {
-    let mut out = Out::new();
+    let mut out = no_output(rt, alloc);
     let table = with_handler(rt, alloc, &mut out);
     free_places(&table, &errors(rt, alloc, waiting), mode)
 }
@@ -168,28 +128,28 @@ fn places_without_handler(rt: &impl Abort, alloc: Global) -> u8 {
 
 #[test]
 fn the_handler_is_created(rt: HostRuntime) {
-    let mut out = Out::new();
+    let mut out = no_output(&rt, rt.alloc());
     let _ = with_handler(&rt, rt.alloc(), &mut out);
     let line = "0000000000003 a RET INIT CREATE_ERROR_HANDLER 0\n";
-    expect_line(&rt, rt.alloc(), &mut out, line);
+    expect_line(&rt, rt.alloc(), &out, 0, line);
 }
 
 #[test]
 fn the_handler_starts_for_an_error(rt: HostRuntime) {
-    assert!(rt; started(&rt, rt.alloc(), 0).lines.is_empty());
-    let mut out = started(&rt, rt.alloc(), 1);
+    assert!(rt; started(&rt, rt.alloc(), 0).line(0).is_none());
+    let out = started(&rt, rt.alloc(), 1);
     let line = "0000000000003 a STATE HANDLER READY\n";
-    expect_line(&rt, rt.alloc(), &mut out, line);
+    expect_line(&rt, rt.alloc(), &out, 0, line);
 }
 
 #[test]
 fn whether_the_handler_would_start(rt: HostRuntime) {
-    let mut out = Out::new();
+    let mut out = no_output(&rt, rt.alloc());
     let mut table = with_handler(&rt, rt.alloc(), &mut out);
     let errors = errors(&rt, rt.alloc(), 1);
     assert!(rt; handler_stays(&table, &errors, Mode::ColdStart));
     assert!(rt; !handler_stays(&table, &errors, Mode::Normal));
-    let mut out = Out::new();
+    let mut out = no_output(&rt, rt.alloc());
     start_handler(&mut table, &errors, Mode::Normal, &mut out);
     assert!(rt; handler_stays(&table, &errors, Mode::Normal));
 }
@@ -207,7 +167,7 @@ fn an_error_is_taken(rt: HostRuntime) {
     let table = table(&rt, rt.alloc());
     let mut errors = errors(&rt, rt.alloc(), 2);
     let array = ArrayPlace { base: 4, size: 16 };
-    let mut out = Out::new();
+    let mut out = no_output(&rt, rt.alloc());
     get_error_status(
         &table,
         &mut errors,
@@ -216,9 +176,9 @@ fn an_error_is_taken(rt: HostRuntime) {
         &mut out,
     );
     let line = "0000000000003 a RET HANDLER GET_ERROR_STATUS 0\n";
-    expect_line(&rt, rt.alloc(), &mut out, line);
-    expect_words(&rt, &mut out, 4, &[7, -8]);
-    expect_answer(&rt, &mut out, &[0, 1, 1, 2]);
+    expect_line(&rt, rt.alloc(), &out, 0, line);
+    expect_action(&rt, &out, 0, REPLY, &[0, 1, 1, 2]);
+    expect_action(&rt, &out, 1, ActionKind::Write(4), &[7, -8]);
 }
 
 #[test]
@@ -227,7 +187,7 @@ fn cleared_errors_are_gone(rt: HostRuntime) {
     let mut errors = errors(&rt, rt.alloc(), 2);
     errors.clear();
     let array = ArrayPlace { base: 4, size: 16 };
-    let mut out = Out::new();
+    let mut out = no_output(&rt, rt.alloc());
     get_error_status(
         &table,
         &mut errors,
@@ -235,7 +195,7 @@ fn cleared_errors_are_gone(rt: HostRuntime) {
         array,
         &mut out,
     );
-    expect_answer(&rt, &mut out, &[1, 0, 0, 0]);
+    expect_action(&rt, &out, 0, REPLY, &[1, 0, 0, 0]);
 }
 
 #[test]
@@ -256,9 +216,9 @@ fn a_message_is_reported(rt: HostRuntime) {
         array: ArrayPlace { base: 0, size: 2 },
         length: 1,
     };
-    let mut out = Out::new();
+    let mut out = no_output(&rt, rt.alloc());
     report_application_message(&table, request(PROCESS), handed, &words, &mut out);
-    expect_line(&rt, rt.alloc(), &mut out, "0000000000003 a REPORT p 5\n");
+    expect_line(&rt, rt.alloc(), &out, 1, "0000000000003 a REPORT p 5\n");
 }
 
 #[test]

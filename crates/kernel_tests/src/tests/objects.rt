@@ -2,8 +2,9 @@
 
 ghost use Rattle.std.specs.Prelude.{◌≡◌, None};
 
+use super::outs::{expect_action, no_output};
 use apex_types::{
-    Action, At, BodyRow, Discipline, Mode, Moment, Name, Out, Priority, ProcessIndex, ProcessRow,
+    ActionKind, At, BodyRow, Discipline, Mode, Moment, Name, Priority, ProcessIndex, ProcessRow,
     Runner, SemaphoreRow, Service, Ticks,
 };
 use process_table_base::{Points, ProcessRows, ProcessTable, Request};
@@ -67,24 +68,14 @@ fn request(mode: Mode) -> Request {
 }
 
 /// Starts a process without a delay.
-fn start(table: &mut ProcessTable, runner: Runner) {
+fn start(rt: &impl Abort, alloc: Global, table: &mut ProcessTable, runner: Runner) {
     let points = Points {
         moment: MOMENT,
         next: Ticks(40),
     };
     if let Some(process) = table.found(runner) {
-        table.start(Mode::Normal, points, &process, Ticks(0), &mut Out::new());
-    }
-}
-
-/// Expects that a step asked for this answer last, to INIT.
-fn expect_answer(rt: &impl Abort, out: &mut Out, answer: &[i64]) {
-    match out.actions.pop() {
-        Some(Action::Reply(runner, words)) => {
-            assert_eq!(rt; runner, Runner::Init);
-            assert_eq!(rt; words.as_slice(), answer);
-        }
-        _ => panic!(rt; "no answer"),
+        let mut out = no_output(rt, alloc);
+        table.start(Mode::Normal, points, &process, Ticks(0), &mut out);
     }
 }
 
@@ -98,18 +89,18 @@ fn expect_created(
     answer: &[i64],
 ) {
     let table = table(rt, alloc);
-    let mut out = Out::new();
+    let mut out = no_output(rt, alloc);
     let created = table.answer_create(&request(mode), Service::CreateEvent, 3, found, &mut out);
     assert_eq!(rt; created, place);
-    expect_answer(rt, &mut out, answer);
+    expect_action(rt, &out, 0, ActionKind::Reply(Runner::Init), answer);
 }
 
 /// Expects this answer of GET_EVENT_ID with number 3.
 fn expect_id(rt: &impl Abort, alloc: Global, created: bool, answer: &[i64]) {
     let table = table(rt, alloc);
-    let mut out = Out::new();
+    let mut out = no_output(rt, alloc);
     table.answer_id(Runner::Init, Service::GetEventId, 3, created, &mut out);
-    expect_answer(rt, &mut out, answer);
+    expect_action(rt, &out, 0, ActionKind::Reply(Runner::Init), answer);
 }
 
 #[test]
@@ -159,11 +150,11 @@ fn a_created_object_is_so(rt: HostRuntime) {
 #[test]
 fn a_process_goes_behind_its_equal(rt: HostRuntime) {
     let mut table = table(&rt, rt.alloc());
-    start(&mut table, FIRST);
-    start(&mut table, SECOND);
-    table.choose(Mode::Normal, &mut Out::new());
+    start(&rt, rt.alloc(), &mut table, FIRST);
+    start(&rt, rt.alloc(), &mut table, SECOND);
+    table.choose(Mode::Normal, &mut no_output(&rt, rt.alloc()));
     assert_eq!(rt; table.running(), Some(FIRST));
     table.go_last(FIRST);
-    table.choose(Mode::Normal, &mut Out::new());
+    table.choose(Mode::Normal, &mut no_output(&rt, rt.alloc()));
     assert_eq!(rt; table.running(), Some(SECOND));
 }

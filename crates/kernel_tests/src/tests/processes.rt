@@ -1,9 +1,9 @@
 //! A process with a time capacity: when something is due for it, and whether a choice would change
 //! anything.
 
+use super::outs::no_output;
 use apex_types::{
-    At, BodyRow, Mode, Moment, Name, Out, Priority, ProcessIndex, ProcessRow, Runner, Subject,
-    Ticks,
+    At, BodyRow, Mode, Moment, Name, Priority, ProcessIndex, ProcessRow, Runner, Subject, Ticks,
 };
 use process_table_base::{Points, ProcessRows, ProcessTable, name_of};
 use std::alloc::Global;
@@ -29,7 +29,7 @@ fn table(rt: &impl Abort, alloc: Global) -> ProcessTable {
 }
 
 /// The process is started at tick 10 of normal mode.
-fn start(table: &mut ProcessTable) {
+fn start(rt: &impl Abort, alloc: Global, table: &mut ProcessTable) {
     let moment = Moment {
         at: At {
             now: Ticks(10),
@@ -41,7 +41,8 @@ fn start(table: &mut ProcessTable) {
         next: Ticks(40),
     };
     if let Some(process) = table.found(PROCESS) {
-        table.start(Mode::Normal, points, &process, Ticks(0), &mut Out::new());
+        let mut out = no_output(rt, alloc);
+        table.start(Mode::Normal, points, &process, Ticks(0), &mut out);
     }
 }
 
@@ -65,7 +66,7 @@ fn someone_is_found_with_its_name(rt: HostRuntime) {
 #[test]
 fn a_deadline_ends_the_quiet_ticks(rt: HostRuntime) {
     let mut table = table(&rt, rt.alloc());
-    start(&mut table);
+    start(&rt, rt.alloc(), &mut table);
     assert_eq!(rt; table.next_due(), Some(Ticks(30)));
     assert_eq!(rt; table.quiet_ticks(Ticks(10), 1000), 20);
     assert_eq!(rt; table.quiet_ticks(Ticks(30), 1000), 0);
@@ -75,8 +76,8 @@ fn a_deadline_ends_the_quiet_ticks(rt: HostRuntime) {
 fn a_choice_changes_nothing_twice(rt: HostRuntime) {
     let mut table = table(&rt, rt.alloc());
     assert!(rt; table.choice_stays(Mode::Normal));
-    start(&mut table);
+    start(&rt, rt.alloc(), &mut table);
     assert!(rt; !table.choice_stays(Mode::Normal));
-    table.choose(Mode::Normal, &mut Out::new());
+    table.choose(Mode::Normal, &mut no_output(&rt, rt.alloc()));
     assert!(rt; table.choice_stays(Mode::Normal));
 }

@@ -188,7 +188,7 @@ fn expect_tick(
     requires { laid_of mem.old ≡ layout_of partition.old.executor }
     ensures { laid_of mem.new ≡ layout_of partition.new.executor }
 {
-    let mut trace = TraceBuffer::new();
+    let mut trace = TraceBuffer::new(alloc).expect(rt, "memory");
     let moment = Moment {
         at: At {
             now: Ticks(u64::from(now)),

@@ -8,7 +8,7 @@ use std::process::Abort;
 use trace_text::{TraceFault, TraceReader, check_trace, read_line};
 
 /// Lines of the pages and of the examples, and one of each form with its greatest numbers.
-static LINES: [&str; 22] = [
+static LINES: [&str; 23] = [
     "0000000000047 a REPORT p 28 7\n",
     "0000000000000 a MODE COLD_START\n",
     "0000000000000 a STATE INIT READY\n",
@@ -31,6 +31,7 @@ static LINES: [&str; 22] = [
     "1099511627775 a RET HANDLER REPORT_APPLICATION_MESSAGE 6\n",
     "9999999999999 a23456789_b23456789_c23456789_ MODE IDLE\n",
     "0000000000001 a OUT c 0 -1 9223372036854775807 -9223372036854775808 4 5 6 7 8 9 10 11 12 13 14 15\n",
+    "0000000000002 a MOVE q -7 -7 -7 -7 -7 -7 -7 -7 -7 -7 -7 -7 -7 -7 -7 -7 -7 -7 -7 -7 -7 -7 -7 -7 -7 -7 -7 -7 -7 -7 -7 -7 -7 -7 -7 -7 -7 -7 -7 -7 -7 -7 -7 -7 -7 -7 -7 -7 -7 -7 -7 -7 -7 -7 -7 -7 -7 -7 -7 -7 -7 -7 -7 -7\n",
 ];
 
 /// Lines that no event has, each one step away from a line of a trace.
@@ -75,7 +76,7 @@ static WRONG_LINES: [&str; 41] = [
     "0000000000004 a REPORT p -0\n",
     "0000000000004 a REPORT p +1\n",
     "0000000000004 a MOVE q 9223372036854775808\n",
-    "0000000000004 a MOVE q 1 2 3 4 5 6 7 8 9 10 11 12 13 14 15 16 17\n",
+    "0000000000004 a MOVE q 1 1 1 1 1 1 1 1 1 1 1 1 1 1 1 1 1 1 1 1 1 1 1 1 1 1 1 1 1 1 1 1 1 1 1 1 1 1 1 1 1 1 1 1 1 1 1 1 1 1 1 1 1 1 1 1 1 1 1 1 1 1 1 1 1\n",
 ];
 
 /// A trace of eight ticks that TEXTS.md shows.

@@ -5,5 +5,5 @@ use Rattle.apex_types.proofs.text.push_words.Given as goal
 
 abbrev pub invariant-loop-word : goal.invariant-loop-word
 invariant-loop-word g l =
-    (l.line.items ≡ l.initial.line.items ++ words_text (take l.word-index l.words))
-    × (length l.line.items ≤ length l.initial.line.items + MOST_WORD_BYTES * l.word-index)
+    (g.T.Text.text l.line ≡ g.T.Text.text l.initial.line ++ words_text (take l.word-index l.words))
+    × (g.T.Text.room l.initial.line ≤ g.T.Text.room l.line + MOST_WORD_BYTES * l.word-index)

@@ -11,7 +11,7 @@ use Rattle.command_line.specs.States.{state}
 use Rattle.command_words.specs.declared.failure.Failure.TheVariants.{Refused}
 use Rattle.command_words.specs.Found.{words_at}
 use Rattle.command_words.proofs.Found.{words_are}
-use Rattle.command_line.proofs.Found.{check_is, build_is, run_is, replay_is, inputs_is, cost_is, dis_is, other_is, none_entered}
+use Rattle.command_line.proofs.Found.{check_is, build_is, run_is, replay_is, inputs_is, cost_is, dis_is, upgrade_is, other_is, none_entered}
 use Rattle.command_line.proofs.Ran.{told_as}
 use Rattle.command_line.proofs.commands.obey.Goals.{in_default-via-in-Some+in_default, in_default-via-in_default}
 use Rattle.command_line.proofs.commands.obey.Goals as goal
@@ -66,6 +66,17 @@ returns-in_err-dis-in-Some-dis-default-clause-failed g c =
     told_as _ (Refused r) c.from_residual-in_err-dis-in-Some-dis-default.result c.from_residual-in_err-dis-in-Some-dis-default.ensures
     (subst (λ o. IsRefused o before after r) (sym order) c.in_err-dis-in-Some-dis-default.ensures.refused)
 
+pub returns-in_err-upgrade-in-Some-upgrade-default-clause-failed : goal.returns-in_err-upgrade-in-Some-upgrade-default-clause-failed
+returns-in_err-upgrade-in-Some-upgrade-default-clause-failed g c =
+    let before = state (g.F.Files.contents c.args.files.now) (seen g.O.Sink.taken g.O.Sink.failures g.O.Stream.is_flushed c.args.out.now) in
+    let after = state (g.F.Files.contents c.upgrade.new.files) (seen g.O.Sink.taken g.O.Sink.failures g.O.Stream.is_flushed c.upgrade.new.out) in
+    let arm = c.in-Some-upgrade-default in
+    let rows = rows_of (found_of arm.found.now) in
+    let order = upgrade_is c.args.matches.now arm.field-0-0.now rows c.word-old.result.now c.word-new.result.now arm.ensures.name arm.ensures.rows arm.is-upgrade c.word-old.ensures c.word-new.ensures in
+    let r = c.in_err-upgrade-in-Some-upgrade-default.field-0.0 in
+    told_as _ (Refused r) c.from_residual-in_err-upgrade-in-Some-upgrade-default.result c.from_residual-in_err-upgrade-in-Some-upgrade-default.ensures
+    (subst (λ o. IsRefused o before after r) (sym order) c.in_err-upgrade-in-Some-upgrade-default.ensures.refused)
+
 pub returns-in_ok-check-in-Some-check-default-clause-done : goal.returns-in_ok-check-in-Some-check-default-clause-done
 returns-in_ok-check-in-Some-check-default-clause-done g c =
     let before = state (g.F.Files.contents c.args.files.now) (seen g.O.Sink.taken g.O.Sink.failures g.O.Stream.is_flushed c.args.out.now) in
@@ -108,6 +119,15 @@ returns-in_ok-dis-in-Some-dis-default-clause-done g c =
     let order = dis_is c.args.matches.now arm.field-0-0.now rows c.word-in-Some-dis-default.result.now arm.ensures.name arm.ensures.rows arm.is-dis c.word-in-Some-dis-default.ensures in
     subst (λ o. IsDone o before after) (sym order) c.in_ok-dis-in-Some-dis-default.ensures.done
 
+pub returns-in_ok-upgrade-in-Some-upgrade-default-clause-done : goal.returns-in_ok-upgrade-in-Some-upgrade-default-clause-done
+returns-in_ok-upgrade-in-Some-upgrade-default-clause-done g c =
+    let before = state (g.F.Files.contents c.args.files.now) (seen g.O.Sink.taken g.O.Sink.failures g.O.Stream.is_flushed c.args.out.now) in
+    let after = state (g.F.Files.contents c.upgrade.new.files) (seen g.O.Sink.taken g.O.Sink.failures g.O.Stream.is_flushed c.upgrade.new.out) in
+    let arm = c.in-Some-upgrade-default in
+    let rows = rows_of (found_of arm.found.now) in
+    let order = upgrade_is c.args.matches.now arm.field-0-0.now rows c.word-old.result.now c.word-new.result.now arm.ensures.name arm.ensures.rows arm.is-upgrade c.word-old.ensures c.word-new.ensures in
+    subst (λ o. IsDone o before after) (sym order) c.in_ok-upgrade-in-Some-upgrade-default.ensures.done
+
 pub returns-in-Some-run-default-clause-done : goal.returns-in-Some-run-default-clause-done
 returns-in-Some-run-default-clause-done g c =
     let before = state (g.F.Files.contents c.args.files.now) (seen g.O.Sink.taken g.O.Sink.failures g.O.Stream.is_flushed c.args.out.now) in
@@ -143,7 +163,7 @@ returns-in_err-run_stored-in_default-clause-failed g c =
     let before = state (g.F.Files.contents c.args.files.now) (seen g.O.Sink.taken g.O.Sink.failures g.O.Stream.is_flushed c.args.out.now) in
     let after = state (g.F.Files.contents c.args.files.now) (seen g.O.Sink.taken g.O.Sink.failures g.O.Stream.is_flushed c.run_stored.new.out) in
     let order : order_of (subcommand_rows_of c.args.matches.now) ≡ First = elim c.in_default.branch [
-      | in_default-via-in-Some+in_default w ↦ other_is c.args.matches.now w.in_default.field-0.0.now (rows_of (found_of w.in_default.field-0.1.now)) (search (rules, c.subcommand.ensures.name)) (search (rules, c.subcommand.ensures.rows)) (search rules) (search rules) (search rules) (search rules) (search rules) (search rules) (search rules)
+      | in_default-via-in-Some+in_default w ↦ other_is c.args.matches.now w.in_default.field-0.0.now (rows_of (found_of w.in_default.field-0.1.now)) (search (rules, c.subcommand.ensures.name)) (search (rules, c.subcommand.ensures.rows)) (search rules) (search rules) (search rules) (search rules) (search rules) (search rules) (search rules) (search rules)
       | in_default-via-in_default w ↦ none_entered c.args.matches.now (search (rules, c.subcommand.ensures.name))
     ] in
     let r = c.in_err-run_stored-in_default.field-0.0 in
@@ -155,7 +175,7 @@ returns-in_ok-run_stored-in_default-clause-done g c =
     let before = state (g.F.Files.contents c.args.files.now) (seen g.O.Sink.taken g.O.Sink.failures g.O.Stream.is_flushed c.args.out.now) in
     let after = state (g.F.Files.contents c.args.files.now) (seen g.O.Sink.taken g.O.Sink.failures g.O.Stream.is_flushed c.run_stored.new.out) in
     let order : order_of (subcommand_rows_of c.args.matches.now) ≡ First = elim c.in_default.branch [
-      | in_default-via-in-Some+in_default w ↦ other_is c.args.matches.now w.in_default.field-0.0.now (rows_of (found_of w.in_default.field-0.1.now)) (search (rules, c.subcommand.ensures.name)) (search (rules, c.subcommand.ensures.rows)) (search rules) (search rules) (search rules) (search rules) (search rules) (search rules) (search rules)
+      | in_default-via-in-Some+in_default w ↦ other_is c.args.matches.now w.in_default.field-0.0.now (rows_of (found_of w.in_default.field-0.1.now)) (search (rules, c.subcommand.ensures.name)) (search (rules, c.subcommand.ensures.rows)) (search rules) (search rules) (search rules) (search rules) (search rules) (search rules) (search rules) (search rules)
       | in_default-via-in_default w ↦ none_entered c.args.matches.now (search (rules, c.subcommand.ensures.name))
     ] in
     subst (λ o. IsDone o before after) (sym order) (refl, c.in_ok-run_stored-in_default.ensures.done)

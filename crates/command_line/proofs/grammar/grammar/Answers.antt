@@ -1,6 +1,6 @@
 use Rattle.std.proofs.Common.{codes}
 use Rattle.clap.specs.Simple.{new_app, with_subcommand}
-use Rattle.command_line.specs.Words.{check_app, build_app, run_app, replay_app, inputs_app, cost_app, dis_app}
+use Rattle.command_line.specs.Words.{check_app, build_app, run_app, replay_app, inputs_app, cost_app, dis_app, upgrade_app}
 use Rattle.command_words.proofs.Subcommands.{one_more, last_one}
 use Rattle.command_line.proofs.grammar.grammar.Goals as goal
 
@@ -13,10 +13,12 @@ returns c =
     let four = with_subcommand three replay_app.top in
     let five = with_subcommand four inputs_app.top in
     let six = with_subcommand five cost_app.top in
+    let seven = with_subcommand six dis_app.top in
     let checks = one_more c.program.result c.in_ok-check.field-0 c.in_ok-subcommand.field-0 none check_app c.program.ensures c.in_ok-check.ensures c.in_ok-subcommand.ensures in
     let builds = one_more c.in_ok-subcommand.field-0 c.in_ok-build.field-0 c.in_ok-subcommand-2.field-0 one build_app checks c.in_ok-build.ensures c.in_ok-subcommand-2.ensures in
     let runs = one_more c.in_ok-subcommand-2.field-0 c.in_ok-run.field-0 c.in_ok-subcommand-3.field-0 two run_app builds c.in_ok-run.ensures c.in_ok-subcommand-3.ensures in
     let replays = one_more c.in_ok-subcommand-3.field-0 c.in_ok-replay.field-0 c.in_ok-subcommand-4.field-0 three replay_app runs c.in_ok-replay.ensures c.in_ok-subcommand-4.ensures in
     let inputs = one_more c.in_ok-subcommand-4.field-0 c.in_ok-inputs.field-0 c.in_ok-subcommand-5.field-0 four inputs_app replays c.in_ok-inputs.ensures c.in_ok-subcommand-5.ensures in
     let costs = one_more c.in_ok-subcommand-5.field-0 c.in_ok-cost.field-0 c.in_ok-subcommand-6.field-0 five cost_app inputs c.in_ok-cost.ensures c.in_ok-subcommand-6.ensures in
-    last_one c.in_ok-subcommand-6.field-0 c.in_ok-dis.field-0 c.subcommand-7.result six dis_app costs c.in_ok-dis.ensures c.subcommand-7.ensures
+    let listings = one_more c.in_ok-subcommand-6.field-0 c.in_ok-dis.field-0 c.in_ok-subcommand-7.field-0 six dis_app costs c.in_ok-dis.ensures c.in_ok-subcommand-7.ensures in
+    last_one c.in_ok-subcommand-7.field-0 c.in_ok-upgrade.field-0 c.subcommand-8.result seven upgrade_app listings c.in_ok-upgrade.ensures c.subcommand-8.ensures

@@ -1,7 +1,7 @@
 use Rattle.std.proofs.Common.{◌≡◌, suc, ◌+◌, ◌<◌, ◌≤◌, length, get_or, arith, rules, w64}
 use Rattle.std.proofs.Math.Seq.{drop-cons}
 use Rattle.std.proofs.lemmas.Nat.Bits.{bit_at_set_same, bit_at_set_other}
-use Rattle.apex_types.specs.declared.limits.TheConstants.{MOST_PROCESSES}
+use Rattle.apex_types.specs.declared.limits.TheConstants.{MARK_BITS, MOST_PROCESSES}
 use Rattle.links.specs.declared.dues.DueEntry.{DueEntry}
 use Rattle.links.proofs.DueMask.{all_there, none_later, one_more, process_below}
 use Rattle.links.proofs.dues.due_by.Goals as goal
@@ -22,7 +22,7 @@ loop-place-preserved c =
     let e = get_or c.args.dues.now.items c.loop-place.place nobody in
     let inside : c.loop-place.place < length c.args.dues.now.items = search rules in
     let below : (get_or c.args.dues.now.items c.loop-place.place nobody).process.0 < MOST_PROCESSES = process_below MOST_PROCESSES place es nobody inside c.requires.below in
-    let bit : (get_or c.args.dues.now.items c.loop-place.place nobody).process.0 < 64 = omega (arith, below) in
+    let bit : (get_or c.args.dues.now.items c.loop-place.place nobody).process.0 < MARK_BITS = omega (arith, below) in
     let come : (get_or c.args.dues.now.items c.loop-place.place nobody).tick.0 ≤ c.args.now.0 = rw c.deref.ensures.0 at c.if-deref-place.true in
     let next : place + 1 ≡ suc place = omega arith in
     rw (c.deref-in-loop-place.ensures.0, next) (omega (arith, inside), one_more c.args.now.0 place c.loop-place.mask _ e es (drop-cons es place nobody inside) come (bit_at_set_same w64 c.loop-place.mask e.process.0 bit) (λ i other. bit_at_set_other w64 c.loop-place.mask e.process.0 bit i other) c.loop-place.invariant.1)

@@ -1,8 +1,15 @@
-use Rattle.std.proofs.Common.{rules}
+use Rattle.std.proofs.Common.{rules, ◌≡◌, ◌≤◌, List, Result, Err, sym, ap, subst}
+use Rattle.apex_types.specs.declared.limits.TheConstants.{MOST_TICKS}
+use Rattle.machine_meaning.specs.Image.{Image}
 use Rattle.machine_meaning.specs.ImageReading.{image_at}
+use Rattle.machine_meaning.specs.MachineMeaning.{verdict_for}
 use Rattle.image.specs.Views.{image_of}
+use Rattle.module.specs.Machines.{Machine}
+use Rattle.module.specs.Running.{AreRefused}
 use Rattle.module.specs.Runs.{Runs}
+use Rattle.module.specs.declared.fault.RunFault.{RunFault}
 use Rattle.module.proofs.Isolated.{run_isolated}
+use Rattle.module.proofs.Runs.{device_refused}
 use Rattle.module.proofs.running.run.Goals as goal
 
 pub returns-clause-isolated : goal.returns-clause-isolated
@@ -11,3 +18,15 @@ returns-clause-isolated g c =
     let read = image_at c.args.image.now in
     let trace : Runs read c.args.devices.now c.args.ticks (g.S.Sink.taken c.args.sink.now) (g.S.Sink.taken c.run_ticks.new.sink) c.run_ticks.result = search rules in
     run_isolated read (image_of image) c.args.devices.now c.args.ticks _ _ c.run_ticks.result image.lawful c.in_ok-load_image.ensures trace
+
+pub returns-in_err-lines-clause-trace : goal.returns-in_err-lines-clause-trace
+returns-in_err-lines-clause-trace g c =
+    let read = image_at c.args.image.now in
+    let loaded = image_of c.in_ok-load_image.field-0 in
+    let devices = c.args.devices.now in
+    let old = g.S.Sink.taken c.args.sink.now in
+    let fault = c.in_err-lines.field-0.0 in
+    let few : c.args.ticks ≤ MOST_TICKS = search rules in
+    let refused = subst (λ (image : Image). AreRefused (verdict_for image devices) fault) (ap (λ (m : Machine). m.image) c.in_ok-machine.ensures) c.in_err-lines.ensures.refused in
+    let answer : c.from_residual-in_err-lines.result ≡ Err fault = search rules in
+    subst (λ (r : Result (Unit {0}) RunFault). Runs read devices c.args.ticks old old r) (sym answer) (device_refused read loaded devices c.args.ticks old fault c.in_ok-load_image.ensures few refused)

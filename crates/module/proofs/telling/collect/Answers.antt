@@ -1,4 +1,4 @@
-use Rattle.std.proofs.Common.{rules, ◌≡◌, ◌+◌, ◌-◌, ◌++◌, ℕ, suc, List, [], map, refl, sym, ap, subst, ◌∙◌, arith}
+use Rattle.std.proofs.Common.{rules, ◌≡◌, ◌+◌, ◌-◌, ◌++◌, ℕ, suc, List, [], length, map, Result, Err, IfErr, refl, sym, ap, subst, ◌∙◌, arith}
 use Rattle.module_meaning.specs.Module.{Plan}
 use Rattle.machine_meaning.specs.MachineMeaning.{machine_module}
 use Rattle.image.specs.Views.{image_of}
@@ -8,11 +8,13 @@ use Rattle.isolation.specs.declared.input.InputLine.{InputLine}
 use Rattle.machine_meaning.specs.MachineControl.{MachineControl}
 use Rattle.image.specs.declared.value.Image as code
 use Rattle.partition_base.specs.contracts.machine.PartitionProcessorExecutor.TheImpl.{ghosts as machine}
-use Rattle.module.specs.Collecting.{brought_next, brought_of}
+use Rattle.module.specs.Collecting.{HasNoRoom, brought_next, brought_of}
 use Rattle.module.specs.Standing.{Standing, after, ticks}
 use Rattle.module.specs.Views.{members_in, plan_of, standing_of}
 use Rattle.module.specs.Written.{AreFrom}
-use Rattle.module.proofs.Brought.{all_came, comes_further, is_brought, none_brought, tick_brings}
+use Rattle.module.specs.declared.collected.Collected.{Collected}
+use Rattle.module.specs.declared.inputs_fault.InputsFault.{InputsFault}
+use Rattle.module.proofs.Brought.{all_came, comes_further, is_brought, no_room_for_all, none_brought, tick_brings}
 use Rattle.module.proofs.telling.collect.Goals as goal
 use Rattle.module.proofs.telling.collect.Goals.{then-loop-left-test+else-is_some, else-loop-left-test}
 
@@ -72,3 +74,24 @@ returns-clause-inputs c =
       | else-loop-left-test w ↦ let over : c.loop-left.left ≡ 0 = omega (arith, w.loop-left-test.false) in ap (λ (k : ℕ). brought_of plan c.args.watched.0 lines k s) over
     ] in
     all_came _ _ _ c.loop-left.invariant.so_far none
+
+pub returns-in_err-tick_watched-clause-refused : goal.returns-in_err-tick_watched-clause-refused
+returns-in_err-tick_watched-clause-refused c =
+    let i = c.loop-left.invariant in
+    let m = c.loop-left.module in
+    let s = standing_of machine m in
+    let plan = plan_of c.args.module.now.image in
+    let same : plan_of m.image ≡ plan = ap (λ (image : code.Image). plan_of image) i.image in
+    let watched = c.args.watched.0 in
+    let now = c.split_tick.result.0.now in
+    let later = c.split_tick.result.1.now in
+    let left = c.loop-left.left in
+    let one : left ≡ suc (left - 1) = omega (arith, c.loop-left-test.true) in
+    let own = c.split_tick.ensures in
+    let fault = c.in_err-tick_watched.field-0.0 in
+    let so_far = c.loop-left.inputs.lines.items in
+    let split = tick_brings plan watched c.loop-left.lines.now now later left (left - 1) s (after s (ticks plan now s)) one (own.of_tick ∙ own.own) own.rest refl in
+    let here = subst (λ (p : Plan). HasNoRoom (length so_far + length (brought_next p watched now s)) fault) same c.in_err-tick_watched.ensures.inputs in
+    let all = no_room_for_all m.now.0 _ so_far _ _ (brought_next plan watched now s) fault i.so_far split here in
+    let answer : c.from_residual-in_err-tick_watched.result ≡ Err fault = search rules in
+    subst (λ (r : Result Collected InputsFault). IfErr r (HasNoRoom (length (machine_inputs (image_of c.args.module.now.image) watched c.args.devices.now c.args.ticks)))) (sym answer) all

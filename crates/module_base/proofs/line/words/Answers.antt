@@ -1,10 +1,11 @@
 use Rattle.std.proofs.Common.{rules, ◌≡◌, ◌++◌, ◌∷◌, [], ◌∙◌, sym, ap, option_copied, length}
+use Rattle.apex_types.specs.declared.limits.TheConstants.{MOST_WORDS}
 use Rattle.module_base.proofs.LineWords.{keeps_one, drops_one, all_read}
 use Rattle.module_base.proofs.line.words.Goals as goal
 
 pub loop-rest-preserved-then-is_full : goal.loop-rest-preserved-then-is_full
 loop-rest-preserved-then-is_full c =
-    let full : length c.loop-rest.words.items ≡ 16 = search rules in
+    let full : length c.loop-rest.words.items ≡ MOST_WORDS = search rules in
     record {
       read = c.loop-rest.invariant.read
           ∙ drops_one c.loop-rest.words.items c.loop-rest.is_long (option_copied c.loop-rest.rest) c.in-Some.text.now c.split_at.result.0.now (option_copied c.split_at.result.1) c.in_ok-word.word full

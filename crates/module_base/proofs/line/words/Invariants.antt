@@ -1,4 +1,5 @@
 use Rattle.std.proofs.Common.{◌≡◌, ◌≤◌, option_map, option_copied, length}
+use Rattle.apex_types.specs.Line.{space}
 use Rattle.apex_types.specs.declared.limits.TheConstants.{MOST_WORDS}
 use Rattle.module_meaning.specs.DeviceText.{words, pieces}
 use Rattle.text_lines.specs.Pieces.{pieces_of}
@@ -9,7 +10,7 @@ use Rattle.module_base.proofs.line.words.Given as goal
 
 abbrev pub invariant-loop-rest : goal.invariant-loop-rest
 invariant-loop-rest l = record {
-  read : option_map fitting (words (pieces 32 l.fn.text)) ≡ read_on l.words.items l.is_long (words (pieces_of 32 (option_copied l.rest)));
+  read : option_map fitting (words (pieces space l.fn.text)) ≡ read_on l.words.items l.is_long (words (pieces_of space (option_copied l.rest)));
   short : length l.words.items ≤ MOST_WORDS;
 }
 

@@ -3,8 +3,8 @@ use Rattle.kernel_meaning.specs.Partition.{told}
 use Rattle.partition.proofs.acting.tell.Given as goal
 
 -- the lines so far are recorded
-abbrev pub invariant-loop-kind : goal.invariant-loop-kind
-invariant-loop-kind g l = record {
-  told : g.L.EventLog.held l.log ≡ g.L.EventLog.held l.fn.log ++ g.L.EventLog.pieces (told l.fn.name l.moment.at (take l.kind-index l.fn.lines.items));
-  room : g.L.EventLog.room l.fn.log ≤ g.L.EventLog.room l.log + l.kind-index;
+abbrev pub invariant-loop-place : goal.invariant-loop-place
+invariant-loop-place g l = record {
+  told : g.L.EventLog.held l.log ≡ g.L.EventLog.held l.fn.log ++ g.L.EventLog.pieces (told l.fn.name l.moment.at (take l.place l.out.lines));
+  room : g.L.EventLog.room l.fn.log ≤ g.L.EventLog.room l.log + l.place;
 }

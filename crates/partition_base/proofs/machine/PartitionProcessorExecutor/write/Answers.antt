@@ -7,4 +7,4 @@ use Rattle.partition_base.proofs.machine.PartitionProcessorExecutor.write.Goals 
 pub returns-then-place-ge0-clause-fits : goal.returns-then-place-ge0-clause-fits
 returns-then-place-ge0-clause-fits c =
     let mem = c.args.mem.now in
-    ap laid_of c.put.ensures ∙ ap (λ n. n ∷ stack_lengths mem) (length_put mem.words c.unsigned_abs.result c.deref.result.now) ∙ c.requires
+    ap laid_of c.put.ensures ∙ ap (λ n. n ∷ stack_lengths mem) (length_put mem.words c.unsigned_abs.result c.args.array.now) ∙ c.requires

@@ -19,8 +19,8 @@ returns-then-is_some-clause-treated c =
     let e = skipped ∙ due_ends c.args.moment.at c.args.action n p c.loop-process.free c.loop-process.self c.treat-treated.result.clears there made.2 (sym c.is_some.ensures ∙ c.if-is_some.true) in (
       (
         made.0.0 ∙ sym (ap (λ (t : Treated). t.step.part) e) ∙ inv.part,
-        made.0.1 ∙ sym (ap (λ (t : Treated). c.loop-process.out.lines.items ++ t.step.lines) e) ∙ inv.lines,
-        made.0.2 ∙ sym (ap (λ (t : Treated). c.loop-process.out.actions.items ++ t.step.actions) e) ∙ inv.actions,
+        made.0.1 ∙ sym (ap (λ (t : Treated). c.loop-process.out.lines ++ t.step.lines) e) ∙ inv.lines,
+        made.0.2 ∙ sym (ap (λ (t : Treated). c.loop-process.out.actions ++ t.step.actions) e) ∙ inv.actions,
       ),
       made.1 ∙ sym (ap (λ (t : Treated). t.free) e) ∙ inv.free_left,
       made.2 ∙ sym (ap (λ (t : Treated). t.clears) e) ∙ inv.clears,
@@ -47,8 +47,8 @@ loop-process-preserved c =
       is_left = subst (λ (t : Processes). IsLeft c.args.moment.at.now.0 c.in-Some.rest t.rows (p + 1) (n - 1)) (sym made.0.0) left;
       few = omega (arith, most, inv.few);
       part = sym (ap (λ (t : Treated). t.step.part) e) ∙ inv.part;
-      lines = goes_on _ _ _ _ _ made.0.1 (sym (ap (λ (t : Treated). c.loop-process.out.lines.items ++ t.step.lines) e) ∙ inv.lines);
-      actions = goes_on _ _ _ _ _ made.0.2 (sym (ap (λ (t : Treated). c.loop-process.out.actions.items ++ t.step.actions) e) ∙ inv.actions);
+      lines = goes_on _ _ _ _ _ made.0.1 (sym (ap (λ (t : Treated). c.loop-process.out.lines ++ t.step.lines) e) ∙ inv.lines);
+      actions = goes_on _ _ _ _ _ made.0.2 (sym (ap (λ (t : Treated). c.loop-process.out.actions ++ t.step.actions) e) ∙ inv.actions);
       free_left = sym (ap (λ (t : Treated). t.free) e) ∙ inv.free_left;
       clears = sym (ap (λ (t : Treated). t.clears) e) ∙ inv.clears;
       lines_room = omega (arith, from, grown.0, inv.lines_room);

@@ -6,11 +6,11 @@ use Rattle.process_table_base.proofs.table.ProcessTable.start_all_waiting.Given 
 abbrev pub invariant-loop-left : goal.invariant-loop-left
 invariant-loop-left l = record {
   part : (start_from l.points.moment.at l.points.next.0 l.left l.place l.self).part ≡ (start_all_waiting l.points.moment.at l.points.next.0 l.fn.self).part;
-  lines : l.out.lines.items ++ (start_from l.points.moment.at l.points.next.0 l.left l.place l.self).lines ≡ l.fn.out.lines.items ++ (start_all_waiting l.points.moment.at l.points.next.0 l.fn.self).lines;
-  actions : l.out.actions.items ++ (start_from l.points.moment.at l.points.next.0 l.left l.place l.self).actions ≡ l.fn.out.actions.items ++ (start_all_waiting l.points.moment.at l.points.next.0 l.fn.self).actions;
+  lines : l.out.lines ++ (start_from l.points.moment.at l.points.next.0 l.left l.place l.self).lines ≡ l.fn.out.lines ++ (start_all_waiting l.points.moment.at l.points.next.0 l.fn.self).lines;
+  actions : l.out.actions ++ (start_from l.points.moment.at l.points.next.0 l.left l.place l.self).actions ≡ l.fn.out.actions ++ (start_all_waiting l.points.moment.at l.points.next.0 l.fn.self).actions;
   count : l.place + l.left ≤ MOST_PROCESSES;
-  lines_room : length l.out.lines.items ≤ length l.fn.out.lines.items + l.place;
-  actions_room : length l.out.actions.items ≤ length l.fn.out.actions.items;
+  lines_room : length l.out.lines ≤ length l.fn.out.lines + l.place;
+  actions_room : length l.out.actions ≤ length l.fn.out.actions;
 }
 
 abbrev pub decreases-loop-left : goal.decreases-loop-left

@@ -5,4 +5,4 @@ use Rattle.scripted.proofs.Parts.{replied_same}
 use Rattle.scripted.proofs.executor.ScriptedExecutor.reply.Goals as goal
 
 pub returns-clause-controls : goal.returns-clause-controls
-returns-clause-controls c = replied_same (map script_of c.args.self.now.parts.items) (controls_of c.args.self.now c.args._mem.now) (place_of c.args._runner) c.args._answer.now.items
+returns-clause-controls c = replied_same (map script_of c.args.self.now.parts.items) (controls_of c.args.self.now c.args._mem.now) (place_of c.args._runner) c.args._answer.now

@@ -1,0 +1,17 @@
+-- The actions of a step of the kernel on the processor, on the partition's data and on its error queue.
+use Rattle.std.specs.Prelude.{ℤ}
+use Rattle.arrayvec.specs.ArrayVec.{ArrayVec}
+use Rattle.apex_types.specs.declared.identity.Runner.{Runner}
+use Rattle.apex_types.specs.declared.process.WaitingError.{WaitingError}
+
+-- A runner begins its body afresh, has nothing left to do, or gets the answer to its service call:
+-- the code, then the outputs. Or nobody has anything left to do. The data become the initial data,
+-- or words go into them from a place on. Or an error waits for the error handler.
+pub data Action : Type 0 where
+  Begin : (runner : Runner) → Action
+  Stop : (runner : Runner) → Action
+  StopAll : Action
+  Reply : (runner : Runner) (answer : ArrayVec ℤ) → Action
+  Restore : Action
+  Write : (place : ℤ) (words : ArrayVec ℤ) → Action
+  Queue : (error : WaitingError) → Action
