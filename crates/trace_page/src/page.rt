@@ -5,8 +5,9 @@ ghost use Rattle.trace_page.specs.Escaping.{escaped_line};
 
 use crate::escaping::push_escaped;
 use crate::text::{BACK, FRONT};
-use apex_types::{Event, WriterSink, write_event};
+use apex_types::Event;
 use std::alloc::Global;
+use trace_filter::line_of;
 use trace_stays::MemoryFull;
 
 /// The page of a trace, without what stands around the trace's text.
@@ -37,11 +38,8 @@ impl Page {
         ensures { OnOk result
             (self.new.data.items ≡ self.old.data.items ++ escaped_line event.now) }
     {
-        let mut sink = WriterSink::new(Vec::new(self.alloc));
-        if write_event(event, &mut sink).is_err() {
-            return Err(MemoryFull);
-        }
-        push_escaped(&mut self.data, sink.writer.as_slice())?;
+        let line = line_of(self.alloc, event)?;
+        push_escaped(&mut self.data, line.as_slice())?;
         Ok(())
     }
 
