@@ -164,26 +164,26 @@ nothing_differs (Some d) h = absurd (no_first d h)
 
 none_left : (f : Event → Bool) (xs : List Event) → filter f (filter (λ e. not (f e)) xs) ≡ []
 none_left f [] = refl
-none_left f (x ∷ xs) = go (f x) refl
+none_left f (x ∷ xs) = go (f x) refl (none_left f xs)
   where
-    go : (b : Bool) → b ≡ f x → filter f (cond (not b) (x ∷ filter (λ e. not (f e)) xs) (filter (λ e. not (f e)) xs)) ≡ []
-    go true is = none_left f xs
-    go false is = ap (λ (b : Bool). cond b (x ∷ filter f (filter (λ e. not (f e)) xs)) (filter f (filter (λ e. not (f e)) xs))) (sym is) ∙ none_left f xs
+    go : (b : Bool) → b ≡ f x → filter f (filter (λ e. not (f e)) xs) ≡ [] → filter f (cond (not b) (x ∷ filter (λ e. not (f e)) xs) (filter (λ e. not (f e)) xs)) ≡ []
+    go true is rest = rest
+    go false is rest = ap (λ (b : Bool). cond b (x ∷ filter f (filter (λ e. not (f e)) xs)) (filter f (filter (λ e. not (f e)) xs))) (sym is) ∙ rest
+
+no_both : (b : Bool) → b ≡ true → b ≡ false → ⊥
+no_both true h k = cc
+no_both false h k = cc
 
 kept_through : (f g : Event → Bool) → ((e : Event) → f e ≡ true → g e ≡ true) → (xs : List Event) → filter f (filter g xs) ≡ filter f xs
 kept_through f g implies [] = refl
-kept_through f g implies (x ∷ xs) = go (f x) (g x) refl refl
+kept_through f g implies (x ∷ xs) = go (f x) (g x) refl refl (kept_through f g implies xs)
   where
-    go : (b c : Bool) → b ≡ f x → c ≡ g x → filter f (cond c (x ∷ filter g xs) (filter g xs)) ≡ cond b (x ∷ filter f xs) (filter f xs)
-    go b true is_b is_c =
-        ap (λ (r : List Event). cond (f x) (x ∷ r) r) (kept_through f g implies xs)
+    go : (b c : Bool) → b ≡ f x → c ≡ g x → filter f (filter g xs) ≡ filter f xs → filter f (cond c (x ∷ filter g xs) (filter g xs)) ≡ cond b (x ∷ filter f xs) (filter f xs)
+    go b true is_b is_c rest =
+        ap (λ (r : List Event). cond (f x) (x ∷ r) r) rest
         ∙ ap (λ (t : Bool). cond t (x ∷ filter f xs) (filter f xs)) (sym is_b)
-    go true false is_b is_c = let h : g x ≡ true = implies x (sym is_b) in absurd (no_both (g x) h (sym is_c))
-    go false false is_b is_c = kept_through f g implies xs
-
-    no_both : (b : Bool) → b ≡ true → b ≡ false → ⊥
-    no_both true h k = cc
-    no_both false h k = cc
+    go true false is_b is_c rest = let h : g x ≡ true = implies x (sym is_b) in absurd (no_both (g x) h (sym is_c))
+    go false false is_b is_c rest = rest
 
 other_partition : (p q r : Option (List ℕ)) → is_same_partition p q ≡ false → is_same_partition q r ≡ true → not (is_same_partition p r) ≡ true
 other_partition p q r differ same = go (is_same_partition p r) refl
@@ -208,28 +208,27 @@ judged_by told a b c d one two h = subst (λ (v : List Event). IsJudged told c v
 
 pub all_told : (ps : List Part) (ds : List Difference) (now : ℕ) (a b : List Event) → AreFinished ps ds → AreParts ps now a b → AreDifferences ds a b
 all_told [] ds now a b none (no_a, no_b) q = rw (none, no_a, no_b) refl
-all_told (p ∷ ps) ds now a b (told, rest, is, split, more) h q = go (is_same_partition p.partition q) refl told is split
+all_told (p ∷ ps) ds now a b (told, rest, is, split, more) h q =
+    go (is_same_partition p.partition q) refl told is split (all_told ps rest now (others p.partition a) (others p.partition b) more h.2 q)
   where
-    behind : IsJudged (told_of q rest) (part q (others p.partition a)) (part q (others p.partition b))
-    behind = all_told ps rest now (others p.partition a) (others p.partition b) more h.2 q
-
-    go : (t : Bool) → t ≡ is_same_partition p.partition q → (o : Option Difference) → IsFinishedAs p o → ds ≡ option_to_list o ++ rest → IsJudged (told_of q ds) (part q a) (part q b)
-    go true is_q None fin split =
+    go : (t : Bool) → t ≡ is_same_partition p.partition q → (o : Option Difference) → IsFinishedAs p o → ds ≡ option_to_list o ++ rest
+        → IsJudged (told_of q rest) (part q (others p.partition a)) (part q (others p.partition b)) → IsJudged (told_of q ds) (part q a) (part q b)
+    go true is_q None fin split behind =
         let name : p.partition ≡ q = partition_is p.partition q (sym is_q) in
         let empty = λ (v : List Event). subst (λ (r : Option (List ℕ)). part r (others p.partition v) ≡ []) name (own_of_others p.partition v) in
         let none : told_of q rest ≡ None = nothing_differs (told_of q rest) (judged_by (told_of q rest) _ _ [] [] (empty a) (empty b) behind) in
         let same : part q a ≡ part q b = subst (λ (r : Option (List ℕ)). part r a ≡ part r b) name (fin.1 (part p.partition a) (part p.partition b) h.0) in
         subst (λ (v : List Difference). IsJudged (told_of q v) (part q a) (part q b)) (sym split) (subst (λ (o : Option Difference). IsJudged o (part q a) (part q b)) (sym none) same)
-    go true is_q (Some d) fin split =
+    go true is_q (Some d) fin split behind =
         let name : p.partition ≡ q = partition_is p.partition q (sym is_q) in
         let found : is_same_partition d.partition q ≡ true = subst (λ (r : Option (List ℕ)). is_same_partition r q ≡ true) (sym fin.0) (sym is_q) in
         let first : told_of q (d ∷ rest) ≡ Some d = ap (λ (t : Bool). cond t (Some d) (told_of q rest)) found in
         let judged = subst (λ (r : Option (List ℕ)). IsJudged (Some d) (part r a) (part r b)) name (fin.1 (part p.partition a) (part p.partition b) h.0) in
         subst (λ (v : List Difference). IsJudged (told_of q v) (part q a) (part q b)) (sym split) (subst (λ (o : Option Difference). IsJudged o (part q a) (part q b)) (sym first) judged)
-    go false is_q None fin split =
+    go false is_q None fin split behind =
         subst (λ (v : List Difference). IsJudged (told_of q v) (part q a) (part q b)) (sym split)
         (judged_by (told_of q rest) _ _ (part q a) (part q b) (part_of_others p.partition q a (sym is_q)) (part_of_others p.partition q b (sym is_q)) behind)
-    go false is_q (Some d) fin split =
+    go false is_q (Some d) fin split behind =
         let other : is_same_partition d.partition q ≡ false = subst (λ (r : Option (List ℕ)). is_same_partition r q ≡ false) (sym fin.0) (sym is_q) in
         let next : told_of q (d ∷ rest) ≡ told_of q rest = ap (λ (t : Bool). cond t (Some d) (told_of q rest)) other in
         subst (λ (v : List Difference). IsJudged (told_of q v) (part q a) (part q b)) (sym split) (subst (λ (o : Option Difference). IsJudged o (part q a) (part q b)) (sym next)

@@ -1,4 +1,5 @@
 -- The lines of a partition, one more.
+use mathlib.Core.List.{reverse-append}
 use Rattle.std.proofs.Common.{◌≡◌, ◌≢◌, ℕ, zero, suc, ◌+◌, ◌-◌, ◌^◌, ◌<◌, ◌≤◌, List, [], ◌∷◌, ◌++◌, length, take, Option, Some, None, refl, sym, ap, subst, ◌∙◌, rules, arith, append-nil, append_assoc, length-append}
 use Rattle.std.specs.Prelude.{reverse, min}
 use Rattle.apex_types.specs.declared.event.Event.{Event}
@@ -23,7 +24,7 @@ one_more_kept before lines e is =
     ap (λ (b : List Event). take 3 (e ∷ b)) is ∙ take_three e (reverse lines) ∙ sym (ap (take 3) (reverse_with lines e))
   where
     reverse_with : (xs : List Event) (x : Event) → reverse (xs ++ x ∷ []) ≡ x ∷ reverse xs
-    reverse_with xs x = search rules
+    reverse_with xs x = reverse-append xs (x ∷ [])
 
 -- ---- the trace that is ahead
 
