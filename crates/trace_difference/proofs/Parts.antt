@@ -4,7 +4,7 @@ use Rattle.std.proofs.Common.{◌≡◌, ◌≢◌, ℕ, zero, suc, ◌+◌, ◌
 use Rattle.std.specs.Prelude.{reverse, min}
 use Rattle.apex_types.specs.declared.event.Event.{Event}
 use Rattle.apex_types.specs.declared.identity.Ticks.{Ticks}
-use Rattle.trace_difference.specs.Parts.{AreOther, IsFirst, IsJudged, IsAlone, IsFrontBefore, IsLevel, IsPart, IsPartAs, IsRest, IsSettled, apart_of, count, first_line, first_with, last_three, lines_of, other_side, second_with}
+use Rattle.trace_difference.specs.Parts.{AreOther, IsAlone, IsEndedAs, IsFirst, IsFrontBefore, IsJudged, IsLevel, IsPart, IsPartAs, IsRest, IsSettled, apart_of, count, first_line, first_with, last_three, lines_of, other_side, second_with}
 use Rattle.trace_difference.specs.declared.part.Apart.{Apart}
 use Rattle.trace_difference.specs.declared.part.Part.{Part}
 use Rattle.trace_difference.specs.declared.rest.Rest.{Rest}
@@ -226,3 +226,8 @@ goes_on_second before a b x y new e now is alone order adds none some = one_more
 pub level_is_same : (ahead : Side) (before a b : List Event) → IsLevel ahead [] before a b → a ≡ b
 level_is_same side.First before a b level = level.waits ∙ append-nil b
 level_is_same side.Second before a b level = sym (level.waits ∙ append-nil a)
+
+-- what parted ways has no other end
+pub ended : (o : Option Apart) (p : Part) (a b : List Event) → (o ≢ None) → IsPartAs o p a b → IsEndedAs o p a b
+ended None p a b some h = absurd (some refl)
+ended (Some d) p a b some h = h

@@ -84,6 +84,11 @@ abbrev pub IsPartAs : Option Apart → Part → List Event → List Event → Ty
 IsPartAs None p a b = IsLevel p.ahead p.waiting.items p.before.items a b
 IsPartAs (Some d) p a b = IsFirst p.before.items d.first d.second a b
 
+-- no line follows
+abbrev pub IsEndedAs : Option Apart → Part → List Event → List Event → Type 0
+IsEndedAs None p a b = a ≡ b
+IsEndedAs (Some d) p a b = IsFirst p.before.items d.first d.second a b
+
 -- the lines that were read so far of a partition
 abbrev pub IsPart : Part → List Event → List Event → Type 0
 IsPart p a b = IsPartAs p.apart p a b

@@ -36,6 +36,7 @@ impl Comparison {
     /// # Errors
     ///
     /// Memory ran out.
+    #[tactic(auto, using(crate::proofs::Comparisons::read_at, crate::proofs::Comparisons::read_first))]
     pub fn add(&mut self, side: Side, event: Event) -> Result<(), MemoryFull>
         ensures { OnOk result
             ((now : ℕ) (a b : List Event) → AreParts self.old.parts.items now a b
@@ -73,6 +74,7 @@ impl Comparison {
     /// # Errors
     ///
     /// Memory ran out.
+    #[tactic(auto, using(crate::proofs::Comparisons::all_told))]
     pub fn finish(self) -> Result<Vec<Difference>, MemoryFull>
         ensures { IfOk result
             (λ found. (now : ℕ) (a b : List Event) → AreParts self.parts.items now a b

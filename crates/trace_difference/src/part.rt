@@ -1,8 +1,8 @@
 //! The lines of one partition in two traces.
 
-ghost use Rattle.std.specs.Prelude.{◌≡◌, ℕ, ◌<◌, ◌≤◌, [], ◌∷◌, ◌++◌, List, Some, None, IfSome, OnOk, length, take};
+ghost use Rattle.std.specs.Prelude.{◌≡◌, ◌≢◌, ℕ, ◌<◌, ◌≤◌, [], ◌∷◌, ◌++◌, List, Some, None, IfSome, OnOk, length, take};
 ghost use Rattle.apex_types.specs.declared.event.Event.{Event};
-ghost use Rattle.trace_difference.specs.Parts.{IsFirst, IsFrontBefore, IsJudged, IsLevel, IsPart, IsRest, IsSettled, IsStep, apart_of, first_with, other_side, second_with};
+ghost use Rattle.trace_difference.specs.Parts.{IsEndedAs, IsFirst, IsFrontBefore, IsJudged, IsLevel, IsPart, IsRest, IsSettled, IsStep, apart_of, first_with, other_side, second_with};
 
 use crate::rest::Rest;
 use crate::same::is_same;
@@ -63,6 +63,7 @@ impl Apart {
     }
 
     /// One more line of one trace.
+    #[tactic(auto, using(crate::proofs::Parts::goes_on_first, crate::proofs::Parts::goes_on_second, crate::proofs::Parts::first_settled, crate::proofs::Parts::second_settled))]
     fn add(&mut self, side: Side, event: Event)
         ensures lines { (before a b : List Event) (now : ℕ)
             → IsFirst before self.old.first self.old.second a b
@@ -81,6 +82,7 @@ impl Apart {
 
 impl Part {
     /// No line of the partition was read so far.
+    #[tactic(auto, using(crate::proofs::Parts::level_at_first))]
     pub fn new(alloc: Global, partition: Option<Name>) -> Part
         ensures partition { result.partition ≡ partition }
         ensures lines { IsPart result [] [] }
@@ -100,6 +102,7 @@ impl Part {
     /// # Errors
     ///
     /// Memory ran out.
+    #[tactic(auto, using(crate::proofs::Parts::turned))]
     pub fn add(&mut self, side: Side, event: Event) -> Result<(), MemoryFull>
         ensures { OnOk result (IsStep side event self.old self.new) }
     {
@@ -118,6 +121,7 @@ impl Part {
 
     /// The trace that is ahead gets one line more. If it is of a later tick than the first that
     /// waits, the other trace has no line for that one.
+    #[tactic(auto, using(crate::proofs::Parts::gone_ahead))]
     fn go_ahead(&mut self, event: Event) -> Result<(), MemoryFull>
         ensures lines { OnOk result
             ((a b : List Event) → self.old.apart ≡ None
@@ -141,12 +145,14 @@ impl Part {
 
     /// The lines that wait are those of the trace that is ahead from the first difference on, and the
     /// other one has none so far.
+    #[tactic(auto, using(crate::proofs::Parts::apart_alone, crate::proofs::Parts::alone_settled))]
     fn part_ways(&mut self)
         ensures lines { (a b : List Event) → 0 < length self.old.waiting.items
             → IsLevel self.old.ahead self.old.waiting.items self.old.before.items a b
             → IsPart self.new a b }
-        ensures settled { (now : ℕ) → IsFrontBefore self.old.waiting.items now
-            → IsSettled self.new.apart now }
+        ensures settled { (now : ℕ) → 0 < length self.old.waiting.items
+            → IsFrontBefore self.old.waiting.items now → IsSettled self.new.apart now }
+        ensures apart { self.new.apart ≢ None }
         ensures partition { self.new.partition ≡ self.old.partition }
     {
         let mut rest = Rest::none();
@@ -155,6 +161,7 @@ impl Part {
     }
 
     /// The trace that is ahead has this line where the other one has this event.
+    #[tactic(auto, using(crate::proofs::Parts::kept, crate::proofs::Parts::apart_both))]
     fn meet(&mut self, line: Event, event: Event) -> Result<(), MemoryFull>
         ensures lines { OnOk result
             ((a b : List Event) → self.old.apart ≡ None
@@ -191,14 +198,24 @@ impl Part {
         Ok(())
     }
 
+    /// No line follows: those that wait are in one trace alone.
+    #[tactic(auto, using(crate::proofs::Parts::level_is_same, crate::proofs::Parts::ended))]
+    fn end(&mut self)
+        ensures lines { (a b : List Event) → IsPart self.old a b
+            → IsEndedAs self.new.apart self.new a b }
+        ensures partition { self.new.partition ≡ self.old.partition }
+    {
+        if self.apart.is_none() && !self.waiting.is_empty() {
+            self.part_ways();
+        }
+    }
+
     /// The first difference, if there is one. No line follows.
     pub fn finish(mut self) -> Option<Difference>
         ensures judged { (a b : List Event) → IsPart self a b → IsJudged result a b }
         ensures partition { IfSome result (λ d. d.partition ≡ self.partition) }
     {
-        if !self.waiting.is_empty() {
-            self.part_ways();
-        }
+        self.end();
         let Part {
             partition,
             before,

@@ -95,10 +95,17 @@ fn is_same_name(one: &Name, other: &Name) -> bool
     one.as_bytes() == other.as_bytes()
 }
 
+#[tactic(auto, using(crate::proofs::Words::same_items))]
 fn are_same_words(one: &Words, other: &Words) -> bool
     ensures { IsTrue result ↔ (one.now ≡ other.now) }
 {
-    one.as_slice() == other.as_slice()
+    are_same(one.as_slice(), other.as_slice())
+}
+
+fn are_same(one: &[i64], other: &[i64]) -> bool
+    ensures { IsTrue result ↔ (one.now ≡ other.now) }
+{
+    one == other
 }
 
 /// Returns true if both are the same service. No two have the same word.
