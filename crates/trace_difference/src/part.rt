@@ -110,13 +110,16 @@ impl Part {
             apart.add(side, event);
             return Ok(());
         }
-        if !self.ahead.is(side) {
-            if let Some(line) = self.waiting.pop_front() {
-                return self.meet(line, event);
-            }
-            self.ahead = side;
+        if self.ahead.is(side) {
+            return self.go_ahead(event);
         }
-        self.go_ahead(event)
+        match self.waiting.pop_front() {
+            Some(line) => self.meet(line, event),
+            None => {
+                self.ahead = side;
+                self.go_ahead(event)
+            }
+        }
     }
 
     /// The trace that is ahead gets one line more. If it is of a later tick than the first that
