@@ -1,5 +1,5 @@
 -- The lines of two traces, one more.
-use Rattle.std.proofs.Common.{◌≡◌, ◌≢◌, ℕ, zero, suc, ◌+◌, ◌<◌, ◌≤◌, Bool, true, false, cond, List, [], ◌∷◌, ◌++◌, Option, Some, None, IfSome, refl, sym, ap, subst, ◌∙◌, rules, arith, append-nil, append_assoc}
+use Rattle.std.proofs.Common.{◌≡◌, ◌≢◌, ℕ, zero, suc, ◌+◌, ◌<◌, ◌≤◌, Bool, true, false, cond, List, [], ◌∷◌, ◌++◌, Option, Some, None, IfSome, Result, Ok, Err, OnOk, get_or, refl, sym, ap, subst, ◌∙◌, rules, arith, append-nil, append_assoc}
 use Rattle.std.specs.Prelude.{filter, not, reverse, slice_get, slice_set, ◌&&◌, nat_eq}
 use Rattle.std.specs.Option.{option_to_list}
 use Rattle.std.proofs.lemmas.Bool.{and_parts, eqb-true}
@@ -233,3 +233,14 @@ all_told (p ∷ ps) ds now a b (told, rest, is, split, more) h q =
         let next : told_of q (d ∷ rest) ≡ told_of q rest = ap (λ (t : Bool). cond t (Some d) (told_of q rest)) other in
         subst (λ (v : List Difference). IsJudged (told_of q v) (part q a) (part q b)) (sym split) (subst (λ (o : Option Difference). IsJudged o (part q a) (part q b)) (sym next)
         (judged_by (told_of q rest) _ _ (part q a) (part q b) (part_of_others p.partition q a (sym is_q)) (part_of_others p.partition q b (sym is_q)) behind))
+
+-- ---- what is read and handed on
+
+pub read_is : (ps : List Part) (i : ℕ) (p q : Part) → slice_get ps i ≡ Some p → q ≡ get_or ps i q → q ≡ p
+read_is [] i p q h e = cc
+read_is (x ∷ xs) zero p q h e = cc
+read_is (x ∷ xs) (suc i) p q h e = read_is xs i p q h e
+
+pub on_ok : {A E : Type 0} {P Q : Type 0} (r : Result A E) → (P → Q) → OnOk r P → OnOk r Q
+on_ok (Ok x) f h = f h
+on_ok (Err e) f h = tt
