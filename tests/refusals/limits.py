@@ -1,6 +1,6 @@
 """Inputs at half of each limit and at the limit, through every command that takes memory: none of them may lack it.
 
-`LIMITS` names the limits. Those with rows of `crates/file_rows` take their modules from there, and the others are made here.
+`LIMITS` names the limits. Those with rows in `tests/rows` take their modules from there, and the others are made here.
 `name_limits` sees that each constant of `crates/apex_types/src/limits.rt` is named.
 """
 
@@ -15,7 +15,7 @@ import trial
 from trial import Answer, Told
 
 ROOT = calls.ROOT
-FILE_ROWS = ROOT / "crates/file_rows/data"
+FILE_ROWS = ROOT / "tests/rows"
 TABLE = (calls.ROWS / "smallest/table").read_text()
 SMALLEST = (calls.ROWS / "smallest/source").read_text()
 SMALLEST_TRACE = (calls.ROWS / "smallest/trace").read_text()

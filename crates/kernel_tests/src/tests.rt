@@ -1,11 +1,10 @@
 mod dues;
 mod errors;
 mod memory;
+mod names;
 mod objects;
 mod outs;
 mod processes;
 mod ready;
 mod schedules;
 mod scripts;
-mod tables;
-mod trace;

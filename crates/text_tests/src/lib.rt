@@ -1,5 +1,4 @@
-//! Tests of reading and writing text and bytes: Pal's grammar, the check of a program and its costs,
-//! images, and traces, with what no command of `mbview` reaches of their views.
+//! Tests of traces that are read from texts and from readers, and of what no command of `mbview` reaches of their views.
 #![tactic(auto)]
 
 #[cfg(test)]

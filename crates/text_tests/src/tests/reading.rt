@@ -8,7 +8,7 @@ use std::process::Abort;
 use trace_text::{TraceFault, TraceReader, check_trace, read_line};
 
 /// Lines of the pages and of the examples, and one of each form with its greatest numbers.
-static LINES: [&str; 23] = [
+static LINES: [&str; 31] = [
     "0000000000047 a REPORT p 28 7\n",
     "0000000000000 a MODE COLD_START\n",
     "0000000000000 a STATE INIT READY\n",
@@ -29,6 +29,14 @@ static LINES: [&str; 23] = [
     "0000000000238 control HM DEADLINE_MISSED high PARTITION IGNORE\n",
     "0000000000069 logbook STATE obey WAITING\n",
     "1099511627775 a RET HANDLER REPORT_APPLICATION_MESSAGE 6\n",
+    "1099511627776 a STATE INIT RUNNING\n",
+    "1099511627776 a RET p REPORT_APPLICATION_MESSAGE 6\n",
+    "1099511627776 a REPORT p 28 7\n",
+    "1099511627776 a MOVE q_1 -9223372036854775808 0\n",
+    "1099511627776 a ARRIVE q_1 -1 9223372036854775807\n",
+    "1099511627776 - HM HARDWARE_FAULT - MODULE RESET\n",
+    "1099511627776 a HM DEADLINE_MISSED HANDLER PARTITION WARM_START\n",
+    "1099511627776 a HM STACK_OVERFLOW p PROCESS HANDLER\n",
     "9999999999999 a23456789_b23456789_c23456789_ MODE IDLE\n",
     "0000000000001 a OUT c 0 -1 9223372036854775807 -9223372036854775808 4 5 6 7 8 9 10 11 12 13 14 15\n",
     "0000000000002 a MOVE q -7 -7 -7 -7 -7 -7 -7 -7 -7 -7 -7 -7 -7 -7 -7 -7 -7 -7 -7 -7 -7 -7 -7 -7 -7 -7 -7 -7 -7 -7 -7 -7 -7 -7 -7 -7 -7 -7 -7 -7 -7 -7 -7 -7 -7 -7 -7 -7 -7 -7 -7 -7 -7 -7 -7 -7 -7 -7 -7 -7 -7 -7 -7 -7\n",
