@@ -1,3 +1,4 @@
 pub mod Answered
+pub mod Compared
 pub mod Found
 pub mod SoFar

@@ -1,4 +1,6 @@
 pub mod Answers
+pub mod Compared
+pub mod Differences
 pub mod Faults
 pub mod Lines
 pub mod Orders

@@ -1,8 +1,11 @@
--- Why an event is not shown.
+-- Why an event is not shown, and what was found.
+use Rattle.std.specs.Prelude.{is_some, if◌then◌else◌}
 use Rattle.trace_picture.specs.declared.fault.PictureFault.{PictureFault}
 use Rattle.trace_picture.specs.declared.fault.PictureFault.TheVariants as picture
 use Rattle.view_command.specs.declared.views.Shown.{Shown}
 use Rattle.view_command.specs.declared.views.Shown.TheVariants as shown
+use Rattle.view_command.specs.declared.views.Outcome.{Outcome}
+use Rattle.view_command.specs.declared.views.Outcome.TheVariants as outcome
 use Rattle.view_command.specs.declared.views.ViewFault.{ViewFault}
 use Rattle.view_command.specs.declared.views.ViewFault.TheVariants as fault
 
@@ -17,3 +20,11 @@ IsOfPicture (shown.Table summary) = ⊥
 IsOfPicture (shown.Rows summary) = ⊥
 IsOfPicture (shown.Picture picture) = Unit {0}
 IsOfPicture (shown.Waves dump) = ⊥
+IsOfPicture (shown.Page page) = ⊥
+IsOfPicture (shown.Lines listing) = ⊥
+IsOfPicture (shown.Check check) = ⊥
+
+-- a line was found that the trace may not have
+abbrev pub outcome_of : Shown → Outcome
+outcome_of (shown.Check check) = if is_some check.broken then outcome.Found else outcome.Shown
+outcome_of _ = outcome.Shown

@@ -8,6 +8,7 @@ use apex_types::SinkFault;
 use command_words::WantOfMemory;
 use std::alloc::{AllocError, AllocFailed};
 use std::fmt;
+use trace_stays::MemoryFull;
 
 /// A trace that is not shown. Displays as its line on standard error.
 #[derive(Drop)]
@@ -61,6 +62,14 @@ impl From<SinkFault> for Refusal {
 
     fn from(_: SinkFault) -> Self {
         Refusal::Write
+    }
+}
+
+impl From<MemoryFull> for Refusal {
+    ghost from_gives = { λ _ r. r ≡ refusal.Memory };
+
+    fn from(_: MemoryFull) -> Self {
+        Refusal::Memory
     }
 }
 

@@ -1,18 +1,20 @@
 //! The views of a trace: the one file that names the crates which make them.
 
 ghost use Rattle.std.specs.Prelude.{◌≡◌, IsErrOf};
-ghost use Rattle.view_command.specs.Views.{IsOfPicture, view_fault};
+ghost use Rattle.view_command.specs.Views.{IsOfPicture, outcome_of, view_fault};
 ghost use Rattle.view_command.specs.declared.views.ViewFault.TheVariants as fault;
 
 use apex_types::{Event, Ticks};
 use std::alloc::Global;
 use std::io;
+use trace_filter::{Check, Filter, Limits, Listing};
+use trace_page::Page;
 use trace_picture::{Picture, PictureFault};
 use trace_view::{ReportFault, Summary};
 use wave_dump::{Dump, MemoryFull};
 
 /// How a trace is shown.
-#[derive(Clone, Copy, Debug, PartialEq, Eq)]
+#[derive(Drop)]
 pub enum View {
     /// A table for people.
     Table,
@@ -20,6 +22,21 @@ pub enum View {
     Rows,
     Picture,
     Waves,
+    /// A page for a browser.
+    Page,
+    /// The chosen lines as they stand.
+    Lines(Filter),
+    /// The first of the chosen lines that is one too many.
+    Check(Filter, Limits),
+}
+
+/// What is told of a trace by the exit status.
+#[derive(Clone, Copy, Debug, PartialEq, Eq)]
+pub enum Outcome {
+    /// It is shown.
+    Shown,
+    /// It has what it may not have.
+    Found,
 }
 
 /// Why an event is not taken.
@@ -37,6 +54,9 @@ pub enum Shown {
     Rows(Summary),
     Picture(Picture),
     Waves(Dump),
+    Page(Page),
+    Lines(Listing),
+    Check(Check),
 }
 
 impl Shown {
@@ -47,6 +67,9 @@ impl Shown {
             View::Rows => Shown::Rows(Summary::new(alloc, from, to)),
             View::Picture => Shown::Picture(Picture::new(alloc, from, to)),
             View::Waves => Shown::Waves(Dump::new(alloc, from, to)),
+            View::Page => Shown::Page(Page::new(alloc)),
+            View::Lines(filter) => Shown::Lines(Listing::new(alloc, filter)),
+            View::Check(filter, limits) => Shown::Check(Check::new(alloc, filter, limits)),
         }
     }
 
@@ -58,8 +81,21 @@ impl Shown {
             Shown::Table(summary) | Shown::Rows(summary) => summary.count(event)?,
             Shown::Picture(picture) => picture.add(event)?,
             Shown::Waves(dump) => dump.add(event)?,
+            Shown::Page(page) => page.add(event)?,
+            Shown::Lines(listing) => listing.add(event)?,
+            Shown::Check(check) => check.add(event)?,
         }
         Ok(())
+    }
+
+    /// What is told by the exit status.
+    pub fn outcome(&self) -> Outcome
+        ensures { result ≡ outcome_of self.now }
+    {
+        match self {
+            Shown::Check(check) if check.is_broken() => Outcome::Found,
+            _ => Outcome::Shown,
+        }
     }
 
     /// The report of all events, as the bytes to write.
@@ -72,6 +108,9 @@ impl Shown {
             Shown::Rows(summary) => summary.finish()?.write_csv(alloc, &mut bytes)?,
             Shown::Picture(picture) => picture.finish()?.write(&mut bytes)?,
             Shown::Waves(dump) => write_waves(dump, &mut bytes)?,
+            Shown::Page(page) => bytes = page.into_text()?,
+            Shown::Lines(listing) => bytes = listing.into_text(),
+            Shown::Check(check) => bytes = check.into_text(alloc),
         }
         Ok(bytes)
     }

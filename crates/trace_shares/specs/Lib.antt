@@ -1,0 +1,3 @@
+pub mod Workers
+pub mod Uses
+pub mod Counts

@@ -1,0 +1,17 @@
+//! What the processor did in each tick of a run, by the lines of its trace and the windows of its
+//! module table.
+//!
+//! Each tick counts once: for a process of the partition that owns it, as idle in a window of that
+//! partition, as a tick without an owner, or as one behind a shutdown. `Shares` counts them while
+//! the lines are read. A run of any length is counted by its frames, not tick by tick.
+#![tactic(auto)]
+
+mod counted;
+mod shares;
+mod usage;
+mod worker;
+
+pub use counted::Counted;
+pub use shares::Shares;
+pub use usage::Use;
+pub use worker::Worker;
