@@ -48,7 +48,9 @@ diff_app = with_rule (with_rule (with_rule (new_app (codes "diff")) trace_rule) 
 abbrev pub top_app : App
 top_app = on_top (λ s. record s { subcommand_required = true }) (new_app (codes "mbview"))
 
+-- the program, with the commands that sum up or draw a trace
+abbrev pub pictures_app : App
+pictures_app = with_subcommand (with_subcommand (with_subcommand top_app summary_app.top) (shown_app (codes "svg")).top) (shown_app (codes "vcd")).top
+
 abbrev pub view_app : App
-view_app =
-    with_subcommand (with_subcommand (with_subcommand (with_subcommand (with_subcommand (with_subcommand (with_subcommand
-    top_app summary_app.top) (shown_app (codes "svg")).top) (shown_app (codes "vcd")).top) list_app.top) check_app.top) diff_app.top) html_app.top
+view_app = with_subcommand (with_subcommand (with_subcommand (with_subcommand pictures_app list_app.top) check_app.top) diff_app.top) html_app.top

@@ -1,9 +1,10 @@
 //! Two traces are read to their ends, and compared.
 
-ghost use Rattle.std.specs.Prelude.{◌≡◌, ◌⊎◌, ℕ, ◌-◌, ◌^◌, ◌<◌, List, [], IfErr, IfOk, OnOk, string_bytes};
+ghost use Rattle.std.specs.Prelude.{◌≡◌, ◌⊎◌, ℕ, ◌-◌, ◌^◌, ◌<◌, ◌≤◌, List, [], IfErr, IfOk, OnOk, string_bytes};
 ghost use Rattle.apex_types.specs.declared.event.Event.{Event};
 ghost use Rattle.streams.specs.States.{IsFlushed, seen};
 ghost use Rattle.trace_difference.specs.Comparisons.{AreParts};
+ghost use Rattle.trace_difference.specs.Parts.{first_with, second_with};
 ghost use Rattle.view_command.specs.Answers.{IsRefused, IsUnread};
 ghost use Rattle.view_command.specs.Compared.{AreCompared, AreToldIn, IsInOrder, asked, first_behind, second_behind, tick_behind};
 ghost use Rattle.view_command.specs.Differences.{earlier};
@@ -159,7 +160,7 @@ fn earlier(one: &Option<Event>, other: &Option<Event>) -> Option<Side>
     }
 }
 
-/// Compares a line, if it is of the partition that is asked for.
+/// Compares the line of a trace that is read first, if there is one.
 fn take(
     comparison: &mut Comparison,
     side: Side,
@@ -175,7 +176,30 @@ fn take(
         (asked partition.now (second_behind side event b))) }
 {
     match event {
-        Some(event) if is_of_partition(partition, &event.partition) => comparison.add(side, event),
-        _ => Ok(()),
+        Some(event) => take_line(comparison, side, event, partition),
+        None => Ok(()),
+    }
+}
+
+/// Compares a line, if it is of the partition that is asked for.
+#[tactic(auto, using(crate::proofs::Compared::one_asked, crate::proofs::Compared::one_other))]
+fn take_line(
+    comparison: &mut Comparison,
+    side: Side,
+    event: Event,
+    partition: &Option<String>,
+) -> Result<(), MemoryFull>
+    ensures { OnOk result
+        ((now : ℕ) (a b : List Event)
+        → AreParts comparison.old.parts.items now (asked partition.now a) (asked partition.now b)
+        → now ≤ event.tick.0
+        → AreParts comparison.new.parts.items event.tick.0
+        (asked partition.now (first_with side event a))
+        (asked partition.now (second_with side event b))) }
+{
+    if is_of_partition(partition, &event.partition) {
+        comparison.add(side, event)
+    } else {
+        Ok(())
     }
 }

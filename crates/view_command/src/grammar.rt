@@ -5,7 +5,7 @@ ghost use Rattle.clap.specs.Values.{kind_of};
 ghost use Rattle.clap.specs.Walk.{rule_of};
 ghost use Rattle.clap.specs.declared.error.kind.ErrorKind.TheVariants.{MissingSubcommand, ValueValidation};
 ghost use Rattle.command_words.specs.Grammar.{IsCommand};
-ghost use Rattle.view_command.specs.Words.{check_app, diff_app, html_app, list_app, of_partition_app, option_rule, pair_rule, shown_app, summary_app, view_app};
+ghost use Rattle.view_command.specs.Words.{check_app, diff_app, html_app, list_app, of_partition_app, option_rule, pair_rule, pictures_app, shown_app, summary_app, view_app};
 
 use clap::error::ErrorKind;
 use clap::{Arg, ArgAction, Command, Error};
@@ -19,17 +19,24 @@ static LIMIT: [&str; 2] = ["KIND[,KIND]", "NUMBER"];
 pub fn grammar<'a>(alloc: Global) -> Result<Command<'a>, AllocError>
     ensures { IfOk result (λ command. IsCommand command view_app) }
 {
+    pictures(alloc)?
+        .subcommand(list(alloc)?)?
+        .subcommand(check(alloc)?)?
+        .subcommand(diff(alloc)?)?
+        .subcommand(html(alloc)?)
+}
+
+/// The program, with the commands that sum up or draw a trace.
+fn pictures<'a>(alloc: Global) -> Result<Command<'a>, AllocError>
+    ensures { IfOk result (λ command. IsCommand command pictures_app) }
+{
     Command::new(alloc, "mbview")
         .about("Shows the trace of a run: what the partitions and their processes did, and when")
         .after_help("Example: mbview summary trace.txt")
         .subcommand_required(true)
         .subcommand(summary(alloc)?)?
         .subcommand(svg(alloc)?)?
-        .subcommand(vcd(alloc)?)?
-        .subcommand(list(alloc)?)?
-        .subcommand(check(alloc)?)?
-        .subcommand(diff(alloc)?)?
-        .subcommand(html(alloc)?)
+        .subcommand(vcd(alloc)?)
 }
 
 fn summary<'a>(alloc: Global) -> Result<Command<'a>, AllocError>
