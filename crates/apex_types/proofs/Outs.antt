@@ -3,7 +3,7 @@ use Rattle.std.proofs.Common.{◌≡◌, ℕ, suc, ◌+◌, ◌≤◌, ℤ, List
 use Rattle.std.specs.List.{AllByRecursion}
 use Rattle.std.proofs.lemmas.List.{drop-append-le, length-append, length-drop, map-append, take-append-le}
 use Rattle.std.proofs.Math.Seq.{drop-append_seam, take-length}
-use Rattle.apex_types.specs.Actions.{Action}
+use Rattle.apex_types.specs.Runners.{Action}
 use Rattle.apex_types.specs.Output.{Output, action_of, event_of}
 use Rattle.apex_types.specs.OutView.{IsPart, actions_of, lines_of, part_of}
 use Rattle.apex_types.specs.declared.event.EventKind.{EventKind}

@@ -1,4 +1,3 @@
-pub mod Actions
 pub mod CodeWords
 pub mod Costs
 pub mod Line

@@ -7,7 +7,8 @@ use Rattle.apex_types.specs.ServiceShape.{cost_of_service}
 use Rattle.pal_meaning.specs.Program.{Procedure, Body, Expr, Links, Exprs, Stmt, Block}
 use Rattle.pal_meaning.specs.Program.{Literal, Read, Element, Unary, Chain, Apply, NoLink, MoreLinks, NoExpr, MoreExprs}
 use Rattle.pal_meaning.specs.Program.{Assign, AssignElement, If, IfElse, While, Work, Return, CallService, NoStmt, MoreStmts}
-use Rattle.pal_meaning.specs.Program.{costs_of_expr, costs_of_links, costs_of_exprs, costs_of_stmt, costs_of_block, costs_of_procedure, costs_of_body, size_of_expr, size_of_links, size_of_exprs, size_of_stmt, size_of_block, size_of_procedure, size_of_body}
+use Rattle.pal_meaning.specs.Program.{size_of_expr, size_of_links, size_of_exprs, size_of_stmt, size_of_block, size_of_procedure, size_of_body}
+use Rattle.pal_meaning.specs.BodyCosts.{costs_of_expr, costs_of_links, costs_of_exprs, costs_of_stmt, costs_of_block, costs_of_procedure, costs_of_body}
 
 module _ (costs : Costs) where
   mutual

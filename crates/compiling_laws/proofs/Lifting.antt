@@ -23,8 +23,8 @@ use Rattle.kernel_meaning.specs.PortServices as arrival
 use Rattle.module_meaning.specs.Table.{Channel, at_number}
 use Rattle.kernel_meaning.specs.Objects.{Port, port_at}
 use Rattle.apex_types.specs.declared.identity.Runner.{Runner}
-use Rattle.apex_types.specs.Actions.{Action}
-use Rattle.apex_types.specs.Actions as action
+use Rattle.apex_types.specs.Runners.{Action}
+use Rattle.apex_types.specs.Runners as action
 use Rattle.engine_meaning.specs.Engine.{Engine, Ticked, Asks}
 use Rattle.engine_meaning.specs.Simulates.{Simulates}
 use Rattle.kernel_meaning.specs.Kernel.{Kernel, of_processes, of_ports, of_ports_alone, with_ports}

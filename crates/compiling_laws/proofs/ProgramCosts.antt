@@ -20,7 +20,8 @@ use Rattle.pal_meaning.specs.Syntax as written
 use Rattle.apex_types.specs.ServiceShape.{arguments_of, cost_of_service}
 use Rattle.apex_types.specs.Costs.{cost_of_binary}
 use Rattle.compiling_laws.specs.Bounds.{IsBodyHeld, IsProcedureHeld, IsHandlerHeld, AreProcessesHeld, AreProceduresHeld, AreCostsHeld}
-use Rattle.pal_meaning.specs.Program.{costs_of_expr, costs_of_links, costs_of_exprs, costs_of_stmt, costs_of_block, costs_of_procedure, costs_of_body, size_of_procedure, size_of_body, size_of_handler, size_of_process, size_of}
+use Rattle.pal_meaning.specs.Program.{size_of_procedure, size_of_body, size_of_handler, size_of_process, size_of}
+use Rattle.pal_meaning.specs.BodyCosts.{costs_of_expr, costs_of_links, costs_of_exprs, costs_of_stmt, costs_of_block, costs_of_procedure, costs_of_body}
 use Rattle.pal_meaning.specs.Grammar.{IsWritten}
 use Rattle.pal_meaning.specs.Grammar.{words_of}
 use Rattle.pal_meaning.specs.Resolve.{Entry, Scope, place_of, within, count_within, resolve_expr, resolve_arguments, resolve_stmt, resolve_block, resolve_body_block, scope_of, own_entries, resolve_body, resolve_stack_body, resolve_process, procedure_of, declared_entries, resolve}

@@ -1,7 +1,8 @@
 -- The sizes, costs and frames of the bodies of a program, where these numbers have 64 bits.
 use Rattle.std.specs.Prelude.{ℕ, ◌<◌, ◌^◌, List, [], ◌∷◌, Option, Some, None}
 use Rattle.apex_types.specs.declared.cost.Costs.{Costs}
-use Rattle.pal_meaning.specs.Program.{size_of_body, cost_of_body, frame_of_body, size_of_procedure, cost_of_procedure, frame_of_procedure}
+use Rattle.pal_meaning.specs.Program.{size_of_body, frame_of_body, size_of_procedure, frame_of_procedure}
+use Rattle.pal_meaning.specs.BodyCosts.{cost_of_body, cost_of_procedure}
 use Rattle.pal_meaning.specs.Program.{Program, Procedure, Body, Process}
 
 -- a number of 64 bits

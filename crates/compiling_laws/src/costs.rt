@@ -4,7 +4,7 @@ ghost use Rattle.std.specs.Prelude.{◌≡◌, ◌∷◌, ◌++◌, List, length
 ghost use Rattle.apex_types.specs.declared.cost.Costs.{Costs};
 ghost use Rattle.pal_meaning.specs.Program.{Body, Procedure};
 ghost use Rattle.pal_meaning.specs.SourceControl.{Part, front_of, cost_of_simple, parts_of_body, parts_of_procedure};
-ghost use Rattle.pal_meaning.specs.Program.{costs_of_body, costs_of_procedure};
+ghost use Rattle.pal_meaning.specs.BodyCosts.{costs_of_body, costs_of_procedure};
 ghost use Rattle.compiling_laws.specs.Constructs.{constructs_of, with_held};
 
 /// A list of parts has the constructs of its front and those of the parts after it.

@@ -11,7 +11,7 @@ use Rattle.apex_types.specs.declared.limits.TheConstants.{MOST_PARTITIONS}
 use Rattle.module_meaning.specs.Table.{Partition}
 use Rattle.machine_meaning.specs.Image.{Item, Image}
 use Rattle.machine_meaning.specs.ImageReading.{Fault, Limit, fields_at, keeps_table_rules}
-use Rattle.module_meaning.specs.Table.{has_wrong_window, keeps_rules}
+use Rattle.module_meaning.specs.ImageRules.{has_wrong_window, keeps_rules}
 use Rattle.kernel_meaning.specs.Windows.{Schedule}
 use Rattle.kernel_meaning.specs.WindowFacts.{BeginWithin}
 use Rattle.machine_meaning.specs.ImageLimits.{EachBeside, IsItem, IsWithinLimits}

@@ -15,7 +15,8 @@ use Rattle.apex_types.specs.declared.row.PortRow.{PortRow}
 use Rattle.module_meaning.specs.Table.{Channel, Partition, at_number}
 use Rattle.module_meaning.specs.Module.{is_port, channel_from}
 use Rattle.kernel_meaning.specs.Objects.{Port, is_source as is_source_port_of}
-use Rattle.module_meaning.specs.Table.{port_at, is_source, is_same_kind, port_is, is_source_port, is_destination_port, differ, has_mixed_ports, has_wrong_direction, sends_to_itself, has_two_devices, is_split_queue, has_twice, is_same_port, ends_of, is_unknown_port, has_unknown_port, is_wrong, has_wrong_ends}
+use Rattle.module_meaning.specs.Table.{port_at, is_source, is_same_kind, port_is, is_source_port, is_destination_port, differ, has_mixed_ports, has_wrong_direction, sends_to_itself, has_two_devices, is_split_queue, has_twice, is_same_port, ends_of, is_wrong, has_wrong_ends}
+use Rattle.module_meaning.specs.ImageRules.{is_unknown_port, has_unknown_port}
 use Rattle.module_meaning.specs.Table.{◌>>=◌}
 use Rattle.isolation.specs.Alone.{Arrive}
 use Rattle.isolation.specs.Brought.{brought_to, brought_by, held_port, held_ports}

@@ -15,7 +15,8 @@ use Rattle.engine_meaning.specs.Digits.{same}
 use Rattle.module_meaning.specs.Table.{Partition, Channel, at_number}
 use Rattle.module_meaning.specs.Module.{Plan}
 use Rattle.kernel_meaning.specs.Step.{message}
-use Rattle.module_meaning.specs.Table.{port_at, differ, is_unknown_port, has_unknown_port, is_source_port, has_twice, is_same_port, ends_of, is_wrong, has_wrong_ends}
+use Rattle.module_meaning.specs.Table.{port_at, differ, is_source_port, has_twice, is_same_port, ends_of, is_wrong, has_wrong_ends}
+use Rattle.module_meaning.specs.ImageRules.{is_unknown_port, has_unknown_port}
 use Rattle.module_meaning.specs.Table.{◌>>=◌}
 use Rattle.kernel_meaning.specs.Windows.{Schedule}
 use Rattle.isolation.specs.Alone as alone

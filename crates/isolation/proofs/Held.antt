@@ -8,8 +8,8 @@ use Rattle.apex_types.specs.declared.identity.PartitionId.{PartitionId}
 use Rattle.apex_types.specs.declared.identity.PortId.{PortId}
 use Rattle.apex_types.specs.declared.identity.Runner.{Runner}
 use Rattle.apex_types.specs.declared.identity.Runner.TheVariants as runner
-use Rattle.apex_types.specs.Actions.{Action}
-use Rattle.apex_types.specs.Actions as action
+use Rattle.apex_types.specs.Runners.{Action}
+use Rattle.apex_types.specs.Runners as action
 use Rattle.apex_types.specs.declared.process.Entry.{Entry}
 use Rattle.apex_types.specs.declared.process.ProcessStatus.{ProcessStatus}
 use Rattle.kernel_meaning.specs.PortServices as arrival

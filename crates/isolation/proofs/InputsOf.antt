@@ -14,7 +14,8 @@ use Rattle.apex_types.specs.declared.identity.PortId.{PortId}
 use Rattle.module_meaning.specs.Table.{Channel, Partition, at_number}
 use Rattle.module_meaning.specs.Module.{Plan, as_origin, first_tick, next_tick, ports_of, of_member, inputs_all, of_tick, is_of_tick, module_tick, starts, started_member}
 use Rattle.kernel_meaning.specs.Partition.{Member, leaving, messages_to_move}
-use Rattle.module_meaning.specs.Table.{has_unknown_port, has_wrong_ends}
+use Rattle.module_meaning.specs.Table.{has_wrong_ends}
+use Rattle.module_meaning.specs.ImageRules.{has_unknown_port}
 use Rattle.kernel_meaning.specs.Windows.{Schedule, ended}
 use Rattle.kernel_meaning.specs.WindowFacts.{HasOneOwner, HasOneEnd}
 use Rattle.isolation.specs.Alone.{Input, InputLine, Arrive, ModuleFault, PartitionFault, Path, Surroundings, goes_by_way, takes, meets_fault, takes_all, unless_over, sends_found, sends_message, sends_messages, sends_so_many, sends_port, sends_ports, sends_ended, ticks_own, sends_and_ticks, tick_alone, way_out}

@@ -18,8 +18,8 @@ use Rattle.apex_types.specs.declared.identity.At.{At}
 use Rattle.apex_types.specs.declared.identity.PortId.{PortId}
 use Rattle.apex_types.specs.declared.identity.Runner.{Runner}
 use Rattle.apex_types.specs.declared.identity.Runner.TheVariants as runner
-use Rattle.apex_types.specs.Actions.{Action}
-use Rattle.apex_types.specs.Actions as action
+use Rattle.apex_types.specs.Runners.{Action}
+use Rattle.apex_types.specs.Runners as action
 use Rattle.apex_types.specs.declared.service.ArrayPlace.{ArrayPlace}
 use Rattle.apex_types.specs.declared.service.Call.{Call}
 use Rattle.apex_types.specs.declared.service.Call.TheVariants as call

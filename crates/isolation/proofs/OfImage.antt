@@ -14,7 +14,8 @@ use Rattle.machine_meaning.specs.Image.{Item, Image}
 use Rattle.machine_meaning.specs.ImageLimits.{EachBeside, IsItem, IsLawful}
 use Rattle.machine_meaning.specs.ImageReading.{partitions_in}
 use Rattle.module_meaning.specs.Module.{is_port}
-use Rattle.module_meaning.specs.Table.{is_in_same_partition, sends_to_itself, has_two_devices, ends_of, is_wrong, has_wrong_ends, has_wrong_window, has_odd_period, has_short_period, lacks_release, has_unknown_port, has_wrong_direction, has_mixed_ports, is_split_queue, has_twice, is_same_port}
+use Rattle.module_meaning.specs.Table.{is_in_same_partition, sends_to_itself, has_two_devices, ends_of, is_wrong, has_wrong_ends, has_odd_period, has_short_period, lacks_release, has_wrong_direction, has_mixed_ports, is_split_queue, has_twice, is_same_port}
+use Rattle.module_meaning.specs.ImageRules.{has_wrong_window, has_unknown_port}
 use Rattle.isolation.proofs.Messages.{found_passes}
 use Rattle.isolation.proofs.OwnMessages.{IsOf, NoneOf, AreLawful, with_number}
 use Rattle.isolation.proofs.Steps.{IsApart, AreApart, same_some}

@@ -16,8 +16,8 @@ use Rattle.apex_types.specs.declared.identity.PortId.{PortId}
 use Rattle.apex_types.specs.declared.identity.Runner.{Runner}
 use Rattle.apex_types.specs.declared.identity.Runner.TheVariants as runner
 use Rattle.apex_types.specs.declared.limits.TheConstants.{MOST_OBJECTS}
-use Rattle.apex_types.specs.Actions.{Action}
-use Rattle.apex_types.specs.Actions as action
+use Rattle.apex_types.specs.Runners.{Action}
+use Rattle.apex_types.specs.Runners as action
 use Rattle.apex_types.specs.declared.process.Entry.{Entry}
 use Rattle.apex_types.specs.declared.process.ProcessStatus.{ProcessStatus}
 use Rattle.apex_types.specs.declared.row.PortDirection.{PortDirection}

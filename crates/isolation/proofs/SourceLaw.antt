@@ -19,7 +19,8 @@ use Rattle.kernel_meaning.specs.Partition.{Member}
 use Rattle.pal_meaning.specs.Program.{Program}
 use Rattle.pal_meaning.specs.SourceControl.{SourceControl}
 use Rattle.module_meaning.specs.TableRules.{verdict}
-use Rattle.module_meaning.specs.Table.{has_unknown_port, has_wrong_ends}
+use Rattle.module_meaning.specs.Table.{has_wrong_ends}
+use Rattle.module_meaning.specs.ImageRules.{has_unknown_port}
 use Rattle.module_meaning.specs.Table.{fixed_of}
 use Rattle.module_meaning.specs.SourceMeaning.{source_member, source_members, source_module, source_trace}
 use Rattle.kernel_meaning.specs.Windows.{Schedule, schedule_of_partition}

@@ -12,7 +12,8 @@ use Rattle.apex_types.specs.declared.row.ChannelEnd.TheVariants as ends
 use Rattle.apex_types.specs.declared.row.PortRow.{PortRow}
 use Rattle.module_meaning.specs.Table.{Channel, Partition, at_number}
 use Rattle.module_meaning.specs.Module.{Plan, is_port, channel_from}
-use Rattle.module_meaning.specs.Table.{ends_of, is_unknown_port, has_unknown_port, has_wrong_ends}
+use Rattle.module_meaning.specs.Table.{ends_of, has_wrong_ends}
+use Rattle.module_meaning.specs.ImageRules.{is_unknown_port, has_unknown_port}
 use Rattle.module_meaning.specs.Table.{◌>>=◌}
 use Rattle.kernel_meaning.specs.Windows.{Schedule}
 use Rattle.kernel_meaning.specs.WindowFacts.{HasOneOwner, HasOneEnd}

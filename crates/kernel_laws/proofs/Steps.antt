@@ -7,7 +7,7 @@ use Rattle.apex_types.specs.declared.codes.PartitionAction.{PartitionAction}
 use Rattle.apex_types.specs.declared.event.EventKind.{EventKind}
 use Rattle.apex_types.specs.declared.identity.At.{At}
 use Rattle.apex_types.specs.declared.identity.Runner.TheVariants as runner
-use Rattle.apex_types.specs.Actions.{Action}
+use Rattle.apex_types.specs.Runners.{Action}
 use Rattle.kernel_meaning.specs.Step.{Step, after}
 use Rattle.kernel_meaning.specs.Processes.{Processes, row_of, index}
 use Rattle.kernel_meaning.specs.Times.{starts_waiting, start_from}

@@ -13,9 +13,8 @@ use Rattle.apex_types.specs.declared.service.ArrayPlace.{ArrayPlace}
 use Rattle.apex_types.specs.declared.service.Service.TheVariants as service
 use Rattle.kernel_meaning.specs.Times.{is_duration}
 use Rattle.kernel_meaning.specs.Objects.{Objects, Blackboard, blackboard, put_blackboard}
-use Rattle.kernel_meaning.specs.Sharing.{Sharing, of_processes, becomes, answers, refuses, has, on, create, get_id, get_status, is_length, is_large_enough}
+use Rattle.kernel_meaning.specs.Sharing.{Sharing, of_processes, becomes, answers, refuses, has, on, create, get_id, get_status, is_length, is_large_enough, waiting, waiting_count, blocks, fills, gives_all}
 use Rattle.kernel_meaning.specs.Step.{Step, after, message, first_words, row}
-use Rattle.kernel_meaning.specs.Sharing.{waiting, waiting_count, blocks, fills, gives_all}
 
 abbrev pub is_created : Blackboard → Bool
 is_created x = x.created

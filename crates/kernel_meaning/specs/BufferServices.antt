@@ -14,9 +14,8 @@ use Rattle.apex_types.specs.declared.service.Service.TheVariants as service
 use Rattle.kernel_meaning.specs.Times.{is_duration}
 use Rattle.kernel_meaning.specs.Objects.{Objects, Buffer, buffer, put_buffer}
 use Rattle.kernel_meaning.specs.Processes.{released}
-use Rattle.kernel_meaning.specs.Sharing.{Sharing, of_processes, becomes, answers, refuses, has, on, create, get_id, get_status, is_length, is_large_enough}
+use Rattle.kernel_meaning.specs.Sharing.{Sharing, of_processes, becomes, answers, refuses, has, on, create, get_id, get_status, is_length, is_large_enough, waiting_count, first_waiting, handed_by, blocks, fills, gives}
 use Rattle.kernel_meaning.specs.Step.{Step, after, message, first_words, row}
-use Rattle.kernel_meaning.specs.Sharing.{waiting_count, first_waiting, handed_by, blocks, fills, gives}
 
 abbrev pub is_created : Buffer → Bool
 is_created x = x.created

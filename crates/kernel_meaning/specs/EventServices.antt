@@ -11,9 +11,8 @@ use Rattle.apex_types.specs.declared.process.Waiting.{Waiting}
 use Rattle.apex_types.specs.declared.service.Service.TheVariants as service
 use Rattle.kernel_meaning.specs.Times.{is_duration}
 use Rattle.kernel_meaning.specs.Objects.{Objects, ApexEvent, event, put_event}
-use Rattle.kernel_meaning.specs.Sharing.{Sharing, of_processes, becomes, answers, refuses, has, on, create, get_id, get_status}
+use Rattle.kernel_meaning.specs.Sharing.{Sharing, of_processes, becomes, answers, refuses, has, on, create, get_id, get_status, waiting, waiting_count, releases_all, blocks}
 use Rattle.kernel_meaning.specs.Step.{Step, after, message, row}
-use Rattle.kernel_meaning.specs.Sharing.{waiting, waiting_count, releases_all, blocks}
 
 abbrev pub is_created : ApexEvent → Bool
 is_created x = x.created

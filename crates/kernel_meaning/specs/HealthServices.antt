@@ -17,22 +17,19 @@ use Rattle.apex_types.specs.declared.event.Subject.{Subject}
 use Rattle.apex_types.specs.declared.identity.Runner.{Runner}
 use Rattle.apex_types.specs.declared.identity.Runner.TheVariants as runner
 use Rattle.apex_types.specs.declared.limits.TheConstants.{MOST_ERRORS, MOST_REPORT_WORDS}
-use Rattle.apex_types.specs.Actions as asks
+use Rattle.apex_types.specs.Runners as asks
 use Rattle.apex_types.specs.declared.process.ProcessStatus.{ProcessStatus}
 use Rattle.apex_types.specs.declared.process.WaitingError.{WaitingError}
 use Rattle.apex_types.specs.declared.row.HealthTable.{HealthTable}
 use Rattle.apex_types.specs.declared.service.ArrayPlace.{ArrayPlace}
 use Rattle.apex_types.specs.declared.service.Service.TheVariants as service
-use Rattle.kernel_meaning.specs.Times.{mode_of_action}
-use Rattle.kernel_meaning.specs.Kernel.{Errors}
-use Rattle.kernel_meaning.specs.Kernel.{Kernel, of_processes, with_errors}
+use Rattle.kernel_meaning.specs.Times.{mode_of_action, begins}
+use Rattle.kernel_meaning.specs.Kernel.{Errors, Kernel, of_processes, with_errors}
 use Rattle.kernel_meaning.specs.PartitionServices.{clears}
 use Rattle.kernel_meaning.specs.Processes.{Processes, row_of, put_row, rests_found, subject, answers, refuses, wakes, is_created, is_dormant, is_normal, is_same}
 use Rattle.kernel_meaning.specs.Sharing as sharing
-use Rattle.kernel_meaning.specs.Sharing.{Sharing, becomes, is_large_enough}
-use Rattle.kernel_meaning.specs.Times.{begins}
+use Rattle.kernel_meaning.specs.Sharing.{Sharing, becomes, is_large_enough, fills}
 use Rattle.kernel_meaning.specs.Step.{Step, nothing, after, lifted, message, first_words, row}
-use Rattle.kernel_meaning.specs.Sharing.{fills}
 
 -- ---- REPORT_APPLICATION_MESSAGE
 

@@ -3,7 +3,7 @@
 use Rattle.std.specs.Prelude.{ℕ, ◌-◌, min, ℤ, pos, negsuc, Bool, true, false, List, [], ◌∷◌, ◌++◌, length, take, drop, Option, Some, None, slice_get, slice_set, map, if◌then◌else◌}
 use Rattle.arrayvec.specs.ArrayVec.{ArrayVec}
 use Rattle.apex_types.specs.declared.limits.TheConstants.{MOST_WORDS}
-use Rattle.apex_types.specs.Runners.{place_of}
+use Rattle.apex_types.specs.Runners.{place_of, Action}
 use Rattle.apex_types.specs.declared.codes.ErrorKind.TheVariants.{DeadlineMissed}
 use Rattle.apex_types.specs.declared.codes.Mode.{Mode}
 use Rattle.apex_types.specs.declared.codes.Mode.TheVariants as mode
@@ -16,8 +16,7 @@ use Rattle.apex_types.specs.declared.identity.At.{At}
 use Rattle.apex_types.specs.declared.identity.PortId.{PortId}
 use Rattle.apex_types.specs.declared.identity.Runner.{Runner}
 use Rattle.apex_types.specs.declared.identity.Runner.TheVariants as runner
-use Rattle.apex_types.specs.Actions.{Action}
-use Rattle.apex_types.specs.Actions as action
+use Rattle.apex_types.specs.Runners as action
 use Rattle.apex_types.specs.declared.process.Entry.{Entry}
 use Rattle.apex_types.specs.declared.process.Lock.{Lock}
 use Rattle.apex_types.specs.declared.process.Lock.TheVariants as lock
@@ -28,18 +27,16 @@ use Rattle.apex_types.specs.declared.service.Call.{Call}
 use Rattle.apex_types.specs.declared.service.Call.TheVariants as call
 use Rattle.kernel_meaning.specs.Times.{Treated, due}
 use Rattle.engine_meaning.specs.Engine.{Engine, Ticked, Asks, Nothing, Calls, Faults, Ends}
-use Rattle.kernel_meaning.specs.Kernel.{queued}
+use Rattle.kernel_meaning.specs.Kernel.{queued, Kernel, of_processes, of_errors, of_objects, of_ports, of_ports_alone, with_errors, with_objects, with_ports}
 use Rattle.kernel_meaning.specs.HealthServices.{action_of, breaks, create_error_handler, faults, free_places, get_error_status, raises_application_error, report, starts_handler, then_clears}
-use Rattle.kernel_meaning.specs.Kernel.{Kernel, of_processes, of_errors, of_objects, of_ports, of_ports_alone, with_errors, with_objects, with_ports}
 use Rattle.kernel_meaning.specs.ObjectServices as objects
 use Rattle.kernel_meaning.specs.Objects.{Port, port_at, is_source}
 use Rattle.kernel_meaning.specs.PortServices as ports
 use Rattle.kernel_meaning.specs.PartitionServices.{clears, ends_body, get_partition_status, next_release_of, set_partition_mode}
 use Rattle.kernel_meaning.specs.Processes.{Processes, row_of, put_row, is_same}
-use Rattle.kernel_meaning.specs.ProcessServices.{get_process_id, get_process_status, create_process, set_priority, suspend_self, suspend, resume, stop, start, delayed_start, lock_preemption, unlock_preemption, get_my_id, number_of, is_ready_state}
+use Rattle.kernel_meaning.specs.ProcessServices.{get_process_id, get_process_status, create_process, set_priority, suspend_self, suspend, resume, stop, start, delayed_start, lock_preemption, unlock_preemption, get_my_id, number_of, is_ready_state, get_time, timed_wait, periodic_wait, replenish}
 use Rattle.apex_types.specs.ServiceCalls.{array_of}
 use Rattle.kernel_meaning.specs.Step.{Step, nothing, after}
-use Rattle.kernel_meaning.specs.ProcessServices.{get_time, timed_wait, periodic_wait, replenish}
 use Rattle.engine_meaning.specs.Operators.{put_words}
 
 -- ---- the choice

@@ -12,16 +12,14 @@ use Rattle.apex_types.specs.declared.event.Subject.TheVariants.{Init}
 use Rattle.apex_types.specs.declared.identity.At.{At}
 use Rattle.apex_types.specs.declared.identity.Runner.{Runner}
 use Rattle.apex_types.specs.declared.identity.Runner.TheVariants as runner
-use Rattle.apex_types.specs.Actions.{Action}
-use Rattle.apex_types.specs.Actions as action
+use Rattle.apex_types.specs.Runners.{Action}
+use Rattle.apex_types.specs.Runners as action
 use Rattle.apex_types.specs.declared.process.Lock.TheVariants as lock
 use Rattle.apex_types.specs.declared.process.ProcessStatus.{ProcessStatus}
 use Rattle.apex_types.specs.declared.process.Wait.TheVariants as wait
 use Rattle.apex_types.specs.declared.service.Service.TheVariants as service
-use Rattle.kernel_meaning.specs.Kernel.{emptied_errors}
-use Rattle.kernel_meaning.specs.Kernel.{Kernel, of_processes}
-use Rattle.kernel_meaning.specs.Objects.{cleared_objects}
-use Rattle.kernel_meaning.specs.Objects.{cleared_ports}
+use Rattle.kernel_meaning.specs.Kernel.{emptied_errors, Kernel, of_processes}
+use Rattle.kernel_meaning.specs.Objects.{cleared_objects, cleared_ports}
 use Rattle.kernel_meaning.specs.Queues.{emptied}
 use Rattle.kernel_meaning.specs.Processes.{Processes, row_of, rests_found, answers, refuses, is_normal}
 use Rattle.kernel_meaning.specs.ProcessServices.{level_of, stop_self}

@@ -20,7 +20,7 @@ use Rattle.apex_types.specs.declared.identity.Priority.{Priority}
 use Rattle.apex_types.specs.declared.identity.ProcessIndex.{ProcessIndex}
 use Rattle.apex_types.specs.declared.identity.Runner.{Runner}
 use Rattle.apex_types.specs.declared.identity.Runner.TheVariants as runner
-use Rattle.apex_types.specs.Actions as action
+use Rattle.apex_types.specs.Runners as action
 use Rattle.apex_types.specs.declared.process.Due.{Due}
 use Rattle.apex_types.specs.declared.process.Entry.{Entry}
 use Rattle.apex_types.specs.declared.process.Lock.{Lock}

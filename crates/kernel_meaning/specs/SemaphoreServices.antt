@@ -12,9 +12,8 @@ use Rattle.apex_types.specs.declared.service.Service.TheVariants as service
 use Rattle.kernel_meaning.specs.Times.{is_duration}
 use Rattle.kernel_meaning.specs.Objects.{Objects, Semaphore, semaphore, put_semaphore}
 use Rattle.kernel_meaning.specs.Processes.{released}
-use Rattle.kernel_meaning.specs.Sharing.{Sharing, of_processes, becomes, answers, refuses, has, on, create, get_id, get_status}
+use Rattle.kernel_meaning.specs.Sharing.{Sharing, of_processes, becomes, answers, refuses, has, on, create, get_id, get_status, waiting_count, first_waiting, blocks}
 use Rattle.kernel_meaning.specs.Step.{Step, after, message, row}
-use Rattle.kernel_meaning.specs.Sharing.{waiting_count, first_waiting, blocks}
 
 abbrev pub is_created : Semaphore → Bool
 is_created x = x.created

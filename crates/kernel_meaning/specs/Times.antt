@@ -19,7 +19,7 @@ use Rattle.apex_types.specs.declared.codes.Response.TheVariants as level
 use Rattle.apex_types.specs.declared.codes.ReturnCode.TheVariants as code
 use Rattle.apex_types.specs.declared.event.EventKind.TheVariants as event
 use Rattle.apex_types.specs.declared.identity.ProcessIndex.{ProcessIndex}
-use Rattle.apex_types.specs.Actions as asks
+use Rattle.apex_types.specs.Runners as asks
 use Rattle.apex_types.specs.declared.process.Due.{Due}
 use Rattle.apex_types.specs.declared.process.Due.TheVariants as due_time
 use Rattle.apex_types.specs.declared.service.Service.TheVariants as service
@@ -35,10 +35,6 @@ is_delay (pos n) = nat_le n MOST_TICKS
 abbrev pub is_duration : ℤ → Bool
 is_duration (negsuc zero) = true
 is_duration v = is_delay v
-
-abbrev pub is_without_limit : ℤ → Bool
-is_without_limit (negsuc n) = true
-is_without_limit (pos n) = false
 
 -- the value of a word, 0 for a negative word
 abbrev pub amount : ℤ → ℕ

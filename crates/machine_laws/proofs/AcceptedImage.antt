@@ -8,7 +8,8 @@ use Rattle.toml.specs.Data.{Members}
 use Rattle.module_meaning.specs.Table.{Table, Partition}
 use Rattle.machine_meaning.specs.Image.{Item}
 use Rattle.module_meaning.specs.TableRules.{TableText}
-use Rattle.module_meaning.specs.Table.{is_wrong_window, has_wrong_window, has_odd_period, has_short_period, lacks_release, has_unknown_port, has_wrong_ends, keeps_rules}
+use Rattle.module_meaning.specs.Table.{has_odd_period, has_short_period, lacks_release, has_wrong_ends}
+use Rattle.module_meaning.specs.ImageRules.{is_wrong_window, has_wrong_window, has_unknown_port, keeps_rules}
 use Rattle.module_meaning.specs.TableRules.{numbered, verdict}
 use Rattle.machine_meaning.specs.ImageLimits.{IsSection, IsLawful}
 use Rattle.machine_meaning.proofs.Beside.{each_at}

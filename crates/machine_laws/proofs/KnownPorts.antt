@@ -12,7 +12,7 @@ use Rattle.module_meaning.specs.Table.{Partition}
 use Rattle.module_meaning.specs.TableRules.{same, PartitionText, ChannelText}
 use Rattle.module_meaning.specs.Table.{◌>>=◌}
 use Rattle.module_meaning.specs.TableRules.{port_number, port_from, end_of, channel_row, port_row, partition_row}
-use Rattle.module_meaning.specs.Table.{is_unknown_port, has_unknown_port}
+use Rattle.module_meaning.specs.ImageRules.{is_unknown_port, has_unknown_port}
 use Rattle.machine_meaning.proofs.Beside.{at_seam}
 use Rattle.machine_laws.proofs.AcceptedTable.{number_small}
 

@@ -12,7 +12,8 @@ use Rattle.module_meaning.specs.Table.{Table, Partition}
 use Rattle.machine_meaning.specs.Image.{Item, Image}
 use Rattle.machine_meaning.specs.ImageReading.{last_end, partitions_in}
 use Rattle.machine_meaning.specs.ImageLimits.{EachBeside, IsWindow, IsLawful}
-use Rattle.module_meaning.specs.Table.{is_wrong_window, has_wrong_window, has_odd_period, has_short_period, lacks_release_from, lacks_release, has_unknown_port, has_wrong_ends}
+use Rattle.module_meaning.specs.Table.{has_odd_period, has_short_period, lacks_release_from, lacks_release, has_wrong_ends}
+use Rattle.module_meaning.specs.ImageRules.{is_wrong_window, has_wrong_window, has_unknown_port}
 use Rattle.module_meaning.specs.TableRules.{verdict}
 use Rattle.kernel_meaning.specs.Kernel.{Kernel, Fixed}
 use Rattle.kernel_meaning.specs.PartitionServices.{next_release_of}

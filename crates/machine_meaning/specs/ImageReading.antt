@@ -15,7 +15,7 @@ use Rattle.apex_types.specs.declared.limits.Limits.{Limits}
 use Rattle.apex_types.specs.declared.version.TheConstants.{FIRST_VERSION, SECOND_VERSION, THIRD_VERSION}
 use Rattle.apex_types.specs.declared.version.ImageVersion.{ImageVersion}
 use Rattle.apex_types.specs.declared.version.ImageVersion.TheVariants.{First, Second, Third}
-use Rattle.module_meaning.specs.Table.{keeps_rules}
+use Rattle.module_meaning.specs.ImageRules.{keeps_rules}
 use Rattle.apex_types.specs.declared.codes.Discipline.{Discipline}
 use Rattle.apex_types.specs.declared.codes.Discipline.TheVariants.{Fifo, Priority}
 use Rattle.apex_types.specs.declared.codes.ModuleAction.{ModuleAction}

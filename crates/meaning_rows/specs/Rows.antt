@@ -16,7 +16,8 @@ use Rattle.apex_types.specs.declared.row.HealthTable.{HealthTable}
 use Rattle.apex_types.specs.declared.row.RoutineRow.{RoutineRow}
 use Rattle.apex_types.specs.declared.row.WindowRow.{WindowRow}
 use Rattle.compiling_laws.specs.CompiledCode.{section_of}
-use Rattle.pal_meaning.specs.Program.{size_of_body, size_of_procedure, frame_of_body, frame_of_procedure, cost_of_body, cost_of_procedure}
+use Rattle.pal_meaning.specs.Program.{size_of_body, size_of_procedure, frame_of_body, frame_of_procedure}
+use Rattle.pal_meaning.specs.BodyCosts.{cost_of_body, cost_of_procedure}
 use Rattle.pal_meaning.specs.Grammar.{words_of}
 use Rattle.pal_laws.specs.GrammarReading.{program_at}
 use Rattle.pal_meaning.specs.Syntax as written

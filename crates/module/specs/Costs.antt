@@ -1,7 +1,7 @@
 -- The costs of the bodies of the partitions of a module.
 use Rattle.std.specs.Prelude.{◌≡◌, ℕ, List, [], ◌∷◌, ◌++◌, map, Option, Some, None, Ok}
 use Rattle.apex_types.specs.declared.cost.Costs.{Costs}
-use Rattle.pal_meaning.specs.Program as cost
+use Rattle.pal_meaning.specs.BodyCosts as cost
 use Rattle.module_meaning.specs.Table.{Partition, Table}
 use Rattle.pal_meaning.specs.Program.{Program, Procedure, Body, Process}
 use Rattle.pal_meaning.specs.Syntax as written

@@ -1,4 +1,5 @@
 pub mod Table
+pub mod ImageRules
 pub mod TableRules
 pub mod Accepted
 pub mod DeviceText

@@ -1,5 +1,5 @@
 -- The rows of a module table, and the rules that the rows of a table and of an image keep.
-use Rattle.std.specs.Prelude.{ℕ, zero, suc, List, Option, None, slice_get, option_and_then, ◌+◌, ◌-◌, ◌*◌, ◌/◌, ◌%◌, min, max, Bool, true, false, not, ◌&&◌, ◌||◌, ◌==◌, nat_lt, is_none, if◌then◌else◌, [], ◌∷◌, length, flat_map, sum_by, Some}
+use Rattle.std.specs.Prelude.{ℕ, zero, suc, List, Option, None, slice_get, option_and_then, ◌+◌, ◌-◌, ◌*◌, ◌/◌, ◌%◌, min, max, Bool, true, false, not, ◌&&◌, ◌||◌, ◌==◌, nat_lt, if◌then◌else◌, [], ◌∷◌, length, flat_map, sum_by, Some}
 use Rattle.apex_types.specs.declared.codes.ModuleAction.{ModuleAction}
 use Rattle.apex_types.specs.declared.cost.Costs.{Costs}
 use Rattle.apex_types.specs.declared.row.HealthTable.{HealthTable}
@@ -57,13 +57,6 @@ has_twice equal (x ∷ xs) = list_any (equal x) xs || has_twice equal xs
 
 -- The rules on rows. Those of a table that is read and of an image that is loaded are the same.
 
--- Windows: a window that names no partition of the table, or ends after the frame.
-abbrev pub is_wrong_window : (frame count : ℕ) → WindowRow → Bool
-is_wrong_window frame count row = nat_lt row.partition.0 1 || nat_lt count row.partition.0 || nat_lt frame (row.offset + row.length)
-
-abbrev pub has_wrong_window : Schedule → ℕ → Bool
-has_wrong_window s count = list_any (is_wrong_window s.frame count) s.windows
-
 -- Period: the frame is no multiple of a partition's period.
 abbrev pub has_odd_period : ℕ → List Partition → Bool
 has_odd_period frame ps = list_any (λ p. not (frame % p.period == 0)) ps
@@ -109,14 +102,6 @@ ends_of c = c.source ∷ c.destinations
 abbrev pub port_at : List Partition → ChannelEnd → Option PortRow
 port_at ps ends.Device = None
 port_at ps (ends.Port p q) = slice_get ps (p.0 - 1) >>= λ row. slice_get row.ports (q.0 - 1)
-
--- an end that is no port: the partition or the port of that number does not exist
-abbrev pub is_unknown_port : List Partition → ChannelEnd → Bool
-is_unknown_port ps ends.Device = false
-is_unknown_port ps (ends.Port p q) = (p.0 == 0) || (q.0 == 0) || is_none (port_at ps (ends.Port p q))
-
-abbrev pub has_unknown_port : List Partition → List Channel → Bool
-has_unknown_port ps cs = list_any (λ c. list_any (is_unknown_port ps) (ends_of c)) cs
 
 abbrev pub is_device : ChannelEnd → Bool
 is_device ends.Device = true
@@ -187,9 +172,3 @@ is_wrong ps c = has_wrong_direction ps c || has_mixed_ports ps (ends_of c) || se
 -- a port at two ends, of one channel or of several, or a wrong channel
 abbrev pub has_wrong_ends : List Partition → List Channel → Bool
 has_wrong_ends ps cs = has_twice is_same_port (flat_map ends_of cs) || list_any (is_wrong ps) cs
-
--- All these rules are kept, and each number of a partition and of a port stands for one.
-abbrev pub keeps_rules : Schedule → List Partition → List Channel → Bool
-keeps_rules s ps cs =
-    not (has_wrong_window s (length ps)) && not (has_odd_period s.frame ps) && not (has_short_period s ps) && not (lacks_release s.windows ps)
-    && not (has_unknown_port ps cs) && not (has_wrong_ends ps cs)

@@ -10,7 +10,7 @@ use Rattle.apex_types.specs.declared.identity.ListKey.{ListKey}
 use Rattle.apex_types.specs.declared.identity.Priority.{Priority}
 use Rattle.apex_types.specs.declared.identity.Runner.{Runner}
 use Rattle.apex_types.specs.declared.identity.Ticks.{Ticks}
-use Rattle.apex_types.specs.Actions as action
+use Rattle.apex_types.specs.Runners as action
 use Rattle.apex_types.specs.declared.process.ProcessStatus.{ProcessStatus}
 use Rattle.apex_types.specs.declared.process.Wait.{Wait}
 use Rattle.apex_types.specs.declared.process.Wait.TheVariants as wait

@@ -8,6 +8,7 @@ use Rattle.std.proofs.Props.{props}
 use Rattle.apex_types.specs.declared.cost.Costs.{Costs}
 use Rattle.compiling_laws.specs.Bounds.{IsHeld, IsBodyHeld, IsProcedureHeld, IsHandlerHeld, AreProcessesHeld, AreProceduresHeld, AreCostsHeld}
 use Rattle.pal_meaning.specs.Program as program
+use Rattle.pal_meaning.specs.BodyCosts as body_costs
 use Rattle.compiling_laws.proofs.ProgramCosts.{accepted_costs}
 use Rattle.pal_base.specs.Accepted.{IsAccepted}
 use Rattle.pal_base.specs.Costs.{held, comes_to}
@@ -57,13 +58,13 @@ same_row name ticks c size n f frame n_is f_is c_is size_fits ticks_fit frame_fi
     ∙ ap (λ j. row name size j c.ticks) (f_is ∙ held_is frame frame_fits)
     ∙ ap (row name size frame) (ap (λ (d : Cost). d.ticks) c_is ∙ held_is (sum ticks) ticks_fit)
 
-pub body_is : (costs : Costs) (name : BodyName) (b : Body) (c : Cost) (n f : ℕ) → n ≡ min (program.size_of_body (body_of b)) 18446744073709551615 → f ≡ min (program.frame_of_body (body_of b)) 18446744073709551615 → c ≡ comes_to (program.costs_of_body costs (body_of b)) → IsBodyHeld costs (body_of b)
+pub body_is : (costs : Costs) (name : BodyName) (b : Body) (c : Cost) (n f : ℕ) → n ≡ min (program.size_of_body (body_of b)) 18446744073709551615 → f ≡ min (program.frame_of_body (body_of b)) 18446744073709551615 → c ≡ comes_to (body_costs.costs_of_body costs (body_of b)) → IsBodyHeld costs (body_of b)
     → record { name = name; instructions = n; frame = f; cost = c.ticks } ≡ cost_of_body costs name b
-body_is costs name b c n f n_is f_is c_is h = same_row name (program.costs_of_body costs (body_of b)) c (program.size_of_body (body_of b)) n f (program.frame_of_body (body_of b)) n_is f_is c_is h.0 h.1 h.2
+body_is costs name b c n f n_is f_is c_is h = same_row name (body_costs.costs_of_body costs (body_of b)) c (program.size_of_body (body_of b)) n f (program.frame_of_body (body_of b)) n_is f_is c_is h.0 h.1 h.2
 
-pub procedure_is : (costs : Costs) (name : BodyName) (p : code_procedure.Procedure) (c : Cost) (n f : ℕ) → n ≡ min (program.size_of_procedure (procedure_of p)) 18446744073709551615 → f ≡ min (program.frame_of_procedure (procedure_of p)) 18446744073709551615 → c ≡ comes_to (program.costs_of_procedure costs (procedure_of p)) → IsProcedureHeld costs (procedure_of p)
+pub procedure_is : (costs : Costs) (name : BodyName) (p : code_procedure.Procedure) (c : Cost) (n f : ℕ) → n ≡ min (program.size_of_procedure (procedure_of p)) 18446744073709551615 → f ≡ min (program.frame_of_procedure (procedure_of p)) 18446744073709551615 → c ≡ comes_to (body_costs.costs_of_procedure costs (procedure_of p)) → IsProcedureHeld costs (procedure_of p)
     → record { name = name; instructions = n; frame = f; cost = c.ticks } ≡ cost_of_procedure_body costs name p
-procedure_is costs name p c n f n_is f_is c_is h = same_row name (program.costs_of_procedure costs (procedure_of p)) c (program.size_of_procedure (procedure_of p)) n f (program.frame_of_procedure (procedure_of p)) n_is f_is c_is h.0 h.1 h.2
+procedure_is costs name p c n f n_is f_is c_is h = same_row name (body_costs.costs_of_procedure costs (procedure_of p)) c (program.size_of_procedure (procedure_of p)) n f (program.frame_of_procedure (procedure_of p)) n_is f_is c_is h.0 h.1 h.2
 
 -- ---- one after the other
 

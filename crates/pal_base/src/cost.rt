@@ -1,7 +1,7 @@
 //! The costs of the constructs of a program's parts: the sum of their ticks.
 
 ghost use Rattle.std.specs.Prelude.{◌≡◌, ◌∷◌, ◌++◌, [], ℕ, List, map};
-ghost use Rattle.pal_meaning.specs.Program as cost;
+ghost use Rattle.pal_meaning.specs.BodyCosts as cost;
 ghost use Rattle.apex_types.specs.ServiceShape as services;
 ghost use Rattle.engine_meaning.specs.Operators as operators;
 ghost use Rattle.pal_base.specs.ProgramView.{expr_of, exprs_of, links_of, stmt_of, block_of, body_of, procedure_of};

@@ -3,6 +3,7 @@ pub mod Grammar
 pub mod Beginning
 pub mod Lines
 pub mod Program
+pub mod BodyCosts
 pub mod Resolve
 pub mod WellFormed
 pub mod SourceControl

@@ -1,5 +1,5 @@
--- A program with its names resolved; the costs of its constructs in ticks, and the words that a body takes of its stack.
-use Rattle.std.specs.Prelude.{ℕ, ℤ, List, Option, ◌+◌, [], ◌∷◌, ◌++◌, length, map, Some, None, max}
+-- A program with its names resolved; the number of its constructs, and the words that a body takes of its stack.
+use Rattle.std.specs.Prelude.{ℕ, ℤ, List, Option, ◌+◌, length, Some, None, max}
 use Rattle.apex_types.specs.declared.instruction.BinaryOperator.{BinaryOperator}
 use Rattle.apex_types.specs.declared.instruction.UnaryOperator.{UnaryOperator}
 use Rattle.apex_types.specs.declared.place.Place.{Place}
@@ -7,10 +7,8 @@ use Rattle.apex_types.specs.declared.row.SemaphoreRow.{SemaphoreRow}
 use Rattle.apex_types.specs.declared.row.BufferRow.{BufferRow}
 use Rattle.apex_types.specs.declared.row.BlackboardRow.{BlackboardRow}
 use Rattle.apex_types.specs.declared.service.Service.{Service}
-use Rattle.std.specs.List.{sum, sum_by}
-use Rattle.apex_types.specs.declared.cost.Costs.{Costs}
-use Rattle.engine_meaning.specs.Operators.{cost_of_binary}
-use Rattle.apex_types.specs.ServiceShape.{cost_of_service, answer_words}
+use Rattle.std.specs.List.{sum_by}
+use Rattle.apex_types.specs.ServiceShape.{answer_words}
 
 -- A partition's program with its names resolved: scalars to places, arrays to the place of their
 -- first word and their size, objects, processes and procedures to numbers.
@@ -81,57 +79,7 @@ pub record Program : Type 0 where
   pub handler : Option Body
   pub processes : List Process
 
--- The costs of a program's constructs in ticks, the number of their instructions, and the words of
--- stack that a body needs. Each construct is one instruction, and its cost does not depend on the
--- constructs around it.
-
--- the costs of the constructs of an expression, in the order in which they take effect
-abbrev mutual
-  pub costs_of_expr : Costs → Expr → List ℕ
-  costs_of_expr costs (Literal value) = costs.literal.ticks ∷ []
-  costs_of_expr costs (Read place) = costs.scalar.ticks ∷ []
-  costs_of_expr costs (Element place size index) = costs_of_expr costs index ++ (costs.array.ticks ∷ [])
-  costs_of_expr costs (Unary operator operand) = costs_of_expr costs operand ++ (costs.logic.ticks ∷ [])
-  costs_of_expr costs (Chain first rest) = costs_of_expr costs first ++ costs_of_links costs rest
-  costs_of_expr costs (Apply procedure arguments) = costs_of_exprs costs arguments ++ (costs.call.ticks ∷ [])
-
-  pub costs_of_links : Costs → Links → List ℕ
-  costs_of_links costs NoLink = []
-  costs_of_links costs (MoreLinks operator operand rest) = costs_of_expr costs operand ++ (cost_of_binary costs operator ∷ costs_of_links costs rest)
-
-  pub costs_of_exprs : Costs → Exprs → List ℕ
-  costs_of_exprs costs NoExpr = []
-  costs_of_exprs costs (MoreExprs first rest) = costs_of_expr costs first ++ costs_of_exprs costs rest
-
--- The same for a statement. A service costs by its kind, and writing a target as much as a scalar.
-abbrev mutual
-  pub costs_of_stmt : Costs → Stmt → List ℕ
-  costs_of_stmt costs (Assign place value) = costs_of_expr costs value ++ (costs.scalar.ticks ∷ [])
-  costs_of_stmt costs (AssignElement place size index value) = costs_of_expr costs index ++ costs_of_expr costs value ++ (costs.array.ticks ∷ [])
-  costs_of_stmt costs (If test then) = costs_of_expr costs test ++ (costs.branch.ticks ∷ costs_of_block costs then)
-  costs_of_stmt costs (IfElse test then other) = costs_of_expr costs test ++ (costs.branch.ticks ∷ costs_of_block costs then) ++ (costs.jump.ticks ∷ costs_of_block costs other)
-  costs_of_stmt costs (While test block) = costs_of_expr costs test ++ (costs.branch.ticks ∷ costs_of_block costs block) ++ (costs.jump.ticks ∷ [])
-  costs_of_stmt costs (Work ticks) = ticks ∷ []
-  costs_of_stmt costs (Return value) = costs_of_expr costs value ++ (costs.ret.ticks ∷ [])
-  costs_of_stmt costs (CallService service arguments targets) = costs_of_exprs costs arguments ++ (cost_of_service costs service ∷ map (λ _. costs.scalar.ticks) targets)
-
-  pub costs_of_block : Costs → Block → List ℕ
-  costs_of_block costs NoStmt = []
-  costs_of_block costs (MoreStmts first rest) = costs_of_stmt costs first ++ costs_of_block costs rest
-
--- a procedure closes with a literal 0 and a return
-abbrev pub costs_of_procedure : Costs → Procedure → List ℕ
-costs_of_procedure costs p = costs_of_block costs p.block ++ (costs.literal.ticks ∷ costs.ret.ticks ∷ [])
-
-abbrev pub costs_of_body : Costs → Body → List ℕ
-costs_of_body costs b = costs_of_block costs b.block ++ (costs.end.ticks ∷ [])
-
--- the sum of the costs
-abbrev pub cost_of_procedure : Costs → Procedure → ℕ
-cost_of_procedure costs p = sum (costs_of_procedure costs p)
-
-abbrev pub cost_of_body : Costs → Body → ℕ
-cost_of_body costs b = sum (costs_of_body costs b)
+-- The number of a program's instructions, and the words of stack that a body needs. Each construct is one instruction.
 
 -- the number of constructs, which is the number of instructions
 abbrev mutual

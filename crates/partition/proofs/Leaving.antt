@@ -5,7 +5,7 @@ use Rattle.apex_types.specs.declared.codes.PartitionAction.{PartitionAction}
 use Rattle.apex_types.specs.declared.event.EventKind.{EventKind}
 use Rattle.apex_types.specs.declared.identity.Runner.{Runner}
 use Rattle.apex_types.specs.Output.{Output}
-use Rattle.apex_types.specs.Actions.{Action}
+use Rattle.apex_types.specs.Runners.{Action}
 use Rattle.kernel_meaning.specs.HealthServices.{acts_on_error, then_acts}
 use Rattle.kernel_meaning.specs.Kernel.{Kernel}
 use Rattle.kernel_meaning.specs.Step.{Step}

@@ -3,7 +3,7 @@ use Rattle.std.specs.Prelude.{◌≡◌, ℕ, ◌+◌, List, ◌++◌}
 use Rattle.apex_types.specs.declared.identity.At.{At}
 use Rattle.apex_types.specs.declared.event.Event.{Event}
 use Rattle.apex_types.specs.declared.log.EventLog.{Ghosts as Log}
-use Rattle.apex_types.specs.Actions.{Action}
+use Rattle.apex_types.specs.Runners.{Action}
 use Rattle.kernel_meaning.specs.Kernel.{Kernel}
 use Rattle.kernel_meaning.specs.Partition.{Member, Moved, with_world, act, act_all}
 use Rattle.bursts.specs.Running.{Goes, advances_by}

@@ -1,7 +1,7 @@
 //! Changes of one process, each with its line, and the answers of services.
 
 ghost use Rattle.std.specs.Prelude.{◌≡◌, ◌<◌, ◌≤◌, ◌+◌, ◌++◌, [], ◌∷◌, pos, length};
-ghost use Rattle.apex_types.specs.Actions as action;
+ghost use Rattle.apex_types.specs.Runners as action;
 ghost use Rattle.apex_types.specs.declared.event.EventKind.TheVariants as event;
 ghost use Rattle.apex_types.specs.Room.{HasRoom, Grows};
 ghost use Rattle.apex_types.specs.Runners.{place_of};

@@ -2,7 +2,8 @@
 
 ghost use Rattle.std.specs.Prelude.{◌≡◌, map, flat_map, option_map, option_copied, IfOk};
 ghost use Rattle.std.specs.List.{list_any};
-ghost use Rattle.module_meaning.specs.Table.{port_at, is_device, is_same_port, is_in_same_partition, is_same_kind, is_source_port, is_destination_port, is_queuing_port, is_unknown_port, has_unknown_port, differ, ends_of, is_wrong, has_wrong_direction, has_mixed_ports, sends_to_itself, has_two_devices, has_twice, has_wrong_ends};
+ghost use Rattle.module_meaning.specs.Table.{port_at, is_device, is_same_port, is_in_same_partition, is_same_kind, is_source_port, is_destination_port, is_queuing_port, differ, ends_of, is_wrong, has_wrong_direction, has_mixed_ports, sends_to_itself, has_two_devices, has_twice, has_wrong_ends};
+ghost use Rattle.module_meaning.specs.ImageRules.{is_unknown_port, has_unknown_port};
 ghost use Rattle.window_table.specs.Views.{channel_view};
 
 use crate::row::HasRow;

@@ -3,7 +3,8 @@
 ghost use Rattle.std.specs.Prelude.{◌≡◌, ◌≤◌, ◌<◌, ◌/◌, ◌==◌, ℕ, map, length, nat_lt, false};
 ghost use Rattle.std.specs.List.{list_any};
 ghost use Rattle.apex_types.specs.declared.limits.TheConstants.{MOST_PARTITIONS};
-ghost use Rattle.module_meaning.specs.Table.{is_wrong_window, has_wrong_window, has_odd_period, has_short_period, lacks_release, common, offered, falls_short};
+ghost use Rattle.module_meaning.specs.Table.{has_odd_period, has_short_period, lacks_release, common, offered, falls_short};
+ghost use Rattle.module_meaning.specs.ImageRules.{is_wrong_window, has_wrong_window};
 ghost use Rattle.kernel_meaning.specs.Windows.{has_release};
 ghost use Rattle.window_table.specs.Schedules.{schedule_of};
 

@@ -1,5 +1,5 @@
 use Rattle.std.proofs.Common.{◌+◌, ◌∷◌, ◌++◌, [], ap, sym, ◌∙◌, append_assoc, drop}
-use Rattle.pal_meaning.specs.Program as cost
+use Rattle.pal_meaning.specs.BodyCosts as cost
 use Rattle.engine_meaning.specs.Operators as operators
 use Rattle.pal_base.specs.Costs.{comes_to}
 use Rattle.pal_base.specs.ProgramView.{expr_of, exprs_of, links_of}

@@ -1,5 +1,5 @@
 use Rattle.std.proofs.Common.{drop}
-use Rattle.pal_meaning.specs.Program as cost
+use Rattle.pal_meaning.specs.BodyCosts as cost
 use Rattle.pal_base.specs.ProgramView.{exprs_of, links_of}
 use Rattle.pal_base.proofs.Costs.{UnderWay}
 use Rattle.pal_base.proofs.cost.+cost_of_expr.Given as goal

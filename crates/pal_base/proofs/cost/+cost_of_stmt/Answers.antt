@@ -1,5 +1,5 @@
 use Rattle.std.proofs.Common.{◌+◌, ◌++◌, ◌∷◌, ap, sym, ◌∙◌, drop}
-use Rattle.pal_meaning.specs.Program as cost
+use Rattle.pal_meaning.specs.BodyCosts as cost
 use Rattle.pal_base.specs.Costs.{comes_to}
 use Rattle.pal_base.specs.ProgramView.{expr_of, stmt_of, block_of}
 use Rattle.pal_base.proofs.Costs.{goes_on, next_of}

@@ -1,6 +1,7 @@
 use Rattle.std.proofs.Common.{◌≡◌, map, drop}
 use Rattle.std.specs.List.{list_any}
-use Rattle.module_meaning.specs.Table.{is_unknown_port, ends_of}
+use Rattle.module_meaning.specs.Table.{ends_of}
+use Rattle.module_meaning.specs.ImageRules.{is_unknown_port}
 use Rattle.window_table.specs.Views.{channel_view}
 use Rattle.window_table.proofs.channels.has_unknown_port.Given as goal
 
