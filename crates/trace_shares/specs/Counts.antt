@@ -1,25 +1,36 @@
 -- The ticks that were counted.
-use Rattle.std.specs.Prelude.{ℕ, zero, suc, ◌+◌, ◌-◌, ◌^◌, min, List, Option, Some, None, slice_get, slice_set, unwrap_or}
-use Rattle.trace_shares.specs.declared.counted.Counted.{Counted}
+use Rattle.std.specs.Prelude.{◌≡◌, ℕ, zero, suc, ◌+◌, ◌-◌, ◌^◌, ◌<◌, min, Bool, true, false, if◌then◌else◌, List, [], ◌∷◌, Some, slice_get}
+use Rattle.trace_shares.specs.Uses.{is_same}
+use Rattle.trace_shares.specs.declared.counted.Row.{Row}
 use Rattle.trace_shares.specs.declared.usage.Use.{Use}
-use Rattle.trace_shares.specs.declared.usage.Use.TheVariants.{Process, Idle, Unowned, Down}
 
 -- the greatest number of 64 bits stays
 abbrev pub capped : ℕ → ℕ
 capped n = min n (2 ^ 64 - 1)
 
--- the number of a partition, which are numbered from 1
-abbrev pub of_partition : List ℕ → ℕ → ℕ
-of_partition numbers zero = 0
-of_partition numbers (suc place) = unwrap_or (slice_get numbers place) 0
+-- so many more
+abbrev pub with_more : ℕ → ℕ → ℕ
+with_more zero x = x
+with_more (suc n) x = capped (x + suc n)
 
--- the ticks that were used so
-abbrev pub counted_for : Counted → Use → ℕ
-counted_for c (Process i) = unwrap_or (slice_get c.processes.items i) 0
-counted_for c (Idle p) = of_partition c.idle.items p.0
-counted_for c Unowned = c.unowned
-counted_for c Down = c.down
+-- the ticks of the row that has this use; none without one
+unfoldable pub ticks_for : Use → List Row → ℕ
+ticks_for u [] = 0
+ticks_for u (r ∷ rs) = if is_same r.used u then r.ticks else ticks_for u rs
 
--- the numbers, with more at one place
-abbrev pub with_more : ℕ → ℕ → List ℕ → List ℕ
-with_more place n numbers = elim (slice_get numbers place) [ None ↦ numbers | Some m ↦ slice_set numbers place (capped (m + n)) ]
+abbrev pub if_same : Bool → ℕ → ℕ
+if_same true n = n
+if_same false n = 0
+
+-- So many more ticks are counted for this use, and for no other.
+abbrev pub HasMore : Use → ℕ → List Row → List Row → Type 0
+HasMore used n old new = (u : Use) → ticks_for u new ≡ with_more (if_same (is_same used u) n) (ticks_for u old)
+
+abbrev pub IsNoneOf : Use → List Row → Type 0
+IsNoneOf used rows = (k : ℕ) (r : Row) → slice_get rows k ≡ Some r → is_same r.used used ≡ false
+
+-- the first one with this use stands at this place
+abbrev pub IsPlaceOf : Use → List Row → ℕ → Type 0
+IsPlaceOf used rows place =
+    ((r : Row) × (slice_get rows place ≡ Some r) × (is_same r.used used ≡ true))
+    × ((k : ℕ) (r : Row) → k < place → slice_get rows k ≡ Some r → is_same r.used used ≡ false)

@@ -1,3 +1,4 @@
-pub mod Workers
+pub mod Standings
 pub mod Uses
 pub mod Counts
+pub mod Runs

@@ -1,46 +1,81 @@
--- What the processor did in a tick, by its windows and by the lines of its trace.
-use Rattle.std.specs.Prelude.{ℕ, zero, suc, ◌+◌, Bool, true, false, ◌==◌, ◌&&◌, if◌then◌else◌, List, Option, Some, None, slice_get}
+-- What the processor does in a tick, by its windows and by the lines of its trace.
+use Rattle.std.specs.Prelude.{ℕ, zero, suc, ◌+◌, Bool, true, false, ◌==◌, ◌&&◌, if◌then◌else◌, nat_lt, List, [], ◌∷◌, Option, Some, None}
+use Rattle.apex_types.specs.Line.{subject_text}
+use Rattle.apex_types.specs.declared.event.Event.{Event}
+use Rattle.apex_types.specs.declared.event.Subject.{Subject}
 use Rattle.apex_types.specs.declared.identity.PartitionId.{PartitionId}
+use Rattle.engine_meaning.specs.Digits.{same}
 use Rattle.kernel_meaning.specs.Windows.{Schedule, owner, tick_from}
-use Rattle.trace_shares.specs.Workers.{works}
+use Rattle.trace_shares.specs.Standings.{Standing, in_run, passed, running_at, with_line}
+use Rattle.trace_shares.specs.declared.owner.Stop.{Stop}
 use Rattle.trace_shares.specs.declared.usage.Use.{Use}
 use Rattle.trace_shares.specs.declared.usage.Use.TheVariants.{Process, Idle, Unowned, Down}
-use Rattle.trace_shares.specs.declared.worker.Worker.{Worker}
 
--- partitions are numbered from 1; of one without lines no process works
-abbrev pub worker_of : List Worker → ℕ → Option Worker
-worker_of workers zero = None
-worker_of workers (suc place) = slice_get workers place
+-- ---- one tick
 
-abbrev pub works_in : Option Worker → Option ℕ
-works_in None = None
-works_in (Some w) = works w
+-- the last of the processes of the partition at this place that stopped, or else the one given
+unfoldable pub last_from : Option Subject → ℕ → List Stop → Option Subject
+last_from found place [] = found
+last_from found place (s ∷ ss) = last_from (if s.place == place then Some s.who else found) place ss
+
+-- The process that works in a tick of its partition: the one that is RUNNING behind the tick's lines or, without one, the
+-- last that stopped in it.
+abbrev pub or_stopped : Option Subject → Option Subject → Option Subject
+or_stopped None other = other
+or_stopped (Some who) other = Some who
+
+abbrev pub works_at : ℕ → Standing → Option Subject
+works_at place s = or_stopped (running_at place s.owners) (last_from None place s.stopped)
 
 abbrev pub partition : ℕ → PartitionId
 partition p = record { 0 = p }
 
--- the process that works in the partition's window, or none
-abbrev pub use_of_owner : ℕ → Option ℕ → Use
-use_of_owner p None = Idle (partition p)
-use_of_owner p (Some i) = Process i
+abbrev pub use_by : ℕ → Option Subject → Use
+use_by p None = Idle (partition p)
+use_by p (Some who) = Process (partition p) who
 
-abbrev pub use_of_window : List Worker → Option ℕ → Use
-use_of_window workers None = Unowned
-use_of_window workers (Some p) = use_of_owner p (works_in (worker_of workers p))
+-- partitions are numbered from 1
+abbrev pub use_in : ℕ → Standing → Use
+use_in zero s = Idle (partition 0)
+use_in (suc place) s = use_by (suc place) (works_at place s)
 
--- what the processor does in a tick, if the frames begin at an origin
-abbrev pub use_at : Schedule → Bool → (origin : ℕ) → List Worker → ℕ → Use
-use_at s true origin workers t = Down
-use_at s false origin workers t = use_of_window workers (owner s (tick_from origin t))
+abbrev pub use_of_owner : Option ℕ → Standing → Use
+use_of_owner None s = Unowned
+use_of_owner (Some p) s = use_in p s
+
+abbrev pub use_if : Bool → Option ℕ → Standing → Use
+use_if true owner s = Down
+use_if false owner s = use_of_owner owner s
+
+-- in a tick of the last lines
+abbrev pub use_at : Schedule → Standing → ℕ → Use
+use_at schedule s t = use_if s.is_down (owner schedule (tick_from s.origin t)) s
+
+-- in that tick or in a later one, before the next line
+abbrev pub use_from : Schedule → Standing → ℕ → Use
+use_from schedule s t = use_at schedule (passed t s) t
+
+-- ---- all ticks
+
+-- in a tick of a run with these lines, from a standing on
+abbrev pub use_of : Schedule → Standing → List Event → ℕ → Use
+use_of schedule s [] t = use_from schedule s t
+use_of schedule s (e ∷ es) t = if nat_lt t (in_run e.tick.0) then use_from schedule s t else use_of schedule (with_line e s) es t
+
+-- ---- how often
 
 abbrev pub is_same : Use → Use → Bool
-is_same (Process i) (Process j) = i == j
+is_same (Process p who) (Process q whom) = (p.0 == q.0) && same (subject_text who) (subject_text whom)
 is_same (Idle p) (Idle q) = p.0 == q.0
 is_same Unowned Unowned = true
 is_same Down Down = true
 is_same _ _ = false
 
+abbrev pub one_if : Bool → ℕ
+one_if true = 1
+one_if false = 0
+
 -- how many of the first `n` ticks from one on are used so
 abbrev pub ticks_used : (ℕ → Use) → Use → (from n : ℕ) → ℕ
 ticks_used used u from zero = 0
-ticks_used used u from (suc n) = ticks_used used u from n + (if is_same (used (from + n)) u then 1 else 0)
+ticks_used used u from (suc n) = ticks_used used u from n + one_if (is_same (used (from + n)) u)

@@ -1,78 +1,96 @@
 //! The ticks that were counted.
 
-ghost use Rattle.std.specs.Prelude.{◌≡◌, IfOk};
-ghost use Rattle.trace_shares.specs.Counts.{capped, counted_for};
+ghost use Rattle.std.specs.Prelude.{◌≡◌, [], MatchOption, OnOk};
+ghost use Rattle.trace_shares.specs.Counts.{HasMore, IsNoneOf, IsPlaceOf, ticks_for};
 
+use crate::fault::SharesFault;
 use crate::usage::Use;
-use apex_types::PartitionId;
-use std::alloc::{AllocError, Global};
+use std::alloc::Global;
 
-/// How many ticks the processor was used in each way. A number ends at the greatest of 64 bits.
-#[derive(Drop)]
-pub struct Counted {
-    /// The ticks of each process, by its place among the processes of the trace.
-    processes: Vec<u64>,
-    /// The idle ticks in windows of each partition, by its place in the module table.
-    idle: Vec<u64>,
-    unowned: u64,
-    down: u64,
+/// The number of ticks in which the processor did the same.
+#[derive(Clone, Copy, Debug)]
+pub struct Row {
+    pub used: Use,
+    pub ticks: u64,
 }
 
-/// Adds ticks to the number at a place, if there is one.
-fn add_at(numbers: &mut [u64], place: usize, ticks: u64)
-    ensures { numbers.new ≡ with_more place ticks numbers.old }
-{
-    if let Some(number) = numbers.get_mut(place) {
-        *number = number.saturating_add(ticks);
+impl Row {
+    ghost use Rattle.trace_shares.specs.Counts.{capped};
+    ghost use Rattle.std.specs.Prelude.{◌+◌};
+
+    /// So many ticks more.
+    fn add(&mut self, ticks: u64)
+        ensures { self.new ≡ record self.old { ticks = capped (self.old.ticks + ticks) } }
+    {
+        self.ticks = self.ticks.saturating_add(ticks);
     }
+}
+
+/// How many ticks the processor was used in each way, in the order of the first of them. A number
+/// ends at the greatest of 64 bits.
+#[derive(Drop)]
+pub struct Counted {
+    rows: Vec<Row>,
 }
 
 impl Counted {
-    /// No tick is counted, of so many partitions.
-    pub fn new(alloc: Global, partitions: u8) -> Result<Counted, AllocError> {
-        let mut idle = Vec::new(alloc);
-        for _ in 0..partitions {
-            idle.push(0)?;
-        }
-        Ok(Counted {
-            processes: Vec::new(alloc),
-            idle,
-            unowned: 0,
-            down: 0,
-        })
-    }
-
-    /// One more process, of which no tick is counted.
-    pub fn add_process(&mut self) -> Result<(), AllocError> {
-        self.processes.push(0)
-    }
-
-    /// The ticks that were used so.
-    pub fn ticks(&self, used: Use) -> u64
-        ensures { result ≡ counted_for self.now used }
+    /// No tick is counted.
+    pub fn new(alloc: Global) -> Counted
+        ensures { result.rows.items ≡ [] }
     {
-        match used {
-            Use::Process(place) => self.processes.get(place).copied().unwrap_or(0),
-            Use::Idle(partition) => match partition.place() {
-                Some(place) => self.idle.get(usize::from(place)).copied().unwrap_or(0),
-                None => 0,
-            },
-            Use::Unowned => self.unowned,
-            Use::Down => self.down,
+        Counted {
+            rows: Vec::new(alloc),
         }
+    }
+
+    /// The rows, in the order of their first ticks.
+    pub fn rows(&self) -> &[Row]
+        ensures { result.now ≡ self.now.rows.items }
+    {
+        self.rows.as_slice()
+    }
+
+    /// The number of ticks that were used so.
+    #[tactic(auto, using(std::proofs::lemmas::List::drop_more))]
+    pub fn ticks(&self, used: Use) -> u64
+        ensures { result ≡ ticks_for used self.now.rows.items }
+    {
+        for row in self.rows.as_slice() {
+            if row.used.is_same(&used) {
+                return row.ticks;
+            }
+        }
+        0
     }
 
     /// Adds ticks that were used so.
-    pub fn add(&mut self, used: Use, ticks: u64) {
-        match used {
-            Use::Process(place) => add_at(&mut self.processes, place, ticks),
-            Use::Idle(partition) => {
-                if let Some(place) = partition.place() {
-                    add_at(&mut self.idle, usize::from(place), ticks);
-                }
-            }
-            Use::Unowned => self.unowned = self.unowned.saturating_add(ticks),
-            Use::Down => self.down = self.down.saturating_add(ticks),
+    ///
+    /// # Errors
+    ///
+    /// Memory ran out. Then nothing is counted.
+    pub fn add(&mut self, used: Use, ticks: u64) -> Result<(), SharesFault>
+        ensures { OnOk result (HasMore used ticks self.old.rows.items self.new.rows.items) }
+    {
+        if ticks == 0 {
+            return Ok(());
         }
+        match self.place_of(used) {
+            Some(place) => self.rows[place].add(ticks),
+            None => self.rows.push(Row { used, ticks })?,
+        }
+        Ok(())
+    }
+
+    /// The place of the row with this use; `None` if there is none.
+    fn place_of(&self, used: Use) -> Option<usize>
+        ensures { MatchOption result (IsNoneOf used self.now.rows.items)
+            (IsPlaceOf used self.now.rows.items) }
+    {
+        for (place, row) in self.rows.iter().enumerate() {
+            if row.used.is_same(&used) {
+                return Some(place);
+            }
+        }
+        None
     }
 }

@@ -2,16 +2,19 @@
 //! module table.
 //!
 //! Each tick counts once: for a process of the partition that owns it, as idle in a window of that
-//! partition, as a tick without an owner, or as one behind a shutdown. `Shares` counts them while
-//! the lines are read. A run of any length is counted by its frames, not tick by tick.
+//! partition, as a tick in no window, or as one behind a shutdown. `Shares` counts them while the
+//! lines are read. A run of any length is counted by its frames, not tick by tick.
 #![tactic(auto)]
 
 mod counted;
+mod fault;
+pub mod laws;
+mod owner;
 mod shares;
 mod usage;
-mod worker;
 
-pub use counted::Counted;
+pub use counted::{Counted, Row};
+pub use fault::SharesFault;
+pub use owner::{Owner, Stop};
 pub use shares::Shares;
 pub use usage::Use;
-pub use worker::Worker;

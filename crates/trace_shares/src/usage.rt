@@ -1,16 +1,57 @@
 //! What the processor did in a tick.
 
-use apex_types::PartitionId;
+ghost use Rattle.std.specs.Prelude.{◌≡◌};
+ghost use Rattle.apex_types.specs.Line.{subject_text};
+ghost use Rattle.engine_meaning.specs.Digits.{same};
+
+use apex_types::{PartitionId, Subject};
 
 /// What the processor did in a tick.
 #[derive(Clone, Copy, Debug, PartialEq, Eq)]
 pub enum Use {
-    /// It worked for the process at this place among the processes of the trace.
-    Process(usize),
-    /// The tick was in a window of this partition, and none of its processes ran.
+    /// It worked for this process of the partition, for its initialisation or its error handler.
+    Process(PartitionId, Subject),
+    /// The tick was in a window of this partition, and none of its processes worked.
     Idle(PartitionId),
     /// The tick was in no window.
     Unowned,
     /// The module was shut down.
     Down,
+}
+
+impl Use {
+    ghost use Rattle.trace_shares.specs.Uses.{is_same};
+
+    /// Returns true if the processor did the same.
+    pub fn is_same(&self, other: &Use) -> bool
+        ensures { result ≡ is_same self.now other.now }
+    {
+        match (self, other) {
+            (Use::Process(one, who), Use::Process(other, whom)) => {
+                one.0 == other.0 && is_same_subject(who, whom)
+            }
+            (Use::Idle(one), Use::Idle(other)) => one.0 == other.0,
+            (Use::Unowned, Use::Unowned) => true,
+            (Use::Down, Use::Down) => true,
+            _ => false,
+        }
+    }
+}
+
+/// The process as it stands in a line.
+fn subject_name(who: &Subject) -> &str
+    ensures { result.now ≡ subject_text who.now }
+{
+    match who {
+        Subject::Init => "INIT",
+        Subject::Handler => "HANDLER",
+        Subject::Process(name) => name.as_str(),
+    }
+}
+
+/// Returns true if both stand in a line with the same words.
+pub fn is_same_subject(one: &Subject, other: &Subject) -> bool
+    ensures { result ≡ same (subject_text one.now) (subject_text other.now) }
+{
+    subject_name(one).as_bytes() == subject_name(other).as_bytes()
 }

@@ -1,0 +1,31 @@
+//! Why a line is not counted.
+
+ghost use Rattle.std.specs.Prelude.{◌≡◌};
+ghost use Rattle.trace_shares.specs.declared.fault.SharesFault.TheVariants as fault;
+
+use std::alloc::{AllocError, AllocFailed};
+
+/// Why a line is not counted.
+#[derive(Clone, Copy, Debug, PartialEq, Eq)]
+pub enum SharesFault {
+    /// The module table has no such partition.
+    Unknown,
+    /// Memory ran out.
+    Memory,
+}
+
+impl From<AllocError> for SharesFault {
+    ghost from_gives = { λ _ f. f ≡ fault.Memory };
+
+    fn from(_: AllocError) -> SharesFault {
+        SharesFault::Memory
+    }
+}
+
+impl<T: Drop> From<AllocFailed<T>> for SharesFault {
+    ghost from_gives = { λ _ f. f ≡ fault.Memory };
+
+    fn from(_: AllocFailed<T>) -> SharesFault {
+        SharesFault::Memory
+    }
+}
