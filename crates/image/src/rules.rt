@@ -10,8 +10,8 @@ ghost use Rattle.image.specs.Items.{rows_of, channels_of};
 use crate::item::PartitionItem;
 use std::alloc::{AllocError, Global};
 use window_table::{
-    ChannelRow, Schedule, has_odd_period, has_short_period, has_unknown_port, has_wrong_ends,
-    lacks_release,
+    ChannelRow, ModulePartitions, Schedule, has_odd_period, has_short_period, has_unknown_port,
+    has_wrong_ends, lacks_release,
 };
 
 /// Returns true if the rules on windows, periods, durations, releases and channels are kept, where
@@ -32,9 +32,10 @@ pub fn keeps_rules(
         ≡ keeps_rules (schedule_of schedule.now) (rows_of partitions.now)
         (channels_of channels.now)) }
 {
+    let windows = schedule.windows.as_slice();
     if has_odd_period(schedule.frame, partitions)
-        || has_short_period(schedule, partitions)
-        || lacks_release(schedule.windows.as_slice(), partitions)
+        || has_short_period(schedule, ModulePartitions { rows: partitions })
+        || lacks_release(windows, ModulePartitions { rows: partitions })
         || has_unknown_port(partitions, channels)
     {
         return Ok(false);

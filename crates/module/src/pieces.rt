@@ -106,34 +106,45 @@ impl<E: Executor<Mem = PartitionMem>> Module<E> {
         self.now = Ticks(self.now.0 + u64::from(ticks));
     }
 
+    /// The next tick, if the major frames count from `origin`.
+    fn next_from(&self, origin: Ticks) -> Moment
+        requires origin { self.now.origin ≡ Some origin }
+        ensures { result.at ≡ record { now = self.now.now; origin = origin } }
+    {
+        Moment {
+            at: At {
+                now: self.now,
+                origin,
+            },
+        }
+    }
+
     /// Executes `most` ticks of the owner of a window, or those up to the first with an event;
     /// returns how many.
     fn stretch<S: Sink>(
         &mut self,
-        moment: Moment,
+        origin: Ticks,
         place: usize,
         most: u32,
         output: &mut Output<'_, S>,
     ) -> u32
-        requires now { moment.at.now ≡ self.old.now }
-        requires origin { self.old.origin ≡ Some moment.at.origin }
-        requires begun { 0 < moment.at.now.0 }
-        requires soon { moment.at.now.0 + most ≤ MOST_TICKS }
+        requires origin { self.old.origin ≡ Some origin }
+        requires begun { 0 < self.old.now.0 }
+        requires soon { self.old.now.0 + most ≤ MOST_TICKS }
         requires owner { (i : ℕ) → i < most
-            → owner (plan_of self.old.image).schedule
-            (tick_from moment.at.origin.0 (moment.at.now.0 + i))
+            → owner (plan_of self.old.image).schedule (tick_from origin.0 (self.old.now.0 + i))
             ≡ Some (suc place) }
         requires ended { (i : ℕ) → i < most
-            → ended (plan_of self.old.image).schedule
-            (tick_from moment.at.origin.0 (moment.at.now.0 + i))
+            → ended (plan_of self.old.image).schedule (tick_from origin.0 (self.old.now.0 + i))
             ≡ None }
         ensures image { self.new.image ≡ self.old.image }
         ensures origin { self.new.origin ≡ self.old.origin }
-        ensures run { (lines : List DeviceLine) → AreFrom (moment.at.now.0 + most) lines
+        ensures run { (lines : List DeviceLine) → AreFrom (self.old.now.0 + most) lines
             → HasPassedSome (plan_of self.old.image) lines most (standing_of E.Executor self.old)
             (standing_of E.Executor self.new) (sent_of S.Sink output.old)
             (sent_of S.Sink output.new) result }
     {
+        let moment = self.next_from(origin);
         let count = self.members.advance_at(place, moment, most, output);
         self.skip(count);
         count
@@ -143,38 +154,29 @@ impl<E: Executor<Mem = PartitionMem>> Module<E> {
     /// sink has failed.
     fn piece<S: Sink>(
         &mut self,
-        moment: Moment,
+        origin: Ticks,
         place: usize,
         most: u32,
         output: &mut Output<'_, S>,
     ) -> u32
-        requires now { moment.at.now ≡ self.old.now }
-        requires origin { self.old.origin ≡ Some moment.at.origin }
-        requires begun { 0 < moment.at.now.0 }
-        requires soon { moment.at.now.0 + most ≤ MOST_TICKS }
+        requires origin { self.old.origin ≡ Some origin }
+        requires begun { 0 < self.old.now.0 }
+        requires soon { self.old.now.0 + most ≤ MOST_TICKS }
         requires owner { (i : ℕ) → i < most
-            → owner (plan_of self.old.image).schedule
-            (tick_from moment.at.origin.0 (moment.at.now.0 + i))
+            → owner (plan_of self.old.image).schedule (tick_from origin.0 (self.old.now.0 + i))
             ≡ Some (suc place) }
         requires ended { (i : ℕ) → i < most
-            → ended (plan_of self.old.image).schedule
-            (tick_from moment.at.origin.0 (moment.at.now.0 + i))
+            → ended (plan_of self.old.image).schedule (tick_from origin.0 (self.old.now.0 + i))
             ≡ None }
         ensures image { self.new.image ≡ self.old.image }
-        ensures run { (lines : List DeviceLine) → AreFrom (moment.at.now.0 + most) lines
+        ensures run { (lines : List DeviceLine) → AreFrom (self.old.now.0 + most) lines
             → HasPassedSome (plan_of self.old.image) lines most (standing_of E.Executor self.old)
             (standing_of E.Executor self.new) (sent_of S.Sink output.old)
             (sent_of S.Sink output.new) result }
     {
         let mut left = most;
         while left > 0 && !output.has_failed() {
-            let now = Moment {
-                at: At {
-                    now: self.now,
-                    origin: moment.at.origin,
-                },
-            };
-            let count = self.stretch(now, place, left, output);
+            let count = self.stretch(origin, place, left, output);
             if count == 0 {
                 return most - left;
             }
@@ -187,20 +189,20 @@ impl<E: Executor<Mem = PartitionMem>> Module<E> {
     /// none if a window ends at the first of them, since its messages move then.
     fn advance_window<S: Sink>(
         &mut self,
-        moment: Moment,
+        origin: Ticks,
         most: u32,
         output: &mut Output<'_, S>,
     ) -> u32
-        requires now { moment.at.now ≡ self.old.now }
-        requires origin { self.old.origin ≡ Some moment.at.origin }
-        requires begun { 0 < moment.at.now.0 }
-        requires soon { moment.at.now.0 + most ≤ MOST_TICKS }
+        requires origin { self.old.origin ≡ Some origin }
+        requires begun { 0 < self.old.now.0 }
+        requires soon { self.old.now.0 + most ≤ MOST_TICKS }
         ensures image { self.new.image ≡ self.old.image }
-        ensures run { (lines : List DeviceLine) → AreFrom (moment.at.now.0 + most) lines
+        ensures run { (lines : List DeviceLine) → AreFrom (self.old.now.0 + most) lines
             → HasPassedSome (plan_of self.old.image) lines most (standing_of E.Executor self.old)
             (standing_of E.Executor self.new) (sent_of S.Sink output.old)
             (sent_of S.Sink output.new) result }
     {
+        let moment = self.next_from(origin);
         if self.image.schedule.ended(moment).is_some() {
             return 0;
         }
@@ -211,7 +213,7 @@ impl<E: Executor<Mem = PartitionMem>> Module<E> {
                 count
             }
             Some(owner) => match owner.0.checked_sub(1) {
-                Some(place) => self.piece(moment, usize::from(place), count, output),
+                Some(place) => self.piece(origin, usize::from(place), count, output),
                 None => 0,
             },
         }
@@ -246,6 +248,6 @@ impl<E: Executor<Mem = PartitionMem>> Module<E> {
             self.skip(still);
             return still;
         }
-        self.advance_window(moment, quiet, output)
+        self.advance_window(moment.at.origin, quiet, output)
     }
 }

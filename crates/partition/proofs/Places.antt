@@ -1,19 +1,15 @@
 -- What stands at a place of a list, and the list up to this place and from it on.
-use Rattle.std.proofs.Common.{◌≡◌, ℕ, ◌+◌, ◌<◌, List, [], ◌∷◌, ◌++◌, length, take, drop, get_or, Some, None, inl, inr, sym, ap, ◌∙◌, arith, append_assoc}
+use Rattle.std.proofs.Common.{◌≡◌, ℕ, zero, suc, ◌+◌, ◌<◌, List, [], ◌∷◌, ◌++◌, length, take, drop, get_or, Some, None, inl, inr, refl, sym, ap, ◌∙◌, arith, append_assoc}
 use Rattle.std.specs.Prelude.{slice_get}
-use Rattle.std.proofs.lemmas.List.{drop_more, take_more, map-append}
+use Rattle.std.proofs.lemmas.List.{take_more, map-append}
 use Rattle.apex_types.specs.declared.event.EventKind.{EventKind}
 use Rattle.apex_types.specs.declared.event.Event.{Event}
 use Rattle.apex_types.specs.declared.identity.At.{At}
 use Rattle.apex_types.specs.declared.log.EventLog.{Ghosts as Log}
-use Rattle.kernel_meaning.specs.Partition.{line, told}
+use Rattle.apex_types.specs.Runners.{Action}
+use Rattle.kernel_meaning.specs.Partition.{Member, line, told}
+use Rattle.partition.specs.Members.{acts_all, acts_at}
 use Rattle.std.proofs.lemmas.Option.{slice_get_cases}
-
-pub drop_read : {X : Type 0} (xs : List X) (i : ℕ) (x : X) → Some x ≡ slice_get xs i → drop i xs ≡ x ∷ drop (i + 1) xs
-drop_read xs i x e = elim (slice_get_cases xs i).1 [
-  | inl w ↦ (let same : w.0 ≡ x = (let both : Some w.0 ≡ Some x = sym w.2 ∙ sym e in cc) in drop_more xs i w.0 w.1 ∙ ap (λ z. z ∷ drop (i + 1) xs) (w.3 ∙ same))
-  | inr past ↦ absurd (let clash : Some x ≡ None = e ∙ past.1 in cc)
-]
 
 -- each place before the end has something
 pub some_read : {X : Type 0} (xs : List X) (i : ℕ) → None ≡ slice_get xs i → length xs < i + 1
@@ -39,3 +35,10 @@ told_more g old mid new name at lines i kind more is before then =
     ∙ ap (λ ps. ps ++ g.pieces (line name at kind ∷ [])) before
     ∙ append_assoc (g.held old) (g.pieces (told name at (take i lines))) (g.pieces (line name at kind ∷ []))
     ∙ ap (λ ps. g.held old ++ ps) (sym (more (told name at (take i lines)) (line name at kind ∷ [])) ∙ ap g.pieces (sym (told_read name at lines i kind is)))
+
+-- the action at a place, then those behind it
+pub acted_next : {C : Type 0} (actions : List Action) (i : ℕ) (x : Member C) → acts_all (drop i actions) x ≡ acts_all (drop (i + 1) actions) (acts_at (slice_get actions i) x)
+acted_next [] zero x = refl
+acted_next [] (suc i) x = refl
+acted_next (a ∷ actions) zero x = refl
+acted_next (a ∷ actions) (suc i) x = acted_next actions i x

@@ -1,5 +1,5 @@
 -- A partition with its memory, as the member of the definitions.
-use Rattle.std.specs.Prelude.{◌≡◌, ℕ, ◌+◌, List, ◌++◌}
+use Rattle.std.specs.Prelude.{◌≡◌, ℕ, ◌+◌, List, ◌++◌, Option, Some, None}
 use Rattle.apex_types.specs.declared.identity.At.{At}
 use Rattle.apex_types.specs.declared.event.Event.{Event}
 use Rattle.apex_types.specs.declared.log.EventLog.{Ghosts as Log}
@@ -22,6 +22,10 @@ member_of g p mem = member_at g p.kernel p.executor mem
 
 abbrev pub acts : {C : Type 0} → Action → Member C → Member C
 acts action x = with_world x (act x.engine action x.world)
+
+abbrev pub acts_at : {C : Type 0} → Option Action → Member C → Member C
+acts_at None x = x
+acts_at (Some action) x = acts action x
 
 abbrev pub acts_all : {C : Type 0} → List Action → Member C → Member C
 acts_all actions x = with_world x (act_all x.engine actions x.world)

@@ -1,31 +1,31 @@
 //! Performs the kernel's actions, and records the lines as events.
 
-ghost use Rattle.std.specs.Prelude.{◌≡◌, ◌≤◌, ◌+◌, ◌++◌, length};
-ghost use Rattle.apex_types.specs.Output.{action_of};
-ghost use Rattle.apex_types.specs.declared.limits.TheConstants.{MOST_WORDS};
+ghost use Rattle.std.specs.Prelude.{◌≡◌, ◌≤◌, ◌+◌, ◌++◌, length, slice_get};
 ghost use Rattle.kernel_meaning.specs.Partition.{line, told};
-ghost use Rattle.partition.specs.Members.{member_at, acts, acts_all, IsTold};
+ghost use Rattle.partition.specs.Members.{member_at, acts_at, acts_all, IsTold};
 
 use crate::kernel::Kernel;
 use apex_types::{ActionKind, EventLog, Moment, Name, Out};
 use partition_base::Executor;
 
-/// Performs an action of the kernel, which has these words, on the processor, on the memory or on
+/// Performs the kernel's action at `index`, if there is one, on the processor, on the memory or on
 /// the errors that wait for the handler.
 fn act<E: Executor>(
     kernel: &mut Kernel,
     executor: &mut E,
     mem: &mut E::Mem,
-    kind: ActionKind,
-    words: &[i64],
+    out: &Out,
+    index: usize,
 )
     requires fits { E.laid mem.old ≡ E.layout executor.old }
-    requires few { length words.now ≤ MOST_WORDS }
     ensures fits { E.laid mem.new ≡ E.layout executor.new }
     ensures member { member_at E.Executor kernel.new executor.new mem.new
-        ≡ acts (action_of kind words.now)
+        ≡ acts_at (slice_get out.now.actions index)
         (member_at E.Executor kernel.old executor.old mem.old) }
 {
+    let Some((kind, words)) = out.action(index) else {
+        return;
+    };
     match kind {
         ActionKind::Begin(runner) => executor.start(mem, runner),
         ActionKind::Stop(runner) => executor.stop(mem, runner),
@@ -38,7 +38,6 @@ fn act<E: Executor>(
 }
 
 /// Performs all actions of a step, in order.
-#[tactic(auto, using(crate::proofs::Places::drop_read, crate::proofs::Places::some_read))]
 pub(crate) fn act_all<E: Executor>(
     kernel: &mut Kernel,
     executor: &mut E,
@@ -51,9 +50,7 @@ pub(crate) fn act_all<E: Executor>(
         ≡ acts_all out.now.actions (member_at E.Executor kernel.old executor.old mem.old) }
 {
     for place in 0..out.action_count() {
-        if let Some((kind, words)) = out.action(place) {
-            act(kernel, executor, mem, kind, words);
-        }
+        act(kernel, executor, mem, out, place);
     }
 }
 

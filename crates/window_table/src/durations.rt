@@ -1,13 +1,13 @@
 //! The time that windows offer to partitions: periods, durations and releases.
 
-ghost use Rattle.std.specs.Prelude.{◌≡◌, ◌≤◌, ◌<◌, ◌/◌, ◌==◌, ℕ, map, length, nat_lt, false};
+ghost use Rattle.std.specs.Prelude.{◌≡◌, ◌≤◌, ◌<◌, ◌/◌, ◌==◌, ℕ, map, nat_lt, false};
 ghost use Rattle.std.specs.List.{list_any};
-ghost use Rattle.apex_types.specs.declared.limits.TheConstants.{MOST_PARTITIONS};
 ghost use Rattle.module_meaning.specs.Table.{has_odd_period, has_short_period, lacks_release, common, offered, falls_short};
 ghost use Rattle.module_meaning.specs.ImageRules.{is_wrong_window, has_wrong_window};
 ghost use Rattle.kernel_meaning.specs.Windows.{has_release};
 ghost use Rattle.window_table.specs.Schedules.{schedule_of};
 
+use crate::few::ModulePartitions;
 use crate::row::HasRow;
 use crate::schedule::{Schedule, releases};
 use crate::table::PartitionRow;
@@ -132,13 +132,16 @@ fn falls_short(
 
 /// Returns true if a partition's windows offer less than its duration in one of its periods.
 #[tactic(auto, using(std::proofs::lemmas::List::drop_more), unfolding(module_meaning::specs::Table::falls_short_from))]
-pub fn has_short_period<P: HasRow>(schedule: &Schedule, partitions: &[P]) -> bool
-    requires few { length partitions.now ≤ MOST_PARTITIONS }
-    requires periods { list_any (λ p. p.period == 0) (map P.row_of partitions.now) ≡ false }
-    ensures { result ≡ has_short_period (schedule_of schedule.now) (map P.row_of partitions.now) }
+pub fn has_short_period<P: HasRow>(
+    schedule: &Schedule,
+    partitions: ModulePartitions<'_, P>,
+) -> bool
+    requires periods { list_any (λ p. p.period == 0) (map P.row_of partitions.rows.now) ≡ false }
+    ensures { result
+        ≡ has_short_period (schedule_of schedule.now) (map P.row_of partitions.entry.rows.now) }
 {
     let mut number: u8 = 1;
-    for partition in partitions {
+    for partition in partitions.rows {
         if falls_short(
             schedule.frame,
             PartitionId(number),
@@ -160,12 +163,14 @@ fn has_release(windows: &[WindowRow], partition: PartitionId) -> bool
 
 /// Returns true if a partition has no release window.
 #[tactic(auto, using(std::proofs::lemmas::List::drop_more), unfolding(module_meaning::specs::Table::lacks_release_from))]
-pub fn lacks_release<P: HasRow>(windows: &[WindowRow], partitions: &[P]) -> bool
-    requires { length partitions.now ≤ MOST_PARTITIONS }
-    ensures { result ≡ lacks_release windows.now (map P.row_of partitions.now) }
+pub fn lacks_release<P: HasRow>(
+    windows: &[WindowRow],
+    partitions: ModulePartitions<'_, P>,
+) -> bool
+    ensures { result ≡ lacks_release windows.now (map P.row_of partitions.entry.rows.now) }
 {
     let mut number: u8 = 1;
-    for _ in partitions {
+    for _ in partitions.rows {
         if !has_release(windows, PartitionId(number)) {
             return true;
         }

@@ -1,4 +1,4 @@
-//! The partitions of a text whose counts are within their limits.
+//! Partitions whose counts are within their limits.
 
 ghost use Rattle.std.specs.Prelude.{◌≡◌, ◌≤◌, length, map, false};
 ghost use Rattle.std.specs.List.{list_any};
@@ -14,4 +14,10 @@ pub struct FewPartitions<'a> {
     pub rows: &'a [WrittenPartition<'a>],
     pub ghost few: { length rows.now ≤ MOST_PARTITIONS },
     pub ghost few_ports: { list_any has_many_ports (map partition_text rows.now) ≡ false },
+}
+
+/// The rows of a module's partitions in their order. There are no more than a module has.
+pub struct ModulePartitions<'a, P> {
+    pub rows: &'a [P],
+    pub ghost few: { length rows.now ≤ MOST_PARTITIONS },
 }

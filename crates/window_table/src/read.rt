@@ -10,7 +10,7 @@ ghost use Rattle.window_table.specs.Views.{table_of, table_text, partition_text,
 use crate::channels::has_wrong_ends;
 use crate::durations::{has_odd_period, has_short_period, lacks_release};
 use crate::fault::TableFault;
-use crate::few::FewPartitions;
+use crate::few::{FewPartitions, ModulePartitions};
 use crate::limits::{exceeds_counts, exceeds_rows, partition_rows, table_costs};
 use crate::names::{has_same_names, has_unknown_name};
 use crate::numbered::{channel_rows, window_rows};
@@ -145,10 +145,11 @@ fn broken_rule(
     if has_odd_period(schedule.frame, partitions) {
         return Err(TableFault::Period);
     }
-    if has_short_period(schedule, partitions) {
+    if has_short_period(schedule, ModulePartitions { rows: partitions }) {
         return Err(TableFault::Duration);
     }
-    if lacks_release(schedule.windows.as_slice(), partitions) {
+    let windows = schedule.windows.as_slice();
+    if lacks_release(windows, ModulePartitions { rows: partitions }) {
         return Err(TableFault::Release);
     }
     if has_wrong_ends(alloc, partitions, table.channels.as_slice())? {

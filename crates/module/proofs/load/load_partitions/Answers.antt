@@ -1,4 +1,4 @@
-use Rattle.std.proofs.Common.{rules, ◌≡◌, ◌+◌, ◌++◌, ◌∷◌, [], drop, take, length, map, ap, subst, sym, ◌∙◌, arith}
+use Rattle.std.proofs.Common.{rules, ◌≡◌, ◌<◌, ◌+◌, List, ◌++◌, ◌∷◌, [], drop, take, length, get_or, map, ap, subst, sym, ◌∙◌, arith}
 use Rattle.std.specs.Prelude.{Some}
 use Rattle.std.proofs.lemmas.List.{drop_more, take_more, map-append}
 use Rattle.std.proofs.lemmas.Option.{slice_get-get_or}
@@ -9,6 +9,7 @@ use Rattle.image.specs.declared.item.PartitionItem.{PartitionItem}
 use Rattle.partition.specs.Members.{member_of}
 use Rattle.partition_base.specs.contracts.machine.PartitionProcessorExecutor.TheImpl.{ghosts as machine}
 use Rattle.window_table.specs.Schedules.{schedule_of}
+use Rattle.lone_partition.proofs.Lawful.{item_fits_here}
 use Rattle.lone_partition.specs.Loading.{fresh_item}
 use Rattle.module.specs.Members.{members_of, AreFitting}
 use Rattle.module.proofs.Built.{one_longer}
@@ -18,12 +19,15 @@ use Rattle.module.proofs.load.load_partitions.Goals as goal
 
 pub load_partition-requires : goal.load_partition-requires
 load_partition-requires c =
-    c.requires.fit c.loop-item.item-index c.item-item.result (slice_get-get_or c.args.items.now c.loop-item.item-index c.item-item.result c.loop-item-test.true ∙ ap Some (sym c.item-item.is))
+    let i = c.loop-item.item-index in
+    let item = c.item-item.result in
+    let same = c.as_slice-items.ensures.value in
+    item_fits_here c.args.image.now i item (subst (λ (xs : List PartitionItem). i < length xs) same c.loop-item-test.true) (c.item-item.is ∙ ap (λ (xs : List PartitionItem). get_or xs i item) same)
 
 pub loop-item-preserved : goal.loop-item-preserved
 loop-item-preserved c =
     let i = c.loop-item.item-index in
-    let items = c.args.items.now in
+    let items = c.as_slice-items.result.now in
     let item = c.item-item.result in
     let before = c.loop-item.partitions.items in
     let p = c.in_ok-load_partition.field-0 in
@@ -38,10 +42,10 @@ loop-item-preserved c =
     ∙ ap (λ ss. members_of machine (before ++ p ∷ []) ss) more
     ∙ one_more_member machine before fresh p (fresh_item item) c.loop-item.invariant.fit in
     let fits : AreFitting machine (before ++ p ∷ []) (fresh ++ fresh_item item ∷ []) = one_more_fits machine before fresh p (fresh_item item) c.loop-item.invariant.fit c.in_ok-load_partition.ensures.fits in
-    let same : member_of machine p (fresh_item item) ≡ machine_member c.args.costs.now (fixed_of (schedule_of c.args.schedule.now) c.loop-item.number (partition_of item.row)) item.row.ports.items (section_of item.section) = search rules in
+    let same : member_of machine p (fresh_item item) ≡ machine_member c.costs.result (fixed_of (schedule_of c.args.image.now.schedule) c.loop-item.number (partition_of item.row)) item.row.ports.items (section_of item.section) = search rules in
     record {
       number = omega arith;
       count = one_longer before p i c.loop-item.invariant.count ∙ ap length (sym next);
       fit = subst (λ ps. AreFitting machine ps (map fresh_item (take (i + 1) items))) (sym next) (subst (λ ss. AreFitting machine (before ++ p ∷ []) ss) (sym more) fits);
-      members = one_more_loaded c.args.costs.now (schedule_of c.args.schedule.now) c.loop-item.number (members_of machine before fresh) (members_of machine c.push.new.self.items (map fresh_item (take (i + 1) items))) (machine_members c.args.costs.now (schedule_of c.args.schedule.now) 1 (items_of items)) (member_of machine p (fresh_item item)) (item_of item) (items_of (drop (i + 1) items)) pushed same so_far;
+      members = one_more_loaded c.costs.result (schedule_of c.args.image.now.schedule) c.loop-item.number (members_of machine before fresh) (members_of machine c.push.new.self.items (map fresh_item (take (i + 1) items))) (machine_members c.costs.result (schedule_of c.args.image.now.schedule) 1 (items_of items)) (member_of machine p (fresh_item item)) (item_of item) (items_of (drop (i + 1) items)) pushed same so_far;
     }

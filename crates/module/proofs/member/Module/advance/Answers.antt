@@ -1,4 +1,4 @@
-use Rattle.std.proofs.Common.{◌≡◌, ◌≤◌, ◌<◌, ◌+◌, Some, ap, sym, subst, ◌∙◌, arith, rules}
+use Rattle.std.proofs.Common.{◌≡◌, ◌≤◌, ◌<◌, ◌+◌, Some, refl, ap, sym, subst, ◌∙◌, arith, rules}
 use Rattle.apex_types.specs.declared.identity.Ticks.{Ticks}
 use Rattle.lone_partition.specs.Outputs.{next_at, sent_of}
 use Rattle.module.specs.Pieces.{HasPassedSome}
@@ -40,20 +40,13 @@ returns-then-still-gt0-clause-run g c =
 
 pub returns-clause-order : goal.returns-clause-order
 returns-clause-order g c =
-    let at = c.in-Some.moment.at in
     let s = standing_of g.E.Executor c.args.self.now in
-    let some : c.moment.result ≡ Some c.in-Some.moment = search rules in
-    let is : Some at ≡ moment_of c.args.self.now.now c.args.self.now.origin = ap next_at (sym some) ∙ c.moment.ensures in
-    let here : at.now.0 ≡ s.now = ap (λ (t : Ticks). t.0) (moment_now c.args.self.now.now c.args.self.now.origin at is) in
-    let order = subst (λ u. AreFrom (u + c.until_line-quiet.result) c.args.lines.now) (sym here) c.until_line-quiet.ensures.from in
-    still_ahead _ _ (plan_of c.args.self.now.image) c.args.lines.now c.until_line-quiet.result at.now.0 c.advance_window.result s (standing_of g.E.Executor c.advance_window.new.self) here order (c.advance_window.ensures.run c.args.lines.now order)
+    let lines = c.args.lines.now in
+    let from = c.until_line-quiet.ensures.from in
+    still_ahead _ _ (plan_of c.args.self.now.image) lines c.until_line-quiet.result s.now c.advance_window.result s (standing_of g.E.Executor c.advance_window.new.self) refl from (c.advance_window.ensures.run lines from)
 
 pub returns-clause-run : goal.returns-clause-run
 returns-clause-run g c =
-    let at = c.in-Some.moment.at in
     let s = standing_of g.E.Executor c.args.self.now in
-    let some : c.moment.result ≡ Some c.in-Some.moment = search rules in
-    let is : Some at ≡ moment_of c.args.self.now.now c.args.self.now.origin = ap next_at (sym some) ∙ c.moment.ensures in
-    let here : at.now.0 ≡ s.now = ap (λ (t : Ticks). t.0) (moment_now c.args.self.now.now c.args.self.now.origin at is) in
-    let order = subst (λ u. AreFrom (u + c.until_line-quiet.result) c.args.lines.now) (sym here) c.until_line-quiet.ensures.from in
-    run_fewer _ _ (plan_of c.args.self.now.image) c.args.lines.now c.until_line-quiet.result c.args.most c.advance_window.result s (standing_of g.E.Executor c.advance_window.new.self) c.until_line-quiet.ensures.within (c.advance_window.ensures.run c.args.lines.now order)
+    let lines = c.args.lines.now in
+    run_fewer _ _ (plan_of c.args.self.now.image) lines c.until_line-quiet.result c.args.most c.advance_window.result s (standing_of g.E.Executor c.advance_window.new.self) c.until_line-quiet.ensures.within (c.advance_window.ensures.run lines c.until_line-quiet.ensures.from)

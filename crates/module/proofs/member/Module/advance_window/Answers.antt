@@ -1,5 +1,5 @@
-use Rattle.std.proofs.Common.{◌≡◌, ◌+◌, Some, ap, sym, subst, arith, rules}
-use Rattle.apex_types.specs.declared.identity.Ticks.{Ticks}
+use Rattle.std.proofs.Common.{◌≡◌, ◌+◌, Some, ap, sym, subst, ◌∙◌, arith, rules}
+use Rattle.apex_types.specs.declared.identity.At.{At}
 use Rattle.lone_partition.specs.Outputs.{sent_of}
 use Rattle.module.specs.Pieces.{HasPassedSome}
 use Rattle.module.specs.Standing.{Standing, ticks_in}
@@ -13,21 +13,23 @@ returns-in-None-clause-run g c = λ lines order.
     let s = standing_of e c.args.self.now in
     let plan = plan_of c.args.self.now.image in
     let n = c.at_most-count.result in
-    let t = c.args.moment.at.now.0 in
-    let here : t ≡ s.now = ap (λ (t : Ticks). t.0) c.requires.now in
-    let from : s.origin ≡ Some c.args.moment.at.origin.0 = ap ticks_in c.requires.origin in
+    let at = c.next_from-moment.result.at in
+    let t = at.now.0 in
+    let here : t ≡ s.now = ap (λ (a : At). a.now.0) c.next_from-moment.ensures in
+    let origin : at.origin.0 ≡ c.args.origin.0 = ap (λ (a : At). a.origin.0) c.next_from-moment.ensures in
+    let from : s.origin ≡ Some at.origin.0 = ap ticks_in c.requires.origin ∙ ap Some (sym origin) in
     let sent = sent_of g.S.Sink c.args.output.now in
     let few = c.at_most-count.ensures.within in
     run_fewer sent sent plan lines n c.args.most n s (standing_of e c.skip.new.self) few
     (subst (λ (next : Standing e.Control). HasPassedSome plan lines n s next sent sent n) (sym c.skip.ensures.standing)
-    (run_empty plan lines n t c.args.moment.at.origin.0 s sent here from c.requires.begun
-    (from_lower (t + n) (t + c.args.most) lines (omega (arith, few)) order)
-    (owner_kept plan.schedule c.args.moment.at _ n c.until_change.result c.at_most-count.ensures.ticks (search rules) c.until_change.ensures.owner)
-    (none_ended plan.schedule c.args.moment.at n c.until_change.result c.at_most-count.ensures.ticks (search rules) c.until_change.ensures.ended)))
+    (run_empty plan lines n t at.origin.0 s sent here from (omega (arith, here, c.requires.begun))
+    (from_lower (t + n) (s.now + c.args.most) lines (omega (arith, few, here)) order)
+    (owner_kept plan.schedule at _ n c.until_change.result c.at_most-count.ensures.ticks (search rules) c.until_change.ensures.owner)
+    (none_ended plan.schedule at n c.until_change.result c.at_most-count.ensures.ticks (search rules) c.until_change.ensures.ended)))
 
 pub returns-in-Some-checked_sub-clause-run : goal.returns-in-Some-checked_sub-clause-run
 returns-in-Some-checked_sub-clause-run g c = λ lines order.
-    let t = c.args.moment.at.now.0 in
+    let t = c.args.self.now.now.0 in
     let n = c.at_most-count.result in
     let few = c.at_most-count.ensures.within in
     run_fewer _ _ (plan_of c.args.self.now.image) lines n c.args.most c.piece.result (standing_of g.E.Executor c.args.self.now) (standing_of g.E.Executor c.piece.new.self) few

@@ -1,5 +1,4 @@
 use Rattle.std.proofs.Common.{rules, ◌≡◌, ◌≤◌, ◌+◌, ◌-◌, ℕ, [], Some, None, suc, ap, subst, ◌∙◌, arith}
-use Rattle.apex_types.specs.declared.identity.Ticks.{Ticks}
 use Rattle.kernel_meaning.specs.Windows.{tick_from, owner, ended}
 use Rattle.image.specs.declared.value.Image.{Image}
 use Rattle.lone_partition.specs.Outputs.{sent_of}
@@ -13,20 +12,18 @@ pub stretch-count-requires-clause-owner : goal.stretch-count-requires-clause-own
 stretch-count-requires-clause-owner g c = λ i below.
     let now = c.loop-left.invariant.now in
     let few = c.loop-left.invariant.few in
-    let start : c.args.moment.at.now.0 ≡ c.args.self.now.now.0 = ap (λ (t : Ticks). t.0) c.requires.now in
-    let there : c.loop-left.self.now.0 + i ≡ c.args.moment.at.now.0 + (c.args.most - c.loop-left.left + i) = omega (arith, now, few, start) in
-    ap (λ (im : Image). owner (plan_of im).schedule (tick_from c.args.moment.at.origin.0 (c.loop-left.self.now.0 + i))) c.loop-left.invariant.image
-    ∙ ap (λ t. owner (plan_of c.args.self.now.image).schedule (tick_from c.args.moment.at.origin.0 t)) there
+    let there : c.loop-left.self.now.0 + i ≡ c.args.self.now.now.0 + (c.args.most - c.loop-left.left + i) = omega (arith, now, few) in
+    ap (λ (im : Image). owner (plan_of im).schedule (tick_from c.args.origin.0 (c.loop-left.self.now.0 + i))) c.loop-left.invariant.image
+    ∙ ap (λ t. owner (plan_of c.args.self.now.image).schedule (tick_from c.args.origin.0 t)) there
     ∙ c.requires.owner (c.args.most - c.loop-left.left + i) (omega (arith, few, below))
 
 pub stretch-count-requires-clause-ended : goal.stretch-count-requires-clause-ended
 stretch-count-requires-clause-ended g c = λ i below.
     let now = c.loop-left.invariant.now in
     let few = c.loop-left.invariant.few in
-    let start : c.args.moment.at.now.0 ≡ c.args.self.now.now.0 = ap (λ (t : Ticks). t.0) c.requires.now in
-    let there : c.loop-left.self.now.0 + i ≡ c.args.moment.at.now.0 + (c.args.most - c.loop-left.left + i) = omega (arith, now, few, start) in
-    ap (λ (im : Image). ended (plan_of im).schedule (tick_from c.args.moment.at.origin.0 (c.loop-left.self.now.0 + i))) c.loop-left.invariant.image
-    ∙ ap (λ t. ended (plan_of c.args.self.now.image).schedule (tick_from c.args.moment.at.origin.0 t)) there
+    let there : c.loop-left.self.now.0 + i ≡ c.args.self.now.now.0 + (c.args.most - c.loop-left.left + i) = omega (arith, now, few) in
+    ap (λ (im : Image). ended (plan_of im).schedule (tick_from c.args.origin.0 (c.loop-left.self.now.0 + i))) c.loop-left.invariant.image
+    ∙ ap (λ t. ended (plan_of c.args.self.now.image).schedule (tick_from c.args.origin.0 t)) there
     ∙ c.requires.ended (c.args.most - c.loop-left.left + i) (omega (arith, few, below))
 
 pub returns-then-count-eq0-clause-run : goal.returns-then-count-eq0-clause-run
@@ -42,8 +39,7 @@ returns-then-count-eq0-clause-run g c = λ lines order.
     let mid = sent_of g.S.Sink c.loop-left.output in
     let new = sent_of g.S.Sink c.stretch-count.new.output in
     let count = c.stretch-count.result in
-    let start : c.args.moment.at.now.0 ≡ c.args.self.now.now.0 = ap (λ (t : Ticks). t.0) c.requires.now in
-    let end : c.args.moment.at.now.0 + c.args.most ≡ c.loop-left.self.now.0 + c.loop-left.left = omega (arith, now, few, start) in
+    let end : c.args.self.now.now.0 + c.args.most ≡ c.loop-left.self.now.0 + c.loop-left.left = omega (arith, now, few) in
     let made = subst (λ (im : Image). HasPassedSome (plan_of im) lines c.loop-left.left t u mid new count) c.loop-left.invariant.image
     (c.stretch-count.ensures.run lines (subst (λ t. AreFrom t lines) end order)) in
     let ticks = made.1 in
@@ -68,8 +64,7 @@ loop-left-preserved g c =
     let mid = sent_of g.S.Sink c.loop-left.output in
     let new = sent_of g.S.Sink c.stretch-count.new.output in
     let count = c.stretch-count.result in
-    let start : c.args.moment.at.now.0 ≡ c.args.self.now.now.0 = ap (λ (t : Ticks). t.0) c.requires.now in
-    let end : c.args.moment.at.now.0 + c.args.most ≡ c.loop-left.self.now.0 + c.loop-left.left = omega (arith, now, few, start) in
+    let end : c.args.self.now.now.0 + c.args.most ≡ c.loop-left.self.now.0 + c.loop-left.left = omega (arith, now, few) in
     let moved = c.stretch-count.ensures.run [] tt in
     let within = moved.0 in
     let ticks = moved.1 in

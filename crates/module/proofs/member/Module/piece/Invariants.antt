@@ -12,7 +12,7 @@ invariant-loop-left g l = record {
   image : l.self.image ≡ l.fn.self.image;
   origin : l.self.origin ≡ l.fn.self.origin;
   now : l.self.now.0 ≡ l.fn.self.now.0 + (l.fn.most - l.left);
-  run : (lines : List DeviceLine) → AreFrom (l.fn.moment.at.now.0 + l.fn.most) lines → HasPassed (plan_of l.fn.self.image) lines (l.fn.most - l.left) (standing_of g.E.Executor l.fn.self) (standing_of g.E.Executor l.self) (sent_of g.S.Sink l.fn.output) (sent_of g.S.Sink l.output);
+  run : (lines : List DeviceLine) → AreFrom (l.fn.self.now.0 + l.fn.most) lines → HasPassed (plan_of l.fn.self.image) lines (l.fn.most - l.left) (standing_of g.E.Executor l.fn.self) (standing_of g.E.Executor l.self) (sent_of g.S.Sink l.fn.output) (sent_of g.S.Sink l.output);
 }
 
 abbrev pub decreases-loop-left : goal.decreases-loop-left
