@@ -1,11 +1,12 @@
 //! A filter of lines.
 
 ghost use Rattle.std.specs.Prelude.{◌≡◌};
-ghost use Rattle.apex_types.specs.Line.{subject_text, partition_text};
+ghost use Rattle.apex_types.specs.Line.{partition_text};
 ghost use Rattle.trace_filter.specs.Filters as meant;
 
 use crate::kinds::Kinds;
 use apex_types::{Event, EventKind, Name, Subject, Ticks};
+use trace_stays::subject_word;
 
 /// What a line has to have, so that it is chosen. What is not named does not matter.
 #[derive(Drop)]
@@ -79,7 +80,7 @@ fn names_subject(asked: &Option<String>, who: Option<Subject>) -> bool
 {
     match asked {
         Some(asked) => match &who {
-            Some(who) => asked.as_str().as_bytes() == subject_name(who).as_bytes(),
+            Some(who) => asked.as_str().as_bytes() == subject_word(who).as_bytes(),
             None => false,
         },
         None => true,
@@ -105,17 +106,6 @@ fn partition_name(partition: &Option<Name>) -> &str
     match partition {
         Some(name) => name.as_str(),
         None => "-",
-    }
-}
-
-/// The process as it stands in a line.
-fn subject_name(who: &Subject) -> &str
-    ensures { result.now ≡ subject_text who.now }
-{
-    match who {
-        Subject::Init => "INIT",
-        Subject::Handler => "HANDLER",
-        Subject::Process(name) => name.as_str(),
     }
 }
 

@@ -5,6 +5,7 @@ ghost use Rattle.apex_types.specs.Line.{subject_text};
 ghost use Rattle.engine_meaning.specs.Digits.{same};
 
 use apex_types::{PartitionId, Subject};
+use trace_stays::subject_word;
 
 /// What the processor did in a tick.
 #[derive(Clone, Copy, Debug, PartialEq, Eq)]
@@ -38,20 +39,9 @@ impl Use {
     }
 }
 
-/// The process as it stands in a line.
-fn subject_name(who: &Subject) -> &str
-    ensures { result.now ≡ subject_text who.now }
-{
-    match who {
-        Subject::Init => "INIT",
-        Subject::Handler => "HANDLER",
-        Subject::Process(name) => name.as_str(),
-    }
-}
-
 /// Returns true if both stand in a line with the same words.
 pub fn is_same_subject(one: &Subject, other: &Subject) -> bool
     ensures { result ≡ same (subject_text one.now) (subject_text other.now) }
 {
-    subject_name(one).as_bytes() == subject_name(other).as_bytes()
+    subject_word(one).as_bytes() == subject_word(other).as_bytes()
 }

@@ -1,8 +1,6 @@
 -- The contents of the cells of tables.
 use Rattle.std.specs.Prelude.{ℕ, ◌/◌, ◌%◌, List, [], ◌∷◌, ◌++◌, codes, Option, Some, None}
 use Rattle.std.specs.Fmt.{decimal}
-use Rattle.apex_types.specs.declared.event.Subject.{Subject}
-use Rattle.apex_types.specs.declared.event.Subject.TheVariants as subject
 use Rattle.apex_types.specs.declared.identity.Ticks.{Ticks}
 use Rattle.trace_stays.specs.Stays.{ticks_of}
 use Rattle.trace_view.specs.Counting.{share_of}
@@ -18,12 +16,6 @@ use Rattle.trace_view.specs.declared.states.StateTicks.{StateTicks}
 use Rattle.trace_view.specs.declared.tally.Tally.{Tally}
 
 -- ---- texts
-
--- INIT, HANDLER, or the name
-abbrev pub subject_text : Subject → List ℕ
-subject_text subject.Init = codes "INIT"
-subject_text subject.Handler = codes "HANDLER"
-subject_text (subject.Process name) = name
 
 -- percents with one decimal
 abbrev pub share_text : Share → List ℕ

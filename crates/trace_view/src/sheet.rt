@@ -2,7 +2,7 @@
 
 use crate::cell::{
     Cell, cell_text, extent_cells, mode_cells, port_cells, refusal_cells, state_cells,
-    subject_text, time_cells,
+    time_cells,
 };
 use crate::fault::ReportFault;
 use crate::messages::Route;
@@ -10,6 +10,7 @@ use crate::report::{PartitionTotal, ProcessTotal, Report, RouteTotal};
 use csv::{Writer, WriterBuilder};
 use std::alloc::Global;
 use std::io::Write;
+use trace_stays::subject_word;
 
 /// The columns. Each row has the first three, and those of its own group.
 static HEADINGS: [&str; 37] = [
@@ -105,7 +106,7 @@ impl<'a, W: Write> Sheet<'a, W> {
     }
 
     fn process(&mut self, process: &ProcessTotal, all: u64) -> Result<(), ReportFault> {
-        let who = subject_text(&process.who);
+        let who = subject_word(&process.who);
         self.names("process", process.partition.as_str(), who)?;
         self.blanks(6)?;
         self.cells(&state_cells(process.tally.ticks, all))?;

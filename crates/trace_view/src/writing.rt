@@ -1,7 +1,7 @@
 //! The tables of a report.
 
 use crate::cell::{
-    Cell, extent_cells, mode_cells, port_cells, refusal_cells, state_cells, subject_text,
+    Cell, extent_cells, mode_cells, port_cells, refusal_cells, state_cells,
     time_cells,
 };
 use crate::fault::ReportFault;
@@ -10,6 +10,7 @@ use crate::report::Report;
 use crate::table::Table;
 use std::alloc::Global;
 use std::io::Write;
+use trace_stays::subject_word;
 
 /// Writes the tables, with an empty line between two of them. A table without rows is left out.
 pub fn write_tables<W: Write>(
@@ -38,7 +39,7 @@ fn write_states<W: Write>(alloc: Global, report: &Report, out: &mut W) -> Result
     let mut table = Table::new(alloc, &["partition", "process"], &numbers)?;
     let all = report.extent.window.ticks();
     for process in &report.processes {
-        let names = [process.partition.as_str(), subject_text(&process.who)];
+        let names = [process.partition.as_str(), subject_word(&process.who)];
         table.add(&names, &state_cells(process.tally.ticks, all))?;
     }
     table.write(
@@ -58,7 +59,7 @@ fn write_times<W: Write>(alloc: Global, report: &Report, out: &mut W) -> Result<
     ];
     let mut table = Table::new(alloc, &["partition", "process"], &numbers)?;
     for process in &report.processes {
-        let names = [process.partition.as_str(), subject_text(&process.who)];
+        let names = [process.partition.as_str(), subject_word(&process.who)];
         table.add(&names, &time_cells(&process.tally))?;
     }
     table.write(
@@ -82,7 +83,7 @@ fn write_refusals<W: Write>(
     ];
     let mut table = Table::new(alloc, &["partition", "process"], &numbers)?;
     for process in &report.processes {
-        let names = [process.partition.as_str(), subject_text(&process.who)];
+        let names = [process.partition.as_str(), subject_word(&process.who)];
         table.add(&names, &refusal_cells(process.tally.refusals))?;
     }
     table.write("\nProcesses: services refused, by their codes", out)

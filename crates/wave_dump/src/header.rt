@@ -1,9 +1,9 @@
 //! The beginning of a dump: its variables, and their first values.
 
-use crate::pulse::{GROUPS, Group, PulseLane, subject_text};
+use crate::pulse::{GROUPS, Group, PulseLane};
 use crate::variable::{MODES, STATES, Variable};
 use std::io::{self, Write};
-use trace_stays::{Lanes, Span};
+use trace_stays::{Lanes, Span, subject_word};
 
 /// Writes the part before the changes.
 pub fn write_header<W: Write>(
@@ -45,7 +45,7 @@ fn write_partition<W: Write>(
     end_scope(out)?;
     for (process, lane) in lanes.processes().iter().enumerate() {
         if lane.partition == place {
-            begin_scope(subject_text(&lane.who), out)?;
+            begin_scope(subject_word(&lane.who), out)?;
             for state in STATES {
                 write_wire(Variable::State(process, state), state.word(), out)?;
             }
