@@ -149,3 +149,22 @@ added_last [] n used none u = first (is_same used u)
 added_last (q ∷ rows) n used none u =
     other_row (is_same q.used u) used u q (ticks_for u rows) (ticks_for u (rows ++ record { used = used; ticks = suc n } ∷ [])) (suc n) (none 0 q refl) refl
     (added_last rows n used (λ k x at. none (suc k) x at) u)
+
+-- ---- as the code meets them
+
+pub rows_there : (rows : List Row) (place ticks : ℕ) (used : Use) (r : Row) → 0 < ticks → slice_get rows place ≡ Some r → is_same r.used used ≡ true
+    → ((k : ℕ) (q : Row) → k < place → slice_get rows k ≡ Some q → is_same q.used used ≡ false)
+    → HasMore used ticks rows (slice_set rows place (with_ticks ticks r))
+rows_there rows place zero used r some is same before = absurd (omega (arith, some))
+rows_there rows place (suc n) used r some is same before = added_there rows place n used r is same before
+
+pub rows_last : (rows : List Row) (ticks : ℕ) (used : Use) → 0 < ticks → IsNoneOf used rows → HasMore used ticks rows (rows ++ record { used = used; ticks = ticks } ∷ [])
+rows_last rows zero used some none = absurd (omega (arith, some))
+rows_last rows (suc n) used some none = added_last rows n used none
+
+pub none_more : (rows : List Row) (used : Use) → HasMore used 0 rows rows
+none_more rows used u = at (is_same used u)
+  where
+    at : (b : Bool) → ticks_for u rows ≡ with_more (if_same b 0) (ticks_for u rows)
+    at true = refl
+    at false = refl
