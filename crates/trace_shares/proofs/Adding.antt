@@ -1,5 +1,5 @@
 -- The rows of the ticks that were counted.
-use Rattle.std.proofs.Common.{◌≡◌, ℕ, zero, suc, ◌+◌, ◌-◌, ◌*◌, ◌<◌, Bool, true, false, ◌&&◌, List, [], ◌∷◌, ◌++◌, length, Some, None, refl, sym, ap, subst, ◌∙◌, arith, mul_comm, mul-add}
+use Rattle.std.proofs.Common.{◌≡◌, ℕ, zero, suc, ◌+◌, ◌-◌, ◌*◌, ◌<◌, Bool, true, false, ◌&&◌, List, [], ◌∷◌, ◌++◌, get_or, Some, None, refl, sym, ap, ◌∙◌, arith, mul_comm, mul-add}
 use Rattle.std.specs.Prelude.{◌==◌, if◌then◌else◌, slice_get, slice_set}
 use Rattle.std.proofs.lemmas.Bool.{and_from, and_parts, eq-eqb, eqb-true, false≢true}
 use Rattle.apex_types.specs.Line.{subject_text}
@@ -168,3 +168,8 @@ none_more rows used u = at (is_same used u)
     at : (b : Bool) → ticks_for u rows ≡ with_more (if_same b 0) (ticks_for u rows)
     at true = refl
     at false = refl
+
+pub read_is : (rows : List Row) (i : ℕ) (p q : Row) → slice_get rows i ≡ Some p → q ≡ get_or rows i q → q ≡ p
+read_is [] i p q h e = cc
+read_is (x ∷ rows) zero p q h e = cc
+read_is (x ∷ rows) (suc i) p q h e = read_is rows i p q h e

@@ -75,10 +75,15 @@ impl Counted {
             return Ok(());
         }
         match self.place_of(used) {
-            Some(place) => self.rows[place].add(ticks),
-            None => self.rows.push(Row { used, ticks })?,
+            Some(place) => {
+                self.rows[place].add(ticks);
+                Ok(())
+            }
+            None => {
+                self.rows.push(Row { used, ticks })?;
+                Ok(())
+            }
         }
-        Ok(())
     }
 
     /// The place of the row with this use; `None` if there is none.
