@@ -1,6 +1,6 @@
 -- The ticks that were counted.
 use Rattle.std.specs.Prelude.{◌≡◌, ℕ, zero, suc, ◌+◌, ◌-◌, ◌^◌, ◌<◌, min, Bool, true, false, if◌then◌else◌, List, [], ◌∷◌, Some, slice_get}
-use Rattle.trace_shares.specs.Uses.{is_same}
+use Rattle.trace_shares.specs.Uses.{is_at, is_idle_at, is_same, place_of_use}
 use Rattle.trace_shares.specs.declared.counted.Row.{Row}
 use Rattle.trace_shares.specs.declared.usage.Use.{Use}
 
@@ -17,6 +17,16 @@ with_more (suc n) x = capped (x + suc n)
 unfoldable pub ticks_for : Use → List Row → ℕ
 ticks_for u [] = 0
 ticks_for u (r ∷ rs) = if is_same r.used u then r.ticks else ticks_for u rs
+
+-- the ticks of all rows of the partition at this place
+unfoldable pub ticks_at : ℕ → List Row → ℕ
+ticks_at place [] = 0
+ticks_at place (r ∷ rs) = (if is_at place (place_of_use r.used) then r.ticks else 0) + ticks_at place rs
+
+-- the idle ticks among them
+unfoldable pub idle_at : ℕ → List Row → ℕ
+idle_at place [] = 0
+idle_at place (r ∷ rs) = (if is_idle_at place r.used then r.ticks else 0) + idle_at place rs
 
 abbrev pub if_same : Bool → ℕ → ℕ
 if_same true n = n

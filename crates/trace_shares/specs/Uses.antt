@@ -1,6 +1,7 @@
 -- What the processor does in a tick, by its windows and by the lines of its trace.
 use Rattle.std.specs.Prelude.{ℕ, zero, suc, ◌+◌, Bool, true, false, ◌==◌, ◌&&◌, if◌then◌else◌, nat_lt, List, [], ◌∷◌, Option, Some, None}
 use Rattle.apex_types.specs.Line.{subject_text}
+use Rattle.apex_types.specs.Places.{place_of_number}
 use Rattle.apex_types.specs.declared.event.Event.{Event}
 use Rattle.apex_types.specs.declared.event.Subject.{Subject}
 use Rattle.apex_types.specs.declared.identity.PartitionId.{PartitionId}
@@ -70,6 +71,21 @@ is_same (Idle p) (Idle q) = p.0 == q.0
 is_same Unowned Unowned = true
 is_same Down Down = true
 is_same _ _ = false
+
+-- the place of the partition in whose window the tick was
+abbrev pub place_of_use : Use → Option ℕ
+place_of_use (Process p who) = place_of_number p.0
+place_of_use (Idle p) = place_of_number p.0
+place_of_use Unowned = None
+place_of_use Down = None
+
+abbrev pub is_at : ℕ → Option ℕ → Bool
+is_at place None = false
+is_at place (Some other) = other == place
+
+abbrev pub is_idle_at : ℕ → Use → Bool
+is_idle_at place (Idle p) = is_at place (place_of_number p.0)
+is_idle_at place _ = false
 
 abbrev pub one_if : Bool → ℕ
 one_if true = 1

@@ -1,7 +1,7 @@
 //! The ticks that were counted.
 
 ghost use Rattle.std.specs.Prelude.{◌≡◌, [], MatchOption, OnOk};
-ghost use Rattle.trace_shares.specs.Counts.{HasMore, IsNoneOf, IsPlaceOf, ticks_for};
+ghost use Rattle.trace_shares.specs.Counts.{HasMore, IsNoneOf, IsPlaceOf, capped, idle_at, ticks_at, ticks_for};
 
 use crate::fault::SharesFault;
 use crate::usage::Use;
@@ -61,6 +61,34 @@ impl Counted {
             }
         }
         0
+    }
+
+    /// The number of ticks in windows of the partition at this place in the module table.
+    #[tactic(auto, using(std::proofs::lemmas::List::drop_more), unfolding(crate::specs::Counts::ticks_at))]
+    pub fn window_ticks(&self, place: usize) -> u64
+        ensures { result ≡ capped (ticks_at place self.now.rows.items) }
+    {
+        let mut sum: u64 = 0;
+        for row in self.rows.as_slice() {
+            if row.used.place() == Some(place) {
+                sum = sum.saturating_add(row.ticks);
+            }
+        }
+        sum
+    }
+
+    /// The number of idle ticks in windows of the partition at this place in the module table.
+    #[tactic(auto, using(std::proofs::lemmas::List::drop_more), unfolding(crate::specs::Counts::idle_at))]
+    pub fn idle_ticks(&self, place: usize) -> u64
+        ensures { result ≡ capped (idle_at place self.now.rows.items) }
+    {
+        let mut sum: u64 = 0;
+        for row in self.rows.as_slice() {
+            if row.used.is_idle_at(place) {
+                sum = sum.saturating_add(row.ticks);
+            }
+        }
+        sum
     }
 
     /// Adds ticks that were used so.

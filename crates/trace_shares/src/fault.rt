@@ -4,6 +4,7 @@ ghost use Rattle.std.specs.Prelude.{◌≡◌};
 ghost use Rattle.trace_shares.specs.declared.fault.SharesFault.TheVariants as fault;
 
 use std::alloc::{AllocError, AllocFailed};
+use trace_stays::MemoryFull;
 
 /// Why a line is not counted.
 #[derive(Clone, Copy, Debug, PartialEq, Eq)]
@@ -18,6 +19,14 @@ impl From<AllocError> for SharesFault {
     ghost from_gives = { λ _ f. f ≡ fault.Memory };
 
     fn from(_: AllocError) -> SharesFault {
+        SharesFault::Memory
+    }
+}
+
+impl From<MemoryFull> for SharesFault {
+    ghost from_gives = { λ _ f. f ≡ fault.Memory };
+
+    fn from(_: MemoryFull) -> SharesFault {
         SharesFault::Memory
     }
 }

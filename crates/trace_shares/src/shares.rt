@@ -70,6 +70,13 @@ impl Shares {
         })
     }
 
+    /// The partitions of the module table, in its order.
+    pub fn owners(&self) -> &[Owner]
+        ensures { result.now ≡ self.now.owners.items }
+    {
+        self.owners.as_slice()
+    }
+
     /// The ticks that are counted: those before the tick of the last lines.
     pub fn counted(&self) -> &Counted
         ensures { result.now ≡ self.now.counted }

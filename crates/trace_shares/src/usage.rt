@@ -21,7 +21,31 @@ pub enum Use {
 }
 
 impl Use {
-    ghost use Rattle.trace_shares.specs.Uses.{is_same};
+    ghost use Rattle.trace_shares.specs.Uses.{is_idle_at, is_same, place_of_use};
+
+    /// The place in the module table of the partition in whose window the tick was; `None` for a
+    /// tick in no window, or behind a shutdown.
+    pub fn place(&self) -> Option<usize>
+        ensures { result ≡ place_of_use self.now }
+    {
+        match self {
+            Use::Process(partition, _) | Use::Idle(partition) => {
+                let place = partition.place()?;
+                Some(usize::from(place))
+            }
+            Use::Unowned | Use::Down => None,
+        }
+    }
+
+    /// Returns true if the tick was idle, in a window of the partition at this place.
+    pub fn is_idle_at(&self, place: usize) -> bool
+        ensures { result ≡ is_idle_at place self.now }
+    {
+        match self {
+            Use::Idle(_) => self.place() == Some(place),
+            _ => false,
+        }
+    }
 
     /// Returns true if the processor did the same.
     pub fn is_same(&self, other: &Use) -> bool

@@ -55,6 +55,10 @@ state_cells t all =
     cell.Number t.running ∷ share_cell t.running all ∷ cell.Number t.ready ∷ share_cell t.ready all
     ∷ cell.Number t.waiting ∷ share_cell t.waiting all ∷ cell.Number t.dormant ∷ share_cell t.dormant all ∷ []
 
+-- ticks, and their share
+abbrev pub share_cells : ℕ → ℕ → List Cell
+share_cells ticks all = cell.Number ticks ∷ share_cell ticks all ∷ []
+
 -- activations, their times, and missed deadlines
 abbrev pub time_cells : Tally → List Cell
 time_cells t =

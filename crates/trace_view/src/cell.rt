@@ -1,7 +1,7 @@
 //! The cells of tables.
 
 ghost use Rattle.std.specs.Prelude.{◌≡◌, IfOk, string_bytes};
-ghost use Rattle.trace_view.specs.Cells.{cell_text, extent_cells, greatest_cell, least_cell, mode_cells, port_cells, refusal_cells, state_cells, tick_cell, time_cells};
+ghost use Rattle.trace_view.specs.Cells.{cell_text, extent_cells, greatest_cell, least_cell, mode_cells, port_cells, refusal_cells, share_cells, state_cells, tick_cell, time_cells};
 
 use crate::extent::Extent;
 use crate::extremes::Extremes;
@@ -94,6 +94,13 @@ pub fn state_cells(ticks: StateTicks, all: u64) -> [Cell; 8]
         Cell::Number(ticks.dormant),
         Cell::Share(Share::of(ticks.dormant, all)),
     ]
+}
+
+/// Ticks, and their share of all.
+pub fn share_cells(ticks: u64, all: u64) -> [Cell; 2]
+    ensures { result ≡ share_cells ticks all }
+{
+    [Cell::Number(ticks), Cell::Share(Share::of(ticks, all))]
 }
 
 /// Activations; the least and the greatest time to RUNNING, and to the end; missed deadlines.

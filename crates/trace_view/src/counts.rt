@@ -80,6 +80,7 @@ impl Counts {
             partitions,
             processes,
             routes,
+            shares: None,
         })
     }
 

@@ -23,6 +23,7 @@ mod summary;
 mod table;
 mod tally;
 mod traffic;
+mod usage;
 mod writing;
 
 pub use extent::Extent;

@@ -9,6 +9,7 @@ use crate::{sheet, writing};
 use apex_types::{Name, Subject};
 use std::alloc::Global;
 use std::io::Write;
+use trace_shares::Shares;
 
 /// The numbers of a partition.
 #[derive(Clone, Copy, Debug)]
@@ -41,6 +42,8 @@ pub struct Report {
     pub partitions: Vec<PartitionTotal>,
     pub processes: Vec<ProcessTotal>,
     pub routes: Vec<RouteTotal>,
+    /// What the processor did, if the windows are known.
+    pub shares: Option<Shares>,
 }
 
 impl Report {

@@ -8,6 +8,7 @@ use crate::fault::ReportFault;
 use crate::messages::Route;
 use crate::report::Report;
 use crate::table::Table;
+use crate::usage::write_usage;
 use std::alloc::Global;
 use std::io::Write;
 use trace_stays::subject_word;
@@ -20,6 +21,9 @@ pub fn write_tables<W: Write>(
 ) -> Result<(), ReportFault> {
     write_extent(alloc, report, out)?;
     write_states(alloc, report, out)?;
+    if let Some(shares) = &report.shares {
+        write_usage(alloc, shares, report.extent.window.ticks(), out)?;
+    }
     write_times(alloc, report, out)?;
     write_refusals(alloc, report, out)?;
     write_modes(alloc, report, out)?;
