@@ -3,14 +3,15 @@
 ghost use Rattle.std.specs.Prelude.{◌≡◌};
 ghost use Rattle.trace_shares.specs.declared.fault.SharesFault.TheVariants as fault;
 
+use apex_types::Name;
 use std::alloc::{AllocError, AllocFailed};
 use trace_stays::MemoryFull;
 
 /// Why a line is not counted.
 #[derive(Clone, Copy, Debug, PartialEq, Eq)]
 pub enum SharesFault {
-    /// The module table has no such partition.
-    Unknown,
+    /// The module table has no partition of this name.
+    Unknown(Name),
     /// Memory ran out.
     Memory,
 }

@@ -102,7 +102,7 @@ impl Shares {
         match &event.partition {
             Some(name) => match self.place_of(name) {
                 Some(place) => self.read_own(&event.kind, place),
-                None => Err(SharesFault::Unknown),
+                None => Err(SharesFault::Unknown(*name)),
             },
             None => {
                 self.read_module(&event.kind);

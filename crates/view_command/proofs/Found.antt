@@ -55,6 +55,8 @@ tick_wrong name rows (Refused (refusal.Open shown)) is h = absurd h
 tick_wrong name rows (Refused (refusal.Read shown)) is h = absurd h
 tick_wrong name rows (Refused (refusal.Line number shown)) is h = absurd h
 tick_wrong name rows (Refused refusal.TooMany) is h = absurd h
+tick_wrong name rows (Refused (refusal.Table fault shown)) is h = absurd h
+tick_wrong name rows (Refused (refusal.Foreign partition)) is h = absurd h
 tick_wrong name rows (Refused refusal.Memory) is h = tt
 tick_wrong name rows (Refused refusal.Write) is h = absurd h
 
@@ -64,6 +66,8 @@ kind_wrong name rows (Refused (refusal.Open shown)) is h = absurd h
 kind_wrong name rows (Refused (refusal.Read shown)) is h = absurd h
 kind_wrong name rows (Refused (refusal.Line number shown)) is h = absurd h
 kind_wrong name rows (Refused refusal.TooMany) is h = absurd h
+kind_wrong name rows (Refused (refusal.Table fault shown)) is h = absurd h
+kind_wrong name rows (Refused (refusal.Foreign partition)) is h = absurd h
 kind_wrong name rows (Refused refusal.Memory) is h = tt
 kind_wrong name rows (Refused refusal.Write) is h = absurd h
 
@@ -73,6 +77,8 @@ limit_wrong rows (Refused (refusal.Open shown)) h = absurd h
 limit_wrong rows (Refused (refusal.Read shown)) h = absurd h
 limit_wrong rows (Refused (refusal.Line number shown)) h = absurd h
 limit_wrong rows (Refused refusal.TooMany) h = absurd h
+limit_wrong rows (Refused (refusal.Table fault shown)) h = absurd h
+limit_wrong rows (Refused (refusal.Foreign partition)) h = absurd h
 limit_wrong rows (Refused refusal.Memory) h = tt
 limit_wrong rows (Refused refusal.Write) h = absurd h
 
@@ -92,6 +98,8 @@ nothing_asked kinds own entered answer none same h = go answer (subst (λ o. IfE
     go (Err (Refused (refusal.Read shown))) h = h
     go (Err (Refused (refusal.Line number shown))) h = h
     go (Err (Refused refusal.TooMany)) h = h
+    go (Err (Refused (refusal.Table fault shown))) h = h
+    go (Err (Refused (refusal.Foreign partition))) h = h
     go (Err (Refused refusal.Memory)) h = tt
     go (Err (Refused refusal.Write)) h = h
     go (Err (Usage e)) h = inr (none, h.0, h.1)

@@ -9,15 +9,15 @@ use Rattle.streams.specs.Contents.{Contents}
 use Rattle.streams.specs.States.{HasFailed, IsFlushed, IsWritten, Seen, TakesLine}
 use Rattle.view_command.specs.Lines.{called, line_of}
 use Rattle.clap.specs.Walk.{Row}
-use Rattle.view_command.specs.Orders.{AreWrongWords, AsksForNothing, IsDiff, IsNoKind, IsNoLimit, IsNoTick, other_of, trace_of}
+use Rattle.view_command.specs.Orders.{AreWrongWords, AsksForNothing, IsDiff, IsNoKind, IsNoLimit, IsNoTick, other_of, table_of, trace_of}
 use Rattle.view_command.specs.States.{IsUntouched, State}
-use Rattle.view_command.specs.Texts.{IsRefusedIn, IsRefusedLine, IsTraceIn}
+use Rattle.view_command.specs.Texts.{IsRefusedIn, IsRefusedLine, IsRefusedTableIn, IsTableAsked, IsTraceIn}
 use Rattle.command_words.specs.declared.failure.Failure.{Failure}
 use Rattle.command_words.specs.declared.failure.Failure.TheVariants.{Refused, Usage}
 use Rattle.view_command.specs.declared.views.Outcome.{Outcome}
 use Rattle.view_command.specs.declared.views.Outcome.TheVariants.{Shown, Found}
 use Rattle.view_command.specs.declared.refusal.Refusal.{Refusal}
-use Rattle.view_command.specs.declared.refusal.Refusal.TheVariants.{Open, Read, Line, TooMany, Memory, Write}
+use Rattle.view_command.specs.declared.refusal.Refusal.TheVariants.{Open, Read, Line, TooMany, Table, Foreign, Memory, Write}
 
 -- ---- why a trace is not shown; memory may run out at every step
 
@@ -26,6 +26,7 @@ abbrev pub IsUnread : Option (List ℕ) → List ℕ → Refusal → Type 0
 IsUnread text name (Read shown) = string_bytes shown ≡ name
 IsUnread text name (Line number shown) = (string_bytes shown ≡ name) × IsRefusedLine text number
 IsUnread text name TooMany = Unit {0}
+IsUnread text name (Foreign partition) = Unit {0}
 IsUnread text name Memory = Unit {0}
 IsUnread text name _ = ⊥
 
@@ -38,16 +39,32 @@ IsRefused texts name before after (Open shown) = (after.out ≡ before.out) × (
 IsRefused texts name before after (Read shown) = IsUntouched before after × (string_bytes shown ≡ called name)
 IsRefused texts name before after (Line number shown) = IsUntouched before after × (string_bytes shown ≡ called name) × IsRefusedIn texts name number
 IsRefused texts name before after TooMany = IsUntouched before after
+IsRefused texts name before after (Foreign partition) = IsUntouched before after
+IsRefused texts name before after (Table fault shown) = ⊥
 IsRefused texts name before after Memory = IsUntouched before after
 
--- The trace, or the other one with which it is compared, is not shown.
+-- The module table of this name is not taken: it is not opened, not read, or breaks a rule.
+abbrev pub IsRefusedByTable : Option Contents → List ℕ → State → State → Refusal → Type 0
+IsRefusedByTable texts name before after (Open shown) = (after.out ≡ before.out) × (string_bytes shown ≡ called name) × (after.unopened ≡ before.unopened ++ name ∷ [])
+IsRefusedByTable texts name before after (Read shown) = IsUntouched before after × (string_bytes shown ≡ called name)
+IsRefusedByTable texts name before after (Table fault shown) = IsUntouched before after × (string_bytes shown ≡ called name) × IsRefusedTableIn texts name fault
+IsRefusedByTable texts name before after Memory = IsUntouched before after
+IsRefusedByTable texts name before after _ = ⊥
+
+abbrev pub IsTableRefused : Option Contents → Option (List ℕ) → State → State → Refusal → Type 0
+IsTableRefused texts None before after r = ⊥
+IsTableRefused texts (Some name) before after r = IsRefusedByTable texts name before after r
+
+-- The trace, the other one with which it is compared, or the module table is not taken.
 abbrev pub IsRefusedOf : Option Contents → Entered → State → State → Refusal → Type 0
 IsRefusedOf texts entered before after r =
     IsRefused texts (trace_of entered) before after r ⊎ (IsDiff entered × IsRefused texts (other_of entered) before after r)
+    ⊎ IsTableRefused texts (table_of entered) before after r
 
--- the trace was read to its end, and so was the other one, if they were compared
+-- The trace was read to its end. So was the other one, if they were compared, and else the module table, if one is asked for.
 abbrev pub AreTracesIn : Option Contents → Entered → Type 0
-AreTracesIn texts entered = IsTraceIn texts (trace_of entered) × (IsDiff entered → IsTraceIn texts (other_of entered))
+AreTracesIn texts entered =
+    IsTraceIn texts (trace_of entered) × (IsDiff entered → IsTraceIn texts (other_of entered)) × ((IsDiff entered → ⊥) → IsTableAsked texts (table_of entered))
 
 -- ---- the words, for which the library of command lines reports these errors
 

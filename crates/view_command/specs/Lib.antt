@@ -8,3 +8,4 @@ pub mod States
 pub mod Texts
 pub mod Views
 pub mod Words
+pub mod Windows

@@ -1,6 +1,8 @@
 -- The request in the words.
-use Rattle.std.specs.Prelude.{◌≡◌, ◌≢◌, ◌⊎◌, ℕ, ◌≤◌, List, [], ◌∷◌, Option, Some, None, codes, string_bytes}
+use Rattle.std.specs.Prelude.{◌≡◌, ◌≢◌, ◌⊎◌, ℕ, ◌≤◌, List, [], ◌∷◌, Option, Some, None, option_map, codes, string_bytes}
 use Rattle.std.specs.Str.Parse.{IsNumeral}
+use Rattle.std.specs.declared.alloc.Global.{Global}
+use Rattle.std.specs.declared.string.String.{String}
 use Rattle.clap.specs.Walk.{Row, first_of}
 use Rattle.command_words.specs.Found.{Entered, word_at, words_at}
 use Rattle.command_words.specs.Numbers.{number_in}
@@ -19,6 +21,14 @@ abbrev pub other_of : Entered → List ℕ
 other_of None = []
 other_of (Some entered) = word_at (codes "OTHER") entered.1
 
+-- the name of the module table, by whose windows ticks are counted, if one is asked for
+abbrev pub table_of : Entered → Option (List ℕ)
+table_of None = None
+table_of (Some entered) = first_of (codes "table") entered.1
+
+abbrev pub asked_text : Option (String Global) → Option (List ℕ)
+asked_text asked = option_map string_bytes asked
+
 -- two traces are to be compared
 abbrev pub IsDiff : Entered → Type 0
 IsDiff None = ⊥
@@ -26,7 +36,7 @@ IsDiff (Some entered) = entered.0 ≡ codes "diff"
 
 -- the words of a command that shows a trace
 abbrev pub IsShown : List Row → Request → Type 0
-IsShown rows (Show showing) = string_bytes showing.trace ≡ word_at (codes "TRACE") rows
+IsShown rows (Show showing) = (string_bytes showing.trace ≡ word_at (codes "TRACE") rows) × (asked_text showing.table ≡ first_of (codes "table") rows)
 IsShown rows (Compare pair) = ⊥
 
 -- the words of a command that compares two
@@ -36,7 +46,7 @@ IsCompared rows (Compare pair) = (string_bytes pair.first ≡ word_at (codes "TR
 
 -- the request that the words found make
 abbrev pub IsRequest : Entered → Request → Type 0
-IsRequest entered (Show showing) = (IsDiff entered → ⊥) × (string_bytes showing.trace ≡ trace_of entered)
+IsRequest entered (Show showing) = (IsDiff entered → ⊥) × (string_bytes showing.trace ≡ trace_of entered) × (asked_text showing.table ≡ table_of entered)
 IsRequest entered (Compare pair) = IsDiff entered × (string_bytes pair.first ≡ trace_of entered) × (string_bytes pair.second ≡ other_of entered)
 
 -- the tick of an optional word

@@ -2,6 +2,8 @@
 use Rattle.std.specs.Prelude.{is_some, if◌then◌else◌}
 use Rattle.trace_picture.specs.declared.fault.PictureFault.{PictureFault}
 use Rattle.trace_picture.specs.declared.fault.PictureFault.TheVariants as picture
+use Rattle.trace_shares.specs.declared.fault.SharesFault.{SharesFault}
+use Rattle.trace_shares.specs.declared.fault.SharesFault.TheVariants as shares
 use Rattle.view_command.specs.declared.views.Shown.{Shown}
 use Rattle.view_command.specs.declared.views.Shown.TheVariants as shown
 use Rattle.view_command.specs.declared.views.Outcome.{Outcome}
@@ -13,6 +15,10 @@ use Rattle.view_command.specs.declared.views.ViewFault.TheVariants as fault
 abbrev pub view_fault : PictureFault → ViewFault
 view_fault picture.Memory = fault.Memory
 view_fault picture.TooMany = fault.TooMany
+
+abbrev pub shares_fault : SharesFault → ViewFault
+shares_fault shares.Memory = fault.Memory
+shares_fault (shares.Unknown name) = fault.Foreign name
 
 -- a picture is shown
 abbrev pub IsOfPicture : Shown → Type 0

@@ -25,7 +25,7 @@ abbrev pub shown_app : List ℕ → App
 shown_app name = with_rule (with_rule (with_rule (new_app name) trace_rule) (option_rule (codes "from"))) (option_rule (codes "to"))
 
 abbrev pub summary_app : App
-summary_app = with_rule (shown_app (codes "summary")) csv_rule
+summary_app = with_rule (with_rule (shown_app (codes "summary")) (option_rule (codes "table"))) csv_rule
 
 -- the command that writes a page
 abbrev pub html_app : App

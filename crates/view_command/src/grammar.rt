@@ -44,7 +44,13 @@ fn summary<'a>(alloc: Global) -> Result<Command<'a>, AllocError>
 {
     shown(alloc, "summary")?
         .about("Writes a table of what each partition and each process did")
-        .after_help("Example: mbview summary trace.txt --from 1000 --to 2000 --csv")
+        .after_help("Example: mbview summary trace.txt --from 1000 --to 2000 --table table.toml")
+        .arg(option(
+            alloc,
+            "table",
+            "TABLE",
+            "The module table: shows which process worked in each tick, by the windows",
+        ))?
         .arg(flag(alloc, "csv", "Writes the table as comma-separated values"))
 }
 

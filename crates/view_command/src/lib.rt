@@ -18,6 +18,7 @@ mod request;
 mod showing;
 mod telling;
 mod views;
+mod windows;
 
 use command_words::Failure;
 use comparing::compare;

@@ -1,11 +1,11 @@
 //! The options that were found in the words.
 
-ghost use Rattle.std.specs.Prelude.{◌∷◌, [], IfErr, IfOk, codes};
+ghost use Rattle.std.specs.Prelude.{◌≡◌, ◌∷◌, [], IfErr, IfOk, codes};
 ghost use Rattle.clap.specs.Matches.{found_of};
 ghost use Rattle.clap.specs.Walk.{first_of, rows_of};
 ghost use Rattle.command_words.specs.Found.{words_at};
 ghost use Rattle.view_command.specs.Answers.{IsKindFailure, IsLimitFailure, IsTickFailure, IsWordsFailure};
-ghost use Rattle.view_command.specs.Orders.{IsTickOf};
+ghost use Rattle.view_command.specs.Orders.{IsTickOf, asked_text};
 
 use crate::grammar::{bad_value, no_ticks};
 use crate::refusal::Refusal;
@@ -137,7 +137,10 @@ pub fn text(
     alloc: Global,
     found: &ArgMatches<'_>,
     option: &str,
-) -> Result<Option<String>, AllocError> {
+) -> Result<Option<String>, AllocError>
+    ensures { IfOk result
+        (λ asked. asked_text asked ≡ first_of option.now (rows_of (found_of found.now))) }
+{
     match found.get_str(option) {
         Some(word) => Ok(Some(String::from_str(alloc, word)?)),
         None => Ok(None),

@@ -35,6 +35,8 @@ pub struct Showing {
     pub view: View,
     /// The name of the trace.
     pub trace: String,
+    /// The name of the module table, by whose windows ticks are counted, if one is asked for.
+    pub table: Option<String>,
     /// The first tick that is shown.
     pub from: Ticks,
     /// The tick before which it ends, if it is not the end of the trace.
@@ -86,10 +88,12 @@ fn shown(alloc: Global, view: View, found: &ArgMatches<'_>) -> Result<Request, F
     ensures failed { IfErr result (λ f. IsWordsFailure (rows_of (found_of found.now)) f) }
 {
     let trace = String::from_str(alloc, word(found, "TRACE"))?;
+    let table = text(alloc, found, "table")?;
     let (from, to) = ticks(alloc, found)?;
     Ok(Request::Show(Showing {
         view,
         trace,
+        table,
         from,
         to,
     }))

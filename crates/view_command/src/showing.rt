@@ -1,16 +1,18 @@
 //! A trace is read to its end, and then shown.
 
-ghost use Rattle.std.specs.Prelude.{◌≡◌, ◌-◌, ◌^◌, ◌<◌, IfErr, OnOk, string_bytes};
+ghost use Rattle.std.specs.Prelude.{◌≡◌, ◌⊎◌, ◌-◌, ◌^◌, ◌<◌, IfErr, OnOk, string_bytes};
 ghost use Rattle.streams.specs.States.{IsFlushed, seen};
-ghost use Rattle.view_command.specs.Answers.{IsRefused, IsUnread};
+ghost use Rattle.view_command.specs.Answers.{IsRefused, IsTableRefused, IsUnread};
 ghost use Rattle.view_command.specs.Faults as faults;
 ghost use Rattle.view_command.specs.Lines.{called};
+ghost use Rattle.view_command.specs.Orders.{asked_text};
 ghost use Rattle.view_command.specs.States.{state};
-ghost use Rattle.view_command.specs.Texts.{IsTraceIn, IsTraceOf};
+ghost use Rattle.view_command.specs.Texts.{IsTableAsked, IsTraceIn, IsTraceOf};
 
 use crate::refusal::Refusal;
 use crate::request::Showing;
 use crate::views::{Outcome, Shown, ViewFault};
+use crate::windows::windows;
 use std::alloc::Global;
 use std::io::Read;
 use streams::{NameFault, Sources, Stream, write_bytes};
@@ -25,6 +27,7 @@ pub fn show<F: Sources, O: Stream>(
 ) -> Result<Outcome, Refusal>
     requires { O.failures out.old < 2 ^ 64 - 1 }
     ensures trace { OnOk result (IsTraceIn (F.texts sources.old) (string_bytes request.trace)) }
+    ensures table { OnOk result (IsTableAsked (F.texts sources.old) (asked_text request.table)) }
     ensures opened { OnOk result (F.unopened sources.new ≡ F.unopened sources.old) }
     ensures flushed { OnOk result
         (IsFlushed (seen O.taken O.failures O.is_flushed out.old)
@@ -32,20 +35,25 @@ pub fn show<F: Sources, O: Stream>(
     ensures refused { IfErr result
         (λ r. IsRefused (F.texts sources.old) (string_bytes request.trace)
         (state (F.unopened sources.old) (seen O.taken O.failures O.is_flushed out.old))
+        (state (F.unopened sources.new) (seen O.taken O.failures O.is_flushed out.new)) r
+        ⊎ IsTableRefused (F.texts sources.old) (asked_text request.table)
+        (state (F.unopened sources.old) (seen O.taken O.failures O.is_flushed out.old))
         (state (F.unopened sources.new) (seen O.taken O.failures O.is_flushed out.new)) r) }
 {
     let Showing {
         view,
         trace,
+        table,
         from,
         to,
     } = request;
+    let shares = windows(alloc, &table, from, sources)?;
     let name = String::from_str(alloc, called(trace.as_str()))?;
     let reader = match sources.open(trace.as_str()) {
         Ok(reader) => reader,
         Err(fault) => return Err(of_source(name, fault)),
     };
-    let mut shown = Shown::new(alloc, view, from, to);
+    let mut shown = Shown::new(alloc, view, from, to, shares);
     read_all(alloc, name, reader, &mut shown)?;
     let outcome = shown.outcome();
     let bytes = match shown.into_bytes(alloc) {
@@ -115,6 +123,7 @@ fn of_view(fault: ViewFault) -> Refusal
     match fault {
         ViewFault::Memory => Refusal::Memory,
         ViewFault::TooMany => Refusal::TooMany,
+        ViewFault::Foreign(partition) => Refusal::Foreign(partition),
     }
 }
 

@@ -1,15 +1,16 @@
 //! The views of a trace: the one file that names the crates which make them.
 
 ghost use Rattle.std.specs.Prelude.{◌≡◌, IsErrOf};
-ghost use Rattle.view_command.specs.Views.{IsOfPicture, outcome_of, view_fault};
+ghost use Rattle.view_command.specs.Views.{IsOfPicture, outcome_of, shares_fault, view_fault};
 ghost use Rattle.view_command.specs.declared.views.ViewFault.TheVariants as fault;
 
-use apex_types::{Event, Ticks};
+use apex_types::{Event, Name, Ticks};
 use std::alloc::Global;
 use std::io;
 use trace_filter::{Check, Filter, Limits, Listing};
 use trace_page::Page;
 use trace_picture::{Picture, PictureFault};
+use trace_shares::{Shares, SharesFault};
 use trace_view::{ReportFault, Summary};
 use wave_dump::{Dump, MemoryFull};
 
@@ -45,6 +46,8 @@ pub enum ViewFault {
     Memory,
     /// The picture would have too many elements.
     TooMany,
+    /// The module table has no partition of this name.
+    Foreign(Name),
 }
 
 /// The report of the events so far.
@@ -61,10 +64,16 @@ pub enum Shown {
 
 impl Shown {
     /// Nothing is shown so far.
-    pub fn new(alloc: Global, view: View, from: Ticks, to: Option<Ticks>) -> Self {
+    pub fn new(
+        alloc: Global,
+        view: View,
+        from: Ticks,
+        to: Option<Ticks>,
+        shares: Option<Shares>,
+    ) -> Self {
         match view {
-            View::Table => Shown::Table(Summary::new(alloc, from, to)),
-            View::Rows => Shown::Rows(Summary::new(alloc, from, to)),
+            View::Table => Shown::Table(Summary::new(alloc, from, to, shares)),
+            View::Rows => Shown::Rows(Summary::new(alloc, from, to, shares)),
             View::Picture => Shown::Picture(Picture::new(alloc, from, to)),
             View::Waves => Shown::Waves(Dump::new(alloc, from, to)),
             View::Page => Shown::Page(Page::new(alloc)),
@@ -147,6 +156,17 @@ impl From<ReportFault> for ViewFault {
 
     fn from(_: ReportFault) -> Self {
         ViewFault::Memory
+    }
+}
+
+impl From<SharesFault> for ViewFault {
+    ghost from_gives = { λ why f. f ≡ shares_fault why };
+
+    fn from(fault: SharesFault) -> Self {
+        match fault {
+            SharesFault::Memory => ViewFault::Memory,
+            SharesFault::Unknown(partition) => ViewFault::Foreign(partition),
+        }
     }
 }
 

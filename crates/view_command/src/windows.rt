@@ -1,0 +1,105 @@
+//! The module table, by whose windows ticks are counted.
+
+ghost use Rattle.std.specs.Prelude.{◌≡◌, IfErr, IfOk, IfSome, OnOk, Ok, string_bytes};
+ghost use Rattle.streams.specs.States.{Seen};
+ghost use Rattle.view_command.specs.Answers.{IsRefusedByTable, IsTableRefused};
+ghost use Rattle.view_command.specs.Orders.{asked_text};
+ghost use Rattle.view_command.specs.States.{state};
+ghost use Rattle.view_command.specs.Texts.{IsRefusedTable, IsTable, IsTableAsked, IsTableIn};
+ghost use Rattle.view_command.specs.Windows.{IsBadTable};
+ghost use Rattle.window_table.specs.Answers.{AnswersText};
+
+use crate::refusal::Refusal;
+use crate::showing::{called, of_source};
+use apex_types::Ticks;
+use std::alloc::Global;
+use std::io::{ErrorKind, Read};
+use streams::Sources;
+use trace_shares::{Shares, SharesFault};
+use window_table::{ModuleTable, TableFault, read_table};
+
+/// Counts by the windows of this table, if one is asked for. The ticks `from` and later count.
+pub fn windows<F: Sources>(
+    alloc: Global,
+    table: &Option<String>,
+    from: Ticks,
+    sources: &mut F,
+) -> Result<Option<Shares>, Refusal>
+    ensures table { OnOk result (IsTableAsked (F.texts sources.old) (asked_text table.now)) }
+    ensures opened { OnOk result (F.unopened sources.new ≡ F.unopened sources.old) }
+    ensures refused { (out : Seen)
+        → IfErr result
+        (λ r. IsTableRefused (F.texts sources.old) (asked_text table.now)
+        (state (F.unopened sources.old) out) (state (F.unopened sources.new) out) r) }
+{
+    match table {
+        Some(name) => Ok(Some(windows_of(alloc, name.as_str(), from, sources)?)),
+        None => Ok(None),
+    }
+}
+
+/// Counts by the windows of the table of this name.
+fn windows_of<F: Sources>(
+    alloc: Global,
+    name: &str,
+    from: Ticks,
+    sources: &mut F,
+) -> Result<Shares, Refusal>
+    ensures table { OnOk result (IsTableIn (F.texts sources.old) name.now) }
+    ensures opened { OnOk result (F.unopened sources.new ≡ F.unopened sources.old) }
+    ensures refused { (out : Seen)
+        → IfErr result
+        (λ r. IsRefusedByTable (F.texts sources.old) name.now
+        (state (F.unopened sources.old) out) (state (F.unopened sources.new) out) r) }
+{
+    let shown = String::from_str(alloc, called(name))?;
+    let reader = match sources.open(name) {
+        Ok(reader) => reader,
+        Err(fault) => return Err(of_source(shown, fault)),
+    };
+    let table = read_from(alloc, shown, reader)?;
+    match shares_of(alloc, table, from) {
+        Ok(shares) => Ok(shares),
+        Err(_) => Err(Refusal::Memory),
+    }
+}
+
+/// The table that a reader has.
+fn read_from<R: Read + Drop>(
+    alloc: Global,
+    name: String,
+    reader: R,
+) -> Result<ModuleTable, Refusal>
+    ensures table { OnOk result (IfSome (R.remaining reader) (λ text. IsTable text)) }
+    ensures refused { IfErr result (λ r. IsBadTable (R.remaining reader) (string_bytes name) r) }
+{
+    let mut reader = reader;
+    let mut text = Vec::new(alloc);
+    if let Err(error) = reader.read_to_end(&mut text) {
+        return Err(of_reading(name, error.kind()));
+    }
+    match read_table(alloc, text.as_slice()) {
+        Ok(table) => Ok(table),
+        Err(TableFault::Memory) => Err(Refusal::Memory),
+        Err(fault) => Err(Refusal::Table { fault, table: name }),
+    }
+}
+
+/// The refusal of a text that was not read to its end.
+fn of_reading(name: String, kind: ErrorKind) -> Refusal
+    ensures { IsBadTable None (string_bytes name) result }
+{
+    match kind {
+        ErrorKind::OutOfMemory => Refusal::Memory,
+        _ => Refusal::Read(name),
+    }
+}
+
+/// Counts by the windows of a table.
+fn shares_of(alloc: Global, table: ModuleTable, from: Ticks) -> Result<Shares, SharesFault> {
+    let mut names = Vec::with_capacity(alloc, table.partitions.len())?;
+    for partition in &table.partitions {
+        names.push(partition.name)?;
+    }
+    Shares::new(alloc, table.schedule, names.as_slice(), from)
+}
