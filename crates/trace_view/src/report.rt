@@ -1,5 +1,6 @@
 //! The numbers of a trace.
 
+use crate::errors::ErrorTotal;
 use crate::extent::Extent;
 use crate::fault::ReportFault;
 use crate::messages::{Messages, Route};
@@ -42,6 +43,8 @@ pub struct Report {
     pub partitions: Vec<PartitionTotal>,
     pub processes: Vec<ProcessTotal>,
     pub routes: Vec<RouteTotal>,
+    /// In the order of their first lines.
+    pub errors: Vec<ErrorTotal>,
     /// What the processor did, if the windows are known.
     pub shares: Option<Shares>,
 }

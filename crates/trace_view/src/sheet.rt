@@ -4,6 +4,7 @@ use crate::cell::{
     Cell, cell_text, extent_cells, mode_cells, port_cells, refusal_cells, state_cells,
     time_cells,
 };
+use crate::errors::ErrorTotal;
 use crate::fault::ReportFault;
 use crate::messages::Route;
 use crate::report::{PartitionTotal, ProcessTotal, Report, RouteTotal};
@@ -13,7 +14,7 @@ use std::io::Write;
 use trace_stays::subject_word;
 
 /// The columns. Each row has the first three, and those of its own group.
-static HEADINGS: [&str; 37] = [
+static HEADINGS: [&str; 40] = [
     "kind",
     "partition",
     "name",
@@ -51,6 +52,9 @@ static HEADINGS: [&str; 37] = [
     "arrived",
     "lost",
     "out",
+    "level",
+    "action",
+    "errors",
 ];
 
 /// Writes the row of headings, a row of the trace, and a row of each partition, process, port and
@@ -78,6 +82,9 @@ pub fn write_sheet<W: Write>(
     for total in &report.routes {
         sheet.route(total)?;
     }
+    for total in &report.errors {
+        sheet.error(total)?;
+    }
     sheet.writer.flush()?;
     Ok(())
 }
@@ -93,7 +100,7 @@ impl<'a, W: Write> Sheet<'a, W> {
     fn trace(&mut self, report: &Report) -> Result<(), ReportFault> {
         self.names("trace", "", "")?;
         self.cells(&extent_cells(&report.extent))?;
-        self.blanks(28)?;
+        self.blanks(31)?;
         self.end()
     }
 
@@ -101,7 +108,7 @@ impl<'a, W: Write> Sheet<'a, W> {
         self.names("partition", partition.name.as_str(), "")?;
         self.blanks(26)?;
         self.cells(&mode_cells(partition.modes))?;
-        self.blanks(4)?;
+        self.blanks(7)?;
         self.end()
     }
 
@@ -112,7 +119,7 @@ impl<'a, W: Write> Sheet<'a, W> {
         self.cells(&state_cells(process.tally.ticks, all))?;
         self.cells(&time_cells(&process.tally))?;
         self.cells(&refusal_cells(process.tally.refusals))?;
-        self.blanks(8)?;
+        self.blanks(11)?;
         self.end()
     }
 
@@ -122,14 +129,28 @@ impl<'a, W: Write> Sheet<'a, W> {
                 self.names("port", total.partition.as_str(), port.as_str())?;
                 self.blanks(30)?;
                 self.cells(&port_cells(total.messages))?;
-                self.blanks(1)?;
+                self.blanks(4)?;
             }
             Route::Channel(channel) => {
                 self.names("channel", total.partition.as_str(), channel.as_str())?;
                 self.blanks(33)?;
                 self.cells(&[Cell::Number(total.messages.out)])?;
+                self.blanks(3)?;
             }
         }
+        self.end()
+    }
+
+    fn error(&mut self, total: &ErrorTotal) -> Result<(), ReportFault> {
+        let partition = match &total.partition {
+            Some(name) => name.as_str(),
+            None => "-",
+        };
+        self.names("error", partition, total.error.word())?;
+        self.blanks(34)?;
+        self.text(total.response.level().word())?;
+        self.text(total.response.action_word())?;
+        self.cells(&[Cell::Number(total.lines)])?;
         self.end()
     }
 

@@ -27,6 +27,7 @@ pub fn write_tables<W: Write>(
     write_times(alloc, report, out)?;
     write_refusals(alloc, report, out)?;
     write_modes(alloc, report, out)?;
+    write_errors(alloc, report, out)?;
     write_ports(alloc, report, out)?;
     write_channels(alloc, report, out)
 }
@@ -100,6 +101,21 @@ fn write_modes<W: Write>(alloc: Global, report: &Report, out: &mut W) -> Result<
         table.add(&[partition.name.as_str()], &mode_cells(partition.modes))?;
     }
     table.write("\nPartitions: ticks in each mode", out)
+}
+
+fn write_errors<W: Write>(alloc: Global, report: &Report, out: &mut W) -> Result<(), ReportFault> {
+    let names = ["partition", "error", "level", "action"];
+    let mut table = Table::new(alloc, &names, &["lines"])?;
+    for total in &report.errors {
+        let partition = match &total.partition {
+            Some(name) => name.as_str(),
+            None => "-",
+        };
+        let level = total.response.level().word();
+        let names = [partition, total.error.word(), level, total.response.action_word()];
+        table.add(&names, &[Cell::Number(total.lines)])?;
+    }
+    table.write("\nErrors, by their level and the action on them", out)
 }
 
 fn write_ports<W: Write>(alloc: Global, report: &Report, out: &mut W) -> Result<(), ReportFault> {
