@@ -139,4 +139,4 @@ with_line e s = with_kind e.partition e.kind (passed (in_run e.tick.0) s)
 -- ---- the standing of the code
 
 abbrev pub standing_of : Shares → Standing
-standing_of s = record { owners = s.owners.items; stopped = s.stopped.items; now = s.now.0; origin = s.origin.0; is_down = s.is_down }
+standing_of s = record { owners = s.owners.items; stopped = s.stopped.items; now = s.tick.0; origin = s.origin.0; is_down = s.is_down }

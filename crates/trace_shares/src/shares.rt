@@ -29,15 +29,15 @@ pub struct Shares {
     /// The processes that stopped running in the tick of the last lines.
     stopped: Vec<Stop>,
     /// The tick of the last lines: the first one that is not counted.
-    now: Ticks,
+    tick: Ticks,
     /// The tick at which the frames begin.
     origin: Ticks,
     is_down: bool,
     /// The first tick that counts.
     from: Ticks,
     counted: Counted,
-    ghost past: { origin.0 ≤ now.0 },
-    ghost within: { now.0 ≤ MOST_TICKS },
+    ghost past: { origin.0 ≤ tick.0 },
+    ghost within: { tick.0 ≤ MOST_TICKS },
 }
 
 impl Shares {
@@ -62,7 +62,7 @@ impl Shares {
             schedule,
             owners: owners(alloc, names)?,
             stopped: Vec::new(alloc),
-            now: Ticks(0),
+            tick: Ticks(0),
             origin: Ticks(0),
             is_down: false,
             from,
@@ -126,14 +126,14 @@ impl Shares {
             (in_run tick.0) self.old.counted.rows.items self.new.counted.rows.items) }
     {
         let until = tick.0.min(MOST_TICKS);
-        if until <= self.now.0 {
+        if until <= self.tick.0 {
             return Ok(());
         }
-        let next = self.now.0 + 1;
-        self.count(self.now.0.max(self.from.0), next, 1)?;
+        let next = self.tick.0 + 1;
+        self.count(self.tick.0.max(self.from.0), next, 1)?;
         self.stopped.clear();
         self.count_frames(next.max(self.from.0), until)?;
-        self.now = Ticks(until);
+        self.tick = Ticks(until);
         Ok(())
     }
 
@@ -284,7 +284,7 @@ impl Shares {
             match action {
                 ModuleAction::Ignore => {}
                 ModuleAction::Shutdown => self.is_down = true,
-                ModuleAction::Reset => self.origin = self.now,
+                ModuleAction::Reset => self.origin = self.tick,
             }
         }
     }
