@@ -8,6 +8,8 @@ mod escaping;
 pub mod laws;
 mod page;
 mod text;
+mod windows;
 
 pub use page::Page;
-pub use text::{BACK, FRONT};
+pub use text::{BACK, BETWEEN, FRONT};
+pub use windows::{NOT_KNOWN, windows_text};

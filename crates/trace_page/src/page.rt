@@ -4,7 +4,7 @@ ghost use Rattle.std.specs.Prelude.{◌≡◌, ◌++◌, [], IfOk, OnErr, OnOk};
 ghost use Rattle.trace_page.specs.Escaping.{escaped_line};
 
 use crate::escaping::push_escaped;
-use crate::text::{BACK, FRONT};
+use crate::text::{BACK, BETWEEN, FRONT};
 use apex_types::Event;
 use std::alloc::Global;
 use trace_filter::line_of;
@@ -43,17 +43,22 @@ impl Page {
         Ok(())
     }
 
-    /// The whole page.
+    /// The whole page, with the windows of the module table as they are in `windows_text`, or
+    /// `NOT_KNOWN`.
     ///
     /// # Errors
     ///
     /// Memory ran out.
-    pub fn into_text(self) -> Result<Vec<u8>, MemoryFull>
-        ensures { IfOk result (λ text. text.items ≡ FRONT.now ++ self.data.items ++ BACK.now) }
+    pub fn into_text(self, windows: &[u8]) -> Result<Vec<u8>, MemoryFull>
+        ensures { IfOk result
+            (λ text. text.items
+            ≡ FRONT.now ++ self.data.items ++ BETWEEN.now ++ windows.now ++ BACK.now) }
     {
         let mut text = Vec::new(self.alloc);
         text.extend_from_slice(FRONT.as_bytes())?;
         text.extend_from_slice(self.data.as_slice())?;
+        text.extend_from_slice(BETWEEN.as_bytes())?;
+        text.extend_from_slice(windows)?;
         text.extend_from_slice(BACK.as_bytes())?;
         Ok(text)
     }

@@ -54,9 +54,12 @@ label { display: block; }
 <script>
 const TRACE = \"";
 
-/// What stands behind it.
-pub const BACK: &str = "\";
-const WINDOWS = null;
+/// What stands between it and the windows of the module table.
+pub const BETWEEN: &str = "\";
+const WINDOWS = ";
+
+/// What stands behind these.
+pub const BACK: &str = ";
 const TICKS = null;
 </script>
 <script>

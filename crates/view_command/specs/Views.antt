@@ -26,7 +26,7 @@ IsOfPicture (shown.Table summary) = ⊥
 IsOfPicture (shown.Rows summary) = ⊥
 IsOfPicture (shown.Picture picture) = Unit {0}
 IsOfPicture (shown.Waves dump) = ⊥
-IsOfPicture (shown.Page page) = ⊥
+IsOfPicture (shown.Page page windows) = ⊥
 IsOfPicture (shown.Lines listing) = ⊥
 IsOfPicture (shown.Check check) = ⊥
 

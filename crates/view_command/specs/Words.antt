@@ -29,7 +29,7 @@ summary_app = with_rule (with_rule (shown_app (codes "summary")) (option_rule (c
 
 -- the command that writes a page
 abbrev pub html_app : App
-html_app = with_rule (new_app (codes "html")) trace_rule
+html_app = with_rule (with_rule (new_app (codes "html")) trace_rule) (option_rule (codes "table"))
 
 -- a command on some lines of a trace
 abbrev pub of_partition_app : List ℕ → App

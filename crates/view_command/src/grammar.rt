@@ -126,11 +126,17 @@ fn html<'a>(alloc: Global) -> Result<Command<'a>, AllocError>
 {
     Command::new(alloc, "html")
         .about("Writes a page for a browser, in which one can look around in the trace")
-        .after_help("Example: mbview html trace.txt > trace.html")
+        .after_help("Example: mbview html trace.txt --table table.toml > trace.html")
         .arg(required_word(
             alloc,
             "TRACE",
             "The file of a trace, or - for the standard input",
+        ))?
+        .arg(option(
+            alloc,
+            "table",
+            "TABLE",
+            "The module table: shows its windows",
         ))
 }
 

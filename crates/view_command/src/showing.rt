@@ -12,7 +12,7 @@ ghost use Rattle.view_command.specs.Texts.{IsTableAsked, IsTraceIn, IsTraceOf};
 use crate::refusal::Refusal;
 use crate::request::Showing;
 use crate::views::{Outcome, Shown, ViewFault};
-use crate::windows::windows;
+use crate::windows::table_asked;
 use std::alloc::Global;
 use std::io::Read;
 use streams::{NameFault, Sources, Stream, write_bytes};
@@ -47,13 +47,16 @@ pub fn show<F: Sources, O: Stream>(
         from,
         to,
     } = request;
-    let shares = windows(alloc, &table, from, sources)?;
+    let table = table_asked(alloc, &table, sources)?;
     let name = String::from_str(alloc, called(trace.as_str()))?;
     let reader = match sources.open(trace.as_str()) {
         Ok(reader) => reader,
         Err(fault) => return Err(of_source(name, fault)),
     };
-    let mut shown = Shown::new(alloc, view, from, to, shares);
+    let mut shown = match Shown::new(alloc, view, from, to, table) {
+        Ok(shown) => shown,
+        Err(fault) => return Err(of_view(fault)),
+    };
     read_all(alloc, name, reader, &mut shown)?;
     let outcome = shown.outcome();
     let bytes = match shown.into_bytes(alloc) {

@@ -4,15 +4,17 @@ ghost use Rattle.std.specs.Prelude.{◌≡◌, IsErrOf};
 ghost use Rattle.view_command.specs.Views.{IsOfPicture, outcome_of, shares_fault, view_fault};
 ghost use Rattle.view_command.specs.declared.views.ViewFault.TheVariants as fault;
 
+use crate::windows::{page_windows, shares_of};
 use apex_types::{Event, Name, Ticks};
 use std::alloc::Global;
 use std::io;
 use trace_filter::{Check, Filter, Limits, Listing};
 use trace_page::Page;
 use trace_picture::{Picture, PictureFault};
-use trace_shares::{Shares, SharesFault};
+use trace_shares::SharesFault;
 use trace_view::{ReportFault, Summary};
 use wave_dump::{Dump, MemoryFull};
+use window_table::ModuleTable;
 
 /// How a trace is shown.
 #[derive(Drop)]
@@ -57,7 +59,8 @@ pub enum Shown {
     Rows(Summary),
     Picture(Picture),
     Waves(Dump),
-    Page(Page),
+    /// The page, and its windows.
+    Page(Page, Vec<u8>),
     Lines(Listing),
     Check(Check),
 }
@@ -69,17 +72,20 @@ impl Shown {
         view: View,
         from: Ticks,
         to: Option<Ticks>,
-        shares: Option<Shares>,
-    ) -> Self {
-        match view {
-            View::Table => Shown::Table(Summary::new(alloc, from, to, shares)),
-            View::Rows => Shown::Rows(Summary::new(alloc, from, to, shares)),
+        table: Option<ModuleTable>,
+    ) -> Result<Self, ViewFault>
+        ensures { IsErrOf result ViewFault.TooMany → ⊥ }
+    {
+        let shown = match view {
+            View::Table => Shown::Table(Summary::new(alloc, from, to, shares_of(alloc, table, from)?)),
+            View::Rows => Shown::Rows(Summary::new(alloc, from, to, shares_of(alloc, table, from)?)),
             View::Picture => Shown::Picture(Picture::new(alloc, from, to)),
             View::Waves => Shown::Waves(Dump::new(alloc, from, to)),
-            View::Page => Shown::Page(Page::new(alloc)),
+            View::Page => Shown::Page(Page::new(alloc), page_windows(alloc, &table)?),
             View::Lines(filter) => Shown::Lines(Listing::new(alloc, filter)),
             View::Check(filter, limits) => Shown::Check(Check::new(alloc, filter, limits)),
-        }
+        };
+        Ok(shown)
     }
 
     /// Takes the next event. Only a picture may have too many elements.
@@ -90,7 +96,7 @@ impl Shown {
             Shown::Table(summary) | Shown::Rows(summary) => summary.count(event)?,
             Shown::Picture(picture) => picture.add(event)?,
             Shown::Waves(dump) => dump.add(event)?,
-            Shown::Page(page) => page.add(event)?,
+            Shown::Page(page, _) => page.add(event)?,
             Shown::Lines(listing) => listing.add(event)?,
             Shown::Check(check) => check.add(event)?,
         }
@@ -117,7 +123,7 @@ impl Shown {
             Shown::Rows(summary) => summary.finish()?.write_csv(alloc, &mut bytes)?,
             Shown::Picture(picture) => picture.finish()?.write(&mut bytes)?,
             Shown::Waves(dump) => write_waves(dump, &mut bytes)?,
-            Shown::Page(page) => bytes = page.into_text()?,
+            Shown::Page(page, windows) => bytes = page.into_text(windows.as_slice())?,
             Shown::Lines(listing) => bytes = listing.into_text(),
             Shown::Check(check) => bytes = check.into_text(alloc),
         }

@@ -1,4 +1,4 @@
-//! The module table, by whose windows ticks are counted.
+//! The module table, by whose windows ticks are counted and shown.
 
 ghost use Rattle.std.specs.Prelude.{◌≡◌, IfErr, IfOk, IfSome, OnOk, Ok, string_bytes};
 ghost use Rattle.streams.specs.States.{Seen};
@@ -11,20 +11,21 @@ ghost use Rattle.window_table.specs.Answers.{AnswersText};
 
 use crate::refusal::Refusal;
 use crate::showing::{called, of_source};
-use apex_types::Ticks;
-use std::alloc::Global;
+use apex_types::{Name, Ticks};
+use std::alloc::{AllocError, Global};
 use std::io::{ErrorKind, Read};
 use streams::Sources;
+use trace_page::{NOT_KNOWN, windows_text};
 use trace_shares::{Shares, SharesFault};
+use trace_stays::MemoryFull;
 use window_table::{ModuleTable, TableFault, read_table};
 
-/// Counts by the windows of this table, if one is asked for. The ticks `from` and later count.
-pub fn windows<F: Sources>(
+/// The module table of this name, if one is asked for.
+pub fn table_asked<F: Sources>(
     alloc: Global,
     table: &Option<String>,
-    from: Ticks,
     sources: &mut F,
-) -> Result<Option<Shares>, Refusal>
+) -> Result<Option<ModuleTable>, Refusal>
     ensures table { OnOk result (IsTableAsked (F.texts sources.old) (asked_text table.now)) }
     ensures opened { OnOk result (F.unopened sources.new ≡ F.unopened sources.old) }
     ensures refused { (out : Seen)
@@ -33,18 +34,17 @@ pub fn windows<F: Sources>(
         (state (F.unopened sources.old) out) (state (F.unopened sources.new) out) r) }
 {
     match table {
-        Some(name) => Ok(Some(windows_of(alloc, name.as_str(), from, sources)?)),
+        Some(name) => Ok(Some(table_of(alloc, name.as_str(), sources)?)),
         None => Ok(None),
     }
 }
 
-/// Counts by the windows of the table of this name.
-fn windows_of<F: Sources>(
+/// The module table of this name.
+fn table_of<F: Sources>(
     alloc: Global,
     name: &str,
-    from: Ticks,
     sources: &mut F,
-) -> Result<Shares, Refusal>
+) -> Result<ModuleTable, Refusal>
     ensures table { OnOk result (IsTableIn (F.texts sources.old) name.now) }
     ensures opened { OnOk result (F.unopened sources.new ≡ F.unopened sources.old) }
     ensures refused { (out : Seen)
@@ -57,11 +57,7 @@ fn windows_of<F: Sources>(
         Ok(reader) => reader,
         Err(fault) => return Err(of_source(shown, fault)),
     };
-    let table = read_from(alloc, shown, reader)?;
-    match shares_of(alloc, table, from) {
-        Ok(shares) => Ok(shares),
-        Err(_) => Err(Refusal::Memory),
-    }
+    read_from(alloc, shown, reader)
 }
 
 /// The table that a reader has.
@@ -95,11 +91,36 @@ fn of_reading(name: String, kind: ErrorKind) -> Refusal
     }
 }
 
-/// Counts by the windows of a table.
-fn shares_of(alloc: Global, table: ModuleTable, from: Ticks) -> Result<Shares, SharesFault> {
+/// The names of the partitions, in their order.
+fn names(alloc: Global, table: &ModuleTable) -> Result<Vec<Name>, AllocError> {
     let mut names = Vec::with_capacity(alloc, table.partitions.len())?;
     for partition in &table.partitions {
         names.push(partition.name)?;
     }
-    Shares::new(alloc, table.schedule, names.as_slice(), from)
+    Ok(names)
+}
+
+/// Counts by the windows of a table, if there is one. The ticks `from` and later count.
+pub fn shares_of(
+    alloc: Global,
+    table: Option<ModuleTable>,
+    from: Ticks,
+) -> Result<Option<Shares>, SharesFault> {
+    let Some(table) = table else {
+        return Ok(None);
+    };
+    let names = names(alloc, &table)?;
+    Ok(Some(Shares::new(alloc, table.schedule, names.as_slice(), from)?))
+}
+
+/// The windows of a table as a page has them.
+pub fn page_windows(alloc: Global, table: &Option<ModuleTable>) -> Result<Vec<u8>, MemoryFull> {
+    match table {
+        Some(table) => {
+            let names = names(alloc, table)?;
+            let windows = table.schedule.windows.as_slice();
+            windows_text(alloc, table.schedule.frame, windows, names.as_slice())
+        }
+        None => Ok(Vec::from_slice(alloc, NOT_KNOWN.as_bytes())?),
+    }
 }
