@@ -114,14 +114,19 @@ line_read schedule from until s e es old new all past ahead counted will u =
   where
     t : ℕ
     t = in_run e.tick.0
+
     a : ℕ
     a = first from s
+
     b : ℕ
     b = max from t
+
     rest : ℕ
     rest = ticks_used (use_of schedule (with_line e s) es) u b (until - b)
+
     there : ticks_used (use_of schedule (with_line e s) es) u (first from (with_line e s)) (until - first from (with_line e s)) ≡ rest
     there = ap (λ (n : ℕ). ticks_used (use_of schedule (with_line e s) es) u (max from n) (until - max from n)) (line_now e s past)
+
     parts : ticks_used (use_from schedule s) u a (t - a) + rest ≡ ticks_used (use_of schedule s (e ∷ es)) u a (until - a)
     parts = elim (apart from t) [
       | inl early ↦

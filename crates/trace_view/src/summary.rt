@@ -26,12 +26,7 @@ impl Summary {
 
     /// Nothing is counted yet. The ticks `from` and later will count: those before `to`, or, with
     /// `None`, those up to the last line. `shares` counts what the processor does in them.
-    pub fn new(
-        alloc: Global,
-        from: Ticks,
-        to: Option<Ticks>,
-        shares: Option<Shares>,
-    ) -> Summary
+    pub fn new(alloc: Global, from: Ticks, to: Option<Ticks>, shares: Option<Shares>) -> Summary
         ensures to { result.to ≡ to }
         ensures extent { result.extent ≡ opened from to }
     {

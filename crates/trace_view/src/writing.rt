@@ -1,8 +1,7 @@
 //! The tables of a report.
 
 use crate::cell::{
-    Cell, extent_cells, mode_cells, port_cells, refusal_cells, state_cells,
-    time_cells,
+    Cell, extent_cells, mode_cells, port_cells, refusal_cells, state_cells, time_cells,
 };
 use crate::fault::ReportFault;
 use crate::messages::Route;
@@ -112,7 +111,12 @@ fn write_errors<W: Write>(alloc: Global, report: &Report, out: &mut W) -> Result
             None => "-",
         };
         let level = total.response.level().word();
-        let names = [partition, total.error.word(), level, total.response.action_word()];
+        let names = [
+            partition,
+            total.error.word(),
+            level,
+            total.response.action_word(),
+        ];
         table.add(&names, &[Cell::Number(total.lines)])?;
     }
     table.write("\nErrors, by their level and the action on them", out)

@@ -74,7 +74,15 @@ pub fn compare<F: Sources, O: Stream>(
         Err(fault) => return Err(of_source(second_name, fault)),
     };
     let mut comparison = Comparison::new(alloc);
-    read_both(alloc, first_name, second_name, one, other, &pair.partition, &mut comparison)?;
+    read_both(
+        alloc,
+        first_name,
+        second_name,
+        one,
+        other,
+        &pair.partition,
+        &mut comparison,
+    )?;
     let differences = comparison.finish()?;
     let text = report(alloc, differences.as_slice())?;
     write_bytes(out, text.as_slice())?;

@@ -35,14 +35,17 @@ fn write_difference(alloc: Global, difference: &Difference, out: &mut Vec<u8>) -
     writeln!(
         out,
         "  lines from there on: {} in the first trace, {} in the second",
-        difference.first.lines,
-        difference.second.lines
+        difference.first.lines, difference.second.lines
     )
 }
 
 fn write_heading(partition: &Option<Name>, tick: u64, out: &mut Vec<u8>) -> io::Result<()> {
     match partition {
-        Some(name) => writeln!(out, "partition {} differs from tick {tick} on", name.as_str()),
+        Some(name) => writeln!(
+            out,
+            "partition {} differs from tick {tick} on",
+            name.as_str()
+        ),
         None => writeln!(out, "the module differs from tick {tick} on"),
     }
 }

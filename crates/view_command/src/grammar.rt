@@ -144,18 +144,16 @@ fn diff<'a>(alloc: Global) -> Result<Command<'a>, AllocError>
     ensures { IfOk result (λ command. IsCommand command diff_app) }
 {
     Command::new(alloc, "diff")
-        .about("Writes where two traces differ first, each partition for itself; the exit status is 3 then")
+        .about(
+            "Writes where two traces differ first, each partition for itself; the exit status is 3 then",
+        )
         .after_help("Example: mbview diff trace.txt other_trace.txt --partition a")
         .arg(required_word(
             alloc,
             "TRACE",
             "The file of a trace, or - for the standard input",
         ))?
-        .arg(required_word(
-            alloc,
-            "OTHER",
-            "The file of the other trace",
-        ))?
+        .arg(required_word(alloc, "OTHER", "The file of the other trace"))?
         .arg(option(
             alloc,
             "partition",
@@ -224,12 +222,7 @@ fn at_most<'a>(alloc: Global) -> Arg<'a>
 }
 
 /// The usage error of a word that an option does not take.
-pub fn bad_value(
-    alloc: Global,
-    option: &str,
-    value: &str,
-    word: &str,
-) -> Result<Error, AllocError>
+pub fn bad_value(alloc: Global, option: &str, value: &str, word: &str) -> Result<Error, AllocError>
     ensures { IfOk result (λ error. kind_of error ≡ ValueValidation) }
 {
     let message = format!(in alloc; "invalid value '{word}' for '--{option} <{value}>'")?;

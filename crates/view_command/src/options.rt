@@ -56,8 +56,10 @@ pub fn checked(alloc: Global, found: &ArgMatches<'_>) -> Result<View, Failure<Re
     let filter = chosen(alloc, found)?;
     let no = kinds(alloc, found, "no")?.map(|kinds| Limit::new(Counted::Kinds(kinds), 0));
     let at_most = limit(alloc, found)?;
-    let missed = number(alloc, found, "missed", "NUMBER")?
-        .map(|most| Limit::new(Counted::MissedDeadlines, most));
+    let missed = number(alloc, found, "missed", "NUMBER")?.map(|most| Limit::new(
+        Counted::MissedDeadlines,
+        most,
+    ));
     Ok(View::Check(
         filter,
         Limits {
@@ -115,7 +117,12 @@ fn limit(alloc: Global, found: &ArgMatches<'_>) -> Result<Option<Limit>, Failure
     match found.get_strs("at-most").unwrap_or(&[]) {
         [] => Ok(None),
         [kinds, most] => Ok(Some(limit_of(alloc, *kinds, *most)?)),
-        [first, ..] => Err(Failure::Usage(bad_value(alloc, "at-most", "KIND[,KIND] NUMBER", *first)?)),
+        [first, ..] => Err(Failure::Usage(bad_value(
+            alloc,
+            "at-most",
+            "KIND[,KIND] NUMBER",
+            *first,
+        )?)),
     }
 }
 

@@ -77,8 +77,18 @@ impl Shown {
         ensures { IsErrOf result ViewFault.TooMany → ⊥ }
     {
         let shown = match view {
-            View::Table => Shown::Table(Summary::new(alloc, from, to, shares_of(alloc, table, from)?)),
-            View::Rows => Shown::Rows(Summary::new(alloc, from, to, shares_of(alloc, table, from)?)),
+            View::Table => Shown::Table(Summary::new(
+                alloc,
+                from,
+                to,
+                shares_of(alloc, table, from)?,
+            )),
+            View::Rows => Shown::Rows(Summary::new(
+                alloc,
+                from,
+                to,
+                shares_of(alloc, table, from)?,
+            )),
             View::Picture => Shown::Picture(Picture::new(alloc, from, to)),
             View::Waves => Shown::Waves(Dump::new(alloc, from, to)),
             View::Page => Shown::Page(Page::new(alloc), page_windows(alloc, &table)?),

@@ -40,11 +40,7 @@ pub fn table_asked<F: Sources>(
 }
 
 /// The module table of this name.
-fn table_of<F: Sources>(
-    alloc: Global,
-    name: &str,
-    sources: &mut F,
-) -> Result<ModuleTable, Refusal>
+fn table_of<F: Sources>(alloc: Global, name: &str, sources: &mut F) -> Result<ModuleTable, Refusal>
     ensures table { OnOk result (IsTableIn (F.texts sources.old) name.now) }
     ensures opened { OnOk result (F.unopened sources.new ≡ F.unopened sources.old) }
     ensures refused { (out : Seen)
@@ -61,11 +57,7 @@ fn table_of<F: Sources>(
 }
 
 /// The table that a reader has.
-fn read_from<R: Read + Drop>(
-    alloc: Global,
-    name: String,
-    reader: R,
-) -> Result<ModuleTable, Refusal>
+fn read_from<R: Read + Drop>(alloc: Global, name: String, reader: R) -> Result<ModuleTable, Refusal>
     ensures table { OnOk result (IfSome (R.remaining reader) (λ text. IsTable text)) }
     ensures refused { IfErr result (λ r. IsBadTable (R.remaining reader) (string_bytes name) r) }
 {
