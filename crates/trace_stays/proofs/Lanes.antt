@@ -38,51 +38,50 @@ same_text (x ∷ xs) = and_from (x == x) (same xs xs) (eq-eqb x x refl) (same_te
 
 -- ---- the first that passes a test
 
-if_found : {A : Type 0} → ℕ → (A → Bool) → List A → ℕ → Type 0
-if_found {A} n test xs k = (j : ℕ) × (x : A) × (k ≡ n + j) × (slice_get xs j ≡ Some x) × (test x ≡ true)
-
 of_some : {A : Type 0} {x y : A} → Some x ≡ Some y → x ≡ y
 of_some e = cc
 
 no_some : {A : Type 0} {x : A} → None ≡ Some x → ⊥
 no_some e = cc
 
-found_in : {A : Type 0} (n : ℕ) (test : A → Bool) (xs : List A) (k : ℕ) → place_from n test xs ≡ Some k → if_found n test xs k
+found_step : {A : Type 0} (n : ℕ) (test : A → Bool) (x : A) (xs : List A) (o : Option ℕ) (k : ℕ) (b : Bool) → test x ≡ b → (if b then Some n else o) ≡ Some k
+    → (o ≡ Some k → (j : ℕ) × (y : A) × (k ≡ n + 1 + j) × (slice_get xs j ≡ Some y) × (test y ≡ true))
+    → (j : ℕ) × (y : A) × (k ≡ n + j) × (slice_get (x ∷ xs) j ≡ Some y) × (test y ≡ true)
+found_step n test x xs o k true e g later = let here : k ≡ n + 0 = sym (of_some g) ∙ omega arith in (0, x, here, refl, e)
+found_step n test x xs o k false e g later = let r = later g in let there : k ≡ n + suc r.0 = r.2 ∙ omega arith in (suc r.0, r.1, there, r.3, r.4)
+
+found_in : {A : Type 0} (n : ℕ) (test : A → Bool) (xs : List A) (k : ℕ) → place_from n test xs ≡ Some k → (j : ℕ) × (y : A) × (k ≡ n + j) × (slice_get xs j ≡ Some y) × (test y ≡ true)
 unfolding place_from
 found_in n test [] k h = absurd (no_some h)
-found_in n test (x ∷ xs) k h = by (test x) refl h
-  where
-    by : (b : Bool) → test x ≡ b → (if b then Some n else place_from (n + 1) test xs) ≡ Some k → if_found n test (x ∷ xs) k
-    by true e g = let here : k ≡ n + 0 = sym (of_some g) ∙ omega arith in (0, x, here, refl, e)
-    by false e g = let r = found_in (n + 1) test xs k g in let there : k ≡ n + suc r.0 = r.2 ∙ omega arith in (suc r.0, r.1, there, r.3, r.4)
+found_in n test (x ∷ xs) k h = found_step n test x xs (place_from (n + 1) test xs) k (test x) refl h (found_in (n + 1) test xs k)
 
 pub found : {A : Type 0} (test : A → Bool) (xs : List A) (k : ℕ) → place_from 0 test xs ≡ Some k → (x : A) × (slice_get xs k ≡ Some x) × (test x ≡ true)
 found test xs k h =
     let r = found_in 0 test xs k h in
-    let same : r.0 ≡ k = sym r.2 ∙ omega arith in
+    let same : r.0 ≡ k = omega (arith, r.2) in
     (r.1, subst (λ j. slice_get xs j ≡ Some r.1) same r.3, r.4)
 
 -- those at the front come first
+kept_step : (n k : ℕ) (o p : Option ℕ) (b : Bool) → (if b then Some n else o) ≡ Some k → (o ≡ Some k → p ≡ Some k) → (if b then Some n else p) ≡ Some k
+kept_step n k o p true g later = g
+kept_step n k o p false g later = later g
+
 kept_place : {A : Type 0} (n : ℕ) (test : A → Bool) (xs : List A) (y : A) (k : ℕ) → place_from n test xs ≡ Some k → place_from n test (xs ++ y ∷ []) ≡ Some k
 unfolding place_from
 kept_place n test [] y k h = absurd (no_some h)
-kept_place n test (x ∷ xs) y k h = by (test x) h
-  where
-    by : (b : Bool) → (if b then Some n else place_from (n + 1) test xs) ≡ Some k → (if b then Some n else place_from (n + 1) test (xs ++ y ∷ [])) ≡ Some k
-    by true g = g
-    by false g = kept_place (n + 1) test xs y k g
+kept_place n test (x ∷ xs) y k h = kept_step n k (place_from (n + 1) test xs) (place_from (n + 1) test (xs ++ y ∷ [])) (test x) h (kept_place (n + 1) test xs y k)
+
+last_step : (n : ℕ) (o p r : Option ℕ) (b : Bool) → (if b then Some n else o) ≡ None → (o ≡ None → p ≡ r) → (if b then Some n else p) ≡ r
+last_step n o p r true g later = absurd (no_some (sym g))
+last_step n o p r false g later = later g
 
 last_place : {A : Type 0} (n : ℕ) (test : A → Bool) (xs : List A) (y : A) → place_from n test xs ≡ None → place_from n test (xs ++ y ∷ []) ≡ (if test y then Some (n + length xs) else None)
 unfolding place_from
-last_place n test [] y h = ap (λ (k : ℕ). if test y then Some k else None) (let e : n ≡ n + 0 = omega arith in e)
-last_place n test (x ∷ xs) y h = by (test x) h
-  where
-    further : n + 1 + length xs ≡ n + suc (length xs)
-    further = omega arith
-
-    by : (b : Bool) → (if b then Some n else place_from (n + 1) test xs) ≡ None → (if b then Some n else place_from (n + 1) test (xs ++ y ∷ [])) ≡ (if test y then Some (n + suc (length xs)) else None)
-    by true g = absurd (no_some (sym g))
-    by false g = last_place (n + 1) test xs y g ∙ ap (λ (k : ℕ). if test y then Some k else None) further
+last_place n test [] y h = let e : n ≡ n + 0 = omega arith in ap (λ (k : ℕ). if test y then Some k else None) e
+last_place n test (x ∷ xs) y h =
+    let further : n + 1 + length xs ≡ n + suc (length xs) = omega arith in
+    last_step n (place_from (n + 1) test xs) (place_from (n + 1) test (xs ++ y ∷ [])) (if test y then Some (n + suc (length xs)) else None) (test x) h
+    (λ g. last_place (n + 1) test xs y g ∙ ap (λ (k : ℕ). if test y then Some k else None) further)
 
 -- a change that the test does not see
 change_place : {A : Type 0} (n : ℕ) (test : A → Bool) (f : A → A) (k : ℕ) (xs : List A) → ((x : A) → test (f x) ≡ test x) → place_from n test (change_at k f xs) ≡ place_from n test xs
@@ -102,7 +101,7 @@ map_place n test f (x ∷ xs) blind =
 
 get_same : {A : Type 0} (k : ℕ) (f : A → A) (xs : List A) (x : A) → slice_get xs k ≡ Some x → slice_get (change_at k f xs) k ≡ Some (f x)
 get_same k f [] x h = cc
-get_same zero f (y ∷ xs) x h = ap (λ (z : _). Some (f z)) (of_some h)
+get_same zero f (y ∷ xs) x h = ap (λ z. Some (f z)) (of_some h)
 get_same (suc k) f (y ∷ xs) x h = get_same k f xs x h
 
 get_other : {A : Type 0} (k : ℕ) (f : A → A) (xs : List A) (j : ℕ) → (j ≡ k → ⊥) → slice_get (change_at k f xs) j ≡ slice_get xs j
@@ -114,7 +113,7 @@ get_other (suc k) f (y ∷ xs) (suc j) apart = get_other k f xs j (λ e. apart (
 
 get_map : {A : Type 0} (f : A → A) (xs : List A) (j : ℕ) (x : A) → slice_get xs j ≡ Some x → slice_get (map f xs) j ≡ Some (f x)
 get_map f [] j x h = cc
-get_map f (y ∷ xs) zero x h = ap (λ (z : _). Some (f z)) (of_some h)
+get_map f (y ∷ xs) zero x h = ap (λ z. Some (f z)) (of_some h)
 get_map f (y ∷ xs) (suc j) x h = get_map f xs j x h
 
 get_front : {A : Type 0} (xs : List A) (y : A) (j : ℕ) (x : A) → slice_get xs j ≡ Some x → slice_get (xs ++ y ∷ []) j ≡ Some x
@@ -153,13 +152,13 @@ get_mapped f (y ∷ xs) (suc j) x h = get_mapped f xs j x h
 -- as the code changes it
 pub set_is_change : {A : Type 0} (xs : List A) (k : ℕ) (x : A) (f : A → A) → slice_get xs k ≡ Some x → slice_set xs k (f x) ≡ change_at k f xs
 set_is_change [] k x f h = cc
-set_is_change (y ∷ xs) zero x f h = ap (λ (z : _). f z ∷ xs) (sym (of_some h))
-set_is_change (y ∷ xs) (suc k) x f h = ap (λ (zs : List _). y ∷ zs) (set_is_change xs k x f h)
+set_is_change (y ∷ xs) zero x f h = ap (λ z. f z ∷ xs) (sym (of_some h))
+set_is_change (y ∷ xs) (suc k) x f h = ap (λ zs. y ∷ zs) (set_is_change xs k x f h)
 
 pub none_is_change : {A : Type 0} (xs : List A) (k : ℕ) (f : A → A) → slice_get xs k ≡ None → xs ≡ change_at k f xs
 none_is_change [] k f h = refl
 none_is_change (y ∷ xs) zero f h = absurd (no_some (sym h))
-none_is_change (y ∷ xs) (suc k) f h = ap (λ (zs : List _). y ∷ zs) (none_is_change xs k f h)
+none_is_change (y ∷ xs) (suc k) f h = ap (λ zs. y ∷ zs) (none_is_change xs k f h)
 
 -- ---- numbers that are the same or not
 
