@@ -184,10 +184,7 @@ impl Lanes {
 }
 
 /// The place of the partition with this name, which becomes the last one if it has none.
-fn place_of_partition(
-    lanes: &mut Vec<PartitionLane>,
-    name: &Name,
-) -> Result<usize, MemoryFull>
+fn place_of_partition(lanes: &mut Vec<PartitionLane>, name: &Name) -> Result<usize, MemoryFull>
     ensures found { IfOk result (HasPartition name.now lanes.old.items lanes.new.items) }
     ensures length { length lanes.old.items ≤ length lanes.new.items }
 {

@@ -1,8 +1,7 @@
 //! A report as comma-separated values.
 
 use crate::cell::{
-    Cell, cell_text, extent_cells, mode_cells, port_cells, refusal_cells, state_cells,
-    time_cells,
+    Cell, cell_text, extent_cells, mode_cells, port_cells, refusal_cells, state_cells, time_cells,
 };
 use crate::fault::ReportFault;
 use crate::messages::Route;

@@ -1,8 +1,7 @@
 //! The tables of a report.
 
 use crate::cell::{
-    Cell, extent_cells, mode_cells, port_cells, refusal_cells, state_cells,
-    time_cells,
+    Cell, extent_cells, mode_cells, port_cells, refusal_cells, state_cells, time_cells,
 };
 use crate::fault::ReportFault;
 use crate::messages::Route;
