@@ -334,26 +334,27 @@ both_kept old mid new a b = record { held = λ m w. b.held m w ∙ a.held m w; m
 -- a new process is of a partition that is there
 pub within_more : (count partition : ℕ) (who : Subject) (old new : List ProcessLane) (place : ℕ) → partition < count → HasProcess partition who old new place → AreWithin count old → AreWithin count new
 within_more count partition who old new place low (inl (same_ones, at)) within = subst (AreWithin count) (sym same_ones) within
-within_more count partition who old new place low (inr (none, more, last)) within = subst (AreWithin count) (sym more)
-(λ k lane at. elim (get_longer old (new_process partition who) k lane at) [
-  | inl there ↦ within k lane there
-  | inr is ↦ subst (λ (p : ProcessLane). p.partition < count) is low
-])
+within_more count partition who old new place low (inr (none, more, last)) within =
+    let all : AreWithin count (old ++ new_process partition who ∷ []) = λ k lane at. elim (get_longer old (new_process partition who) k lane at) [
+      | inl there ↦ within k lane there
+      | inr is ↦ subst (λ (p : ProcessLane). p.partition < count) is low
+    ] in
+    subst (AreWithin count) (sym more) all
 
 pub found_below : (name : List ℕ) (lanes : List PartitionLane) (place : ℕ) → partition_at name lanes ≡ Some place → place < length lanes
 found_below name lanes place h = let x = found (has_name name) lanes place h in get_below lanes place x.0 x.1
 
 -- ---- the stays that are over
 
+stays_two_at : (k : ℕ) (es fs : List Ended) → stays_at k (es ++ fs) ≡ stays_at k es ++ stays_at k fs
+unfolding stays_at
+stays_two_at k [] fs = refl
+stays_two_at k (ended.State other stay ∷ es) fs = ap (λ (ss : List Stay). if_at (other == k) stay ++ ss) (stays_two_at k es fs) ∙ sym (append_assoc (if_at (other == k) stay) (stays_at k es) (stays_at k fs))
+stays_two_at k (ended.Mode other stay ∷ es) fs = stays_two_at k es fs
+
 stays_two : (o : Option ℕ) (es fs : List Ended) → stays_of o (es ++ fs) ≡ stays_of o es ++ stays_of o fs
 stays_two None es fs = refl
-stays_two (Some k) es fs = at k es fs
-  where
-    at : (k : ℕ) (es fs : List Ended) → stays_at k (es ++ fs) ≡ stays_at k es ++ stays_at k fs
-    unfolding stays_at
-    at k [] fs = refl
-    at k (ended.State other stay ∷ es) fs = ap (λ (ss : List Stay). if_at (other == k) stay ++ ss) (at k es fs) ∙ sym (append_assoc (if_at (other == k) stay) (stays_at k es) (stays_at k fs))
-    at k (ended.Mode other stay ∷ es) fs = at k es fs
+stays_two (Some k) es fs = stays_two_at k es fs
 
 one_over : (k : ℕ) (o : Option Stay) → stays_at k (state_over k o) ≡ and_one o
 unfolding stays_at
@@ -366,17 +367,10 @@ none_over j k None apart = refl
 none_over j k (Some stay) apart = ap (λ (b : Bool). if_at b stay ++ []) (apart_eqb k j (λ e. apart (sym e)))
 
 no_modes : (o : Option ℕ) (k : ℕ) (m : Option ModeStay) → stays_of o (mode_over k m) ≡ []
+unfolding stays_at
 no_modes None k m = refl
-no_modes (Some j) k None = nothing j
-  where
-    nothing : (j : ℕ) → stays_at j [] ≡ []
-    unfolding stays_at
-    nothing j = refl
-no_modes (Some j) k (Some stay) = nothing j
-  where
-    nothing : (j : ℕ) → stays_at j (ended.Mode k stay ∷ []) ≡ []
-    unfolding stays_at
-    nothing j = refl
+no_modes (Some j) k None = refl
+no_modes (Some j) k (Some stay) = refl
 
 -- ---- a process enters a state
 
@@ -392,7 +386,6 @@ blind_turns k next t None w qs = refl
 blind_turns k next t (Some q) w qs = change_place 0 (is_process q w) (turned next t) k qs (blind_turn q w next t)
 
 module _ (mid : Lanes) (name word : List ℕ) (who : Subject) (s : ProcessState) (t k : ℕ) (is : subject_text who ≡ word) (at : process_at name word mid ≡ Some k) where
-
   ps : List PartitionLane
   ps = mid.partitions.items
 
@@ -484,9 +477,9 @@ has_turned old mid new name who s t k before after kept at same_partitions same_
   ended = λ m w. ap (stays_of (process_at m w new)) more
       ∙ (stays_two (process_at m w new) before (over_at k (Some s) t (slice_get mid.processes.items k))
       ∙ ap (λ (ss : List Stay). stays_of (process_at m w new) before ++ ss)
-          (ap (λ (o : Option ℕ). stays_of o (over_at k (Some s) t (slice_get mid.processes.items k))) (place m w)
-          ∙ (over_turned mid name (subject_text who) who s t k refl at m w
-          ∙ ap (λ (h : Option Held). and_one (stay_over (Some name) (event.State who s) t m w h)) (kept.held m w))));
+      (ap (λ (o : Option ℕ). stays_of o (over_at k (Some s) t (slice_get mid.processes.items k))) (place m w)
+      ∙ (over_turned mid name (subject_text who) who s t k refl at m w
+      ∙ ap (λ (h : Option Held). and_one (stay_over (Some name) (event.State who s) t m w h)) (kept.held m w))));
 }
   where
     place : (m w : List ℕ) → process_at m w new ≡ process_at m w mid
@@ -635,7 +628,6 @@ stays_among n p t (x ∷ qs) (suc j) lane h =
         ∙ ap (λ (ss : List Stay). ss ++ stays_at (n + 1 + j) (over_with (n + 1) p t qs)) (none_over (n + 1 + j) n (stay_ended x.watch.held None t) (λ e. omega (arith, e)))
 
 module _ (mid : Lanes) (name : List ℕ) (m : Mode) (t p : ℕ) (at : partition_at name mid.partitions.items ≡ Some p) where
-
   -- a process is of this partition if its partition has this name
   abbrev pub IsOwn : List ℕ → List ℕ → Bool → Type 0
   IsOwn n w b =
@@ -677,11 +669,12 @@ module _ (mid : Lanes) (name : List ℕ) (m : Mode) (t p : ℕ) (at : partition_
           let x = found (is_process q w) qs j f in
           let both = and_parts (x.0.partition == q) (same (subject_text x.0.who) w) x.2 in
           let own : (x.0.partition == p) ≡ same name n = ap (λ (k : ℕ). k == p) (eqb-true x.0.partition q both.0) ∙ test in
-          let start : 0 + j ≡ j = omega arith in
-          (gone_at p t qs j x.0 x.1 ∙ ap (λ (b : Bool). left_if b (held_at (Some j) qs)) own,
-           ap (λ (k : ℕ). stays_at k (over_with 0 p t qs)) (sym start)
-           ∙ (stays_among 0 p t qs j x.0 x.1 ∙ (ap (λ (b : Bool). and_one (over_if b x.0.watch.held t)) own
-           ∙ ap (λ (o : Option ProcessLane). and_one (over_if (same name n) (held_in o) t)) (sym x.1))))
+          let start : 0 + j ≡ j = omega arith in (
+            gone_at p t qs j x.0 x.1 ∙ ap (λ (b : Bool). left_if b (held_at (Some j) qs)) own,
+            ap (λ (k : ℕ). stays_at k (over_with 0 p t qs)) (sym start)
+                ∙ (stays_among 0 p t qs j x.0 x.1 ∙ (ap (λ (b : Bool). and_one (over_if b x.0.watch.held t)) own
+                ∙ ap (λ (o : Option ProcessLane). and_one (over_if (same name n) (held_in o) t)) (sym x.1))),
+          )
 
       by : (o : Option ℕ) → partition_at n mid.partitions.items ≡ o
           → (held_at (process_in o w qs) (map (gone_from p t) qs) ≡ left_if (same name n) (held_at (process_in o w qs) qs)) × (stays_of (process_in o w qs) (over_with 0 p t qs) ≡ and_one (over_if (same name n) (held_at (process_in o w qs) qs) t))
@@ -777,13 +770,13 @@ has_entered old mid new name m t p before after other kept at changed left more 
   ended = λ n w. ap (stays_of (process_at n w new)) more
       ∙ (stays_two (process_at n w new) (before ++ mode_over_at p t (slice_get mid.partitions.items p)) (over_with 0 p t mid.processes.items)
       ∙ (ap (λ (ss : List Stay). ss ++ stays_of (process_at n w new) (over_with 0 p t mid.processes.items))
-          (stays_two (process_at n w new) before (mode_over_at p t (slice_get mid.partitions.items p))
-          ∙ (ap (λ (ss : List Stay). stays_of (process_at n w new) before ++ ss) (only_modes (process_at n w new) (slice_get mid.partitions.items p)) ∙ append-nil (stays_of (process_at n w new) before)))
+      (stays_two (process_at n w new) before (mode_over_at p t (slice_get mid.partitions.items p))
+      ∙ (ap (λ (ss : List Stay). stays_of (process_at n w new) before ++ ss) (only_modes (process_at n w new) (slice_get mid.partitions.items p)) ∙ append-nil (stays_of (process_at n w new) before)))
       ∙ ap (λ (ss : List Stay). stays_of (process_at n w new) before ++ ss)
-          (ap (λ (o : Option ℕ). stays_of o (over_with 0 p t mid.processes.items)) (place n w)
-          ∙ ((own_or_not mid name m t p at n w).1
-          ∙ (ap and_one (stay_by m (same name n) (held_by n w mid) t other)
-          ∙ ap (λ (h : Option Held). and_one (if same name n then stay_left_by m h t else None)) (kept.held n w))))));
+      (ap (λ (o : Option ℕ). stays_of o (over_with 0 p t mid.processes.items)) (place n w)
+      ∙ ((own_or_not mid name m t p at n w).1
+      ∙ (ap and_one (stay_by m (same name n) (held_by n w mid) t other)
+      ∙ ap (λ (h : Option Held). and_one (if same name n then stay_left_by m h t else None)) (kept.held n w))))));
 }
   where
     only_modes : (o : Option ℕ) (lane : Option PartitionLane) → stays_of o (mode_over_at p t lane) ≡ []
