@@ -1,2 +1,3 @@
 pub mod Shown
 pub mod Stays
+pub mod Lanes

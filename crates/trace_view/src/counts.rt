@@ -125,7 +125,6 @@ impl Counts {
 
     /// The place of a process, which gets one if it has none.
     fn process_place(&mut self, partition: &Name, who: &Subject) -> Result<usize, MemoryFull> {
-        let partition = self.lanes.partition_place(partition)?;
         let place = self.lanes.process_place(partition, who)?;
         self.make_room()?;
         Ok(place)
