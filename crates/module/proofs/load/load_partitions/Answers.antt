@@ -1,7 +1,5 @@
 use Rattle.std.proofs.Common.{rules, ◌≡◌, ◌<◌, ◌+◌, List, ◌++◌, ◌∷◌, [], drop, take, length, get_or, map, ap, subst, sym, ◌∙◌, arith}
-use Rattle.std.specs.Prelude.{Some}
 use Rattle.std.proofs.lemmas.List.{drop_more, take_more, map-append}
-use Rattle.std.proofs.lemmas.Option.{slice_get-get_or}
 use Rattle.module_meaning.specs.Table.{fixed_of}
 use Rattle.machine_meaning.specs.MachineMeaning.{machine_member, machine_members}
 use Rattle.image.specs.Items.{item_of, items_of, partition_of, section_of}
