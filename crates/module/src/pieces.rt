@@ -106,19 +106,6 @@ impl<E: Executor<Mem = PartitionMem>> Module<E> {
         self.now = Ticks(self.now.0 + u64::from(ticks));
     }
 
-    /// The next tick, if the major frames count from `origin`.
-    fn next_from(&self, origin: Ticks) -> Moment
-        requires origin { self.now.origin ≡ Some origin }
-        ensures { result.at ≡ record { now = self.now.now; origin = origin } }
-    {
-        Moment {
-            at: At {
-                now: self.now,
-                origin,
-            },
-        }
-    }
-
     /// Executes `most` ticks of the owner of a window, or those up to the first with an event;
     /// returns how many.
     fn stretch<S: Sink>(
@@ -144,7 +131,12 @@ impl<E: Executor<Mem = PartitionMem>> Module<E> {
             (standing_of E.Executor self.new) (sent_of S.Sink output.old)
             (sent_of S.Sink output.new) result }
     {
-        let moment = self.next_from(origin);
+        let moment = Moment {
+            at: At {
+                now: self.now,
+                origin,
+            },
+        };
         let count = self.members.advance_at(place, moment, most, output);
         self.skip(count);
         count
@@ -202,7 +194,12 @@ impl<E: Executor<Mem = PartitionMem>> Module<E> {
             (standing_of E.Executor self.new) (sent_of S.Sink output.old)
             (sent_of S.Sink output.new) result }
     {
-        let moment = self.next_from(origin);
+        let moment = Moment {
+            at: At {
+                now: self.now,
+                origin,
+            },
+        };
         if self.image.schedule.ended(moment).is_some() {
             return 0;
         }

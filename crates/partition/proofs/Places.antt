@@ -39,6 +39,10 @@ told_more g old mid new name at lines i kind more is before then =
 -- the action at a place, then those behind it
 pub acted_next : {C : Type 0} (actions : List Action) (i : ℕ) (x : Member C) → acts_all (drop i actions) x ≡ acts_all (drop (i + 1) actions) (acts_at (slice_get actions i) x)
 acted_next [] zero x = refl
-acted_next [] (suc i) x = refl
+acted_next [] (suc i) x =
+    let e : suc (i + 1) ≡ suc i + 1 = omega arith in
+    ap (λ n. acts_all (drop n []) x) e
 acted_next (a ∷ actions) zero x = refl
-acted_next (a ∷ actions) (suc i) x = acted_next actions i x
+acted_next (a ∷ actions) (suc i) x =
+    let e : suc (i + 1) ≡ suc i + 1 = omega arith in
+    acted_next actions i x ∙ ap (λ n. acts_all (drop n (a ∷ actions)) (acts_at (slice_get actions i) x)) e

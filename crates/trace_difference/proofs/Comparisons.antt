@@ -106,8 +106,8 @@ read_at (x ∷ xs) zero now s e p new a b at same before step order h =
       subst (λ (v : List Event). IsPart new v (part x.partition (second_with s e b))) (sym (first_kept own s e a here)) (subst (λ (v : List Event). IsPart new (first_with s e (part x.partition a)) v) (sym (second_kept own s e b here)) done.0),
       done.1,
       subst (λ (v : List Event). AreParts xs e.tick.0 v (others x.partition (second_with s e b))) (sym (first_left other s e a (not_true _ here)))
-        (subst (λ (v : List Event). AreParts xs e.tick.0 (others x.partition a) v) (sym (second_left other s e b (not_true _ here)))
-        (later_parts xs now e.tick.0 (others x.partition a) (others x.partition b) order h.2)),
+          (subst (λ (v : List Event). AreParts xs e.tick.0 (others x.partition a) v) (sym (second_left other s e b (not_true _ here)))
+          (later_parts xs now e.tick.0 (others x.partition a) (others x.partition b) order h.2)),
     )
 read_at (x ∷ xs) (suc k) now s e p new a b at same before step order h =
     let here = before 0 x (omega arith) refl in
@@ -116,8 +116,8 @@ read_at (x ∷ xs) (suc k) now s e p new a b at same before step order h =
       subst (λ (v : List Event). IsPart x v (part x.partition (second_with s e b))) (sym (first_left own s e a here)) (subst (λ (v : List Event). IsPart x (part x.partition a) v) (sym (second_left own s e b here)) h.0),
       later_settled x now e.tick.0 order h.1,
       subst (λ (v : List Event). AreParts (slice_set xs k new) e.tick.0 v (others x.partition (second_with s e b))) (sym (first_kept other s e a (not_false _ here)))
-        (subst (λ (v : List Event). AreParts (slice_set xs k new) e.tick.0 (first_with s e (others x.partition a)) v) (sym (second_kept other s e b (not_false _ here)))
-        (read_at xs k now s e p new (others x.partition a) (others x.partition b) at same (λ j q low get. before (suc j) q (omega (arith, low)) get) step order h.2)),
+          (subst (λ (v : List Event). AreParts (slice_set xs k new) e.tick.0 (first_with s e (others x.partition a)) v) (sym (second_kept other s e b (not_false _ here)))
+          (read_at xs k now s e p new (others x.partition a) (others x.partition b) at same (λ j q low get. before (suc j) q (omega (arith, low)) get) step order h.2)),
     )
 
 -- or as the first line of its partition
@@ -141,8 +141,8 @@ read_first (x ∷ xs) now s e p new a b name empty settled none step order h =
       subst (λ (v : List Event). IsPart x v (part x.partition (second_with s e b))) (sym (first_left own s e a here)) (subst (λ (v : List Event). IsPart x (part x.partition a) v) (sym (second_left own s e b here)) h.0),
       later_settled x now e.tick.0 order h.1,
       subst (λ (v : List Event). AreParts (xs ++ new ∷ []) e.tick.0 v (others x.partition (second_with s e b))) (sym (first_kept other s e a (not_false _ here)))
-        (subst (λ (v : List Event). AreParts (xs ++ new ∷ []) e.tick.0 (first_with s e (others x.partition a)) v) (sym (second_kept other s e b (not_false _ here)))
-        (read_first xs now s e p new (others x.partition a) (others x.partition b) name empty settled (λ k q get. none (suc k) q get) step order h.2)),
+          (subst (λ (v : List Event). AreParts (xs ++ new ∷ []) e.tick.0 (first_with s e (others x.partition a)) v) (sym (second_kept other s e b (not_false _ here)))
+          (read_first xs now s e p new (others x.partition a) (others x.partition b) name empty settled (λ k q get. none (suc k) q get) step order h.2)),
     )
 
 -- ---- what is told

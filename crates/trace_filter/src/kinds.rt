@@ -45,7 +45,10 @@ impl Kinds {
         ensures { result ≡ with_kind kind self }
     {
         match kind {
-            Keyword::State => Kinds { state: true, ..self },
+            Keyword::State => Kinds {
+                state: true,
+                ..self
+            },
             Keyword::Return => Kinds { ret: true, ..self },
             Keyword::Mode => Kinds { mode: true, ..self },
             Keyword::Error => Kinds { hm: true, ..self },

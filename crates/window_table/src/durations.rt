@@ -132,10 +132,7 @@ fn falls_short(
 
 /// Returns true if a partition's windows offer less than its duration in one of its periods.
 #[tactic(auto, using(std::proofs::lemmas::List::drop_more), unfolding(module_meaning::specs::Table::falls_short_from))]
-pub fn has_short_period<P: HasRow>(
-    schedule: &Schedule,
-    partitions: ModulePartitions<'_, P>,
-) -> bool
+pub fn has_short_period<P: HasRow>(schedule: &Schedule, partitions: ModulePartitions<'_, P>) -> bool
     requires periods { list_any (λ p. p.period == 0) (map P.row_of partitions.rows.now) ≡ false }
     ensures { result
         ≡ has_short_period (schedule_of schedule.now) (map P.row_of partitions.entry.rows.now) }
@@ -163,10 +160,7 @@ fn has_release(windows: &[WindowRow], partition: PartitionId) -> bool
 
 /// Returns true if a partition has no release window.
 #[tactic(auto, using(std::proofs::lemmas::List::drop_more), unfolding(module_meaning::specs::Table::lacks_release_from))]
-pub fn lacks_release<P: HasRow>(
-    windows: &[WindowRow],
-    partitions: ModulePartitions<'_, P>,
-) -> bool
+pub fn lacks_release<P: HasRow>(windows: &[WindowRow], partitions: ModulePartitions<'_, P>) -> bool
     ensures { result ≡ lacks_release windows.now (map P.row_of partitions.entry.rows.now) }
 {
     let mut number: u8 = 1;

@@ -17,6 +17,7 @@ pub struct FewPartitions<'a> {
 }
 
 /// The rows of a module's partitions in their order. There are no more than a module has.
+#[derive(Drop)]
 pub struct ModulePartitions<'a, P> {
     pub rows: &'a [P],
     pub ghost few: { length rows.now ≤ MOST_PARTITIONS },

@@ -8,5 +8,5 @@ pub loop-rest-preserved : goal.loop-rest-preserved
 loop-rest-preserved c =
     c.loop-rest.invariant
     ∙ one_word (option_copied c.loop-rest.rest) c.in-Some.text.now c.split_at.result.0.now (option_copied c.split_at.result.1) c.loop-rest.kinds (Some c.in_ok-kind.kind)
-      (ap option_copied c.in-Some.is) c.split_at.ensures.front c.split_at.ensures.behind (search rules)
+    (ap option_copied c.in-Some.is) c.split_at.ensures.front c.split_at.ensures.behind (search rules)
     ∙ ap (λ k. with_words (pieces_of 44 (option_copied c.split_at.result.1)) (Some k)) (sym c.with-kinds.ensures)

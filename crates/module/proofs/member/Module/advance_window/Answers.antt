@@ -1,4 +1,4 @@
-use Rattle.std.proofs.Common.{◌≡◌, ◌+◌, Some, ap, sym, subst, ◌∙◌, arith, rules}
+use Rattle.std.proofs.Common.{◌≡◌, ◌+◌, Some, refl, ap, sym, subst, arith, rules}
 use Rattle.apex_types.specs.declared.identity.At.{At}
 use Rattle.lone_partition.specs.Outputs.{sent_of}
 use Rattle.module.specs.Pieces.{HasPassedSome}
@@ -13,17 +13,14 @@ returns-in-None-clause-run g c = λ lines order.
     let s = standing_of e c.args.self.now in
     let plan = plan_of c.args.self.now.image in
     let n = c.at_most-count.result in
-    let at = c.next_from-moment.result.at in
-    let t = at.now.0 in
-    let here : t ≡ s.now = ap (λ (a : At). a.now.0) c.next_from-moment.ensures in
-    let origin : at.origin.0 ≡ c.args.origin.0 = ap (λ (a : At). a.origin.0) c.next_from-moment.ensures in
-    let from : s.origin ≡ Some at.origin.0 = ap ticks_in c.requires.origin ∙ ap Some (sym origin) in
+    let at : At = record { now = c.args.self.now.now; origin = c.args.origin } in
+    let from : s.origin ≡ Some at.origin.0 = ap ticks_in c.requires.origin in
     let sent = sent_of g.S.Sink c.args.output.now in
     let few = c.at_most-count.ensures.within in
     run_fewer sent sent plan lines n c.args.most n s (standing_of e c.skip.new.self) few
     (subst (λ (next : Standing e.Control). HasPassedSome plan lines n s next sent sent n) (sym c.skip.ensures.standing)
-    (run_empty plan lines n t at.origin.0 s sent here from (omega (arith, here, c.requires.begun))
-    (from_lower (t + n) (s.now + c.args.most) lines (omega (arith, few, here)) order)
+    (run_empty plan lines n s.now at.origin.0 s sent refl from c.requires.begun
+    (from_lower (s.now + n) (s.now + c.args.most) lines (omega (arith, few)) order)
     (owner_kept plan.schedule at _ n c.until_change.result c.at_most-count.ensures.ticks (search rules) c.until_change.ensures.owner)
     (none_ended plan.schedule at n c.until_change.result c.at_most-count.ensures.ticks (search rules) c.until_change.ensures.ended)))
 

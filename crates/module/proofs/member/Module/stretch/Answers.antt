@@ -1,11 +1,9 @@
 use Rattle.std.proofs.Common.{◌≡◌, Some, refl, ap, sym, subst}
-use Rattle.apex_types.specs.declared.identity.At.{At}
 use Rattle.lone_partition.specs.Outputs.{sent_of}
-use Rattle.module.specs.Pieces.{HasMovedWritten, HasPassedSome}
+use Rattle.module.specs.Pieces.{HasPassedSome}
 use Rattle.module.specs.Standing.{Standing, ticks_in}
 use Rattle.module.specs.Views.{members_in, plan_of, standing_of}
 use Rattle.module.proofs.Bursts.{run_piece}
-use Rattle.std.specs.Prelude.{slice_get}
 use Rattle.module.proofs.member.Module.stretch.Goals as goal
 
 pub returns-clause-run : goal.returns-clause-run
@@ -18,6 +16,5 @@ returns-clause-run g c = λ lines order.
     let ms = members_in e c.advance_at-count.new.self in
     let old = sent_of g.S.Sink c.args.output.now in
     let new = sent_of g.S.Sink c.advance_at-count.new.output in
-    let moved = subst (λ (at : At). HasMovedWritten at c.args.most c.args.place s.members (slice_get s.members c.args.place) ms old new n) c.next_from-moment.ensures c.advance_at-count.ensures.written in
     subst (λ (next : Standing e.Control). HasPassedSome plan lines c.args.most s next old new n) (sym c.skip.ensures.standing)
-    (run_piece plan lines c.args.most n s.now c.args.origin.0 c.args.place s ms refl from c.requires.begun order c.requires.owner c.requires.ended moved)
+    (run_piece plan lines c.args.most n s.now c.args.origin.0 c.args.place s ms refl from c.requires.begun order c.requires.owner c.requires.ended c.advance_at-count.ensures.written)

@@ -11,5 +11,5 @@ returns-clause-lines c a b none level =
     let rest = c.take_all.ensures.rest (c.args.line ∷ []) (c.add.ensures.lines [] c.none-rest.ensures) in
     let own = c.add-2.ensures.lines [] c.none-other.ensures in
     let first = apart_both part.ahead c.args.line c.args.event part.waiting.items part.before.items a b c.take_all.new.rest c.add-2.new.self
-        (λ e. (let t = c.is_same.ensures.1 e in cc)) level rest own in
+    (λ e. (let t = c.is_same.ensures.1 e in cc)) level rest own in
     subst (λ (d : Apart). IsFirst part.before.items d.first d.second (first_with (other_side part.ahead) c.args.event a) (second_with (other_side part.ahead) c.args.event b)) (sym c.of.ensures) first
