@@ -1,1 +1,1 @@
-pub mod Lanes
+pub mod Following

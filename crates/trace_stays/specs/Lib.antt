@@ -1,3 +1,4 @@
 pub mod Shown
 pub mod Stays
-pub mod Lanes
+pub mod Following
+pub mod Within

@@ -1,22 +1,18 @@
 //! The partitions and processes of a trace, in the order of their first lines.
 
-ghost use Rattle.std.specs.Prelude.{◌≡◌, ◌<◌, ◌++◌, [], length, map, slice_get, IfOk, OnOk, Some};
-ghost use Rattle.apex_types.specs.Line.{subject_text};
-ghost use Rattle.apex_types.specs.declared.event.EventKind.TheVariants as event;
-ghost use Rattle.engine_meaning.specs.Digits.{same};
-ghost use Rattle.trace_stays.specs.Lanes.{AreKept, AreWithin, HasFollowed, HasPartition, HasProcess, HasRead, change_at, entered, gone_from, mode_over_at, over_at, over_with, partition_at, process_at, process_in, turned};
+ghost use Rattle.std.specs.Prelude.{◌≡◌, [], length};
+ghost use Rattle.trace_stays.specs.Within.{AreWithin};
 
 use crate::fault::MemoryFull;
 use crate::stay::{ModeStay, ModeWatch, StateWatch, Stay};
-use crate::words::subject_word;
-use apex_types::{Event, EventKind, Mode, Name, ProcessState, Subject, Ticks};
+use apex_types::{Name, Subject, Ticks};
 use std::alloc::Global;
 
 /// A partition that has a line.
 #[derive(Clone, Copy, Debug)]
 pub struct PartitionLane {
     pub name: Name,
-    watch: ModeWatch,
+    pub(crate) watch: ModeWatch,
 }
 
 /// The subject of a line of a process: the process, INIT or the error handler of a partition.
@@ -25,7 +21,7 @@ pub struct ProcessLane {
     /// The place of its partition among the partitions.
     pub partition: usize,
     pub who: Subject,
-    watch: StateWatch,
+    pub(crate) watch: StateWatch,
 }
 
 /// A stay that is over.
@@ -40,8 +36,8 @@ pub enum Ended {
 /// The subjects of the lines of a trace, and the state or mode of each of them.
 #[derive(Drop)]
 pub struct Lanes {
-    partitions: Vec<PartitionLane>,
-    processes: Vec<ProcessLane>,
+    pub(crate) partitions: Vec<PartitionLane>,
+    pub(crate) processes: Vec<ProcessLane>,
     ghost within: { AreWithin (length partitions.items) processes.items },
 }
 
@@ -71,98 +67,6 @@ impl Lanes {
         self.processes.as_slice()
     }
 
-    /// The place of the partition with this name, which gets one if it has none.
-    ///
-    /// # Errors
-    ///
-    /// Memory ran out.
-    #[tactic(auto, using(crate::proofs::Lanes::lanes_found))]
-    pub fn partition_place(&mut self, name: &Name) -> Result<usize, MemoryFull>
-        ensures place { IfOk result
-            (λ place. partition_at name.now self.new.partitions.items ≡ Some place) }
-        ensures kept { OnOk result (AreKept self.old self.new) }
-        ensures processes { self.new.processes ≡ self.old.processes }
-    {
-        place_of_partition(&mut self.partitions, name)
-    }
-
-    /// The place of a process of the partition with this name; both get one if they have none.
-    ///
-    /// # Errors
-    ///
-    /// Memory ran out.
-    #[tactic(auto, using(crate::proofs::Lanes::lanes_found))]
-    pub fn process_place(&mut self, partition: &Name, who: &Subject) -> Result<usize, MemoryFull>
-        ensures place { IfOk result
-            (λ place. process_at partition.now (subject_text who.now) self.new ≡ Some place) }
-        ensures kept { OnOk result (AreKept self.old self.new) }
-    {
-        let place = self.partition_place(partition)?;
-        place_of_process(&mut self.processes, place, who)
-    }
-
-    /// Follows one event, and adds the stays that are over with it.
-    ///
-    /// # Errors
-    ///
-    /// Memory ran out.
-    pub fn follow(&mut self, event: &Event, ended: &mut Vec<Ended>) -> Result<(), MemoryFull>
-        ensures { OnOk result
-            (HasFollowed event.now self.old self.new ended.old.items ended.new.items) }
-    {
-        let Some(name) = &event.partition else {
-            return Ok(());
-        };
-        match &event.kind {
-            EventKind::State(who, state) => self.turn(name, who, *state, event.tick, ended),
-            EventKind::Mode(mode) => self.enter(name, *mode, event.tick, ended),
-            _ => {
-                self.partition_place(name)?;
-                Ok(())
-            }
-        }
-    }
-
-    /// A process enters a state.
-    fn turn(
-        &mut self,
-        partition: &Name,
-        who: &Subject,
-        state: ProcessState,
-        tick: Ticks,
-        ended: &mut Vec<Ended>,
-    ) -> Result<(), MemoryFull>
-        ensures { OnOk result
-            (HasRead (Some partition.now) (event.State who.now state) tick.0 self.old self.new
-            ended.old.items ended.new.items) }
-    {
-        let place = self.process_place(partition, who)?;
-        turn_at(&mut self.processes, place, state, tick, ended)
-    }
-
-    /// A partition enters a mode. It starts again with any mode but NORMAL, so its processes are
-    /// gone.
-    fn enter(
-        &mut self,
-        partition: &Name,
-        mode: Mode,
-        tick: Ticks,
-        ended: &mut Vec<Ended>,
-    ) -> Result<(), MemoryFull>
-        ensures { OnOk result
-            (HasRead (Some partition.now) (event.Mode mode) tick.0 self.old self.new
-            ended.old.items ended.new.items) }
-    {
-        let place = self.partition_place(partition)?;
-        enter_at(&mut self.partitions, place, mode, tick, ended)?;
-        if mode == Mode::Normal {
-            return Ok(());
-        }
-        end_all(self.processes.as_slice(), place, tick, ended)?;
-        leave_all(&mut self.processes, place, tick);
-        Ok(())
-    }
-
     /// Adds the stays that are not over where the trace ends.
     ///
     /// # Errors
@@ -180,165 +84,5 @@ impl Lanes {
             }
         }
         Ok(())
-    }
-}
-
-/// The place of the partition with this name, which becomes the last one if it has none.
-fn place_of_partition(lanes: &mut Vec<PartitionLane>, name: &Name) -> Result<usize, MemoryFull>
-    ensures found { IfOk result (HasPartition name.now lanes.old.items lanes.new.items) }
-    ensures length { length lanes.old.items ≤ length lanes.new.items }
-{
-    match known_partition(lanes.as_slice(), name) {
-        Some(place) => Ok(place),
-        None => {
-            let place = lanes.len();
-            lanes.push(PartitionLane {
-                name: *name,
-                watch: ModeWatch::new(),
-            })?;
-            Ok(place)
-        }
-    }
-}
-
-/// The place of the partition with this name; `None` if it has no line.
-#[tactic(auto, using(std::proofs::lemmas::List::drop_more), unfolding(crate::specs::Lanes::place_from))]
-fn known_partition(lanes: &[PartitionLane], name: &Name) -> Option<usize>
-    ensures { result ≡ partition_at name.now lanes.now }
-{
-    for (place, lane) in lanes.iter().enumerate() {
-        if lane.name.as_bytes() == name.as_bytes() {
-            return Some(place);
-        }
-    }
-    None
-}
-
-/// The place of a process of the partition at this place; it becomes the last one if it has none.
-fn place_of_process(
-    lanes: &mut Vec<ProcessLane>,
-    partition: usize,
-    who: &Subject,
-) -> Result<usize, MemoryFull>
-    ensures { IfOk result (HasProcess partition who.now lanes.old.items lanes.new.items) }
-{
-    match known_process(lanes.as_slice(), partition, who) {
-        Some(place) => Ok(place),
-        None => {
-            let place = lanes.len();
-            lanes.push(ProcessLane {
-                partition,
-                who: *who,
-                watch: StateWatch::new(),
-            })?;
-            Ok(place)
-        }
-    }
-}
-
-/// The place of a process of the partition at this place; `None` if it has no line.
-#[tactic(auto, using(std::proofs::lemmas::List::drop_more), unfolding(crate::specs::Lanes::place_from))]
-fn known_process(lanes: &[ProcessLane], partition: usize, who: &Subject) -> Option<usize>
-    ensures { result ≡ process_in (Some partition) (subject_text who.now) lanes.now }
-{
-    for (place, lane) in lanes.iter().enumerate() {
-        if lane.partition == partition && is_same_subject(&lane.who, who) {
-            return Some(place);
-        }
-    }
-    None
-}
-
-/// Returns true if both stand in a line with the same word.
-fn is_same_subject(one: &Subject, other: &Subject) -> bool
-    ensures { result ≡ same (subject_text one.now) (subject_text other.now) }
-{
-    subject_word(one).as_bytes() == subject_word(other).as_bytes()
-}
-
-/// The process at this place enters a state.
-fn turn_at(
-    lanes: &mut Vec<ProcessLane>,
-    place: usize,
-    state: ProcessState,
-    tick: Ticks,
-    ended: &mut Vec<Ended>,
-) -> Result<(), MemoryFull>
-    ensures lanes { lanes.new.items
-        ≡ change_at place (turned (Some state) tick.0) lanes.old.items }
-    ensures ended { OnOk result
-        (ended.new.items
-        ≡ ended.old.items
-        ++ over_at place (Some state) tick.0 (slice_get lanes.old.items place)) }
-{
-    if let Some(lane) = lanes.get_mut(place) {
-        if let Some(stay) = lane.watch.turn(Some(state), tick) {
-            ended.push(Ended::State(place, stay))?;
-        }
-    }
-    Ok(())
-}
-
-/// The partition at this place enters a mode.
-fn enter_at(
-    lanes: &mut Vec<PartitionLane>,
-    place: usize,
-    mode: Mode,
-    tick: Ticks,
-    ended: &mut Vec<Ended>,
-) -> Result<(), MemoryFull>
-    ensures lanes { lanes.new.items ≡ change_at place (entered mode tick.0) lanes.old.items }
-    ensures ended { OnOk result
-        (ended.new.items
-        ≡ ended.old.items ++ mode_over_at place tick.0 (slice_get lanes.old.items place)) }
-{
-    if let Some(lane) = lanes.get_mut(place) {
-        if let Some(stay) = lane.watch.enter(mode, tick) {
-            ended.push(Ended::Mode(place, stay))?;
-        }
-    }
-    Ok(())
-}
-
-/// Adds the stays of the processes of the partition at this place, which are gone with this tick.
-#[tactic(auto, using(std::proofs::lemmas::List::drop_more), unfolding(crate::specs::Lanes::over_with))]
-fn end_all(
-    lanes: &[ProcessLane],
-    partition: usize,
-    tick: Ticks,
-    ended: &mut Vec<Ended>,
-) -> Result<(), MemoryFull>
-    ensures { OnOk result
-        (ended.new.items ≡ ended.old.items ++ over_with 0 partition tick.0 lanes.now) }
-{
-    for (place, lane) in lanes.iter().enumerate() {
-        if lane.partition == partition {
-            let mut watch = lane.watch;
-            if let Some(stay) = watch.turn(None, tick) {
-                ended.push(Ended::State(place, stay))?;
-            }
-        }
-    }
-    Ok(())
-}
-
-/// The processes of the partition at this place are gone.
-#[tactic(auto, using(std::proofs::lemmas::List::drop_more))]
-fn leave_all(lanes: &mut Vec<ProcessLane>, partition: usize, tick: Ticks)
-    ensures { lanes.new.items ≡ map (gone_from partition tick.0) lanes.old.items }
-{
-    for lane in lanes.iter_mut() {
-        lane.leave(partition, tick);
-    }
-}
-
-impl ProcessLane {
-    /// The process is gone, if it is one of the partition at this place.
-    fn leave(&mut self, partition: usize, tick: Ticks)
-        ensures { self.new ≡ gone_from partition tick.0 self.old }
-    {
-        if self.partition == partition {
-            self.watch.turn(None, tick);
-        }
     }
 }

@@ -6,6 +6,7 @@
 #![tactic(auto)]
 
 mod fault;
+mod following;
 mod lanes;
 mod shown;
 mod span;

@@ -1,6 +1,6 @@
 use Rattle.std.proofs.Common.{◌≡◌, ◌++◌, drop}
-use Rattle.trace_stays.specs.Lanes.{over_with}
-use Rattle.trace_stays.proofs.lanes.end_all.Given as goal
+use Rattle.trace_stays.specs.Following.{over_with}
+use Rattle.trace_stays.proofs.following.end_all.Given as goal
 
 -- the stays so far, and those of the rest, are all
 abbrev pub invariant-loop-place : goal.invariant-loop-place

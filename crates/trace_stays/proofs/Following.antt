@@ -10,7 +10,8 @@ use Rattle.apex_types.specs.declared.event.EventKind.{EventKind}
 use Rattle.apex_types.specs.declared.event.EventKind.TheVariants as event
 use Rattle.apex_types.specs.declared.event.Subject.{Subject}
 use Rattle.engine_meaning.specs.Digits.{same}
-use Rattle.trace_stays.specs.Lanes.{AreKept, AreWithin, HasPartition, HasProcess, HasRead, and_one, change_at, entered, gone_from, has_name, held_at, held_by, held_in, if_at, is_of, is_process, mode_after, mode_at, mode_by, mode_held, mode_in, mode_over, mode_over_at, new_partition, new_process, over_at, over_with, partition_at, place_from, process_at, process_in, state_behind, state_in, state_left, state_over, stay_in, stay_left_by, stay_over, stays_at, stays_of, turned}
+use Rattle.trace_stays.specs.Following.{AreKept, HasPartition, HasProcess, HasRead, and_one, change_at, entered, gone_from, has_name, held_at, held_by, held_in, if_at, is_of, is_process, mode_after, mode_at, mode_by, mode_held, mode_in, mode_over, mode_over_at, new_partition, new_process, over_at, over_with, partition_at, place_from, process_at, process_in, state_behind, state_in, state_left, state_over, stay_in, stay_left_by, stay_over, stays_at, stays_of, turned}
+use Rattle.trace_stays.specs.Within.{AreWithin}
 use Rattle.trace_stays.specs.Stays.{held_behind, mode_behind, mode_ended, stay_ended}
 use Rattle.trace_stays.specs.declared.lanes.Ended.{Ended}
 use Rattle.trace_stays.specs.declared.lanes.Ended.TheVariants as ended

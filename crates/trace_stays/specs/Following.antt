@@ -115,10 +115,6 @@ mode_at (Some place) lanes = mode_held (slice_get lanes place)
 abbrev pub mode_by : List ℕ → Lanes → Option HeldMode
 mode_by name l = mode_at (partition_at name l.partitions.items) l.partitions.items
 
--- each process is of a partition that has a line
-abbrev pub AreWithin : ℕ → List ProcessLane → Type 0
-AreWithin count lanes = (place : ℕ) (lane : ProcessLane) → slice_get lanes place ≡ Some lane → lane.partition < count
-
 -- ---- the stays that are over
 
 abbrev pub if_at : Bool → Stay → List Stay
