@@ -1,11 +1,16 @@
 """A strict reader of value change dumps, by the grammar of IEEE 1364 for dumps of four states, where each command stands on a line of its
-own and each variable in a scope in a scope."""
+own and each variable in a scope in a scope. Variables of strings, which viewers know and the standard does not, are read too."""
 
 import re
 from dataclasses import dataclass, field
 
 CODE = re.compile(r"[!-~]+")
 IDENTIFIER = re.compile(r"[A-Za-z_][A-Za-z0-9_]*")
+
+
+# The sizes of variables, and their values.
+SIZES = {"wire": "1", "event": "1", "string": "1", "reg": "64"}
+VALUES = {"wire": re.compile("[01]"), "event": re.compile("1"), "string": re.compile("s(-|[A-Z_]+)"), "reg": re.compile("b(0|1[01]{0,63})")}
 
 
 class NoDump(Exception):
@@ -19,10 +24,10 @@ def require(is_so, what):
 
 @dataclass(frozen=True)
 class Variable:
-    """A variable: its scopes from the outside in and its name, with dots between them, and whether it is an event."""
+    """A variable: its scopes from the outside in and its name, with dots between them, and its type."""
 
     path: str
-    is_event: bool
+    kind: str
 
 
 @dataclass(frozen=True)
@@ -94,9 +99,9 @@ def enter(scopes, fields):
 def declare(dump, scopes, fields):
     """Reads a variable: its type, its size, its code and its name. Its code and its path are its own."""
     kind, size, code, name = (*fields.split(" "), *[""] * 4)[:4]
-    require(len(fields.split(" ")) == 4 and kind in ("wire", "event") and size == "1", f"no variable: '{fields}'")
+    require(len(fields.split(" ")) == 4 and SIZES.get(kind) == size, f"no variable: '{fields}'")
     require(CODE.fullmatch(code) and IDENTIFIER.fullmatch(name) and len(scopes) == 2, f"no variable: '{fields}'")
-    variable = Variable(".".join([*scopes, name]), kind == "event")
+    variable = Variable(".".join([*scopes, name]), kind)
     require(code not in dump.variables and variable.path not in dump.paths(), f"'{fields}' is declared twice")
     dump.variables[code] = variable
 
@@ -122,8 +127,9 @@ def read_changes(dump, lines):
 
 def read_change(dump, line, is_first):
     """Reads a value and the code of a variable."""
-    variable = dump.variables.get(line[1:])
-    require(line[:1] in ("0", "1") and variable and dump.times, f"no change: '{line}'")
-    require(not variable.is_event or (line[0] == "1" and not is_first), f"an event is no value: '{line}'")
+    value, code = line.split(" ") if line[:1] in ("s", "b") and line.count(" ") == 1 else (line[:1], line[1:])
+    variable = dump.variables.get(code)
+    require(variable and dump.times and VALUES[variable.kind].fullmatch(value), f"no change: '{line}'")
+    require(variable.kind != "event" or not is_first, f"an event is no value: '{line}'")
     if not is_first:
-        dump.changes.append(Change(dump.times[-1], variable.path, line[0]))
+        dump.changes.append(Change(dump.times[-1], variable.path, value if variable.kind in ("wire", "event") else value[1:]))

@@ -13,6 +13,6 @@ pub record IsUsageTold (error : Error) (unwritten : Option (List ℕ)) (old_out 
   pub help : IsHelp (kind_of error) → ((status ≡ 0) × IsFlushed old_out new_out × (new_err ≡ old_err)) ⊎ ((status ≡ 1) × HasFailed old_out new_out × IfSome unwritten (TakesLine old_err new_err))
 
 -- a stream with this number of failures can count one more, for the help that it is to take
-abbrev pub CanTakeHelp : {R : Type 0} → Result (Unit {0}) (Failure R) → ℕ → Type 0
+abbrev pub CanTakeHelp : {T R : Type 0} → Result T (Failure R) → ℕ → Type 0
 CanTakeHelp (Err (Usage error)) failures = failures < 2 ^ 64 - 1
 CanTakeHelp _ failures = Unit {0}

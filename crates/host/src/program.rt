@@ -16,7 +16,7 @@ pub trait Program {
     fn obey<O: Stream, E: Stream>(&mut self, words: &[String], out: &mut O, err: &mut E) -> u8
         requires out { O.failures out.old < 2 ^ 64 - 1 }
         requires err { E.failures err.old < 2 ^ 64 - 1 }
-        ensures { result ≤ 2 };
+        ensures { result ≤ 3 };
 }
 
 /// Does what the words of the process say. Reports `memory` if memory runs out for that.
@@ -26,7 +26,7 @@ pub fn run<P: Program>(rt: &HostRuntime, program: &mut P, memory: &str) -> ExitC
 
 /// Does what the words of the process say, and returns the exit status.
 fn status<P: Program>(rt: &HostRuntime, program: &mut P, memory: &str) -> u8
-    ensures { result ≤ 2 }
+    ensures { result ≤ 3 }
 {
     let mut err = WriterStream::new(rt.stderr());
     let words = match words(rt) {

@@ -23,5 +23,6 @@ pub trait Sources {
     fn open(&mut self, name: &str) -> Result<Self::Reader, NameFault>
         ensures opened { IfOk result
             (λ reader. Opens (texts self.old) name.now (Self.Reader.remaining reader)) }
+        ensures kept { texts self.new ≡ texts self.old }
         ensures noted { IsNoted name.now (unopened self.old) (unopened self.new) result };
 }

@@ -9,9 +9,9 @@ use crate::element::{Attribute, Key, Tag, at, set};
 use crate::length::Length;
 use crate::page::Page;
 use crate::rows::Rows;
-use apex_types::{Mode, ProcessState, Subject};
+use apex_types::{Mode, ProcessState};
 use std::alloc::AllocError;
-use trace_stays::{Lanes, ModeStay, Span, Stay};
+use trace_stays::{Lanes, ModeStay, Span, Stay, subject_word};
 
 /// The least width of a bar.
 const LEAST: Length = Length(10);
@@ -65,15 +65,6 @@ pub fn bar_of_mode(mode: Mode) -> Bar {
     }
 }
 
-/// The name of a process, INIT or HANDLER.
-pub fn subject_name(who: &Subject) -> &str {
-    match who {
-        Subject::Init => "INIT",
-        Subject::Handler => "HANDLER",
-        Subject::Process(name) => name.as_str(),
-    }
-}
-
 /// Draws the stay of a process in a state.
 pub fn draw_state(
     page: &mut Page,
@@ -89,7 +80,7 @@ pub fn draw_state(
     let Some(lane) = lanes.processes().get(process) else {
         return Ok(());
     };
-    let name = subject_name(&lane.who);
+    let name = subject_word(&lane.who);
     draw_bar(page, axis, top, bar_of_state(stay.state), stay.span)?;
     title_bar(page, name, stay.state.word(), stay.span)
 }

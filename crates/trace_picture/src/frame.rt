@@ -6,7 +6,7 @@ ghost use Rattle.trace_picture.specs.Marks.{HasMarks, mark_text};
 ghost use Rattle.trace_stays.specs.Stays.{ticks_of};
 
 use crate::axis::{Axis, LEFT, LONG};
-use crate::bars::{Bar, bar_attributes, bar_of_mode, bar_of_state, draw_text, subject_name};
+use crate::bars::{Bar, bar_attributes, bar_of_mode, bar_of_state, draw_text};
 use crate::drawing::WIDE;
 use crate::element::{Key, Tag, at, moved, set};
 use crate::length::Length;
@@ -15,7 +15,7 @@ use crate::page::Page;
 use crate::rows::{ROW, Rows};
 use apex_types::{Mode, ProcessState, Ticks};
 use std::alloc::AllocError;
-use trace_stays::Lanes;
+use trace_stays::{Lanes, subject_word};
 
 /// The distance of the ground of a partition from the edges, and the length by which it extends
 /// below its rows.
@@ -54,7 +54,7 @@ pub fn draw_names(page: &mut Page, lanes: &Lanes, rows: &Rows) -> Result<(), All
     }
     for (process, lane) in lanes.processes().iter().enumerate() {
         if let Some(top) = rows.process(process) {
-            let name = subject_name(&lane.who);
+            let name = subject_word(&lane.who);
             draw_text(page, "process", NAMES + INDENT, top + LINE, name)?;
         }
     }

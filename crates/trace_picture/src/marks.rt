@@ -4,7 +4,6 @@ ghost use Rattle.std.specs.Prelude.{◌≡◌, ◌++◌, OnOk, string_bytes};
 ghost use Rattle.trace_picture.specs.Marks.{arrow_text, end_of, message_class, message_place, start_of};
 
 use crate::axis::Axis;
-use crate::bars::subject_name;
 use crate::drawing::WIDE;
 use crate::element::{Key, Tag, at, moved, set};
 use crate::length::Length;
@@ -13,7 +12,7 @@ use crate::rows::{ROW, Rows};
 use crate::shape::{Flag, Message, Owner, Report, Stop};
 use apex_types::{Subject, Ticks, Words};
 use std::alloc::AllocError;
-use trace_stays::Lanes;
+use trace_stays::{Lanes, subject_word};
 
 /// The distance between messages of one tick.
 const ASIDE: Length = Length(60);
@@ -191,7 +190,7 @@ pub fn draw_flag(page: &mut Page, axis: Axis, rows: &Rows, flag: &Flag) -> Resul
 /// The name of the process that an error belongs to, or `-`.
 fn culprit_name(who: &Option<Subject>) -> &str {
     match who {
-        Some(who) => subject_name(who),
+        Some(who) => subject_word(who),
         None => "-",
     }
 }
@@ -220,7 +219,7 @@ pub fn draw_report(
     )?;
     page.open(Tag::Title, &[])?;
     page.text("REPORT ")?;
-    page.text(subject_name(&lane.who))?;
+    page.text(subject_word(&lane.who))?;
     title_words(page, &report.words)?;
     title_tick(page, report.tick)?;
     page.close()?;

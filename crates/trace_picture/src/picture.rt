@@ -164,11 +164,11 @@ impl Picture {
         match &event.kind {
             EventKind::State(_, _) | EventKind::Return(_, _, _) | EventKind::Mode(_) => Ok(()),
             EventKind::Error(error, who, response) => {
-                let owner = self.owner(partition, who)?;
+                let owner = self.owner(name, who)?;
                 self.flag(tick, owner, *error, who, *response)
             }
             EventKind::Report(who, words) => {
-                let process = self.lanes.process_place(partition, who)?;
+                let process = self.lanes.process_place(name, who)?;
                 let words = words.clone()?;
                 self.keep(Shape::Report(Report {
                     tick,
@@ -205,13 +205,13 @@ impl Picture {
         }
     }
 
-    fn owner(&mut self, partition: usize, who: &Option<Subject>) -> Result<Owner, PictureFault>
+    fn owner(&mut self, partition: &Name, who: &Option<Subject>) -> Result<Owner, PictureFault>
         ensures many { IsErrOf result PictureFault.TooMany → ⊥ }
         ensures shown { self.new.shown ≡ self.old.shown }
     {
         match who {
             Some(who) => Ok(Owner::Process(self.lanes.process_place(partition, who)?)),
-            None => Ok(Owner::Partition(partition)),
+            None => Ok(Owner::Partition(self.lanes.partition_place(partition)?)),
         }
     }
 

@@ -1,2 +1,4 @@
 pub mod Shown
 pub mod Stays
+pub mod Following
+pub mod Within

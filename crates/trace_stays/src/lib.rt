@@ -6,13 +6,16 @@
 #![tactic(auto)]
 
 mod fault;
+mod following;
 mod lanes;
 mod shown;
 mod span;
 mod stay;
+mod words;
 
 pub use fault::MemoryFull;
 pub use lanes::{Ended, Lanes, PartitionLane, ProcessLane};
 pub use shown::ShownTicks;
 pub use span::Span;
 pub use stay::{ModeStay, ModeWatch, StateWatch, Stay};
+pub use words::subject_word;

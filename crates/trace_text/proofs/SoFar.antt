@@ -40,19 +40,31 @@ trace_last : (before : ℕ) (es : List Event) (e : Event) → IsTraceFrom before
 trace_last before [] e trace = (trace.0, trace.1)
 trace_last before (x ∷ es) e trace = trace_last x.tick.0 es e trace.2
 
+-- the next event is read behind them
+pub read_on : (text : List ℕ) (before lines : ℕ) (rest : List ℕ) (e : Event) (more : List ℕ) (so : IsReadSoFar text before lines rest) → IsNext before rest e more
+    → (new : IsReadSoFar text e.tick.0 (lines + 1) more) × (new.read ≡ so.read ++ e ∷ [])
+read_on text before lines rest e more so next = (
+  record {
+    read = so.read ++ e ∷ [];
+    parts = so.parts ∙ ap (λ (r : List ℕ). text_of so.read ++ r) next.parts ∙ sym (append_assoc (text_of so.read) (line_of e) more) ∙ ap (λ (t : List ℕ). t ++ more) (sym (text_more so.read e));
+    trace = trace_more 0 so.read e so.trace next.can (omega (arith, so.last, next.in_order));
+    last = sym (last_more 0 so.read e);
+    count = omega (arith, so.count, length-append so.read (e ∷ []));
+  },
+  refl,
+)
+
 pub one_more_read : (text : List ℕ) (before lines : ℕ) (rest : List ℕ) (e : Event) (more : List ℕ) → IsReadSoFar text before lines rest → IsNext before rest e more → IsReadSoFar text e.tick.0 (lines + 1) more
-one_more_read text before lines rest e more so next = record {
-  read = so.read ++ e ∷ [];
-  parts = so.parts ∙ ap (λ (r : List ℕ). text_of so.read ++ r) next.parts ∙ sym (append_assoc (text_of so.read) (line_of e) more) ∙ ap (λ (t : List ℕ). t ++ more) (sym (text_more so.read e));
-  trace = trace_more 0 so.read e so.trace next.can (omega (arith, so.last, next.in_order));
-  last = sym (last_more 0 so.read e);
-  count = omega (arith, so.count, length-append so.read (e ∷ []));
-}
+one_more_read text before lines rest e more so next = (read_on text before lines rest e more so next).0
+
+-- the events that were read are those of the text
+pub read_as : (text : List ℕ) (before lines : ℕ) (rest : List ℕ) (so : IsReadSoFar text before lines rest) → rest ≡ [] → IsReadAs text so.read
+read_as text before lines rest so none =
+    let whole : text_of so.read ≡ text = sym (so.parts ∙ ap (λ (r : List ℕ). text_of so.read ++ r) none ∙ append-nil (text_of so.read)) in
+    subst (λ (t : List ℕ). IsReadAs t so.read) whole (again so.read so.trace)
 
 pub all_read : (text : List ℕ) (before lines : ℕ) (rest : List ℕ) → IsReadSoFar text before lines rest → rest ≡ [] → (events : List Event) × IsReadAs text events × (length events ≡ lines)
-all_read text before lines rest so none =
-    let whole : text_of so.read ≡ text = sym (so.parts ∙ ap (λ (r : List ℕ). text_of so.read ++ r) none ∙ append-nil (text_of so.read)) in
-    (so.read, subst (λ (t : List ℕ). IsReadAs t so.read) whole (again so.read so.trace), so.count)
+all_read text before lines rest so none = (so.read, read_as text before lines rest so none, so.count)
 
 pub refused_at : (text : List ℕ) (before lines : ℕ) (rest : List ℕ) (line : ℕ) → IsReadSoFar text before lines rest → line ≡ lines + 1 → 0 < length rest → ((e : Event) (more : List ℕ) → IsNext before rest e more → ⊥) → IsRefusedAt text line
 refused_at text before lines rest line so number some none = record {

@@ -20,6 +20,7 @@ mod reader;
 mod stream;
 mod whole;
 
+pub use keyword::{Keyword, keyword_of};
 pub use line::{LineFault, read_line};
 pub use reader::{TraceFault, TraceReader};
 pub use stream::{StreamFault, TraceStream};

@@ -1,3 +1,4 @@
+pub mod Alike
 pub mod Contiguous
 pub mod Counted
 pub mod Sums

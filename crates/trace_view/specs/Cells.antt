@@ -1,8 +1,6 @@
 -- The contents of the cells of tables.
 use Rattle.std.specs.Prelude.{ℕ, ◌/◌, ◌%◌, List, [], ◌∷◌, ◌++◌, codes, Option, Some, None}
 use Rattle.std.specs.Fmt.{decimal}
-use Rattle.apex_types.specs.declared.event.Subject.{Subject}
-use Rattle.apex_types.specs.declared.event.Subject.TheVariants as subject
 use Rattle.apex_types.specs.declared.identity.Ticks.{Ticks}
 use Rattle.trace_stays.specs.Stays.{ticks_of}
 use Rattle.trace_view.specs.Counting.{share_of}
@@ -18,12 +16,6 @@ use Rattle.trace_view.specs.declared.states.StateTicks.{StateTicks}
 use Rattle.trace_view.specs.declared.tally.Tally.{Tally}
 
 -- ---- texts
-
--- INIT, HANDLER, or the name
-abbrev pub subject_text : Subject → List ℕ
-subject_text subject.Init = codes "INIT"
-subject_text subject.Handler = codes "HANDLER"
-subject_text (subject.Process name) = name
 
 -- percents with one decimal
 abbrev pub share_text : Share → List ℕ
@@ -62,6 +54,10 @@ abbrev pub state_cells : StateTicks → ℕ → List Cell
 state_cells t all =
     cell.Number t.running ∷ share_cell t.running all ∷ cell.Number t.ready ∷ share_cell t.ready all
     ∷ cell.Number t.waiting ∷ share_cell t.waiting all ∷ cell.Number t.dormant ∷ share_cell t.dormant all ∷ []
+
+-- ticks, and their share
+abbrev pub share_cells : ℕ → ℕ → List Cell
+share_cells ticks all = cell.Number ticks ∷ share_cell ticks all ∷ []
 
 -- activations, their times, and missed deadlines
 abbrev pub time_cells : Tally → List Cell

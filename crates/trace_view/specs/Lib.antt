@@ -4,3 +4,4 @@ pub mod Extents
 pub mod Tallies
 pub mod Traffic
 pub mod Turns
+pub mod Errors

@@ -1,5 +1,5 @@
 -- How the messages of ports and channels are counted, each port and channel of each partition for itself.
-use Rattle.std.specs.Prelude.{◌≡◌, ◌⊎◌, ℕ, ◌+◌, nat_eq, if◌then◌else◌, List, [], ◌∷◌, ◌++◌, Option, Some, slice_get, slice_set}
+use Rattle.std.specs.Prelude.{◌≡◌, ◌⊎◌, ℕ, ◌+◌, nat_eq, if◌then◌else◌, List, [], ◌∷◌, ◌++◌, Some, slice_get, slice_set}
 use Rattle.apex_types.specs.declared.event.EventKind.{EventKind}
 use Rattle.trace_view.specs.Counting.{with_message}
 use Rattle.trace_view.specs.declared.messages.Messages.{Messages}

@@ -1,7 +1,7 @@
 //! The cells of tables.
 
 ghost use Rattle.std.specs.Prelude.{◌≡◌, IfOk, string_bytes};
-ghost use Rattle.trace_view.specs.Cells.{cell_text, extent_cells, greatest_cell, least_cell, mode_cells, port_cells, refusal_cells, state_cells, subject_text, tick_cell, time_cells};
+ghost use Rattle.trace_view.specs.Cells.{cell_text, extent_cells, greatest_cell, least_cell, mode_cells, port_cells, refusal_cells, share_cells, state_cells, tick_cell, time_cells};
 
 use crate::extent::Extent;
 use crate::extremes::Extremes;
@@ -11,7 +11,7 @@ use crate::refusals::Refusals;
 use crate::share::Share;
 use crate::states::StateTicks;
 use crate::tally::Tally;
-use apex_types::{Subject, Ticks};
+use apex_types::Ticks;
 use std::alloc::{AllocError, Global};
 
 /// The contents of a cell beside names.
@@ -35,17 +35,6 @@ pub fn cell_text(alloc: Global, cell: Cell, absent: &str) -> Result<String, Allo
         Cell::Number(number) => format!(in alloc; "{number}"),
         Cell::Share(share) => format!(in alloc; "{share}"),
         Cell::Absent => String::from_str(alloc, absent),
-    }
-}
-
-/// The name of a process, `INIT` or `HANDLER`.
-pub fn subject_text(who: &Subject) -> &str
-    ensures { result.now ≡ subject_text who.now }
-{
-    match who {
-        Subject::Init => "INIT",
-        Subject::Handler => "HANDLER",
-        Subject::Process(name) => name.as_str(),
     }
 }
 
@@ -105,6 +94,13 @@ pub fn state_cells(ticks: StateTicks, all: u64) -> [Cell; 8]
         Cell::Number(ticks.dormant),
         Cell::Share(Share::of(ticks.dormant, all)),
     ]
+}
+
+/// Ticks, and their share of all.
+pub fn share_cells(ticks: u64, all: u64) -> [Cell; 2]
+    ensures { result ≡ share_cells ticks all }
+{
+    [Cell::Number(ticks), Cell::Share(Share::of(ticks, all))]
 }
 
 /// Activations; the least and the greatest time to RUNNING, and to the end; missed deadlines.

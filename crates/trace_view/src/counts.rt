@@ -3,6 +3,7 @@
 ghost use Rattle.std.specs.Prelude.{◌≡◌, IfOk};
 ghost use Rattle.trace_view.specs.Traffic.{totals_from};
 
+use crate::errors::Errors;
 use crate::extent::{Extent, has_tick};
 use crate::messages::{Route, route_of};
 use crate::modes::ModeTicks;
@@ -23,6 +24,7 @@ pub struct Counts {
     /// By the places of the processes.
     tallies: Vec<Tally>,
     traffic: Traffic,
+    errors: Errors,
     /// The stays that the last event ended.
     ended: Vec<Ended>,
 }
@@ -36,6 +38,7 @@ impl Counts {
             modes: Vec::new(alloc),
             tallies: Vec::new(alloc),
             traffic: Traffic::new(alloc),
+            errors: Errors::new(alloc),
             ended: Vec::new(alloc),
         }
     }
@@ -80,6 +83,8 @@ impl Counts {
             partitions,
             processes,
             routes,
+            errors: self.errors.into_totals(),
+            shares: None,
         })
     }
 
@@ -120,7 +125,6 @@ impl Counts {
 
     /// The place of a process, which gets one if it has none.
     fn process_place(&mut self, partition: &Name, who: &Subject) -> Result<usize, MemoryFull> {
-        let partition = self.lanes.partition_place(partition)?;
         let place = self.lanes.process_place(partition, who)?;
         self.make_room()?;
         Ok(place)
@@ -178,6 +182,9 @@ impl Counts {
 
     /// Counts the parts of a line besides states and modes.
     fn count_kind(&mut self, event: &Event) -> Result<(), MemoryFull> {
+        if let EventKind::Error(error, _, response) = &event.kind {
+            self.errors.count(&event.partition, *error, *response)?;
+        }
         let Some(name) = &event.partition else {
             return Ok(());
         };

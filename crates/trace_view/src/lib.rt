@@ -8,6 +8,7 @@
 
 mod cell;
 mod counts;
+mod errors;
 mod extent;
 mod extremes;
 mod fault;
@@ -23,8 +24,10 @@ mod summary;
 mod table;
 mod tally;
 mod traffic;
+mod usage;
 mod writing;
 
+pub use errors::ErrorTotal;
 pub use extent::Extent;
 pub use extremes::Extremes;
 pub use fault::ReportFault;

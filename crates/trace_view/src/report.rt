@@ -1,5 +1,6 @@
 //! The numbers of a trace.
 
+use crate::errors::ErrorTotal;
 use crate::extent::Extent;
 use crate::fault::ReportFault;
 use crate::messages::{Messages, Route};
@@ -9,6 +10,7 @@ use crate::{sheet, writing};
 use apex_types::{Name, Subject};
 use std::alloc::Global;
 use std::io::Write;
+use trace_shares::Shares;
 
 /// The numbers of a partition.
 #[derive(Clone, Copy, Debug)]
@@ -41,6 +43,10 @@ pub struct Report {
     pub partitions: Vec<PartitionTotal>,
     pub processes: Vec<ProcessTotal>,
     pub routes: Vec<RouteTotal>,
+    /// In the order of their first lines.
+    pub errors: Vec<ErrorTotal>,
+    /// What the processor did, if the windows are known.
+    pub shares: Option<Shares>,
 }
 
 impl Report {

@@ -1,18 +1,19 @@
 //! A report as comma-separated values.
 
 use crate::cell::{
-    Cell, cell_text, extent_cells, mode_cells, port_cells, refusal_cells, state_cells,
-    subject_text, time_cells,
+    Cell, cell_text, extent_cells, mode_cells, port_cells, refusal_cells, state_cells, time_cells,
 };
+use crate::errors::ErrorTotal;
 use crate::fault::ReportFault;
 use crate::messages::Route;
 use crate::report::{PartitionTotal, ProcessTotal, Report, RouteTotal};
 use csv::{Writer, WriterBuilder};
 use std::alloc::Global;
 use std::io::Write;
+use trace_stays::subject_word;
 
 /// The columns. Each row has the first three, and those of its own group.
-static HEADINGS: [&str; 37] = [
+static HEADINGS: [&str; 40] = [
     "kind",
     "partition",
     "name",
@@ -50,6 +51,9 @@ static HEADINGS: [&str; 37] = [
     "arrived",
     "lost",
     "out",
+    "level",
+    "action",
+    "errors",
 ];
 
 /// Writes the row of headings, a row of the trace, and a row of each partition, process, port and
@@ -77,6 +81,9 @@ pub fn write_sheet<W: Write>(
     for total in &report.routes {
         sheet.route(total)?;
     }
+    for total in &report.errors {
+        sheet.error(total)?;
+    }
     sheet.writer.flush()?;
     Ok(())
 }
@@ -92,7 +99,7 @@ impl<'a, W: Write> Sheet<'a, W> {
     fn trace(&mut self, report: &Report) -> Result<(), ReportFault> {
         self.names("trace", "", "")?;
         self.cells(&extent_cells(&report.extent))?;
-        self.blanks(28)?;
+        self.blanks(31)?;
         self.end()
     }
 
@@ -100,18 +107,18 @@ impl<'a, W: Write> Sheet<'a, W> {
         self.names("partition", partition.name.as_str(), "")?;
         self.blanks(26)?;
         self.cells(&mode_cells(partition.modes))?;
-        self.blanks(4)?;
+        self.blanks(7)?;
         self.end()
     }
 
     fn process(&mut self, process: &ProcessTotal, all: u64) -> Result<(), ReportFault> {
-        let who = subject_text(&process.who);
+        let who = subject_word(&process.who);
         self.names("process", process.partition.as_str(), who)?;
         self.blanks(6)?;
         self.cells(&state_cells(process.tally.ticks, all))?;
         self.cells(&time_cells(&process.tally))?;
         self.cells(&refusal_cells(process.tally.refusals))?;
-        self.blanks(8)?;
+        self.blanks(11)?;
         self.end()
     }
 
@@ -121,14 +128,24 @@ impl<'a, W: Write> Sheet<'a, W> {
                 self.names("port", total.partition.as_str(), port.as_str())?;
                 self.blanks(30)?;
                 self.cells(&port_cells(total.messages))?;
-                self.blanks(1)?;
+                self.blanks(4)?;
             }
             Route::Channel(channel) => {
                 self.names("channel", total.partition.as_str(), channel.as_str())?;
                 self.blanks(33)?;
                 self.cells(&[Cell::Number(total.messages.out)])?;
+                self.blanks(3)?;
             }
         }
+        self.end()
+    }
+
+    fn error(&mut self, total: &ErrorTotal) -> Result<(), ReportFault> {
+        self.names("error", total.partition_word(), total.error_word())?;
+        self.blanks(34)?;
+        self.text(total.level_word())?;
+        self.text(total.action_word())?;
+        self.cells(&[Cell::Number(total.lines)])?;
         self.end()
     }
 

@@ -7,7 +7,7 @@ use crate::extent::Extent;
 use crate::report::Report;
 use apex_types::{Event, Ticks};
 use std::alloc::Global;
-use trace_stays::MemoryFull;
+use trace_shares::{Shares, SharesFault};
 
 /// Counts the events of a trace, one by one. Its memory grows only with the partitions, processes,
 /// ports and channels.
@@ -17,14 +17,16 @@ pub struct Summary {
     /// The lines so far. Until all are counted, a window without an end stays open.
     extent: Extent,
     counts: Counts,
+    /// What the processor did, if the windows are known.
+    shares: Option<Shares>,
 }
 
 impl Summary {
     ghost use Rattle.trace_view.specs.Extents.{closed, opened, with_line};
 
     /// Nothing is counted yet. The ticks `from` and later will count: those before `to`, or, with
-    /// `None`, those up to the last line.
-    pub fn new(alloc: Global, from: Ticks, to: Option<Ticks>) -> Summary
+    /// `None`, those up to the last line. `shares` counts what the processor does in them.
+    pub fn new(alloc: Global, from: Ticks, to: Option<Ticks>, shares: Option<Shares>) -> Summary
         ensures to { result.to ≡ to }
         ensures extent { result.extent ≡ opened from to }
     {
@@ -32,6 +34,7 @@ impl Summary {
             to,
             extent: Extent::new(from, to),
             counts: Counts::new(alloc),
+            shares,
         }
     }
 
@@ -39,8 +42,8 @@ impl Summary {
     ///
     /// # Errors
     ///
-    /// Memory ran out.
-    pub fn count(&mut self, event: &Event) -> Result<(), MemoryFull>
+    /// Memory ran out, or the line is of a partition that the module table has not.
+    pub fn count(&mut self, event: &Event) -> Result<(), SharesFault>
         ensures to { self.new.to ≡ self.old.to }
         ensures extent { self.new.extent ≡ with_line event.now.tick self.old.extent }
     {
@@ -48,6 +51,9 @@ impl Summary {
         let window = self.extent.window;
         if event.tick.0 < window.until.0 {
             self.counts.count(event, window)?;
+            if let Some(shares) = &mut self.shares {
+                shares.follow(event)?;
+            }
         }
         Ok(())
     }
@@ -57,15 +63,21 @@ impl Summary {
     /// # Errors
     ///
     /// Memory ran out.
-    pub fn finish(self) -> Result<Report, MemoryFull>
+    pub fn finish(self) -> Result<Report, SharesFault>
         ensures { IfOk result (λ report. report.extent ≡ closed self.to self.extent) }
     {
         let Summary {
             to,
             mut extent,
             counts,
+            mut shares,
         } = self;
         extent.close(to);
-        counts.finish(extent)
+        if let Some(shares) = &mut shares {
+            shares.pass_to(extent.window.until)?;
+        }
+        let mut report = counts.finish(extent)?;
+        report.shares = shares;
+        Ok(report)
     }
 }

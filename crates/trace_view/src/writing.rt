@@ -1,15 +1,17 @@
 //! The tables of a report.
 
 use crate::cell::{
-    Cell, extent_cells, mode_cells, port_cells, refusal_cells, state_cells, subject_text,
-    time_cells,
+    Cell, extent_cells, mode_cells, port_cells, refusal_cells, state_cells, time_cells,
 };
+use crate::errors::ErrorTotal;
 use crate::fault::ReportFault;
 use crate::messages::Route;
 use crate::report::Report;
 use crate::table::Table;
-use std::alloc::Global;
+use crate::usage::write_usage;
+use std::alloc::{AllocError, Global};
 use std::io::Write;
+use trace_stays::subject_word;
 
 /// Writes the tables, with an empty line between two of them. A table without rows is left out.
 pub fn write_tables<W: Write>(
@@ -19,9 +21,13 @@ pub fn write_tables<W: Write>(
 ) -> Result<(), ReportFault> {
     write_extent(alloc, report, out)?;
     write_states(alloc, report, out)?;
+    if let Some(shares) = &report.shares {
+        write_usage(alloc, shares, report.extent.window.ticks(), out)?;
+    }
     write_times(alloc, report, out)?;
     write_refusals(alloc, report, out)?;
     write_modes(alloc, report, out)?;
+    write_errors(alloc, report, out)?;
     write_ports(alloc, report, out)?;
     write_channels(alloc, report, out)
 }
@@ -38,7 +44,7 @@ fn write_states<W: Write>(alloc: Global, report: &Report, out: &mut W) -> Result
     let mut table = Table::new(alloc, &["partition", "process"], &numbers)?;
     let all = report.extent.window.ticks();
     for process in &report.processes {
-        let names = [process.partition.as_str(), subject_text(&process.who)];
+        let names = [process.partition.as_str(), subject_word(&process.who)];
         table.add(&names, &state_cells(process.tally.ticks, all))?;
     }
     table.write(
@@ -58,7 +64,7 @@ fn write_times<W: Write>(alloc: Global, report: &Report, out: &mut W) -> Result<
     ];
     let mut table = Table::new(alloc, &["partition", "process"], &numbers)?;
     for process in &report.processes {
-        let names = [process.partition.as_str(), subject_text(&process.who)];
+        let names = [process.partition.as_str(), subject_word(&process.who)];
         table.add(&names, &time_cells(&process.tally))?;
     }
     table.write(
@@ -82,7 +88,7 @@ fn write_refusals<W: Write>(
     ];
     let mut table = Table::new(alloc, &["partition", "process"], &numbers)?;
     for process in &report.processes {
-        let names = [process.partition.as_str(), subject_text(&process.who)];
+        let names = [process.partition.as_str(), subject_word(&process.who)];
         table.add(&names, &refusal_cells(process.tally.refusals))?;
     }
     table.write("\nProcesses: services refused, by their codes", out)
@@ -95,6 +101,25 @@ fn write_modes<W: Write>(alloc: Global, report: &Report, out: &mut W) -> Result<
         table.add(&[partition.name.as_str()], &mode_cells(partition.modes))?;
     }
     table.write("\nPartitions: ticks in each mode", out)
+}
+
+fn write_errors<W: Write>(alloc: Global, report: &Report, out: &mut W) -> Result<(), ReportFault> {
+    let names = ["partition", "error", "level", "action"];
+    let mut table = Table::new(alloc, &names, &["lines"])?;
+    for total in &report.errors {
+        add_error(total, &mut table)?;
+    }
+    table.write("\nErrors, by their level and the action on them", out)
+}
+
+fn add_error(total: &ErrorTotal, table: &mut Table) -> Result<(), AllocError> {
+    let names = [
+        total.partition_word(),
+        total.error_word(),
+        total.level_word(),
+        total.action_word(),
+    ];
+    table.add(&names, &[Cell::Number(total.lines)])
 }
 
 fn write_ports<W: Write>(alloc: Global, report: &Report, out: &mut W) -> Result<(), ReportFault> {

@@ -1,21 +1,24 @@
 -- The arguments found in the words.
-use Rattle.std.proofs.Common.{◌≡◌, inr, ℕ, List, [], Option, None, Some, Result, Ok, Err, sym, ap, refl, subst, ◌∙◌, Bor}
+use Rattle.std.proofs.Common.{◌≡◌, inl, inr, codes, ℕ, List, [], Option, None, Some, Result, Ok, Err, sym, ap, refl, subst, ◌∙◌, Bor}
 use Rattle.std.specs.Prelude.{option_map, true, IfErr}
-use Rattle.clap.specs.Kinds.{Kinds}
+use Rattle.clap.specs.Kinds as clap_kinds
 use Rattle.clap.specs.Matches.{first_value}
 use Rattle.clap.specs.Simple.{is_simple}
-use Rattle.clap.specs.Walk.{first_of, rows_of}
+use Rattle.clap.specs.Walk.{Row, first_of, rows_of}
 use Rattle.clap.specs.declared.error.kind.ErrorKind.{ErrorKind}
 use Rattle.clap.specs.declared.error.kind.ErrorKind.TheVariants as kind
 use Rattle.clap.specs.declared.parser.matches.Found.{Found}
 use Rattle.clap.proofs.WalkLemmas.{first_value-rows}
-use Rattle.command_words.specs.Found.{Entered}
+use Rattle.command_words.specs.Found.{Entered, words_at}
 use Rattle.command_words.specs.Kinds.{IsMistake}
 use Rattle.command_words.specs.Numbers.{ReadsNumber}
 use Rattle.command_words.specs.declared.failure.Failure.{Failure}
 use Rattle.command_words.specs.declared.failure.Failure.TheVariants.{Refused, Usage}
-use Rattle.view_command.specs.Answers.{IsFailureOfWords, IsNothingAsked}
-use Rattle.view_command.specs.Orders.{IsNoTick, IsTickOf}
+use Rattle.view_command.specs.Answers.{IsFailureOfWords, IsKindFailure, IsLimitFailure, IsNothingAsked, IsTickFailure, IsWordsFailure}
+use Rattle.text_lines.specs.Pieces.{pieces_of}
+use Rattle.trace_filter.specs.KindSets.{no_kinds, with_words}
+use Rattle.trace_filter.specs.declared.kinds.Kinds.{Kinds}
+use Rattle.view_command.specs.Orders.{AreWrongWords, IsNoKind, IsNoTick, IsTickOf}
 use Rattle.view_command.specs.Words.{view_app}
 use Rattle.view_command.specs.declared.refusal.Refusal.{Refusal}
 use Rattle.view_command.specs.declared.refusal.Refusal.TheVariants as refusal
@@ -39,13 +42,53 @@ pub bad_word : (f : Found) (name : List ℕ) (given : Option (Bor (List ℕ))) (
 bad_word f name given w r k found is reads none invalid =
     (subst IsNoTick (one_word f name given w found is) (subst (ReadsNumber w.now) (sym none) reads), ((λ help. cc), (λ version. cc)))
 
+pub bad_kinds : (f : Found) (name : List ℕ) (given : Option (Bor (List ℕ))) (w : Bor (List ℕ)) (r : Option Kinds) (k : ErrorKind) → option_map (λ s. s.now) given ≡ first_value f name → Some w ≡ given
+    → r ≡ with_words (pieces_of 44 (Some w.now)) (Some no_kinds) → None ≡ r → k ≡ kind.ValueValidation → IsNoKind (first_of name (rows_of f)) × IsMistake k
+bad_kinds f name given w r k found is reads none invalid =
+    (subst IsNoKind (one_word f name given w found is) (sym reads ∙ sym none), ((λ help. cc), (λ version. cc)))
+
+-- ---- a word that its option does not take is a wrong word
+
+pub tick_wrong : (name : List ℕ) (rows : List Row) (f : Failure Refusal) → (IsNoTick (first_of name rows) → AreWrongWords rows) → IsTickFailure (first_of name rows) f → IsWordsFailure rows f
+tick_wrong name rows (Usage e) is h = (is h.0, h.1)
+tick_wrong name rows (Refused (refusal.Open shown)) is h = absurd h
+tick_wrong name rows (Refused (refusal.Read shown)) is h = absurd h
+tick_wrong name rows (Refused (refusal.Line number shown)) is h = absurd h
+tick_wrong name rows (Refused refusal.TooMany) is h = absurd h
+tick_wrong name rows (Refused (refusal.Table fault shown)) is h = absurd h
+tick_wrong name rows (Refused (refusal.Foreign partition)) is h = absurd h
+tick_wrong name rows (Refused refusal.Memory) is h = tt
+tick_wrong name rows (Refused refusal.Write) is h = absurd h
+
+pub kind_wrong : (name : List ℕ) (rows : List Row) (f : Failure Refusal) → (IsNoKind (first_of name rows) → AreWrongWords rows) → IsKindFailure (first_of name rows) f → IsWordsFailure rows f
+kind_wrong name rows (Usage e) is h = (is h.0, h.1)
+kind_wrong name rows (Refused (refusal.Open shown)) is h = absurd h
+kind_wrong name rows (Refused (refusal.Read shown)) is h = absurd h
+kind_wrong name rows (Refused (refusal.Line number shown)) is h = absurd h
+kind_wrong name rows (Refused refusal.TooMany) is h = absurd h
+kind_wrong name rows (Refused (refusal.Table fault shown)) is h = absurd h
+kind_wrong name rows (Refused (refusal.Foreign partition)) is h = absurd h
+kind_wrong name rows (Refused refusal.Memory) is h = tt
+kind_wrong name rows (Refused refusal.Write) is h = absurd h
+
+pub limit_wrong : (rows : List Row) (f : Failure Refusal) → IsLimitFailure (words_at (codes "at-most") rows) f → IsWordsFailure rows f
+limit_wrong rows (Usage e) h = (inr (inr (inr (inl h.0))), h.1)
+limit_wrong rows (Refused (refusal.Open shown)) h = absurd h
+limit_wrong rows (Refused (refusal.Read shown)) h = absurd h
+limit_wrong rows (Refused (refusal.Line number shown)) h = absurd h
+limit_wrong rows (Refused refusal.TooMany) h = absurd h
+limit_wrong rows (Refused (refusal.Table fault shown)) h = absurd h
+limit_wrong rows (Refused (refusal.Foreign partition)) h = absurd h
+limit_wrong rows (Refused refusal.Memory) h = tt
+limit_wrong rows (Refused refusal.Write) h = absurd h
+
 pub view_is_simple : is_simple view_app ≡ true
 view_is_simple = refl
 
 -- ---- the words as a whole
 
 -- words that the library takes, which ask for nothing
-pub nothing_asked : {T : Type 0} (kinds : Kinds) (own entered : Entered) (answer : Result T (Failure Refusal)) → kinds ≡ [] → own ≡ entered
+pub nothing_asked : {T : Type 0} (kinds : clap_kinds.Kinds) (own entered : Entered) (answer : Result T (Failure Refusal)) → kinds ≡ [] → own ≡ entered
     → IfErr answer (λ f. IsNothingAsked own f) → IfErr answer (λ f. IsFailureOfWords kinds entered f)
 nothing_asked kinds own entered answer none same h = go answer (subst (λ o. IfErr answer (λ f. IsNothingAsked o f)) same h)
   where
@@ -55,6 +98,18 @@ nothing_asked kinds own entered answer none same h = go answer (subst (λ o. IfE
     go (Err (Refused (refusal.Read shown))) h = h
     go (Err (Refused (refusal.Line number shown))) h = h
     go (Err (Refused refusal.TooMany)) h = h
+    go (Err (Refused (refusal.Table fault shown))) h = h
+    go (Err (Refused (refusal.Foreign partition))) h = h
     go (Err (Refused refusal.Memory)) h = tt
     go (Err (Refused refusal.Write)) h = h
     go (Err (Usage e)) h = inr (none, h.0, h.1)
+
+-- ---- the text of an option
+
+pub text_word : (f : Found) (name : List ℕ) (given : Option (Bor (List ℕ))) (w : Bor (List ℕ)) (text : List ℕ) → option_map (λ s. s.now) given ≡ first_value f name → Some w ≡ given
+    → text ≡ w.now → Some text ≡ first_of name (rows_of f)
+text_word f name given w text found is same = ap Some same ∙ one_word f name given w found is
+
+pub no_text : (f : Found) (name : List ℕ) (given : Option (Bor (List ℕ))) → option_map (λ s. s.now) given ≡ first_value f name → None ≡ given → None ≡ first_of name (rows_of f)
+no_text f name None found is = found ∙ first_value-rows f name
+no_text f name (Some w) found is = absurd cc

@@ -1,3 +1,5 @@
 pub mod Answered
+pub mod Compared
 pub mod Found
 pub mod SoFar
+pub mod Tables

@@ -1,5 +1,5 @@
 -- A stream that was read so far.
-use Rattle.std.proofs.Common.{◌≡◌, ℕ, ◌+◌, ◌-◌, ◌^◌, ◌<◌, List, Option, Some, None, refl, ◌∙◌, arith}
+use Rattle.std.proofs.Common.{◌≡◌, ℕ, ◌+◌, ◌-◌, ◌^◌, ◌<◌, List, Option, Some, None, IfSome, refl, sym, subst, ◌∙◌, arith}
 use Rattle.std.specs.Prelude.{string_bytes}
 use Rattle.std.specs.Io.KnownBytes.{IsAtEnd}
 use Rattle.std.specs.declared.alloc.Global.{Global}
@@ -52,3 +52,18 @@ pub unread_of : (text left : Option (List ℕ)) (before lines : ℕ) (name : Str
 unread_of text left before lines name (faults.Line at) low so fault = (refl, so_far_refused text left before lines at.line low so fault.0 fault.1)
 unread_of text left before lines name (faults.Read e) low so fault = refl
 unread_of text left before lines name faults.Memory low so fault = tt
+
+-- ---- with the next line
+
+-- The next line was read too, or there is none and the text is a trace.
+abbrev pub IsReadTo : Option (List ℕ) → ℕ → ℕ → Option (List ℕ) → Option Event → Type 0
+IsReadTo text before lines left None = IsTraceOf text
+IsReadTo text before lines left (Some e) = IsSoFar text before lines left
+
+-- the stream goes on
+pub goes_on : (text left rest : Option (List ℕ)) (before lines tick count : ℕ) (next : Option Event) → lines < 2 ^ 64 - 1 → IsSoFar text before lines left
+    → IfSome next (λ e. NextIn before left e rest) → IfSome next (λ e. (tick ≡ e.tick.0) × (count ≡ next_number lines)) → (None ≡ next → IsAtEnd left) → IsReadTo text tick count rest next
+goes_on text left rest before lines tick count None low so next noted done = so_far_end text left before lines so (done refl)
+goes_on text left rest before lines tick count (Some e) low so next noted done =
+    let h : IsSoFar text e.tick.0 count rest = so_far_more text left rest before lines e e.tick count low so next (refl, noted.1) in
+    subst (λ t. IsSoFar text t count rest) (sym noted.0) h

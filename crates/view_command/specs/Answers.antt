@@ -1,5 +1,5 @@
 -- The meaning of each exit status.
-use Rattle.std.specs.Prelude.{◌≡◌, ◌⊎◌, ◌≤◌, ℕ, List, [], ◌∷◌, ◌++◌, Option, Some, Result, Ok, Err, string_bytes}
+use Rattle.std.specs.Prelude.{◌≡◌, ◌⊎◌, ◌≤◌, ℕ, List, [], ◌∷◌, ◌++◌, Option, Some, None, Result, Ok, Err, string_bytes}
 use Rattle.clap.specs.Kinds.{Kinds, IsAmong}
 use Rattle.clap.specs.Values.{kind_of}
 use Rattle.command_words.specs.Found.{Entered}
@@ -9,13 +9,15 @@ use Rattle.streams.specs.Contents.{Contents}
 use Rattle.streams.specs.States.{HasFailed, IsFlushed, IsWritten, Seen, TakesLine}
 use Rattle.view_command.specs.Lines.{called, line_of}
 use Rattle.clap.specs.Walk.{Row}
-use Rattle.view_command.specs.Orders.{AreWrongTicks, AsksForNothing, IsNoTick, trace_of}
+use Rattle.view_command.specs.Orders.{AreWrongWords, AsksForNothing, IsDiff, IsNoKind, IsNoLimit, IsNoTick, other_of, table_of, trace_of}
 use Rattle.view_command.specs.States.{IsUntouched, State}
-use Rattle.view_command.specs.Texts.{IsRefusedIn, IsRefusedLine, IsTraceIn}
+use Rattle.view_command.specs.Texts.{IsRefusedIn, IsRefusedLine, IsRefusedTableIn, IsTableAsked, IsTraceIn}
 use Rattle.command_words.specs.declared.failure.Failure.{Failure}
 use Rattle.command_words.specs.declared.failure.Failure.TheVariants.{Refused, Usage}
+use Rattle.view_command.specs.declared.views.Outcome.{Outcome}
+use Rattle.view_command.specs.declared.views.Outcome.TheVariants.{Shown, Found}
 use Rattle.view_command.specs.declared.refusal.Refusal.{Refusal}
-use Rattle.view_command.specs.declared.refusal.Refusal.TheVariants.{Open, Read, Line, TooMany, Memory, Write}
+use Rattle.view_command.specs.declared.refusal.Refusal.TheVariants.{Open, Read, Line, TooMany, Table, Foreign, Memory, Write}
 
 -- ---- why a trace is not shown; memory may run out at every step
 
@@ -24,6 +26,7 @@ abbrev pub IsUnread : Option (List ℕ) → List ℕ → Refusal → Type 0
 IsUnread text name (Read shown) = string_bytes shown ≡ name
 IsUnread text name (Line number shown) = (string_bytes shown ≡ name) × IsRefusedLine text number
 IsUnread text name TooMany = Unit {0}
+IsUnread text name (Foreign partition) = Unit {0}
 IsUnread text name Memory = Unit {0}
 IsUnread text name _ = ⊥
 
@@ -36,7 +39,32 @@ IsRefused texts name before after (Open shown) = (after.out ≡ before.out) × (
 IsRefused texts name before after (Read shown) = IsUntouched before after × (string_bytes shown ≡ called name)
 IsRefused texts name before after (Line number shown) = IsUntouched before after × (string_bytes shown ≡ called name) × IsRefusedIn texts name number
 IsRefused texts name before after TooMany = IsUntouched before after
+IsRefused texts name before after (Foreign partition) = IsUntouched before after
+IsRefused texts name before after (Table fault shown) = ⊥
 IsRefused texts name before after Memory = IsUntouched before after
+
+-- The module table of this name is not taken: it is not opened, not read, or breaks a rule.
+abbrev pub IsRefusedByTable : Option Contents → List ℕ → State → State → Refusal → Type 0
+IsRefusedByTable texts name before after (Open shown) = (after.out ≡ before.out) × (string_bytes shown ≡ called name) × (after.unopened ≡ before.unopened ++ name ∷ [])
+IsRefusedByTable texts name before after (Read shown) = IsUntouched before after × (string_bytes shown ≡ called name)
+IsRefusedByTable texts name before after (Table fault shown) = IsUntouched before after × (string_bytes shown ≡ called name) × IsRefusedTableIn texts name fault
+IsRefusedByTable texts name before after Memory = IsUntouched before after
+IsRefusedByTable texts name before after _ = ⊥
+
+abbrev pub IsTableRefused : Option Contents → Option (List ℕ) → State → State → Refusal → Type 0
+IsTableRefused texts None before after r = ⊥
+IsTableRefused texts (Some name) before after r = IsRefusedByTable texts name before after r
+
+-- The trace, the other one with which it is compared, or the module table is not taken.
+abbrev pub IsRefusedOf : Option Contents → Entered → State → State → Refusal → Type 0
+IsRefusedOf texts entered before after r =
+    IsRefused texts (trace_of entered) before after r ⊎ (IsDiff entered × IsRefused texts (other_of entered) before after r)
+    ⊎ IsTableRefused texts (table_of entered) before after r
+
+-- The trace was read to its end. So was the other one, if they were compared, and else the module table, if one is asked for.
+abbrev pub AreTracesIn : Option Contents → Entered → Type 0
+AreTracesIn texts entered =
+    IsTraceIn texts (trace_of entered) × (IsDiff entered → IsTraceIn texts (other_of entered)) × ((IsDiff entered → ⊥) → IsTableAsked texts (table_of entered))
 
 -- ---- the words, for which the library of command lines reports these errors
 
@@ -50,11 +78,23 @@ IsTickFailure word (Refused Memory) = Unit {0}
 IsTickFailure word (Refused _) = ⊥
 IsTickFailure word (Usage error) = IsNoTick word × IsMistake (kind_of error)
 
--- the words for ticks are wrong, or memory ran out
-abbrev pub IsTicksFailure : List Row → Failure Refusal → Type 0
-IsTicksFailure rows (Refused Memory) = Unit {0}
-IsTicksFailure rows (Refused _) = ⊥
-IsTicksFailure rows (Usage error) = AreWrongTicks rows × IsMistake (kind_of error)
+-- the word for kinds of lines is none, or memory ran out
+abbrev pub IsKindFailure : Option (List ℕ) → Failure Refusal → Type 0
+IsKindFailure word (Refused Memory) = Unit {0}
+IsKindFailure word (Refused _) = ⊥
+IsKindFailure word (Usage error) = IsNoKind word × IsMistake (kind_of error)
+
+-- the words of a limit are none, or memory ran out
+abbrev pub IsLimitFailure : List (List ℕ) → Failure Refusal → Type 0
+IsLimitFailure words (Refused Memory) = Unit {0}
+IsLimitFailure words (Refused _) = ⊥
+IsLimitFailure words (Usage error) = IsNoLimit words × IsMistake (kind_of error)
+
+-- the words of options are wrong, or memory ran out
+abbrev pub IsWordsFailure : List Row → Failure Refusal → Type 0
+IsWordsFailure rows (Refused Memory) = Unit {0}
+IsWordsFailure rows (Refused _) = ⊥
+IsWordsFailure rows (Usage error) = AreWrongWords rows × IsMistake (kind_of error)
 
 -- the words found ask for nothing, or memory ran out
 abbrev pub IsNothingAsked : Entered → Failure Refusal → Type 0
@@ -70,34 +110,45 @@ IsFailureOfWords kinds entered (Usage error) = IsAmong (kind_of error) kinds ⊎
 
 -- why words are not done
 abbrev pub IsFailure : Kinds → Entered → Option Contents → State → State → Failure Refusal → Type 0
-IsFailure kinds entered texts before after (Refused r) = ((kinds ≡ []) × IsRefused texts (trace_of entered) before after r) ⊎ ((r ≡ Memory) × IsUntouched before after)
+IsFailure kinds entered texts before after (Refused r) = ((kinds ≡ []) × IsRefusedOf texts entered before after r) ⊎ ((r ≡ Memory) × IsUntouched before after)
 IsFailure kinds entered texts before after (Usage error) = IsUntouched before after × IsFailureOfWords kinds entered (Usage error)
 
 -- ---- the statuses
 
+-- the trace was read to its end, and what was found in it is written and flushed
+abbrev pub IsFound : Kinds → Entered → Option Contents → State → State → Type 0
+IsFound kinds entered texts before after =
+    (after.unopened ≡ before.unopened) × IsFlushed before.out after.out × (kinds ≡ []) × AreTracesIn texts entered
+
 -- the trace was read to its end and its view is written and flushed, or help is, and nothing failed
 abbrev pub IsShownOrHelp : Kinds → Entered → Option Contents → State → State → Type 0
 IsShownOrHelp kinds entered texts before after =
-    (after.unopened ≡ before.unopened) × IsFlushed before.out after.out × (((kinds ≡ []) × IsTraceIn texts (trace_of entered)) ⊎ AskForHelp kinds)
+    (after.unopened ≡ before.unopened) × IsFlushed before.out after.out × (((kinds ≡ []) × AreTracesIn texts entered) ⊎ AskForHelp kinds)
 
 -- the trace is refused, or memory ran out at the words, or help is not written
 abbrev pub IsRefusedFor : Kinds → Entered → Option Contents → State → State → Refusal → Type 0
 IsRefusedFor kinds entered texts before after r =
-    ((kinds ≡ []) × IsRefused texts (trace_of entered) before after r) ⊎ ((r ≡ Memory) × IsUntouched before after)
+    ((kinds ≡ []) × IsRefusedOf texts entered before after r) ⊎ ((r ≡ Memory) × IsUntouched before after)
     ⊎ ((r ≡ Write) × AskForHelp kinds × HasFailed before.out after.out × (after.unopened ≡ before.unopened))
 
 -- With 0 the trace was read to its end and shown, or help is, and standard error is as it was; with 1 the trace
 -- is refused, and standard error has the line of the refusal, if it did not fail; with 2 the words are no command,
--- standard output is as it was, and what standard error took is flushed, if it did not fail.
+-- standard output is as it was, and what standard error took is flushed, if it did not fail; with 3 the trace was
+-- read to its end and has what it may not have, and standard error is as it was.
 pub record IsAnswer (kinds : Kinds) (entered : Entered) (texts : Option Contents) (before after : State) (old_err new_err : Seen) (status : ℕ) : Type 0 where
-  pub range : status ≤ 2
+  pub range : status ≤ 3
   pub done : status ≡ 0 → IsShownOrHelp kinds entered texts before after × (new_err ≡ old_err)
   pub refused : status ≡ 1 → (r : Refusal) × IsRefusedFor kinds entered texts before after r × TakesLine old_err new_err (line_of r)
   pub usage : status ≡ 2 → IsUntouched before after × AreNoCommand kinds entered × IsWritten old_err new_err
+  pub found : status ≡ 3 → IsFound kinds entered texts before after × (new_err ≡ old_err)
 
 -- ---- the report of an outcome
 
-abbrev pub IsTold : Result (Unit {0}) (Failure Refusal) → Seen → Seen → Seen → Seen → ℕ → Type 0
-IsTold (Ok done) old_out new_out old_err new_err status = (status ≡ 0) × (new_out ≡ old_out) × (new_err ≡ old_err)
+abbrev pub status_of : Outcome → ℕ
+status_of Shown = 0
+status_of Found = 3
+
+abbrev pub IsTold : Result Outcome (Failure Refusal) → Seen → Seen → Seen → Seen → ℕ → Type 0
+IsTold (Ok done) old_out new_out old_err new_err status = (status ≡ status_of done) × (new_out ≡ old_out) × (new_err ≡ old_err)
 IsTold (Err (Refused r)) old_out new_out old_err new_err status = (status ≡ 1) × (new_out ≡ old_out) × TakesLine old_err new_err (line_of r)
 IsTold (Err (Usage error)) old_out new_out old_err new_err status = IsUsageTold error (Some (line_of Write)) old_out new_out old_err new_err status

@@ -1,4 +1,6 @@
 pub mod Answers
+pub mod Compared
+pub mod Differences
 pub mod Faults
 pub mod Lines
 pub mod Orders
@@ -6,3 +8,4 @@ pub mod States
 pub mod Texts
 pub mod Views
 pub mod Words
+pub mod Windows

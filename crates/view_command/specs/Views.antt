@@ -1,8 +1,13 @@
--- Why an event is not shown.
+-- Why an event is not shown, and what was found.
+use Rattle.std.specs.Prelude.{is_some, if◌then◌else◌}
 use Rattle.trace_picture.specs.declared.fault.PictureFault.{PictureFault}
 use Rattle.trace_picture.specs.declared.fault.PictureFault.TheVariants as picture
+use Rattle.trace_shares.specs.declared.fault.SharesFault.{SharesFault}
+use Rattle.trace_shares.specs.declared.fault.SharesFault.TheVariants as shares
 use Rattle.view_command.specs.declared.views.Shown.{Shown}
 use Rattle.view_command.specs.declared.views.Shown.TheVariants as shown
+use Rattle.view_command.specs.declared.views.Outcome.{Outcome}
+use Rattle.view_command.specs.declared.views.Outcome.TheVariants as outcome
 use Rattle.view_command.specs.declared.views.ViewFault.{ViewFault}
 use Rattle.view_command.specs.declared.views.ViewFault.TheVariants as fault
 
@@ -11,9 +16,21 @@ abbrev pub view_fault : PictureFault → ViewFault
 view_fault picture.Memory = fault.Memory
 view_fault picture.TooMany = fault.TooMany
 
+abbrev pub shares_fault : SharesFault → ViewFault
+shares_fault shares.Memory = fault.Memory
+shares_fault (shares.Unknown name) = fault.Foreign name
+
 -- a picture is shown
 abbrev pub IsOfPicture : Shown → Type 0
 IsOfPicture (shown.Table summary) = ⊥
 IsOfPicture (shown.Rows summary) = ⊥
 IsOfPicture (shown.Picture picture) = Unit {0}
 IsOfPicture (shown.Waves dump) = ⊥
+IsOfPicture (shown.Page page windows) = ⊥
+IsOfPicture (shown.Lines listing) = ⊥
+IsOfPicture (shown.Check check) = ⊥
+
+-- a line was found that the trace may not have
+abbrev pub outcome_of : Shown → Outcome
+outcome_of (shown.Check check) = if is_some check.broken then outcome.Found else outcome.Shown
+outcome_of _ = outcome.Shown

@@ -9,22 +9,48 @@ use Rattle.command_words.specs.Grammar.{flag_rule, word_rule}
 abbrev pub trace_rule : Rule
 trace_rule = word_rule (codes "TRACE")
 
--- an option with a tick
-abbrev pub tick_rule : List ℕ → Rule
-tick_rule name = record (new_rule name) { long = Some name; value_names = 1; action = Some Set }
+-- an option with one word
+abbrev pub option_rule : List ℕ → Rule
+option_rule name = record (new_rule name) { long = Some name; value_names = 1; action = Some Set }
+
+-- an option with two words
+abbrev pub pair_rule : List ℕ → Rule
+pair_rule name = record (new_rule name) { long = Some name; value_names = 2; action = Some Set }
 
 abbrev pub csv_rule : Rule
 csv_rule = flag_rule (codes "csv")
 
 -- a command that shows the ticks of a trace
 abbrev pub shown_app : List ℕ → App
-shown_app name = with_rule (with_rule (with_rule (new_app name) trace_rule) (tick_rule (codes "from"))) (tick_rule (codes "to"))
+shown_app name = with_rule (with_rule (with_rule (new_app name) trace_rule) (option_rule (codes "from"))) (option_rule (codes "to"))
 
 abbrev pub summary_app : App
-summary_app = with_rule (shown_app (codes "summary")) csv_rule
+summary_app = with_rule (with_rule (shown_app (codes "summary")) (option_rule (codes "table"))) csv_rule
+
+-- the command that writes a page
+abbrev pub html_app : App
+html_app = with_rule (with_rule (new_app (codes "html")) trace_rule) (option_rule (codes "table"))
+
+-- a command on some lines of a trace
+abbrev pub of_partition_app : List ℕ → App
+of_partition_app name = with_rule (shown_app name) (option_rule (codes "partition"))
+
+abbrev pub list_app : App
+list_app = with_rule (with_rule (with_rule (of_partition_app (codes "list")) (option_rule (codes "process"))) (option_rule (codes "kind"))) (option_rule (codes "port"))
+
+abbrev pub check_app : App
+check_app = with_rule (with_rule (with_rule (of_partition_app (codes "check")) (option_rule (codes "no"))) (pair_rule (codes "at-most"))) (option_rule (codes "missed"))
+
+-- the command that compares two traces
+abbrev pub diff_app : App
+diff_app = with_rule (with_rule (with_rule (new_app (codes "diff")) trace_rule) (word_rule (codes "OTHER"))) (option_rule (codes "partition"))
 
 abbrev pub top_app : App
 top_app = on_top (λ s. record s { subcommand_required = true }) (new_app (codes "mbview"))
 
+-- the program, with the commands that sum up or draw a trace
+abbrev pub pictures_app : App
+pictures_app = with_subcommand (with_subcommand (with_subcommand top_app summary_app.top) (shown_app (codes "svg")).top) (shown_app (codes "vcd")).top
+
 abbrev pub view_app : App
-view_app = with_subcommand (with_subcommand (with_subcommand top_app summary_app.top) (shown_app (codes "svg")).top) (shown_app (codes "vcd")).top
+view_app = with_subcommand (with_subcommand (with_subcommand (with_subcommand pictures_app list_app.top) check_app.top) diff_app.top) html_app.top

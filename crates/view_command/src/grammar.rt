@@ -5,16 +5,30 @@ ghost use Rattle.clap.specs.Values.{kind_of};
 ghost use Rattle.clap.specs.Walk.{rule_of};
 ghost use Rattle.clap.specs.declared.error.kind.ErrorKind.TheVariants.{MissingSubcommand, ValueValidation};
 ghost use Rattle.command_words.specs.Grammar.{IsCommand};
-ghost use Rattle.view_command.specs.Words.{shown_app, summary_app, tick_rule, view_app};
+ghost use Rattle.view_command.specs.Words.{check_app, diff_app, html_app, list_app, of_partition_app, option_rule, pair_rule, pictures_app, shown_app, summary_app, view_app};
 
 use clap::error::ErrorKind;
 use clap::{Arg, ArgAction, Command, Error};
 use command_words::{flag, required_word};
 use std::alloc::{AllocError, Global};
 
+/// What a limit is written of.
+static LIMIT: [&str; 2] = ["KIND[,KIND]", "NUMBER"];
+
 /// The commands and their arguments.
 pub fn grammar<'a>(alloc: Global) -> Result<Command<'a>, AllocError>
     ensures { IfOk result (λ command. IsCommand command view_app) }
+{
+    pictures(alloc)?
+        .subcommand(list(alloc)?)?
+        .subcommand(check(alloc)?)?
+        .subcommand(diff(alloc)?)?
+        .subcommand(html(alloc)?)
+}
+
+/// The program, with the commands that sum up or draw a trace.
+fn pictures<'a>(alloc: Global) -> Result<Command<'a>, AllocError>
+    ensures { IfOk result (λ command. IsCommand command pictures_app) }
 {
     Command::new(alloc, "mbview")
         .about("Shows the trace of a run: what the partitions and their processes did, and when")
@@ -30,7 +44,13 @@ fn summary<'a>(alloc: Global) -> Result<Command<'a>, AllocError>
 {
     shown(alloc, "summary")?
         .about("Writes a table of what each partition and each process did")
-        .after_help("Example: mbview summary trace.txt --from 1000 --to 2000 --csv")
+        .after_help("Example: mbview summary trace.txt --from 1000 --to 2000 --table table.toml")
+        .arg(option(
+            alloc,
+            "table",
+            "TABLE",
+            "The module table: shows which process worked in each tick, by the windows",
+        ))?
         .arg(flag(alloc, "csv", "Writes the table as comma-separated values"))
 }
 
@@ -54,6 +74,106 @@ fn vcd<'a>(alloc: Global) -> Result<Command<'a>, AllocError>
     )
 }
 
+fn list<'a>(alloc: Global) -> Result<Command<'a>, AllocError>
+    ensures { IfOk result (λ command. IsCommand command list_app) }
+{
+    of_partition(alloc, "list")?
+        .about("Writes the lines of the trace that have all that is asked for, as they stand")
+        .after_help("Example: mbview list trace.txt --partition a --kind STATE,HM")
+        .arg(option(
+            alloc,
+            "process",
+            "NAME",
+            "Only lines of this process, of INIT or of HANDLER",
+        ))?
+        .arg(option(
+            alloc,
+            "kind",
+            "KIND[,KIND]",
+            "Only lines of these kinds: STATE, RET, MODE, HM, REPORT, MOVE, ARRIVE, LOST, OUT",
+        ))?
+        .arg(option(
+            alloc,
+            "port",
+            "NAME",
+            "Only lines of messages at this port, or by this channel",
+        ))
+}
+
+fn check<'a>(alloc: Global) -> Result<Command<'a>, AllocError>
+    ensures { IfOk result (λ command. IsCommand command check_app) }
+{
+    of_partition(alloc, "check")?
+        .about("Writes the first line that the trace may not have; the exit status is 3 then")
+        .after_help("Example: mbview check trace.txt --no HM,LOST --at-most REPORT 3 --missed 0")
+        .arg(option(
+            alloc,
+            "no",
+            "KIND[,KIND]",
+            "There may be no lines of these kinds",
+        ))?
+        .arg(at_most(alloc))?
+        .arg(option(
+            alloc,
+            "missed",
+            "NUMBER",
+            "There may be so many lines of missed deadlines",
+        ))
+}
+
+fn html<'a>(alloc: Global) -> Result<Command<'a>, AllocError>
+    ensures { IfOk result (λ command. IsCommand command html_app) }
+{
+    Command::new(alloc, "html")
+        .about("Writes a page for a browser, in which one can look around in the trace")
+        .after_help("Example: mbview html trace.txt --table table.toml > trace.html")
+        .arg(required_word(
+            alloc,
+            "TRACE",
+            "The file of a trace, or - for the standard input",
+        ))?
+        .arg(option(
+            alloc,
+            "table",
+            "TABLE",
+            "The module table: shows its windows",
+        ))
+}
+
+fn diff<'a>(alloc: Global) -> Result<Command<'a>, AllocError>
+    ensures { IfOk result (λ command. IsCommand command diff_app) }
+{
+    Command::new(alloc, "diff")
+        .about(
+            "Writes where two traces differ first, each partition for itself; the exit status is 3 then",
+        )
+        .after_help("Example: mbview diff trace.txt other_trace.txt --partition a")
+        .arg(required_word(
+            alloc,
+            "TRACE",
+            "The file of a trace, or - for the standard input",
+        ))?
+        .arg(required_word(alloc, "OTHER", "The file of the other trace"))?
+        .arg(option(
+            alloc,
+            "partition",
+            "NAME",
+            "Only lines of this partition; - stands for the module itself",
+        ))
+}
+
+/// A command that shows the ticks of a trace, of one partition if that is asked for.
+fn of_partition<'a>(alloc: Global, name: &'a str) -> Result<Command<'a>, AllocError>
+    ensures { IfOk result (λ command. IsCommand command (of_partition_app name.entry.now)) }
+{
+    shown(alloc, name)?.arg(option(
+        alloc,
+        "partition",
+        "NAME",
+        "Only lines of this partition; - stands for the module itself",
+    ))
+}
+
 /// A command that shows the ticks of a trace.
 fn shown<'a>(alloc: Global, name: &'a str) -> Result<Command<'a>, AllocError>
     ensures { IfOk result (λ command. IsCommand command (shown_app name.entry.now)) }
@@ -64,34 +184,48 @@ fn shown<'a>(alloc: Global, name: &'a str) -> Result<Command<'a>, AllocError>
             "TRACE",
             "The file of a trace, or - for the standard input",
         ))?
-        .arg(tick(
+        .arg(option(
             alloc,
             "from",
+            "TICK",
             "The first tick that is shown; 0 without this word",
         ))?
-        .arg(tick(
+        .arg(option(
             alloc,
             "to",
+            "TICK",
             "The tick before which it ends; without this word it ends behind the last line",
         ))
 }
 
-fn tick<'a>(alloc: Global, name: &'a str, help: &'a str) -> Arg<'a>
-    ensures rule { rule_of result ≡ tick_rule name.entry.now }
+/// An option with one word.
+fn option<'a>(alloc: Global, name: &'a str, value: &'a str, help: &'a str) -> Arg<'a>
+    ensures rule { rule_of result ≡ option_rule name.entry.now }
     ensures local { result.global ≡ false }
 {
     Arg::new(alloc, name)
         .long(name)
-        .value_name("TICK")
+        .value_name(value)
         .action(ArgAction::Set)
         .help(help)
 }
 
-/// The usage error of a word that is no tick.
-pub fn bad_tick(alloc: Global, option: &str, word: &str) -> Result<Error, AllocError>
+fn at_most<'a>(alloc: Global) -> Arg<'a>
+    ensures rule { rule_of result ≡ pair_rule (codes "at-most") }
+    ensures local { result.global ≡ false }
+{
+    Arg::new(alloc, "at-most")
+        .long("at-most")
+        .value_names(&LIMIT)
+        .action(ArgAction::Set)
+        .help("There may be so many lines of these kinds together")
+}
+
+/// The usage error of a word that an option does not take.
+pub fn bad_value(alloc: Global, option: &str, value: &str, word: &str) -> Result<Error, AllocError>
     ensures { IfOk result (λ error. kind_of error ≡ ValueValidation) }
 {
-    let message = format!(in alloc; "invalid value '{word}' for '--{option} <TICK>'")?;
+    let message = format!(in alloc; "invalid value '{word}' for '--{option} <{value}>'")?;
     grammar(alloc)?.error(ErrorKind::ValueValidation, message.as_str())
 }
 

@@ -5,34 +5,38 @@ ghost use Rattle.std.specs.Prelude.{◌≡◌, ◌-◌, ◌^◌, ◌<◌, [], ma
 ghost use Rattle.clap.specs.Faults.{fault_of};
 ghost use Rattle.clap.specs.Simple.{subcommand_of};
 ghost use Rattle.streams.specs.States.{IsFlushed, seen};
-ghost use Rattle.view_command.specs.Answers.{IsAnswer, IsFailure};
-ghost use Rattle.view_command.specs.Orders.{trace_of};
+ghost use Rattle.view_command.specs.Answers.{AreTracesIn, IsAnswer, IsFailure};
 ghost use Rattle.view_command.specs.States.{state};
-ghost use Rattle.view_command.specs.Texts.{IsTraceIn};
 ghost use Rattle.view_command.specs.Words.{view_app};
 
+mod comparing;
+mod differences;
 mod grammar;
+mod options;
 mod refusal;
 mod request;
 mod showing;
 mod telling;
 mod views;
+mod windows;
 
 use command_words::Failure;
+use comparing::compare;
 pub use refusal::Refusal;
-use request::request_of;
+use request::{Request, request_of};
 use showing::show;
 use std::alloc::Global;
 use std::convert::AsStr;
 use streams::{Sources, Stream};
 use telling::tell;
+use views::Outcome;
 
 /// Shows the trace that the words of a command line name, the program's name first, and returns the
 /// exit status: 0; 1 for a refusal, with its line on `err`; 2 for words that are no command, with
-/// the usage on `err`. Help goes to `out`, with status 0.
+/// the usage on `err`; 3 if the trace has what it may not have. Help goes to `out`, with status 0.
 ///
-/// Nothing is written to `out` before the whole trace was read. With status 0 all of it was written
-/// and flushed. If `err` cannot be written, only the status reports the failure.
+/// Nothing is written to `out` before the whole trace was read. With status 0 or 3 all of it was
+/// written and flushed. If `err` cannot be written, only the status reports the failure.
 pub fn view<S: AsStr, F: Sources, O: Stream, E: Stream>(
     alloc: Global,
     words: &[S],
@@ -59,12 +63,11 @@ fn perform<S: AsStr, F: Sources, O: Stream>(
     words: &[S],
     sources: &mut F,
     out: &mut O,
-) -> Result<(), Failure<Refusal>>
+) -> Result<Outcome, Failure<Refusal>>
     requires { O.failures out.old < 2 ^ 64 - 1 }
     ensures command { OnOk result (fault_of view_app (map S.text words.now) ≡ []) }
-    ensures trace { OnOk result
-        (IsTraceIn (F.texts sources.old)
-        (trace_of (subcommand_of view_app (map S.text words.now)))) }
+    ensures traces { OnOk result
+        (AreTracesIn (F.texts sources.old) (subcommand_of view_app (map S.text words.now))) }
     ensures opened { OnOk result (F.unopened sources.new ≡ F.unopened sources.old) }
     ensures flushed { OnOk result
         (IsFlushed (seen O.taken O.failures O.is_flushed out.old)
@@ -75,6 +78,8 @@ fn perform<S: AsStr, F: Sources, O: Stream>(
         (state (F.unopened sources.old) (seen O.taken O.failures O.is_flushed out.old))
         (state (F.unopened sources.new) (seen O.taken O.failures O.is_flushed out.new)) f) }
 {
-    let request = request_of(alloc, words)?;
-    Ok(show(alloc, &request, sources, out)?)
+    match request_of(alloc, words)? {
+        Request::Show(showing) => Ok(show(alloc, showing, sources, out)?),
+        Request::Compare(pair) => Ok(compare(alloc, pair, sources, out)?),
+    }
 }

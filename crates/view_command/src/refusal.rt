@@ -4,10 +4,12 @@ ghost use Rattle.std.specs.Prelude.{◌≡◌, Some};
 ghost use Rattle.view_command.specs.Lines.{line_of};
 ghost use Rattle.view_command.specs.declared.refusal.Refusal.TheVariants as refusal;
 
-use apex_types::SinkFault;
+use apex_types::{Name, SinkFault};
 use command_words::WantOfMemory;
 use std::alloc::{AllocError, AllocFailed};
 use std::fmt;
+use trace_stays::MemoryFull;
+use window_table::TableFault;
 
 /// A trace that is not shown. Displays as its line on standard error.
 #[derive(Drop)]
@@ -20,6 +22,10 @@ pub enum Refusal {
     Line { number: u64, trace: String },
     /// The picture would have too many elements.
     TooMany,
+    /// The text of that name breaks a rule of a module table.
+    Table { fault: TableFault, table: String },
+    /// The module table has no partition of this name, and the trace has.
+    Foreign(Name),
     Memory,
     /// Standard output took no more bytes.
     Write,
@@ -42,6 +48,16 @@ impl fmt::Display for Refusal {
                 f,
                 "mbview: the picture would have too many elements; choose fewer ticks with --from and --to"
             ),
+            Refusal::Table { fault, table } => write!(
+                f,
+                "mbview: {table} breaks rule {} of a module table",
+                fault.number()
+            ),
+            Refusal::Foreign(partition) => write!(
+                f,
+                "mbview: the trace has a partition that the module table has not: {}",
+                partition.as_str()
+            ),
             Refusal::Memory => write!(f, "mbview: there is too little memory"),
             Refusal::Write => write!(f, "mbview: the output cannot be written"),
         }
@@ -61,6 +77,14 @@ impl From<SinkFault> for Refusal {
 
     fn from(_: SinkFault) -> Self {
         Refusal::Write
+    }
+}
+
+impl From<MemoryFull> for Refusal {
+    ghost from_gives = { λ _ r. r ≡ refusal.Memory };
+
+    fn from(_: MemoryFull) -> Self {
+        Refusal::Memory
     }
 }
 

@@ -1,30 +1,42 @@
 //! The request in the words of a command line.
 
-ghost use Rattle.std.specs.Prelude.{◌≡◌, [], map, IfErr, IfOk, OnOk, codes, string_bytes};
+ghost use Rattle.std.specs.Prelude.{◌≡◌, [], map, IfErr, IfOk, OnOk};
 ghost use Rattle.clap.specs.Faults.{fault_of};
 ghost use Rattle.clap.specs.Matches.{found_of};
 ghost use Rattle.clap.specs.Simple.{subcommand_of, subcommand_rows_of};
-ghost use Rattle.clap.specs.Walk.{first_of, rows_of};
-ghost use Rattle.view_command.specs.Answers.{IsFailureOfWords, IsNothingAsked, IsTickFailure, IsTicksFailure};
-ghost use Rattle.command_words.specs.Found.{word_at};
-ghost use Rattle.view_command.specs.Orders.{IsTickOf, trace_of};
+ghost use Rattle.clap.specs.Walk.{rows_of};
+ghost use Rattle.view_command.specs.Answers.{IsFailureOfWords, IsNothingAsked, IsWordsFailure};
+ghost use Rattle.view_command.specs.Orders.{IsCompared, IsRequest, IsShown};
 ghost use Rattle.view_command.specs.Words.{view_app};
 
-use crate::grammar::{bad_tick, grammar, no_command, no_ticks};
+use crate::comparing::Pair;
+use crate::grammar::{grammar, no_command};
+use crate::options::{checked, chosen, text, ticks};
 use crate::refusal::Refusal;
 use crate::views::View;
 use apex_types::Ticks;
 use clap::ArgMatches;
-use command_words::{Failure, number_of, word};
+use command_words::{Failure, word};
 use std::alloc::Global;
 use std::convert::AsStr;
 
+/// What the words ask for.
+#[derive(Drop)]
+pub enum Request {
+    /// A trace is shown.
+    Show(Showing),
+    /// Two traces are compared.
+    Compare(Pair),
+}
+
 /// The trace to show, and the way to show it.
 #[derive(Drop)]
-pub struct Request {
+pub struct Showing {
     pub view: View,
     /// The name of the trace.
     pub trace: String,
+    /// The name of the module table, by whose windows ticks are counted, if one is asked for.
+    pub table: Option<String>,
     /// The first tick that is shown.
     pub from: Ticks,
     /// The tick before which it ends, if it is not the end of the trace.
@@ -34,8 +46,8 @@ pub struct Request {
 /// The request in the words.
 pub fn request_of<S: AsStr>(alloc: Global, words: &[S]) -> Result<Request, Failure<Refusal>>
     ensures command { OnOk result (fault_of view_app (map S.text words.now) ≡ []) }
-    ensures trace { IfOk result
-        (λ r. string_bytes r.trace ≡ trace_of (subcommand_of view_app (map S.text words.now))) }
+    ensures request { IfOk result
+        (IsRequest (subcommand_of view_app (map S.text words.now))) }
     ensures failed { IfErr result
         (λ f. IsFailureOfWords (fault_of view_app (map S.text words.now))
         (subcommand_of view_app (map S.text words.now)) f) }
@@ -46,14 +58,17 @@ pub fn request_of<S: AsStr>(alloc: Global, words: &[S]) -> Result<Request, Failu
 
 /// The request in the arguments found in the words.
 fn requested(alloc: Global, matches: &ArgMatches<'_>) -> Result<Request, Failure<Refusal>>
-    ensures trace { IfOk result
-        (λ r. string_bytes r.trace ≡ trace_of (subcommand_rows_of matches.now)) }
+    ensures request { IfOk result (IsRequest (subcommand_rows_of matches.now)) }
     ensures failed { IfErr result (λ f. IsNothingAsked (subcommand_rows_of matches.now) f) }
 {
     match matches.subcommand() {
         Some(("summary", found)) => shown(alloc, table_or_rows(found), found),
         Some(("svg", found)) => shown(alloc, View::Picture, found),
         Some(("vcd", found)) => shown(alloc, View::Waves, found),
+        Some(("html", found)) => shown(alloc, View::Page, found),
+        Some(("list", found)) => shown(alloc, View::Lines(chosen(alloc, found)?), found),
+        Some(("check", found)) => shown(alloc, checked(alloc, found)?, found),
+        Some(("diff", found)) => compared(alloc, found),
         _ => Err(Failure::Usage(no_command(alloc)?)),
     }
 }
@@ -69,42 +84,29 @@ fn table_or_rows(found: &ArgMatches<'_>) -> View {
 
 /// The trace and the ticks that were found.
 fn shown(alloc: Global, view: View, found: &ArgMatches<'_>) -> Result<Request, Failure<Refusal>>
-    ensures trace { IfOk result
-        (λ r. string_bytes r.trace ≡ word_at (codes "TRACE") (rows_of (found_of found.now))) }
-    ensures failed { IfErr result (λ f. IsTicksFailure (rows_of (found_of found.now)) f) }
+    ensures request { IfOk result (IsShown (rows_of (found_of found.now))) }
+    ensures failed { IfErr result (λ f. IsWordsFailure (rows_of (found_of found.now)) f) }
 {
     let trace = String::from_str(alloc, word(found, "TRACE"))?;
-    let from = tick(alloc, found, "from")?.unwrap_or(0);
-    let to = tick(alloc, found, "to")?;
-    if let Some(to) = to {
-        if to <= from {
-            return Err(Failure::Usage(no_ticks(alloc, from, to)?));
-        }
-    }
-    Ok(Request {
+    let table = text(alloc, found, "table")?;
+    let (from, to) = ticks(alloc, found)?;
+    Ok(Request::Show(Showing {
         view,
         trace,
-        from: Ticks(from),
-        to: to.map(Ticks),
-    })
+        table,
+        from,
+        to,
+    }))
 }
 
-/// The tick of an option, if it is there.
-fn tick(
-    alloc: Global,
-    found: &ArgMatches<'_>,
-    option: &str,
-) -> Result<Option<u64>, Failure<Refusal>>
-    ensures read { IfOk result
-        (λ t. IsTickOf (first_of option.now (rows_of (found_of found.now))) t) }
-    ensures failed { IfErr result
-        (λ f. IsTickFailure (first_of option.now (rows_of (found_of found.now))) f) }
+/// The traces that were found.
+fn compared(alloc: Global, found: &ArgMatches<'_>) -> Result<Request, Failure<Refusal>>
+    ensures request { IfOk result (IsCompared (rows_of (found_of found.now))) }
+    ensures failed { IfErr result (λ f. IsWordsFailure (rows_of (found_of found.now)) f) }
 {
-    let Some(word) = found.get_str(option) else {
-        return Ok(None);
-    };
-    match number_of(word) {
-        Some(tick) => Ok(Some(tick)),
-        None => Err(Failure::Usage(bad_tick(alloc, option, word)?)),
-    }
+    Ok(Request::Compare(Pair {
+        first: String::from_str(alloc, word(found, "TRACE"))?,
+        second: String::from_str(alloc, word(found, "OTHER"))?,
+        partition: text(alloc, found, "partition")?,
+    }))
 }

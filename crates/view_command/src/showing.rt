@@ -1,16 +1,18 @@
 //! A trace is read to its end, and then shown.
 
-ghost use Rattle.std.specs.Prelude.{◌≡◌, ◌-◌, ◌^◌, ◌<◌, IfErr, OnOk, string_bytes};
+ghost use Rattle.std.specs.Prelude.{◌≡◌, ◌⊎◌, ◌-◌, ◌^◌, ◌<◌, IfErr, OnOk, string_bytes};
 ghost use Rattle.streams.specs.States.{IsFlushed, seen};
-ghost use Rattle.view_command.specs.Answers.{IsRefused, IsUnread};
+ghost use Rattle.view_command.specs.Answers.{IsRefused, IsTableRefused, IsUnread};
 ghost use Rattle.view_command.specs.Faults as faults;
 ghost use Rattle.view_command.specs.Lines.{called};
+ghost use Rattle.view_command.specs.Orders.{asked_text};
 ghost use Rattle.view_command.specs.States.{state};
-ghost use Rattle.view_command.specs.Texts.{IsTraceIn, IsTraceOf};
+ghost use Rattle.view_command.specs.Texts.{IsTableAsked, IsTraceIn, IsTraceOf};
 
 use crate::refusal::Refusal;
-use crate::request::Request;
-use crate::views::{Shown, ViewFault};
+use crate::request::Showing;
+use crate::views::{Outcome, Shown, ViewFault};
+use crate::windows::table_asked;
 use std::alloc::Global;
 use std::io::Read;
 use streams::{NameFault, Sources, Stream, write_bytes};
@@ -19,34 +21,50 @@ use trace_text::{StreamFault, TraceStream};
 /// Reads the trace to its end, and then writes it as the request wants it.
 pub fn show<F: Sources, O: Stream>(
     alloc: Global,
-    request: &Request,
+    request: Showing,
     sources: &mut F,
     out: &mut O,
-) -> Result<(), Refusal>
+) -> Result<Outcome, Refusal>
     requires { O.failures out.old < 2 ^ 64 - 1 }
-    ensures trace { OnOk result (IsTraceIn (F.texts sources.old) (string_bytes request.now.trace)) }
+    ensures trace { OnOk result (IsTraceIn (F.texts sources.old) (string_bytes request.trace)) }
+    ensures table { OnOk result (IsTableAsked (F.texts sources.old) (asked_text request.table)) }
     ensures opened { OnOk result (F.unopened sources.new ≡ F.unopened sources.old) }
     ensures flushed { OnOk result
         (IsFlushed (seen O.taken O.failures O.is_flushed out.old)
         (seen O.taken O.failures O.is_flushed out.new)) }
     ensures refused { IfErr result
-        (λ r. IsRefused (F.texts sources.old) (string_bytes request.now.trace)
+        (λ r. IsRefused (F.texts sources.old) (string_bytes request.trace)
+        (state (F.unopened sources.old) (seen O.taken O.failures O.is_flushed out.old))
+        (state (F.unopened sources.new) (seen O.taken O.failures O.is_flushed out.new)) r
+        ⊎ IsTableRefused (F.texts sources.old) (asked_text request.table)
         (state (F.unopened sources.old) (seen O.taken O.failures O.is_flushed out.old))
         (state (F.unopened sources.new) (seen O.taken O.failures O.is_flushed out.new)) r) }
 {
-    let trace = request.trace.as_str();
-    let name = String::from_str(alloc, called(trace))?;
-    let reader = match sources.open(trace) {
+    let Showing {
+        view,
+        trace,
+        table,
+        from,
+        to,
+    } = request;
+    let table = table_asked(alloc, &table, sources)?;
+    let name = String::from_str(alloc, called(trace.as_str()))?;
+    let reader = match sources.open(trace.as_str()) {
         Ok(reader) => reader,
         Err(fault) => return Err(of_source(name, fault)),
     };
-    let mut shown = Shown::new(alloc, request.view, request.from, request.to);
+    let mut shown = match Shown::new(alloc, view, from, to, table) {
+        Ok(shown) => shown,
+        Err(fault) => return Err(of_view(fault)),
+    };
     read_all(alloc, name, reader, &mut shown)?;
+    let outcome = shown.outcome();
     let bytes = match shown.into_bytes(alloc) {
         Ok(bytes) => bytes,
         Err(fault) => return Err(of_view(fault)),
     };
-    Ok(write_bytes(out, bytes.as_slice())?)
+    write_bytes(out, bytes.as_slice())?;
+    Ok(outcome)
 }
 
 /// Reads every line of the trace `name`.
@@ -78,7 +96,7 @@ fn read_all<R: Read + Drop>(
 }
 
 /// The refusal of a text that was not opened.
-fn of_source(name: String, fault: NameFault) -> Refusal
+pub fn of_source(name: String, fault: NameFault) -> Refusal
     ensures { result ≡ faults.of_source name fault }
 {
     match fault {
@@ -88,7 +106,7 @@ fn of_source(name: String, fault: NameFault) -> Refusal
 }
 
 /// The refusal of a text that is no trace, or was not read.
-fn of_stream(name: String, fault: StreamFault) -> Refusal
+pub fn of_stream(name: String, fault: StreamFault) -> Refusal
     ensures { result ≡ faults.of_stream name fault }
 {
     match fault {
@@ -108,11 +126,12 @@ fn of_view(fault: ViewFault) -> Refusal
     match fault {
         ViewFault::Memory => Refusal::Memory,
         ViewFault::TooMany => Refusal::TooMany,
+        ViewFault::Foreign(partition) => Refusal::Foreign(partition),
     }
 }
 
 /// The name of a text in a line for a reader.
-fn called(trace: &str) -> &str
+pub fn called(trace: &str) -> &str
     ensures { result.now ≡ called trace.now }
 {
     if trace == "-" {

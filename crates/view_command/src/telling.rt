@@ -6,12 +6,13 @@ ghost use Rattle.streams.specs.States.{seen};
 ghost use Rattle.view_command.specs.Answers.{IsTold};
 
 use crate::refusal::Refusal;
+use crate::views::Outcome;
 use command_words::{Failure, tell_usage};
 use streams::{Stream, tell_line};
 
 /// Reports the outcome of a command and returns its exit status.
 pub fn tell<O: Stream, E: Stream>(
-    outcome: Result<(), Failure<Refusal>>,
+    outcome: Result<Outcome, Failure<Refusal>>,
     out: &mut O,
     err: &mut E,
 ) -> u8
@@ -23,7 +24,8 @@ pub fn tell<O: Stream, E: Stream>(
         (seen E.taken E.failures E.is_flushed err.new) result }
 {
     match outcome {
-        Ok(()) => 0,
+        Ok(Outcome::Shown) => 0,
+        Ok(Outcome::Found) => 3,
         Err(Failure::Refused(refusal)) => {
             // If standard error does not take it, only the status reports the refusal.
             tell_line(err, refusal);

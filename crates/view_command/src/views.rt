@@ -1,18 +1,23 @@
 //! The views of a trace: the one file that names the crates which make them.
 
 ghost use Rattle.std.specs.Prelude.{◌≡◌, IsErrOf};
-ghost use Rattle.view_command.specs.Views.{IsOfPicture, view_fault};
+ghost use Rattle.view_command.specs.Views.{IsOfPicture, outcome_of, shares_fault, view_fault};
 ghost use Rattle.view_command.specs.declared.views.ViewFault.TheVariants as fault;
 
-use apex_types::{Event, Ticks};
+use crate::windows::{page_windows, shares_of};
+use apex_types::{Event, Name, Ticks};
 use std::alloc::Global;
 use std::io;
+use trace_filter::{Check, Filter, Limits, Listing};
+use trace_page::Page;
 use trace_picture::{Picture, PictureFault};
+use trace_shares::SharesFault;
 use trace_view::{ReportFault, Summary};
 use wave_dump::{Dump, MemoryFull};
+use window_table::ModuleTable;
 
 /// How a trace is shown.
-#[derive(Clone, Copy, Debug, PartialEq, Eq)]
+#[derive(Drop)]
 pub enum View {
     /// A table for people.
     Table,
@@ -20,6 +25,21 @@ pub enum View {
     Rows,
     Picture,
     Waves,
+    /// A page for a browser.
+    Page,
+    /// The chosen lines as they stand.
+    Lines(Filter),
+    /// The first of the chosen lines that is one too many.
+    Check(Filter, Limits),
+}
+
+/// What is told of a trace by the exit status.
+#[derive(Clone, Copy, Debug, PartialEq, Eq)]
+pub enum Outcome {
+    /// It is shown.
+    Shown,
+    /// It has what it may not have.
+    Found,
 }
 
 /// Why an event is not taken.
@@ -28,6 +48,8 @@ pub enum ViewFault {
     Memory,
     /// The picture would have too many elements.
     TooMany,
+    /// The module table has no partition of this name.
+    Foreign(Name),
 }
 
 /// The report of the events so far.
@@ -37,17 +59,43 @@ pub enum Shown {
     Rows(Summary),
     Picture(Picture),
     Waves(Dump),
+    /// The page, and its windows.
+    Page(Page, Vec<u8>),
+    Lines(Listing),
+    Check(Check),
 }
 
 impl Shown {
     /// Nothing is shown so far.
-    pub fn new(alloc: Global, view: View, from: Ticks, to: Option<Ticks>) -> Self {
-        match view {
-            View::Table => Shown::Table(Summary::new(alloc, from, to)),
-            View::Rows => Shown::Rows(Summary::new(alloc, from, to)),
+    pub fn new(
+        alloc: Global,
+        view: View,
+        from: Ticks,
+        to: Option<Ticks>,
+        table: Option<ModuleTable>,
+    ) -> Result<Self, ViewFault>
+        ensures { IsErrOf result ViewFault.TooMany → ⊥ }
+    {
+        let shown = match view {
+            View::Table => Shown::Table(Summary::new(
+                alloc,
+                from,
+                to,
+                shares_of(alloc, table, from)?,
+            )),
+            View::Rows => Shown::Rows(Summary::new(
+                alloc,
+                from,
+                to,
+                shares_of(alloc, table, from)?,
+            )),
             View::Picture => Shown::Picture(Picture::new(alloc, from, to)),
             View::Waves => Shown::Waves(Dump::new(alloc, from, to)),
-        }
+            View::Page => Shown::Page(Page::new(alloc), page_windows(alloc, &table)?),
+            View::Lines(filter) => Shown::Lines(Listing::new(alloc, filter)),
+            View::Check(filter, limits) => Shown::Check(Check::new(alloc, filter, limits)),
+        };
+        Ok(shown)
     }
 
     /// Takes the next event. Only a picture may have too many elements.
@@ -58,8 +106,21 @@ impl Shown {
             Shown::Table(summary) | Shown::Rows(summary) => summary.count(event)?,
             Shown::Picture(picture) => picture.add(event)?,
             Shown::Waves(dump) => dump.add(event)?,
+            Shown::Page(page, _) => page.add(event)?,
+            Shown::Lines(listing) => listing.add(event)?,
+            Shown::Check(check) => check.add(event)?,
         }
         Ok(())
+    }
+
+    /// What is told by the exit status.
+    pub fn outcome(&self) -> Outcome
+        ensures { result ≡ outcome_of self.now }
+    {
+        match self {
+            Shown::Check(check) if check.is_broken() => Outcome::Found,
+            _ => Outcome::Shown,
+        }
     }
 
     /// The report of all events, as the bytes to write.
@@ -72,6 +133,9 @@ impl Shown {
             Shown::Rows(summary) => summary.finish()?.write_csv(alloc, &mut bytes)?,
             Shown::Picture(picture) => picture.finish()?.write(&mut bytes)?,
             Shown::Waves(dump) => write_waves(dump, &mut bytes)?,
+            Shown::Page(page, windows) => bytes = page.into_text(windows.as_slice())?,
+            Shown::Lines(listing) => bytes = listing.into_text(),
+            Shown::Check(check) => bytes = check.into_text(alloc),
         }
         Ok(bytes)
     }
@@ -108,6 +172,17 @@ impl From<ReportFault> for ViewFault {
 
     fn from(_: ReportFault) -> Self {
         ViewFault::Memory
+    }
+}
+
+impl From<SharesFault> for ViewFault {
+    ghost from_gives = { λ why f. f ≡ shares_fault why };
+
+    fn from(fault: SharesFault) -> Self {
+        match fault {
+            SharesFault::Memory => ViewFault::Memory,
+            SharesFault::Unknown(partition) => ViewFault::Foreign(partition),
+        }
     }
 }
 

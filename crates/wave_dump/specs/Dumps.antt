@@ -1,8 +1,9 @@
 -- The changes that a dump shows of a stay, and of a pulse.
-use Rattle.std.specs.Prelude.{nat_le, if◌then◌else◌, List, [], ◌∷◌}
+use Rattle.std.specs.Prelude.{ℤ, nat_le, if◌then◌else◌, List, [], ◌∷◌}
 use Rattle.apex_types.specs.declared.identity.Ticks.{Ticks}
 use Rattle.trace_stays.specs.declared.span.Span.{Span}
 use Rattle.wave_dump.specs.declared.change.Change.{Change}
+use Rattle.wave_dump.specs.declared.change.Value.{Value}
 use Rattle.wave_dump.specs.declared.change.Value.TheVariants as value
 use Rattle.wave_dump.specs.declared.variable.Variable.{Variable}
 
@@ -13,6 +14,17 @@ changes_of v s =
     if nat_le s.until.0 s.from.0 then [] else
     record { tick = s.from; variable = v; value = value.High } ∷ record { tick = s.until; variable = v; value = value.Low } ∷ []
 
+-- A name shows from the first tick of a stay on, and nothing from the tick behind its last on, if nothing else follows there.
+abbrev pub names_of : Variable → Value → Span → List Change
+names_of v name s =
+    if nat_le s.until.0 s.from.0 then [] else
+    record { tick = s.from; variable = v; value = name } ∷ record { tick = s.until; variable = v; value = value.Nothing } ∷ []
+
 -- an event happens in its tick
 abbrev pub pulse_at : Variable → Ticks → List Change
 pulse_at v t = record { tick = t; variable = v; value = value.High } ∷ []
+
+-- and its message has its first word
+abbrev pub word_at : Variable → Ticks → List ℤ → List Change
+word_at v t [] = []
+word_at v t (w ∷ ws) = record { tick = t; variable = v; value = value.Word w } ∷ []

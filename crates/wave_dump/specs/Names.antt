@@ -1,7 +1,8 @@
 -- The names of scopes and variables in a dump.
-use Rattle.std.specs.Prelude.{ℕ, List, ◌++◌, codes, Option, Some, None}
-use Rattle.std.specs.Fmt.{decimal}
-use Rattle.apex_types.specs.CodeWords.{error_word}
+use Rattle.std.specs.Prelude.{ℕ, false, List, ◌++◌, codes, Option, Some, None}
+use Rattle.std.specs.Fmt.{decimal, digits}
+use Rattle.std.specs.Int.{cast_unsigned, w64}
+use Rattle.apex_types.specs.CodeWords.{error_word, mode_word, state_word}
 use Rattle.apex_types.specs.Line.{subject_text}
 use Rattle.apex_types.specs.declared.codes.Mode.{Mode}
 use Rattle.apex_types.specs.declared.codes.Mode.TheVariants as mode
@@ -73,9 +74,16 @@ mode_number mode.Normal = 3
 abbrev pub code_of : Variable → List ℕ
 code_of (variable.State place state) = codes "s" ++ decimal place ++ codes "." ++ decimal (state_number state)
 code_of (variable.Mode place mode) = codes "m" ++ decimal place ++ codes "." ++ decimal (mode_number mode)
+code_of (variable.StateName place) = codes "t" ++ decimal place
+code_of (variable.ModeName place) = codes "n" ++ decimal place
 code_of (variable.Pulse place) = codes "e" ++ decimal place
+code_of (variable.Word place) = codes "v" ++ decimal place
 
--- the digit of a value
-abbrev pub digit_of : Value → ℕ
-digit_of value.Low = 48
-digit_of value.High = 49
+-- a value before the code of its variable; of a word the 64 bits, without those in front of the first 1
+abbrev pub value_text : Value → Option (List ℕ)
+value_text value.Low = Some (codes "0")
+value_text value.High = Some (codes "1")
+value_text (value.State s) = Some (codes "s" ++ state_word s ++ codes " ")
+value_text (value.Mode m) = Some (codes "s" ++ mode_word m ++ codes " ")
+value_text value.Nothing = Some (codes "s- ")
+value_text (value.Word w) = Some (codes "b" ++ digits 2 false (cast_unsigned w64 w) ++ codes " ")

@@ -1,10 +1,8 @@
 //! Changes of variables.
 
-ghost use Rattle.std.specs.Prelude.{◌≡◌};
-ghost use Rattle.wave_dump.specs.Names.{digit_of};
-
 use crate::variable::Variable;
-use apex_types::Ticks;
+use apex_types::{Mode, ProcessState, Ticks};
+use std::fmt::{self, Display, Formatter, Write};
 
 /// The new value of a variable.
 #[derive(Clone, Copy, Debug, PartialEq, Eq)]
@@ -13,16 +11,31 @@ pub enum Value {
     Low,
     /// The wire becomes 1, or the event happens.
     High,
+    /// The process enters this state.
+    State(ProcessState),
+    /// The partition enters this mode.
+    Mode(Mode),
+    /// The process is in no state, or the partition in no mode.
+    Nothing,
+    /// The first word of a message.
+    Word(i64),
 }
 
-impl Value {
-    /// The digit of this value in a dump.
-    pub fn digit(self) -> char
-        ensures { result ≡ digit_of self }
-    {
+/// Displays as it stands in a dump before the code of its variable: a digit, a word that viewers show
+/// by its name, or the 64 bits of a number without those in front of the first 1.
+impl Display for Value {
+    ghost use Rattle.wave_dump.specs.Names.{value_text};
+
+    ghost output = { λ value. value_text value };
+
+    fn fmt<W: Write>(&self, f: &mut Formatter<W>) -> fmt::Result {
         match self {
-            Value::Low => '0',
-            Value::High => '1',
+            Value::Low => f.write_str("0"),
+            Value::High => f.write_str("1"),
+            Value::State(state) => write!(f, "s{} ", state.word()),
+            Value::Mode(mode) => write!(f, "s{} ", mode.word()),
+            Value::Nothing => f.write_str("s- "),
+            Value::Word(word) => write!(f, "b{:b} ", *word),
         }
     }
 }

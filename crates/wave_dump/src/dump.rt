@@ -2,7 +2,7 @@
 
 ghost use Rattle.std.specs.Prelude.{◌≡◌, ◌++◌, [], OnOk};
 ghost use Rattle.std.specs.List.Sorted.{IsNonDecreasingBy};
-ghost use Rattle.wave_dump.specs.Dumps.{changes_of, pulse_at};
+ghost use Rattle.wave_dump.specs.Dumps.{changes_of, names_of, pulse_at, word_at};
 
 use crate::change::{Change, Value};
 use crate::header::write_header;
@@ -42,6 +42,53 @@ fn push_stay(changes: &mut Vec<Change>, variable: Variable, span: Span) -> Resul
         variable,
         value: Value::Low,
     })?;
+    Ok(())
+}
+
+/// Adds the changes of a variable that shows this name in these ticks.
+fn push_name(
+    changes: &mut Vec<Change>,
+    variable: Variable,
+    name: Value,
+    span: Span,
+) -> Result<(), MemoryFull>
+    ensures { OnOk result
+        (changes.new.items ≡ changes.old.items ++ names_of variable name span) }
+{
+    let Span { from, until } = span;
+    if until.0 <= from.0 {
+        return Ok(());
+    }
+    changes.push(Change {
+        tick: from,
+        variable,
+        value: name,
+    })?;
+    changes.push(Change {
+        tick: until,
+        variable,
+        value: Value::Nothing,
+    })?;
+    Ok(())
+}
+
+/// Adds the change of a variable that shows the first word of a message, if it has one.
+fn push_word(
+    changes: &mut Vec<Change>,
+    variable: Variable,
+    at: Ticks,
+    words: &[i64],
+) -> Result<(), MemoryFull>
+    ensures { OnOk result
+        (changes.new.items ≡ changes.old.items ++ word_at variable at words.now) }
+{
+    if let Some(word) = words.first() {
+        changes.push(Change {
+            tick: at,
+            variable,
+            value: Value::Word(*word),
+        })?;
+    }
     Ok(())
 }
 
@@ -133,7 +180,7 @@ impl Dump {
                 writeln!(out, "#{}", change.tick.0)?;
                 now = change.tick;
             }
-            writeln!(out, "{}{}", change.value.digit(), change.variable)?;
+            writeln!(out, "{}{}", change.value, change.variable)?;
         }
         if now != span.until {
             writeln!(out, "#{}", span.until.0)?;
@@ -147,11 +194,22 @@ impl Dump {
     {
         let shown = self.shown.open();
         for ended in &self.ended {
-            let (variable, span) = match ended {
-                Ended::State(place, stay) => (Variable::State(*place, stay.state), stay.span),
-                Ended::Mode(place, stay) => (Variable::Mode(*place, stay.mode), stay.span),
+            let (wire, named, name, span) = match ended {
+                Ended::State(place, stay) => (
+                    Variable::State(*place, stay.state),
+                    Variable::StateName(*place),
+                    Value::State(stay.state),
+                    stay.span,
+                ),
+                Ended::Mode(place, stay) => (
+                    Variable::Mode(*place, stay.mode),
+                    Variable::ModeName(*place),
+                    Value::Mode(stay.mode),
+                    stay.span,
+                ),
             };
-            push_stay(&mut self.changes, variable, span.within(shown))?;
+            push_stay(&mut self.changes, wire, span.within(shown))?;
+            push_name(&mut self.changes, named, name, span.within(shown))?;
         }
         self.ended.clear();
         Ok(())
@@ -171,7 +229,9 @@ impl Dump {
             None => None,
         };
         let place = self.pulse_place(PulseLane { partition, pulse })?;
-        push_pulse(&mut self.changes, Variable::Pulse(place), event.tick)
+        push_pulse(&mut self.changes, Variable::Pulse(place), event.tick)?;
+        let words = event.kind.words();
+        push_word(&mut self.changes, Variable::Word(place), event.tick, words)
     }
 
     /// The place of these pulses, which get one if they have none.

@@ -1,9 +1,9 @@
 //! The beginning of a dump: its variables, and their first values.
 
-use crate::pulse::{GROUPS, Group, PulseLane, subject_text};
+use crate::pulse::{GROUPS, Group, PulseLane};
 use crate::variable::{MODES, STATES, Variable};
 use std::io::{self, Write};
-use trace_stays::{Lanes, Span};
+use trace_stays::{Lanes, Span, subject_word};
 
 /// Writes the part before the changes.
 pub fn write_header<W: Write>(
@@ -42,13 +42,15 @@ fn write_partition<W: Write>(
     for mode in MODES {
         write_wire(Variable::Mode(place, mode), mode.word(), out)?;
     }
+    write_name(Variable::ModeName(place), "MODE", out)?;
     end_scope(out)?;
     for (process, lane) in lanes.processes().iter().enumerate() {
         if lane.partition == place {
-            begin_scope(subject_text(&lane.who), out)?;
+            begin_scope(subject_word(&lane.who), out)?;
             for state in STATES {
                 write_wire(Variable::State(process, state), state.word(), out)?;
             }
+            write_name(Variable::StateName(process), "STATE", out)?;
             end_scope(out)?;
         }
     }
@@ -88,6 +90,14 @@ fn write_group<W: Write>(
                 Variable::Pulse(place),
                 lane.pulse
             )?;
+            if group != Group::Errors {
+                writeln!(
+                    out,
+                    "$var reg 64 {} {}_WORD $end",
+                    Variable::Word(place),
+                    lane.pulse
+                )?;
+            }
         }
     }
     if is_begun { end_scope(out) } else { Ok(()) }
@@ -105,18 +115,25 @@ fn write_wire<W: Write>(variable: Variable, name: &str, out: &mut W) -> io::Resu
     writeln!(out, "$var wire 1 {} {} $end", variable, name)
 }
 
-/// All wires are 0 before the first changes.
+/// A variable that shows names.
+fn write_name<W: Write>(variable: Variable, name: &str, out: &mut W) -> io::Result<()> {
+    writeln!(out, "$var string 1 {} {} $end", variable, name)
+}
+
+/// All wires are 0 before the first changes, and no name is shown.
 fn write_first_values<W: Write>(lanes: &Lanes, out: &mut W) -> io::Result<()> {
     writeln!(out, "$dumpvars")?;
     for place in 0..lanes.partitions().len() {
         for mode in MODES {
             writeln!(out, "0{}", Variable::Mode(place, mode))?;
         }
+        writeln!(out, "s- {}", Variable::ModeName(place))?;
     }
     for place in 0..lanes.processes().len() {
         for state in STATES {
             writeln!(out, "0{}", Variable::State(place, state))?;
         }
+        writeln!(out, "s- {}", Variable::StateName(place))?;
     }
     writeln!(out, "$end")
 }

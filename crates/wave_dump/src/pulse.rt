@@ -1,11 +1,11 @@
 //! The events of a single tick: messages, reports and errors.
 
 ghost use Rattle.std.specs.Prelude.{◌≡◌};
-ghost use Rattle.apex_types.specs.Line as line;
 ghost use Rattle.wave_dump.specs.Names.{group_of, group_word, pulse_of};
 
 use apex_types::{ErrorKind, EventKind, Name, Subject};
 use std::fmt::{self, Display, Formatter, Write};
+use trace_stays::subject_word;
 
 /// The event that a pulse shows.
 #[derive(Clone, Copy, Debug, PartialEq, Eq)]
@@ -96,19 +96,8 @@ impl Display for Pulse {
             Pulse::Arrive(port) => write!(f, "{}_ARRIVE", port.as_str()),
             Pulse::Lost(port) => write!(f, "{}_LOST", port.as_str()),
             Pulse::Out(channel) => write!(f, "{}_OUT", channel.as_str()),
-            Pulse::Report(who) => f.write_str(subject_text(who)),
+            Pulse::Report(who) => f.write_str(subject_word(who)),
             Pulse::Error(error) => f.write_str(error.word()),
         }
-    }
-}
-
-/// The name of a subject, as a trace has it.
-pub fn subject_text(who: &Subject) -> &str
-    ensures { result.now ≡ line.subject_text who.now }
-{
-    match who {
-        Subject::Init => "INIT",
-        Subject::Handler => "HANDLER",
-        Subject::Process(name) => name.as_str(),
     }
 }

@@ -10,8 +10,14 @@ pub enum Variable {
     State(usize, ProcessState),
     /// True while the partition at this place is in this mode.
     Mode(usize, Mode),
+    /// The state of the process at this place, by its name.
+    StateName(usize),
+    /// The mode of the partition at this place, by its name.
+    ModeName(usize),
     /// The pulse at this place.
     Pulse(usize),
+    /// The first word of the messages of the pulse at this place.
+    Word(usize),
 }
 
 /// The states of a process, in the order of their numbers.
@@ -35,7 +41,10 @@ impl Display for Variable {
         match self {
             Variable::State(place, state) => write!(f, "s{}.{}", place, *state as u8),
             Variable::Mode(place, mode) => write!(f, "m{}.{}", place, *mode as u8),
+            Variable::StateName(place) => write!(f, "t{}", place),
+            Variable::ModeName(place) => write!(f, "n{}", place),
             Variable::Pulse(place) => write!(f, "e{}", place),
+            Variable::Word(place) => write!(f, "v{}", place),
         }
     }
 }

@@ -55,7 +55,7 @@ fn expect_empty(rt: &impl Abort, alloc: Global, from: u64, to: u64) {
 }
 
 fn report_of(rt: &impl Abort, alloc: Global, from: u64, to: Option<u64>) -> Report {
-    let mut summary = Summary::new(alloc, Ticks(from), to.map(Ticks));
+    let mut summary = Summary::new(alloc, Ticks(from), to.map(Ticks), None);
     let mut reader = TraceReader::new(TRACE.as_bytes());
     for _ in 0..u64::MAX {
         match reader.next_event().expect(rt, "a line") {

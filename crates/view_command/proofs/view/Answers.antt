@@ -21,4 +21,4 @@ returns g c =
     let err = seen g.E.Sink.taken g.E.Sink.failures g.E.Stream.is_flushed in
     answered (fault_of view_app words) (subcommand_of view_app words) (g.F.Sources.texts c.args.sources.now) (state (g.F.Sources.unopened c.args.sources.now) (out c.args.out.now)) (state (g.F.Sources.unopened c.perform-outcome.new.sources) (out c.perform-outcome.new.out))
     (out c.tell.new.out) (err c.args.err.now) (err c.tell.new.err) c.tell.result c.perform-outcome.result
-    c.perform-outcome.ensures.command c.perform-outcome.ensures.trace c.perform-outcome.ensures.opened c.perform-outcome.ensures.flushed c.perform-outcome.ensures.failed c.tell.ensures
+    c.perform-outcome.ensures.command c.perform-outcome.ensures.traces c.perform-outcome.ensures.opened c.perform-outcome.ensures.flushed c.perform-outcome.ensures.failed c.tell.ensures

@@ -1,0 +1,65 @@
+//! A page.
+
+ghost use Rattle.std.specs.Prelude.{◌≡◌, ◌++◌, [], IfOk, OnErr, OnOk};
+ghost use Rattle.trace_page.specs.Escaping.{escaped_line};
+
+use crate::escaping::push_escaped;
+use crate::text::{BACK, BETWEEN, FRONT};
+use apex_types::Event;
+use std::alloc::Global;
+use trace_filter::line_of;
+use trace_stays::MemoryFull;
+
+/// The page of a trace, without what stands around the trace's text.
+#[derive(Drop)]
+pub struct Page {
+    alloc: Global,
+    /// The lines so far, as they stand in the string of the script.
+    data: Vec<u8>,
+}
+
+impl Page {
+    /// A page without lines.
+    pub fn new(alloc: Global) -> Page
+        ensures { result.data.items ≡ [] }
+    {
+        Page {
+            alloc,
+            data: Vec::new(alloc),
+        }
+    }
+
+    /// Adds the line of the next event.
+    ///
+    /// # Errors
+    ///
+    /// Memory ran out.
+    pub fn add(&mut self, event: &Event) -> Result<(), MemoryFull>
+        ensures { OnOk result
+            (self.new.data.items ≡ self.old.data.items ++ escaped_line event.now) }
+    {
+        let line = line_of(self.alloc, event)?;
+        push_escaped(&mut self.data, line.as_slice())?;
+        Ok(())
+    }
+
+    /// The whole page, with the windows of the module table as they are in `windows_text`, or
+    /// `NOT_KNOWN`.
+    ///
+    /// # Errors
+    ///
+    /// Memory ran out.
+    pub fn into_text(self, windows: &[u8]) -> Result<Vec<u8>, MemoryFull>
+        ensures { IfOk result
+            (λ text. text.items
+            ≡ FRONT.now ++ self.data.items ++ BETWEEN.now ++ windows.now ++ BACK.now) }
+    {
+        let mut text = Vec::new(self.alloc);
+        text.extend_from_slice(FRONT.as_bytes())?;
+        text.extend_from_slice(self.data.as_slice())?;
+        text.extend_from_slice(BETWEEN.as_bytes())?;
+        text.extend_from_slice(windows)?;
+        text.extend_from_slice(BACK.as_bytes())?;
+        Ok(text)
+    }
+}

@@ -1,0 +1,4 @@
+pub mod Standings
+pub mod Uses
+pub mod Counts
+pub mod Runs

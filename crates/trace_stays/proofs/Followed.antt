@@ -1,0 +1,844 @@
+-- The lanes of a trace behind one line more.
+use Rattle.std.proofs.Common.{◌≡◌, ◌⊎◌, inl, inr, ℕ, zero, suc, ◌+◌, ◌<◌, ◌≤◌, Bool, true, false, List, [], ◌∷◌, ◌++◌, map, length, Option, Some, None, Result, Ok, Err, refl, sym, ap, subst, ◌∙◌, arith, append-nil, append_assoc}
+use Rattle.std.specs.Prelude.{◌==◌, if◌then◌else◌, IfOk, OnErr, slice_get, slice_set}
+use Rattle.std.proofs.lemmas.Bool.{and_from, and_parts, eq-eqb, eqb-true, false≢true}
+use Rattle.apex_types.specs.Line.{subject_text}
+use Rattle.apex_types.specs.declared.codes.Mode.{Mode}
+use Rattle.apex_types.specs.declared.codes.Mode.TheVariants as mode
+use Rattle.apex_types.specs.declared.codes.ProcessState.{ProcessState}
+use Rattle.apex_types.specs.declared.event.EventKind.{EventKind}
+use Rattle.apex_types.specs.declared.event.EventKind.TheVariants as event
+use Rattle.apex_types.specs.declared.event.Subject.{Subject}
+use Rattle.engine_meaning.specs.Digits.{same}
+use Rattle.trace_stays.specs.Following.{AreKept, HasPartition, HasProcess, HasRead, and_one, change_at, entered, gone_from, has_name, held_at, held_by, held_in, if_at, is_of, is_process, mode_after, mode_at, mode_by, mode_held, mode_in, mode_over, mode_over_at, new_partition, new_process, over_at, over_with, partition_at, place_from, process_at, process_in, starts_again, state_behind, state_in, state_left, state_over, stay_in, stay_left_by, stay_over, stays_at, stays_of, turned}
+use Rattle.trace_stays.specs.Within.{AreWithin}
+use Rattle.trace_stays.specs.Stays.{held_behind, mode_behind, mode_ended, stay_ended}
+use Rattle.trace_stays.specs.declared.fault.MemoryFull.{MemoryFull}
+use Rattle.trace_stays.specs.declared.lanes.Ended.{Ended}
+use Rattle.trace_stays.specs.declared.lanes.Ended.TheVariants as ended
+use Rattle.trace_stays.specs.declared.lanes.Lanes.{Lanes}
+use Rattle.trace_stays.specs.declared.lanes.PartitionLane.{PartitionLane}
+use Rattle.trace_stays.specs.declared.lanes.ProcessLane.{ProcessLane}
+use Rattle.trace_stays.specs.declared.stay.Held.{Held}
+use Rattle.trace_stays.specs.declared.stay.HeldMode.{HeldMode}
+use Rattle.trace_stays.specs.declared.stay.ModeStay.{ModeStay}
+use Rattle.trace_stays.specs.declared.stay.Stay.{Stay}
+
+-- ---- texts
+
+pub same_is : (a b : List ℕ) → same a b ≡ true → a ≡ b
+same_is [] [] h = refl
+same_is [] (y ∷ ys) h = cc
+same_is (x ∷ xs) [] h = cc
+same_is (x ∷ xs) (y ∷ ys) h =
+    let both = and_parts (x == y) (same xs ys) h in
+    ap (λ (n : ℕ). n ∷ xs) (eqb-true x y both.0) ∙ ap (λ (ns : List ℕ). y ∷ ns) (same_is xs ys both.1)
+
+same_text : (t : List ℕ) → same t t ≡ true
+same_text [] = refl
+same_text (x ∷ xs) = and_from (x == x) (same xs xs) (eq-eqb x x refl) (same_text xs)
+
+-- ---- the first that passes a test
+
+of_some : {A : Type 0} {x y : A} → Some x ≡ Some y → x ≡ y
+of_some e = cc
+
+no_some : {A : Type 0} {x : A} → None ≡ Some x → ⊥
+no_some e = cc
+
+found_step : {A : Type 0} (n : ℕ) (test : A → Bool) (x : A) (xs : List A) (o : Option ℕ) (k : ℕ) (b : Bool) → test x ≡ b → (if b then Some n else o) ≡ Some k
+    → (o ≡ Some k → (j : ℕ) × (y : A) × (k ≡ n + 1 + j) × (slice_get xs j ≡ Some y) × (test y ≡ true))
+    → (j : ℕ) × (y : A) × (k ≡ n + j) × (slice_get (x ∷ xs) j ≡ Some y) × (test y ≡ true)
+found_step n test x xs o k true e g later = let here : k ≡ n + 0 = sym (of_some g) ∙ omega arith in (0, x, here, refl, e)
+found_step n test x xs o k false e g later = let r = later g in let there : k ≡ n + suc r.0 = r.2 ∙ omega arith in (suc r.0, r.1, there, r.3, r.4)
+
+found_in : {A : Type 0} (n : ℕ) (test : A → Bool) (xs : List A) (k : ℕ) → place_from n test xs ≡ Some k → (j : ℕ) × (y : A) × (k ≡ n + j) × (slice_get xs j ≡ Some y) × (test y ≡ true)
+unfolding place_from
+found_in n test [] k h = absurd (no_some h)
+found_in n test (x ∷ xs) k h = found_step n test x xs (place_from (n + 1) test xs) k (test x) refl h (found_in (n + 1) test xs k)
+
+pub found : {A : Type 0} (test : A → Bool) (xs : List A) (k : ℕ) → place_from 0 test xs ≡ Some k → (x : A) × (slice_get xs k ≡ Some x) × (test x ≡ true)
+found test xs k h =
+    let r = found_in 0 test xs k h in
+    let same : r.0 ≡ k = omega (arith, r.2) in
+    (r.1, subst (λ j. slice_get xs j ≡ Some r.1) same r.3, r.4)
+
+-- those at the front come first
+kept_step : (n k : ℕ) (o p : Option ℕ) (b : Bool) → (if b then Some n else o) ≡ Some k → (o ≡ Some k → p ≡ Some k) → (if b then Some n else p) ≡ Some k
+kept_step n k o p true g later = g
+kept_step n k o p false g later = later g
+
+kept_place : {A : Type 0} (n : ℕ) (test : A → Bool) (xs : List A) (y : A) (k : ℕ) → place_from n test xs ≡ Some k → place_from n test (xs ++ y ∷ []) ≡ Some k
+unfolding place_from
+kept_place n test [] y k h = absurd (no_some h)
+kept_place n test (x ∷ xs) y k h = kept_step n k (place_from (n + 1) test xs) (place_from (n + 1) test (xs ++ y ∷ [])) (test x) h (kept_place (n + 1) test xs y k)
+
+last_step : (n : ℕ) (o p r : Option ℕ) (b : Bool) → (if b then Some n else o) ≡ None → (o ≡ None → p ≡ r) → (if b then Some n else p) ≡ r
+last_step n o p r true g later = absurd (no_some (sym g))
+last_step n o p r false g later = later g
+
+last_place : {A : Type 0} (n : ℕ) (test : A → Bool) (xs : List A) (y : A) → place_from n test xs ≡ None → place_from n test (xs ++ y ∷ []) ≡ (if test y then Some (n + length xs) else None)
+unfolding place_from
+last_place n test [] y h = let e : n ≡ n + 0 = omega arith in ap (λ (k : ℕ). if test y then Some k else None) e
+last_place n test (x ∷ xs) y h =
+    let further : n + 1 + length xs ≡ n + suc (length xs) = omega arith in
+    last_step n (place_from (n + 1) test xs) (place_from (n + 1) test (xs ++ y ∷ [])) (if test y then Some (n + suc (length xs)) else None) (test x) h
+    (λ g. last_place (n + 1) test xs y g ∙ ap (λ (k : ℕ). if test y then Some k else None) further)
+
+-- a change that the test does not see
+change_place : {A : Type 0} (n : ℕ) (test : A → Bool) (f : A → A) (k : ℕ) (xs : List A) → ((x : A) → test (f x) ≡ test x) → place_from n test (change_at k f xs) ≡ place_from n test xs
+unfolding place_from
+change_place n test f k [] blind = refl
+change_place n test f zero (x ∷ xs) blind = ap (λ (b : Bool). if b then Some n else place_from (n + 1) test xs) (blind x)
+change_place n test f (suc k) (x ∷ xs) blind = ap (λ (o : Option ℕ). if test x then Some n else o) (change_place (n + 1) test f k xs blind)
+
+map_place : {A : Type 0} (n : ℕ) (test : A → Bool) (f : A → A) (xs : List A) → ((x : A) → test (f x) ≡ test x) → place_from n test (map f xs) ≡ place_from n test xs
+unfolding place_from
+map_place n test f [] blind = refl
+map_place n test f (x ∷ xs) blind =
+    ap (λ (b : Bool). if b then Some n else place_from (n + 1) test (map f xs)) (blind x)
+    ∙ ap (λ (o : Option ℕ). if test x then Some n else o) (map_place (n + 1) test f xs blind)
+
+-- ---- what stands at a place
+
+get_same : {A : Type 0} (k : ℕ) (f : A → A) (xs : List A) (x : A) → slice_get xs k ≡ Some x → slice_get (change_at k f xs) k ≡ Some (f x)
+get_same k f [] x h = cc
+get_same zero f (y ∷ xs) x h = ap (λ z. Some (f z)) (of_some h)
+get_same (suc k) f (y ∷ xs) x h = get_same k f xs x h
+
+get_other : {A : Type 0} (k : ℕ) (f : A → A) (xs : List A) (j : ℕ) → (j ≡ k → ⊥) → slice_get (change_at k f xs) j ≡ slice_get xs j
+get_other k f [] j apart = refl
+get_other zero f (y ∷ xs) zero apart = absurd (apart refl)
+get_other zero f (y ∷ xs) (suc j) apart = refl
+get_other (suc k) f (y ∷ xs) zero apart = refl
+get_other (suc k) f (y ∷ xs) (suc j) apart = get_other k f xs j (λ e. apart (ap suc e))
+
+get_map : {A : Type 0} (f : A → A) (xs : List A) (j : ℕ) (x : A) → slice_get xs j ≡ Some x → slice_get (map f xs) j ≡ Some (f x)
+get_map f [] j x h = cc
+get_map f (y ∷ xs) zero x h = ap (λ z. Some (f z)) (of_some h)
+get_map f (y ∷ xs) (suc j) x h = get_map f xs j x h
+
+get_front : {A : Type 0} (xs : List A) (y : A) (j : ℕ) (x : A) → slice_get xs j ≡ Some x → slice_get (xs ++ y ∷ []) j ≡ Some x
+get_front [] y j x h = cc
+get_front (z ∷ xs) y zero x h = h
+get_front (z ∷ xs) y (suc j) x h = get_front xs y j x h
+
+get_last : {A : Type 0} (xs : List A) (y : A) → slice_get (xs ++ y ∷ []) (length xs) ≡ Some y
+get_last [] y = refl
+get_last (x ∷ xs) y = get_last xs y
+
+get_below : {A : Type 0} (xs : List A) (j : ℕ) (x : A) → slice_get xs j ≡ Some x → j < length xs
+get_below [] j x h = cc
+get_below (y ∷ xs) zero x h = omega arith
+get_below (y ∷ xs) (suc j) x h = let g = get_below xs j x h in omega (arith, g)
+
+-- a list with one more at its end has what it had, and that
+get_longer : {A : Type 0} (xs : List A) (y : A) (j : ℕ) (x : A) → slice_get (xs ++ y ∷ []) j ≡ Some x → (slice_get xs j ≡ Some x) ⊎ (y ≡ x)
+get_longer [] y zero x h = inr (of_some h)
+get_longer [] y (suc j) x h = cc
+get_longer (z ∷ xs) y zero x h = inl h
+get_longer (z ∷ xs) y (suc j) x h = get_longer xs y j x h
+
+get_changed : {A : Type 0} (k : ℕ) (f : A → A) (xs : List A) (j : ℕ) (x : A) → slice_get (change_at k f xs) j ≡ Some x → (y : A) × (slice_get xs j ≡ Some y) × ((x ≡ f y) ⊎ (x ≡ y))
+get_changed k f [] j x h = cc
+get_changed zero f (y ∷ xs) zero x h = (y, refl, inl (sym (of_some h)))
+get_changed zero f (y ∷ xs) (suc j) x h = (x, h, inr refl)
+get_changed (suc k) f (y ∷ xs) zero x h = (x, h, inr refl)
+get_changed (suc k) f (y ∷ xs) (suc j) x h = get_changed k f xs j x h
+
+get_mapped : {A : Type 0} (f : A → A) (xs : List A) (j : ℕ) (x : A) → slice_get (map f xs) j ≡ Some x → (y : A) × (slice_get xs j ≡ Some y) × (x ≡ f y)
+get_mapped f [] j x h = cc
+get_mapped f (y ∷ xs) zero x h = (y, refl, sym (of_some h))
+get_mapped f (y ∷ xs) (suc j) x h = get_mapped f xs j x h
+
+-- as the code changes it
+pub set_is_change : {A : Type 0} (xs : List A) (k : ℕ) (x : A) (f : A → A) → slice_get xs k ≡ Some x → slice_set xs k (f x) ≡ change_at k f xs
+set_is_change [] k x f h = cc
+set_is_change (y ∷ xs) zero x f h = ap (λ z. f z ∷ xs) (sym (of_some h))
+set_is_change (y ∷ xs) (suc k) x f h = ap (λ zs. y ∷ zs) (set_is_change xs k x f h)
+
+pub none_is_change : {A : Type 0} (xs : List A) (k : ℕ) (f : A → A) → slice_get xs k ≡ None → xs ≡ change_at k f xs
+none_is_change [] k f h = refl
+none_is_change (y ∷ xs) zero f h = absurd (no_some (sym h))
+none_is_change (y ∷ xs) (suc k) f h = ap (λ zs. y ∷ zs) (none_is_change xs k f h)
+
+-- ---- numbers that are the same or not
+
+same_or_not : (a b : ℕ) → (a ≡ b) ⊎ (a ≡ b → ⊥)
+same_or_not zero zero = inl refl
+same_or_not zero (suc b) = inr (λ e. omega (arith, e))
+same_or_not (suc a) zero = inr (λ e. omega (arith, e))
+same_or_not (suc a) (suc b) = elim (same_or_not a b) [ inl e ↦ inl (ap suc e) | inr n ↦ inr (λ e. n (omega (arith, e))) ]
+
+apart_eqb : (a b : ℕ) → (a ≡ b → ⊥) → (a == b) ≡ false
+apart_eqb a b n = by (a == b) refl
+  where
+    by : (c : Bool) → (a == b) ≡ c → (a == b) ≡ false
+    by true e = absurd (n (eqb-true a b e))
+    by false e = e
+
+-- ---- one process, named by its partition's name and its own word
+
+-- two processes at one place are the same
+one_process : (l : Lanes) (m w n v : List ℕ) (k : ℕ) → process_at m w l ≡ Some k → process_at n v l ≡ Some k → (m ≡ n) × (w ≡ v)
+one_process l m w n v k a b = by (partition_at m l.partitions.items) refl (partition_at n l.partitions.items) refl a b
+  where
+    by : (o : Option ℕ) → partition_at m l.partitions.items ≡ o → (p : Option ℕ) → partition_at n l.partitions.items ≡ p
+        → process_in o w l.processes.items ≡ Some k → process_in p v l.processes.items ≡ Some k → (m ≡ n) × (w ≡ v)
+    by None e p f a b = absurd (no_some a)
+    by (Some q) e None f a b = absurd (no_some b)
+    by (Some q) e (Some r) f a b =
+        let x = found (is_process q w) l.processes.items k a in
+        let y = found (is_process r v) l.processes.items k b in
+        let one : x.0 ≡ y.0 = of_some (sym x.1 ∙ y.1) in
+        let mine = and_parts (x.0.partition == q) (same (subject_text x.0.who) w) x.2 in
+        let others = and_parts (y.0.partition == r) (same (subject_text y.0.who) v) y.2 in
+        let place : q ≡ r = sym (eqb-true x.0.partition q mine.0) ∙ (ap (λ (lane : ProcessLane). lane.partition) one ∙ eqb-true y.0.partition r others.0) in
+        let words : w ≡ v = sym (same_is (subject_text x.0.who) w mine.1) ∙ (ap (λ (lane : ProcessLane). subject_text lane.who) one ∙ same_is (subject_text y.0.who) v others.1) in
+        let s = found (has_name m) l.partitions.items q e in
+        let t = found (has_name n) l.partitions.items q (f ∙ ap Some (sym place)) in
+        let lane : s.0 ≡ t.0 = of_some (sym s.1 ∙ t.1) in
+        (sym (same_is s.0.name m s.2) ∙ (ap (λ (p : PartitionLane). p.name) lane ∙ same_is t.0.name n t.2), words)
+
+-- two partitions at one place are the same
+one_partition : (lanes : List PartitionLane) (m n : List ℕ) (k : ℕ) → partition_at m lanes ≡ Some k → partition_at n lanes ≡ Some k → m ≡ n
+one_partition lanes m n k a b =
+    let s = found (has_name m) lanes k a in
+    let t = found (has_name n) lanes k b in
+    let lane : s.0 ≡ t.0 = of_some (sym s.1 ∙ t.1) in
+    sym (same_is s.0.name m s.2) ∙ (ap (λ (p : PartitionLane). p.name) lane ∙ same_is t.0.name n t.2)
+
+-- ---- places are found, and nothing else changes
+
+longer_within : (a b : ℕ) (lanes : List ProcessLane) → a ≤ b → AreWithin a lanes → AreWithin b lanes
+longer_within a b lanes h within place lane at = let low = within place lane at in omega (arith, low, h)
+
+pub within_longer : (old new : List PartitionLane) (lanes : List ProcessLane) → length old ≤ length new → AreWithin (length old) lanes → AreWithin (length new) lanes
+within_longer old new lanes h within = longer_within (length old) (length new) lanes h within
+
+-- nobody is of a partition that was not there
+nobody_of : (count : ℕ) (word : List ℕ) (lanes : List ProcessLane) → AreWithin count lanes → process_in (Some count) word lanes ≡ None
+nobody_of count word lanes within = by (process_in (Some count) word lanes) refl
+  where
+    by : (o : Option ℕ) → process_in (Some count) word lanes ≡ o → process_in (Some count) word lanes ≡ None
+    by None e = e
+    by (Some k) e =
+        let x = found (is_process count word) lanes k e in
+        let both = and_parts (x.0.partition == count) (same (subject_text x.0.who) word) x.2 in
+        let here = eqb-true x.0.partition count both.0 in
+        let low = within k x.0 x.1 in
+        absurd (omega (arith, here, low))
+
+longer_held : (ps : List PartitionLane) (qs : List ProcessLane) (name m w : List ℕ) → AreWithin (length ps) qs → partition_at name ps ≡ None
+    → held_at (process_in (partition_at m (ps ++ new_partition name ∷ [])) w qs) qs ≡ held_at (process_in (partition_at m ps) w qs) qs
+longer_held ps qs name m w within none = by (partition_at m ps) refl
+  where
+    last : (b : Bool) → held_at (process_in (if b then Some (0 + length ps) else None) w qs) qs ≡ None
+    last false = refl
+    last true =
+        let here : 0 + length ps ≡ length ps = omega arith in
+        ap (λ (k : ℕ). held_at (process_in (Some k) w qs) qs) here ∙ ap (λ (o : Option ℕ). held_at o qs) (nobody_of (length ps) w qs within)
+
+    by : (o : Option ℕ) → partition_at m ps ≡ o → held_at (process_in (partition_at m (ps ++ new_partition name ∷ [])) w qs) qs ≡ held_at (process_in (partition_at m ps) w qs) qs
+    by (Some k) e =
+        ap (λ (o : Option ℕ). held_at (process_in o w qs) qs) (kept_place 0 (has_name m) ps (new_partition name) k e ∙ sym e)
+    by None e =
+        ap (λ (o : Option ℕ). held_at (process_in o w qs) qs) (last_place 0 (has_name m) ps (new_partition name) e)
+        ∙ (last (has_name m (new_partition name)) ∙ ap (λ (o : Option ℕ). held_at (process_in o w qs) qs) (sym e))
+
+longer_mode : (ps : List PartitionLane) (name m : List ℕ) → mode_at (partition_at m (ps ++ new_partition name ∷ [])) (ps ++ new_partition name ∷ []) ≡ mode_at (partition_at m ps) ps
+longer_mode ps name m = by (partition_at m ps) refl
+  where
+    more : List PartitionLane
+    more = ps ++ new_partition name ∷ []
+
+    last : (b : Bool) → mode_at (if b then Some (0 + length ps) else None) more ≡ None
+    last false = refl
+    last true =
+        let here : 0 + length ps ≡ length ps = omega arith in
+        ap (λ (k : ℕ). mode_at (Some k) more) here ∙ ap mode_held (get_last ps (new_partition name))
+
+    by : (o : Option ℕ) → partition_at m ps ≡ o → mode_at (partition_at m more) more ≡ mode_at (partition_at m ps) ps
+    by (Some k) e =
+        let x = found (has_name m) ps k e in
+        ap (λ (o : Option ℕ). mode_at o more) (kept_place 0 (has_name m) ps (new_partition name) k e)
+        ∙ (ap mode_held (get_front ps (new_partition name) k x.0 x.1) ∙ (ap mode_held (sym x.1) ∙ ap (λ (o : Option ℕ). mode_at o ps) (sym e)))
+    by None e =
+        ap (λ (o : Option ℕ). mode_at o more) (last_place 0 (has_name m) ps (new_partition name) e)
+        ∙ (last (has_name m (new_partition name)) ∙ ap (λ (o : Option ℕ). mode_at o ps) (sym e))
+
+pub partition_found : (name : List ℕ) (old new : List PartitionLane) (place : ℕ) → HasPartition name old new place → partition_at name new ≡ Some place
+partition_found name old new place (inl (same_ones, at)) = subst (λ (ps : List PartitionLane). partition_at name ps ≡ Some place) (sym same_ones) at
+partition_found name old new place (inr (none, more, last)) =
+    let here : 0 + length old ≡ place = omega (arith, last) in
+    subst (λ (ps : List PartitionLane). partition_at name ps ≡ Some place) (sym more)
+    (last_place 0 (has_name name) old (new_partition name) none ∙ (ap (λ (b : Bool). if b then Some (0 + length old) else None) (same_text name) ∙ ap Some here))
+
+pub partition_kept : (old new : Lanes) (name : List ℕ) (place : ℕ) → HasPartition name old.partitions.items new.partitions.items place → new.processes.items ≡ old.processes.items → AreKept old new
+partition_kept old new name place (inl (same_ones, at)) same_processes = record {
+  held = λ m w. ap (λ (ps : List PartitionLane). held_at (process_in (partition_at m ps) w new.processes.items) new.processes.items) same_ones
+      ∙ ap (λ (qs : List ProcessLane). held_at (process_in (partition_at m old.partitions.items) w qs) qs) same_processes;
+  mode = λ m. ap (λ (ps : List PartitionLane). mode_at (partition_at m ps) ps) same_ones;
+}
+partition_kept old new name place (inr (none, more, last)) same_processes = record {
+  held = λ m w. ap (λ (ps : List PartitionLane). held_at (process_in (partition_at m ps) w new.processes.items) new.processes.items) more
+      ∙ (ap (λ (qs : List ProcessLane). held_at (process_in (partition_at m (old.partitions.items ++ new_partition name ∷ [])) w qs) qs) same_processes
+      ∙ longer_held old.partitions.items old.processes.items name m w old.within none);
+  mode = λ m. ap (λ (ps : List PartitionLane). mode_at (partition_at m ps) ps) more ∙ longer_mode old.partitions.items name m;
+}
+
+more_held : (qs : List ProcessLane) (p : ℕ) (who : Subject) (o : Option ℕ) (w : List ℕ) → held_at (process_in o w (qs ++ new_process p who ∷ [])) (qs ++ new_process p who ∷ []) ≡ held_at (process_in o w qs) qs
+more_held qs p who None w = refl
+more_held qs p who (Some q) w = by (process_in (Some q) w qs) refl
+  where
+    more : List ProcessLane
+    more = qs ++ new_process p who ∷ []
+
+    last : (b : Bool) → held_at (if b then Some (0 + length qs) else None) more ≡ None
+    last false = refl
+    last true =
+        let here : 0 + length qs ≡ length qs = omega arith in
+        ap (λ (k : ℕ). held_at (Some k) more) here ∙ ap held_in (get_last qs (new_process p who))
+
+    by : (o : Option ℕ) → process_in (Some q) w qs ≡ o → held_at (process_in (Some q) w more) more ≡ held_at (process_in (Some q) w qs) qs
+    by (Some k) e =
+        let x = found (is_process q w) qs k e in
+        ap (λ (o : Option ℕ). held_at o more) (kept_place 0 (is_process q w) qs (new_process p who) k e)
+        ∙ (ap held_in (get_front qs (new_process p who) k x.0 x.1) ∙ (ap held_in (sym x.1) ∙ ap (λ (o : Option ℕ). held_at o qs) (sym e)))
+    by None e =
+        ap (λ (o : Option ℕ). held_at o more) (last_place 0 (is_process q w) qs (new_process p who) e)
+        ∙ (last (is_process q w (new_process p who)) ∙ ap (λ (o : Option ℕ). held_at o qs) (sym e))
+
+pub process_found : (partition : ℕ) (who : Subject) (old new : List ProcessLane) (place : ℕ) → HasProcess partition who old new place → process_in (Some partition) (subject_text who) new ≡ Some place
+process_found partition who old new place (inl (same_ones, at)) = subst (λ (qs : List ProcessLane). process_in (Some partition) (subject_text who) qs ≡ Some place) (sym same_ones) at
+process_found partition who old new place (inr (none, more, last)) =
+    let here : 0 + length old ≡ place = omega (arith, last) in
+    let it = and_from (partition == partition) (same (subject_text who) (subject_text who)) (eq-eqb partition partition refl) (same_text (subject_text who)) in
+    subst (λ (qs : List ProcessLane). process_in (Some partition) (subject_text who) qs ≡ Some place) (sym more)
+    (last_place 0 (is_process partition (subject_text who)) old (new_process partition who) none ∙ (ap (λ (b : Bool). if b then Some (0 + length old) else None) it ∙ ap Some here))
+
+pub process_kept : (mid new : Lanes) (partition : ℕ) (who : Subject) (place : ℕ) → HasProcess partition who mid.processes.items new.processes.items place → new.partitions.items ≡ mid.partitions.items → AreKept mid new
+process_kept mid new partition who place (inl (same_ones, at)) same_partitions = record {
+  held = λ m w. ap (λ (qs : List ProcessLane). held_at (process_in (partition_at m new.partitions.items) w qs) qs) same_ones
+      ∙ ap (λ (ps : List PartitionLane). held_at (process_in (partition_at m ps) w mid.processes.items) mid.processes.items) same_partitions;
+  mode = λ m. ap (λ (ps : List PartitionLane). mode_at (partition_at m ps) ps) same_partitions;
+}
+process_kept mid new partition who place (inr (none, more, last)) same_partitions = record {
+  held = λ m w. ap (λ (qs : List ProcessLane). held_at (process_in (partition_at m new.partitions.items) w qs) qs) more
+      ∙ (ap (λ (ps : List PartitionLane). held_at (process_in (partition_at m ps) w (mid.processes.items ++ new_process partition who ∷ [])) (mid.processes.items ++ new_process partition who ∷ [])) same_partitions
+      ∙ more_held mid.processes.items partition who (partition_at m mid.partitions.items) w);
+  mode = λ m. ap (λ (ps : List PartitionLane). mode_at (partition_at m ps) ps) same_partitions;
+}
+
+pub both_kept : (old mid new : Lanes) → AreKept old mid → AreKept mid new → AreKept old new
+both_kept old mid new a b = record { held = λ m w. b.held m w ∙ a.held m w; mode = λ m. b.mode m ∙ a.mode m }
+
+-- a new process is of a partition that is there
+pub within_more : (count partition : ℕ) (who : Subject) (old new : List ProcessLane) (place : ℕ) → partition < count → HasProcess partition who old new place → AreWithin count old → AreWithin count new
+within_more count partition who old new place low (inl (same_ones, at)) within = subst (AreWithin count) (sym same_ones) within
+within_more count partition who old new place low (inr (none, more, last)) within =
+    let all : AreWithin count (old ++ new_process partition who ∷ []) = λ k lane at. elim (get_longer old (new_process partition who) k lane at) [
+      | inl there ↦ within k lane there
+      | inr is ↦ subst (λ (p : ProcessLane). p.partition < count) is low
+    ] in
+    subst (AreWithin count) (sym more) all
+
+pub within_found : (count partition : ℕ) (who : Subject) (old new : List ProcessLane) (r : Result ℕ MemoryFull) → partition < count
+    → IfOk r (HasProcess partition who old new) → OnErr r (new ≡ old) → AreWithin count old → AreWithin count new
+within_found count partition who old new (Ok place) low has failed within = within_more count partition who old new place low has within
+within_found count partition who old new (Err fault) low has failed within = subst (AreWithin count) (sym failed) within
+
+pub found_below : (name : List ℕ) (lanes : List PartitionLane) (place : ℕ) → partition_at name lanes ≡ Some place → place < length lanes
+found_below name lanes place h = let x = found (has_name name) lanes place h in get_below lanes place x.0 x.1
+
+-- ---- the stays that are over
+
+stays_two_at : (k : ℕ) (es fs : List Ended) → stays_at k (es ++ fs) ≡ stays_at k es ++ stays_at k fs
+unfolding stays_at
+stays_two_at k [] fs = refl
+stays_two_at k (ended.State other stay ∷ es) fs = ap (λ (ss : List Stay). if_at (other == k) stay ++ ss) (stays_two_at k es fs) ∙ sym (append_assoc (if_at (other == k) stay) (stays_at k es) (stays_at k fs))
+stays_two_at k (ended.Mode other stay ∷ es) fs = stays_two_at k es fs
+
+stays_two : (o : Option ℕ) (es fs : List Ended) → stays_of o (es ++ fs) ≡ stays_of o es ++ stays_of o fs
+stays_two None es fs = refl
+stays_two (Some k) es fs = stays_two_at k es fs
+
+one_over : (k : ℕ) (o : Option Stay) → stays_at k (state_over k o) ≡ and_one o
+unfolding stays_at
+one_over k None = refl
+one_over k (Some stay) = ap (λ (b : Bool). if_at b stay ++ []) (eq-eqb k k refl)
+
+none_over : (j k : ℕ) (o : Option Stay) → (j ≡ k → ⊥) → stays_at j (state_over k o) ≡ []
+unfolding stays_at
+none_over j k None apart = refl
+none_over j k (Some stay) apart = ap (λ (b : Bool). if_at b stay ++ []) (apart_eqb k j (λ e. apart (sym e)))
+
+no_modes : (o : Option ℕ) (k : ℕ) (m : Option ModeStay) → stays_of o (mode_over k m) ≡ []
+unfolding stays_at
+no_modes None k m = refl
+no_modes (Some j) k None = refl
+no_modes (Some j) k (Some stay) = refl
+
+-- ---- a process enters a state
+
+if_alike : {A : Type 0} (b : Bool) (x : A) → x ≡ (if b then x else x)
+if_alike true x = refl
+if_alike false x = refl
+
+blind_turn : (q : ℕ) (w : List ℕ) (next : Option ProcessState) (t : ℕ) (lane : ProcessLane) → is_process q w (turned next t lane) ≡ is_process q w lane
+blind_turn q w next t lane = refl
+
+blind_turns : (k : ℕ) (next : Option ProcessState) (t : ℕ) (o : Option ℕ) (w : List ℕ) (qs : List ProcessLane) → process_in o w (change_at k (turned next t) qs) ≡ process_in o w qs
+blind_turns k next t None w qs = refl
+blind_turns k next t (Some q) w qs = change_place 0 (is_process q w) (turned next t) k qs (blind_turn q w next t)
+
+module _ (mid : Lanes) (name word : List ℕ) (who : Subject) (s : ProcessState) (t k : ℕ) (is : subject_text who ≡ word) (at : process_at name word mid ≡ Some k) where
+  abbrev ps : List PartitionLane
+  ps = mid.partitions.items
+
+  abbrev qs : List ProcessLane
+  qs = mid.processes.items
+
+  abbrev later : List ProcessLane
+  later = change_at k (turned (Some s) t) qs
+
+  abbrev over : List Ended
+  over = over_at k (Some s) t (slice_get qs k)
+
+  lane_there : (lane : ProcessLane) × (slice_get qs k ≡ Some lane)
+  lane_there = by (partition_at name ps) at
+    where
+      by : (o : Option ℕ) → process_in o word qs ≡ Some k → (lane : ProcessLane) × (slice_get qs k ≡ Some lane)
+      by None h = absurd (no_some h)
+      by (Some q) h = let x = found (is_process q word) qs k h in (x.0, x.1)
+
+  -- the process itself
+  own_state : (o : Option ℕ) → o ≡ Some k → held_at o later ≡ held_behind (held_at o qs) (Some s) t
+  own_state o e =
+      let lane = lane_there in
+      ap (λ (p : Option ℕ). held_at p later) e
+      ∙ (ap held_in (get_same k (turned (Some s) t) qs lane.0 lane.1)
+      ∙ ap (λ (h : Option Held). held_behind h (Some s) t) (ap held_in (sym lane.1) ∙ ap (λ (p : Option ℕ). held_at p qs) (sym e)))
+
+  own_over : (o : Option ℕ) → o ≡ Some k → stays_of o over ≡ and_one (stay_ended (held_at o qs) (Some s) t)
+  own_over o e =
+      let lane = lane_there in
+      ap (λ (p : Option ℕ). stays_of p over) e
+      ∙ (ap (λ (p : Option ProcessLane). stays_at k (over_at k (Some s) t p)) lane.1
+      ∙ (one_over k (stay_ended lane.0.watch.held (Some s) t)
+      ∙ ap (λ (h : Option Held). and_one (stay_ended h (Some s) t)) (ap held_in (sym lane.1) ∙ ap (λ (p : Option ℕ). held_at p qs) (sym e))))
+
+  -- another one
+  other_state : (o : Option ℕ) → (o ≡ Some k → ⊥) → held_at o later ≡ held_at o qs
+  other_state None apart = refl
+  other_state (Some j) apart = ap held_in (get_other k (turned (Some s) t) qs j (λ e. apart (ap Some e)))
+
+  other_over : (o : Option ℕ) → (o ≡ Some k → ⊥) → stays_of o over ≡ []
+  other_over None apart = refl
+  other_over (Some j) apart =
+      let lane = lane_there in
+      ap (λ (p : Option ProcessLane). stays_at j (over_at k (Some s) t p)) lane.1
+      ∙ none_over j k (stay_ended lane.0.watch.held (Some s) t) (λ e. apart (ap Some e))
+
+  abbrev place_of : List ℕ → List ℕ → Option ℕ
+  place_of m w = process_at m w mid
+
+  state_turned : (m w : List ℕ) → held_at (place_of m w) later ≡ state_behind (Some name) (event.State who s) t m w (held_at (place_of m w) qs)
+  state_turned m w = by (same name m) refl (same (subject_text who) w) refl
+    where
+      held : Option Held
+      held = held_at (place_of m w) qs
+
+      by : (b : Bool) → same name m ≡ b → (c : Bool) → same (subject_text who) w ≡ c → held_at (place_of m w) later ≡ (if b then (if c then held_behind held (Some s) t else held) else held)
+      by true e true f =
+          let named = same_is name m e in
+          let worded : word ≡ w = sym is ∙ same_is (subject_text who) w f in
+          own_state (place_of m w) (subst (λ (v : List ℕ). process_at m v mid ≡ Some k) worded (subst (λ (n : List ℕ). process_at n word mid ≡ Some k) named at))
+      by true e false f = other_state (place_of m w) (λ g. false≢true (sym f ∙ (ap (λ (v : List ℕ). same (subject_text who) v) ((one_process mid m w name word k g at).1 ∙ sym is) ∙ same_text (subject_text who))))
+      by false e c f = other_state (place_of m w) (λ g. false≢true (sym e ∙ (ap (λ (n : List ℕ). same name n) ((one_process mid m w name word k g at).0) ∙ same_text name)))
+
+  over_turned : (m w : List ℕ) → stays_of (place_of m w) over ≡ and_one (stay_over (Some name) (event.State who s) t m w (held_at (place_of m w) qs))
+  over_turned m w = by (same name m) refl (same (subject_text who) w) refl
+    where
+      held : Option Held
+      held = held_at (place_of m w) qs
+
+      by : (b : Bool) → same name m ≡ b → (c : Bool) → same (subject_text who) w ≡ c → stays_of (place_of m w) over ≡ and_one (if b then (if c then stay_ended held (Some s) t else None) else None)
+      by true e true f =
+          let named = same_is name m e in
+          let worded : word ≡ w = sym is ∙ same_is (subject_text who) w f in
+          own_over (place_of m w) (subst (λ (v : List ℕ). process_at m v mid ≡ Some k) worded (subst (λ (n : List ℕ). process_at n word mid ≡ Some k) named at))
+      by true e false f = other_over (place_of m w) (λ g. false≢true (sym f ∙ (ap (λ (v : List ℕ). same (subject_text who) v) ((one_process mid m w name word k g at).1 ∙ sym is) ∙ same_text (subject_text who))))
+      by false e c f = other_over (place_of m w) (λ g. false≢true (sym e ∙ (ap (λ (n : List ℕ). same name n) ((one_process mid m w name word k g at).0) ∙ same_text name)))
+
+pub has_turned : (old mid new : Lanes) (name : List ℕ) (who : Subject) (s : ProcessState) (t k : ℕ) (before after : List Ended) → AreKept old mid → process_at name (subject_text who) mid ≡ Some k
+    → new.partitions.items ≡ mid.partitions.items → new.processes.items ≡ change_at k (turned (Some s) t) mid.processes.items
+    → after ≡ before ++ over_at k (Some s) t (slice_get mid.processes.items k)
+    → HasRead (Some name) (event.State who s) t old new before after
+has_turned old mid new name who s t k before after kept at same_partitions same_processes more = record {
+  held = λ m w. ap (λ (o : Option ℕ). held_at o new.processes.items) (place m w)
+      ∙ (ap (λ (l : List ProcessLane). held_at (process_at m w mid) l) same_processes
+      ∙ (state_turned mid name (subject_text who) who s t k refl at m w
+      ∙ ap (λ (h : Option Held). state_behind (Some name) (event.State who s) t m w h) (kept.held m w)));
+  mode = λ m. ap (λ (l : List PartitionLane). mode_at (partition_at m l) l) same_partitions ∙ (kept.mode m ∙ if_alike (same name m) (mode_by m old));
+  ended = λ m w. ap (stays_of (process_at m w new)) more
+      ∙ (stays_two (process_at m w new) before (over_at k (Some s) t (slice_get mid.processes.items k))
+      ∙ ap (λ (ss : List Stay). stays_of (process_at m w new) before ++ ss)
+      (ap (λ (o : Option ℕ). stays_of o (over_at k (Some s) t (slice_get mid.processes.items k))) (place m w)
+      ∙ (over_turned mid name (subject_text who) who s t k refl at m w
+      ∙ ap (λ (h : Option Held). and_one (stay_over (Some name) (event.State who s) t m w h)) (kept.held m w))));
+}
+  where
+    place : (m w : List ℕ) → process_at m w new ≡ process_at m w mid
+    place m w =
+        ap (λ (l : List PartitionLane). process_in (partition_at m l) w new.processes.items) same_partitions
+        ∙ (ap (λ (l : List ProcessLane). process_in (partition_at m mid.partitions.items) w l) same_processes
+        ∙ blind_turns k (Some s) t (partition_at m mid.partitions.items) w mid.processes.items)
+
+pub within_turned : (count k : ℕ) (next : Option ProcessState) (t : ℕ) (lanes : List ProcessLane) → AreWithin count lanes → AreWithin count (change_at k (turned next t) lanes)
+within_turned count k next t lanes within place lane at =
+    let y = get_changed k (turned next t) lanes place lane at in
+    let low = within place y.0 y.1 in
+    elim y.2 [
+      | inl is ↦ subst (λ (p : ProcessLane). p.partition < count) (sym is) low
+      | inr is ↦ subst (λ (p : ProcessLane). p.partition < count) (sym is) low
+    ]
+
+-- ---- a line that is neither of a state nor of a mode
+
+abbrev pub IsOther : EventKind → Type 0
+IsOther (event.State who s) = ⊥
+IsOther (event.Mode m) = ⊥
+IsOther _ = Unit {0}
+
+-- it changes no state and no mode
+other_state_in : (kind : EventKind) (t : ℕ) (w : List ℕ) (h : Option Held) → IsOther kind → state_in kind t w h ≡ h
+other_state_in (event.State who s) t w h other = absurd other
+other_state_in (event.Mode m) t w h other = absurd other
+other_state_in (event.Return who service code) t w h other = refl
+other_state_in (event.Error error who answer) t w h other = refl
+other_state_in (event.Report who words) t w h other = refl
+other_state_in (event.Move port words) t w h other = refl
+other_state_in (event.Arrive port words) t w h other = refl
+other_state_in (event.Lost port words) t w h other = refl
+other_state_in (event.Out channel words) t w h other = refl
+
+other_stay_in : (kind : EventKind) (t : ℕ) (w : List ℕ) (h : Option Held) → IsOther kind → stay_in kind t w h ≡ None
+other_stay_in (event.State who s) t w h other = absurd other
+other_stay_in (event.Mode m) t w h other = absurd other
+other_stay_in (event.Return who service code) t w h other = refl
+other_stay_in (event.Error error who answer) t w h other = refl
+other_stay_in (event.Report who words) t w h other = refl
+other_stay_in (event.Move port words) t w h other = refl
+other_stay_in (event.Arrive port words) t w h other = refl
+other_stay_in (event.Lost port words) t w h other = refl
+other_stay_in (event.Out channel words) t w h other = refl
+
+other_mode_in : (kind : EventKind) (t : ℕ) (h : Option HeldMode) → IsOther kind → mode_in kind t h ≡ h
+other_mode_in (event.State who s) t h other = absurd other
+other_mode_in (event.Mode m) t h other = absurd other
+other_mode_in (event.Return who service code) t h other = refl
+other_mode_in (event.Error error who answer) t h other = refl
+other_mode_in (event.Report who words) t h other = refl
+other_mode_in (event.Move port words) t h other = refl
+other_mode_in (event.Arrive port words) t h other = refl
+other_mode_in (event.Lost port words) t h other = refl
+other_mode_in (event.Out channel words) t h other = refl
+
+if_same_then : {A : Type 0} (b : Bool) (x y : A) → y ≡ x → x ≡ (if b then y else x)
+if_same_then true x y e = sym e
+if_same_then false x y e = refl
+
+pub has_read_other : (old new : Lanes) (partition : Option (List ℕ)) (kind : EventKind) (t : ℕ) (es : List Ended) → AreKept old new → IsOther kind → HasRead partition kind t old new es es
+has_read_other old new partition kind t es kept other = record {
+  held = λ m w. kept.held m w ∙ if_same_then (is_of m partition) (held_by m w old) (state_in kind t w (held_by m w old)) (other_state_in kind t w (held_by m w old) other);
+  mode = λ m. kept.mode m ∙ if_same_then (is_of m partition) (mode_by m old) (mode_in kind t (mode_by m old)) (other_mode_in kind t (mode_by m old) other);
+  ended = λ m w. sym (append-nil (stays_of (process_at m w new) es))
+      ∙ ap (λ (o : Option Stay). stays_of (process_at m w new) es ++ and_one o) (if_same_then (is_of m partition) None (stay_in kind t w (held_by m w old)) (other_stay_in kind t w (held_by m w old) other));
+}
+
+-- a line of the module
+pub has_read_none : (l : Lanes) (kind : EventKind) (t : ℕ) (es : List Ended) → HasRead None kind t l l es es
+has_read_none l kind t es = record {
+  held = λ m w. refl;
+  mode = λ m. refl;
+  ended = λ m w. sym (append-nil (stays_of (process_at m w l) es));
+}
+
+-- ---- a partition enters a mode
+
+blind_gone : (q : ℕ) (w : List ℕ) (p t : ℕ) (lane : ProcessLane) → is_process q w (gone_from p t lane) ≡ is_process q w lane
+blind_gone q w p t lane = by (lane.partition == p)
+  where
+    by : (b : Bool) → is_process q w (if b then turned None t lane else lane) ≡ is_process q w lane
+    by true = refl
+    by false = refl
+
+-- those of the partition are gone, and no others
+abbrev pub left_if : Bool → Option Held → Option Held
+left_if true held = None
+left_if false held = held
+
+abbrev pub over_if : Bool → Option Held → ℕ → Option Stay
+over_if true held t = stay_ended held None t
+over_if false held t = None
+
+held_gone : (p t : ℕ) (lane : ProcessLane) → (gone_from p t lane).watch.held ≡ left_if (lane.partition == p) lane.watch.held
+held_gone p t lane = by (lane.partition == p)
+  where
+    by : (b : Bool) → (if b then turned None t lane else lane).watch.held ≡ left_if b lane.watch.held
+    by true = refl
+    by false = refl
+
+gone_at : (p t : ℕ) (qs : List ProcessLane) (j : ℕ) (lane : ProcessLane) → slice_get qs j ≡ Some lane → held_at (Some j) (map (gone_from p t) qs) ≡ left_if (lane.partition == p) (held_at (Some j) qs)
+gone_at p t qs j lane h = ap held_in (get_map (gone_from p t) qs j lane h) ∙ (held_gone p t lane ∙ ap (λ (o : Option ProcessLane). left_if (lane.partition == p) (held_in o)) (sym h))
+
+-- the stays of the process at a place among those of all
+stays_after : (n p t : ℕ) (qs : List ProcessLane) (j : ℕ) → j < n → stays_at j (over_with n p t qs) ≡ []
+unfolding over_with stays_at
+stays_after n p t [] j low = refl
+stays_after n p t (lane ∷ qs) j low = by (lane.partition == p) (stays_after (n + 1) p t qs j (omega (arith, low)))
+  where
+    by : (b : Bool) → stays_at j (over_with (n + 1) p t qs) ≡ [] → stays_at j ((if b then state_over n (stay_ended lane.watch.held None t) else []) ++ over_with (n + 1) p t qs) ≡ []
+    by false rest = rest
+    by true rest =
+        stays_two (Some j) (state_over n (stay_ended lane.watch.held None t)) (over_with (n + 1) p t qs)
+        ∙ (ap (λ (ss : List Stay). ss ++ stays_at j (over_with (n + 1) p t qs)) (none_over j n (stay_ended lane.watch.held None t) (λ e. omega (arith, low, e))) ∙ rest)
+
+stays_among : (n p t : ℕ) (qs : List ProcessLane) (j : ℕ) (lane : ProcessLane) → slice_get qs j ≡ Some lane → stays_at (n + j) (over_with n p t qs) ≡ and_one (over_if (lane.partition == p) lane.watch.held t)
+unfolding over_with stays_at
+stays_among n p t [] j lane h = cc
+stays_among n p t (x ∷ qs) zero lane h =
+    let here : n + 0 ≡ n = omega arith in
+    ap (λ (k : ℕ). stays_at k (over_with n p t (x ∷ qs))) here ∙ (first (x.partition == p) ∙ ap (λ (l : ProcessLane). and_one (over_if (l.partition == p) l.watch.held t)) (of_some h))
+  where
+    rest : stays_at n (over_with (n + 1) p t qs) ≡ []
+    rest = stays_after (n + 1) p t qs n (omega arith)
+
+    first : (b : Bool) → stays_at n ((if b then state_over n (stay_ended x.watch.held None t) else []) ++ over_with (n + 1) p t qs) ≡ and_one (over_if b x.watch.held t)
+    first false = rest
+    first true =
+        stays_two (Some n) (state_over n (stay_ended x.watch.held None t)) (over_with (n + 1) p t qs)
+        ∙ (ap (λ (ss : List Stay). ss ++ stays_at n (over_with (n + 1) p t qs)) (one_over n (stay_ended x.watch.held None t))
+        ∙ (ap (λ (ss : List Stay). and_one (stay_ended x.watch.held None t) ++ ss) rest ∙ append-nil (and_one (stay_ended x.watch.held None t))))
+stays_among n p t (x ∷ qs) (suc j) lane h =
+    let there : n + suc j ≡ n + 1 + j = omega arith in
+    ap (λ (k : ℕ). stays_at k (over_with n p t (x ∷ qs))) there ∙ (behind (x.partition == p) ∙ stays_among (n + 1) p t qs j lane h)
+  where
+    behind : (b : Bool) → stays_at (n + 1 + j) ((if b then state_over n (stay_ended x.watch.held None t) else []) ++ over_with (n + 1) p t qs) ≡ stays_at (n + 1 + j) (over_with (n + 1) p t qs)
+    behind false = refl
+    behind true =
+        stays_two (Some (n + 1 + j)) (state_over n (stay_ended x.watch.held None t)) (over_with (n + 1) p t qs)
+        ∙ ap (λ (ss : List Stay). ss ++ stays_at (n + 1 + j) (over_with (n + 1) p t qs)) (none_over (n + 1 + j) n (stay_ended x.watch.held None t) (λ e. omega (arith, e)))
+
+module _ (mid : Lanes) (name : List ℕ) (m : Mode) (t p : ℕ) (at : partition_at name mid.partitions.items ≡ Some p) where
+  -- a process is of this partition if its partition has this name
+  abbrev pub IsOwn : List ℕ → List ℕ → Bool → Type 0
+  IsOwn n w b =
+      (held_at (process_at n w mid) (map (gone_from p t) mid.processes.items) ≡ left_if b (held_at (process_at n w mid) mid.processes.items))
+      × (stays_of (process_at n w mid) (over_with 0 p t mid.processes.items) ≡ and_one (over_if b (held_at (process_at n w mid) mid.processes.items) t))
+
+  none_left : (b : Bool) → None ≡ left_if b None
+  none_left true = refl
+  none_left false = refl
+
+  none_ended : (b : Bool) → [] ≡ and_one (over_if b None t)
+  none_ended true = refl
+  none_ended false = refl
+
+  own_or_not : (n w : List ℕ) → IsOwn n w (same name n)
+  own_or_not n w = by (partition_at n mid.partitions.items) refl
+    where
+      qs : List ProcessLane
+      qs = mid.processes.items
+
+      not_named : (q : ℕ) → partition_at n mid.partitions.items ≡ Some q → (q ≡ p → ⊥) → (b : Bool) → same name n ≡ b → same name n ≡ false
+      not_named q e apart true f =
+          let named = same_is name n f in
+          absurd (apart (of_some (sym e ∙ (ap (λ (v : List ℕ). partition_at v mid.partitions.items) (sym named) ∙ at))))
+      not_named q e apart false f = f
+
+      tested : (q : ℕ) → partition_at n mid.partitions.items ≡ Some q → (q == p) ≡ same name n
+      tested q e = elim (same_or_not q p) [
+        | inl here ↦
+            let named : name ≡ n = one_partition mid.partitions.items name n p at (e ∙ ap Some here) in
+            eq-eqb q p here ∙ sym (ap (λ (v : List ℕ). same name v) (sym named) ∙ same_text name)
+        | inr apart ↦ apart_eqb q p apart ∙ sym (not_named q e apart (same name n) refl)
+      ]
+
+      at_place : (q : ℕ) → (q == p) ≡ same name n → (j : Option ℕ) → process_in (Some q) w qs ≡ j
+          → (held_at j (map (gone_from p t) qs) ≡ left_if (same name n) (held_at j qs)) × (stays_of j (over_with 0 p t qs) ≡ and_one (over_if (same name n) (held_at j qs) t))
+      at_place q test None f = (none_left (same name n), none_ended (same name n))
+      at_place q test (Some j) f =
+          let x = found (is_process q w) qs j f in
+          let both = and_parts (x.0.partition == q) (same (subject_text x.0.who) w) x.2 in
+          let own : (x.0.partition == p) ≡ same name n = ap (λ (k : ℕ). k == p) (eqb-true x.0.partition q both.0) ∙ test in
+          let start : 0 + j ≡ j = omega arith in (
+            gone_at p t qs j x.0 x.1 ∙ ap (λ (b : Bool). left_if b (held_at (Some j) qs)) own,
+            ap (λ (k : ℕ). stays_at k (over_with 0 p t qs)) (sym start)
+                ∙ (stays_among 0 p t qs j x.0 x.1 ∙ (ap (λ (b : Bool). and_one (over_if b x.0.watch.held t)) own
+                ∙ ap (λ (o : Option ProcessLane). and_one (over_if (same name n) (held_in o) t)) (sym x.1))),
+          )
+
+      by : (o : Option ℕ) → partition_at n mid.partitions.items ≡ o
+          → (held_at (process_in o w qs) (map (gone_from p t) qs) ≡ left_if (same name n) (held_at (process_in o w qs) qs)) × (stays_of (process_in o w qs) (over_with 0 p t qs) ≡ and_one (over_if (same name n) (held_at (process_in o w qs) qs) t))
+      by None e = (none_left (same name n), none_ended (same name n))
+      by (Some q) e = at_place q (tested q e) (process_in (Some q) w qs) refl
+
+mode_changed : (ps : List PartitionLane) (name : List ℕ) (m : Mode) (t p : ℕ) → partition_at name ps ≡ Some p → (n : List ℕ)
+    → mode_at (partition_at n ps) (change_at p (entered m t) ps) ≡ (if same name n then mode_behind (mode_at (partition_at n ps) ps) m t else mode_at (partition_at n ps) ps)
+mode_changed ps name m t p at n = by (same name n) refl
+  where
+    later : List PartitionLane
+    later = change_at p (entered m t) ps
+
+    by : (b : Bool) → same name n ≡ b → mode_at (partition_at n ps) later ≡ (if b then mode_behind (mode_at (partition_at n ps) ps) m t else mode_at (partition_at n ps) ps)
+    by true e =
+        let named = same_is name n e in
+        let here : partition_at n ps ≡ Some p = ap (λ (v : List ℕ). partition_at v ps) (sym named) ∙ at in
+        let x = found (has_name name) ps p at in
+        ap (λ (o : Option ℕ). mode_at o later) here
+        ∙ (ap mode_held (get_same p (entered m t) ps x.0 x.1)
+        ∙ ap (λ (h : Option HeldMode). mode_behind h m t) (ap mode_held (sym x.1) ∙ ap (λ (o : Option ℕ). mode_at o ps) (sym here)))
+    by false e = at_other (partition_at n ps) refl
+      where
+        at_other : (o : Option ℕ) → partition_at n ps ≡ o → mode_at o later ≡ mode_at o ps
+        at_other None f = refl
+        at_other (Some q) f = ap mode_held (get_other p (entered m t) ps q (λ g. false≢true (sym e ∙ (ap (λ (v : List ℕ). same name v) (sym (one_partition ps name n p at (f ∙ ap Some g))) ∙ same_text name))))
+
+blind_entered : (p : ℕ) (m : Mode) (t : ℕ) (n : List ℕ) (ps : List PartitionLane) → partition_at n (change_at p (entered m t) ps) ≡ partition_at n ps
+blind_entered p m t n ps = change_place 0 (has_name n) (entered m t) p ps (λ lane. refl)
+
+-- what is left of a state, and the stay that is over, by the mode
+state_by : (m : Mode) (b : Bool) (h : Option Held) → (m ≡ mode.Normal → ⊥) → left_if b h ≡ (if b then state_left m h else h)
+state_by mode.Normal b h other = absurd (other refl)
+state_by mode.Idle true h other = refl
+state_by mode.Idle false h other = refl
+state_by mode.ColdStart true h other = refl
+state_by mode.ColdStart false h other = refl
+state_by mode.WarmStart true h other = refl
+state_by mode.WarmStart false h other = refl
+
+stay_by : (m : Mode) (b : Bool) (h : Option Held) (t : ℕ) → (m ≡ mode.Normal → ⊥) → over_if b h t ≡ (if b then stay_left_by m h t else None)
+stay_by mode.Normal b h t other = absurd (other refl)
+stay_by mode.Idle true h t other = refl
+stay_by mode.Idle false h t other = refl
+stay_by mode.ColdStart true h t other = refl
+stay_by mode.ColdStart false h t other = refl
+stay_by mode.WarmStart true h t other = refl
+stay_by mode.WarmStart false h t other = refl
+
+-- NORMAL: the processes go on
+pub has_entered_normal : (old mid new : Lanes) (name : List ℕ) (t p : ℕ) (before after : List Ended) → AreKept old mid → partition_at name mid.partitions.items ≡ Some p
+    → new.partitions.items ≡ change_at p (entered mode.Normal t) mid.partitions.items → new.processes.items ≡ mid.processes.items
+    → after ≡ before ++ mode_over_at p t (slice_get mid.partitions.items p)
+    → HasRead (Some name) (event.Mode mode.Normal) t old new before after
+has_entered_normal old mid new name t p before after kept at changed same_processes more = record {
+  held = λ n w. ap (λ (o : Option ℕ). held_at o new.processes.items) (place n w)
+      ∙ (ap (λ (l : List ProcessLane). held_at (process_at n w mid) l) same_processes ∙ (kept.held n w ∙ if_alike (same name n) (held_by n w old)));
+  mode = λ n. modes n;
+  ended = λ n w. ap (stays_of (process_at n w new)) more
+      ∙ (stays_two (process_at n w new) before (mode_over_at p t (slice_get mid.partitions.items p))
+      ∙ ap (λ (ss : List Stay). stays_of (process_at n w new) before ++ ss) (only_modes (process_at n w new) (slice_get mid.partitions.items p) ∙ ap and_one (if_alike (same name n) None)));
+}
+  where
+    only_modes : (o : Option ℕ) (lane : Option PartitionLane) → stays_of o (mode_over_at p t lane) ≡ []
+    only_modes o None = no_modes o p None
+    only_modes o (Some lane) = no_modes o p (mode_ended lane.watch.held t)
+
+    place : (n w : List ℕ) → process_at n w new ≡ process_at n w mid
+    place n w =
+        ap (λ (l : List PartitionLane). process_in (partition_at n l) w new.processes.items) changed
+        ∙ (ap (λ (o : Option ℕ). process_in o w new.processes.items) (blind_entered p mode.Normal t n mid.partitions.items)
+        ∙ ap (λ (l : List ProcessLane). process_in (partition_at n mid.partitions.items) w l) same_processes)
+
+    modes : (n : List ℕ) → mode_by n new ≡ mode_after (Some name) (event.Mode mode.Normal) t n (mode_by n old)
+    modes n =
+        ap (λ (l : List PartitionLane). mode_at (partition_at n l) l) changed
+        ∙ (ap (λ (o : Option ℕ). mode_at o (change_at p (entered mode.Normal t) mid.partitions.items)) (blind_entered p mode.Normal t n mid.partitions.items)
+        ∙ (mode_changed mid.partitions.items name mode.Normal t p at n
+        ∙ ap (λ (h : Option HeldMode). mode_after (Some name) (event.Mode mode.Normal) t n h) (kept.mode n)))
+
+-- another mode: they are gone
+pub has_entered : (old mid new : Lanes) (name : List ℕ) (m : Mode) (t p : ℕ) (before after : List Ended) → (m ≡ mode.Normal → ⊥) → AreKept old mid → partition_at name mid.partitions.items ≡ Some p
+    → new.partitions.items ≡ change_at p (entered m t) mid.partitions.items → new.processes.items ≡ map (gone_from p t) mid.processes.items
+    → after ≡ (before ++ mode_over_at p t (slice_get mid.partitions.items p)) ++ over_with 0 p t mid.processes.items
+    → HasRead (Some name) (event.Mode m) t old new before after
+has_entered old mid new name m t p before after other kept at changed left more = record {
+  held = λ n w. ap (λ (o : Option ℕ). held_at o new.processes.items) (place n w)
+      ∙ (ap (λ (l : List ProcessLane). held_at (process_at n w mid) l) left
+      ∙ ((own_or_not mid name m t p at n w).0
+      ∙ (state_by m (same name n) (held_by n w mid) other
+      ∙ ap (λ (h : Option Held). if same name n then state_left m h else h) (kept.held n w))));
+  mode = λ n. modes n;
+  ended = λ n w. ap (stays_of (process_at n w new)) more
+      ∙ (stays_two (process_at n w new) (before ++ mode_over_at p t (slice_get mid.partitions.items p)) (over_with 0 p t mid.processes.items)
+      ∙ (ap (λ (ss : List Stay). ss ++ stays_of (process_at n w new) (over_with 0 p t mid.processes.items))
+      (stays_two (process_at n w new) before (mode_over_at p t (slice_get mid.partitions.items p))
+      ∙ (ap (λ (ss : List Stay). stays_of (process_at n w new) before ++ ss) (only_modes (process_at n w new) (slice_get mid.partitions.items p)) ∙ append-nil (stays_of (process_at n w new) before)))
+      ∙ ap (λ (ss : List Stay). stays_of (process_at n w new) before ++ ss)
+      (ap (λ (o : Option ℕ). stays_of o (over_with 0 p t mid.processes.items)) (place n w)
+      ∙ ((own_or_not mid name m t p at n w).1
+      ∙ (ap and_one (stay_by m (same name n) (held_by n w mid) t other)
+      ∙ ap (λ (h : Option Held). and_one (if same name n then stay_left_by m h t else None)) (kept.held n w))))));
+}
+  where
+    only_modes : (o : Option ℕ) (lane : Option PartitionLane) → stays_of o (mode_over_at p t lane) ≡ []
+    only_modes o None = no_modes o p None
+    only_modes o (Some lane) = no_modes o p (mode_ended lane.watch.held t)
+
+    blind_map : (o : Option ℕ) (w : List ℕ) → process_in o w (map (gone_from p t) mid.processes.items) ≡ process_in o w mid.processes.items
+    blind_map None w = refl
+    blind_map (Some q) w = map_place 0 (is_process q w) (gone_from p t) mid.processes.items (blind_gone q w p t)
+
+    place : (n w : List ℕ) → process_at n w new ≡ process_at n w mid
+    place n w =
+        ap (λ (l : List PartitionLane). process_in (partition_at n l) w new.processes.items) changed
+        ∙ (ap (λ (o : Option ℕ). process_in o w new.processes.items) (blind_entered p m t n mid.partitions.items)
+        ∙ (ap (λ (l : List ProcessLane). process_in (partition_at n mid.partitions.items) w l) left
+        ∙ blind_map (partition_at n mid.partitions.items) w))
+
+    modes : (n : List ℕ) → mode_by n new ≡ mode_after (Some name) (event.Mode m) t n (mode_by n old)
+    modes n =
+        ap (λ (l : List PartitionLane). mode_at (partition_at n l) l) changed
+        ∙ (ap (λ (o : Option ℕ). mode_at o (change_at p (entered m t) mid.partitions.items)) (blind_entered p m t n mid.partitions.items)
+        ∙ (mode_changed mid.partitions.items name m t p at n
+        ∙ ap (λ (h : Option HeldMode). mode_after (Some name) (event.Mode m) t n h) (kept.mode n)))
+
+length_changed : {A : Type 0} (k : ℕ) (f : A → A) (xs : List A) → length (change_at k f xs) ≡ length xs
+length_changed k f [] = refl
+length_changed zero f (x ∷ xs) = refl
+length_changed (suc k) f (x ∷ xs) = ap suc (length_changed k f xs)
+
+pub within_entered : (k : ℕ) (m : Mode) (t : ℕ) (ps new : List PartitionLane) (qs : List ProcessLane) → new ≡ change_at k (entered m t) ps → AreWithin (length ps) qs → AreWithin (length new) qs
+within_entered k m t ps new qs changed within = subst (λ (n : ℕ). AreWithin n qs) (sym (ap length changed ∙ length_changed k (entered m t) ps)) within
+
+among_gone : (count p t : ℕ) (qs : List ProcessLane) → AreWithin count qs → AreWithin count (map (gone_from p t) qs)
+among_gone count p t qs within place lane at =
+    let y = get_mapped (gone_from p t) qs place lane at in
+    let low = within place y.0 y.1 in
+    subst (λ (l : ProcessLane). l.partition < count) (sym y.2) (by (y.0.partition == p) y.0 low)
+  where
+    by : (b : Bool) (l : ProcessLane) → l.partition < count → (if b then turned None t l else l).partition < count
+    by true l low = low
+    by false l low = low
+
+pub within_gone : (count p t : ℕ) (qs new : List ProcessLane) → new ≡ map (gone_from p t) qs → AreWithin count qs → AreWithin count new
+within_gone count p t qs new left within = subst (AreWithin count) (sym left) (among_gone count p t qs within)
+
+-- as the code meets them
+pub has_gone_on : (old mid new : Lanes) (name : List ℕ) (m : Mode) (t p : ℕ) (before after : List Ended) → starts_again m ≡ false → AreKept old mid → partition_at name mid.partitions.items ≡ Some p
+    → new.partitions.items ≡ change_at p (entered m t) mid.partitions.items → new.processes.items ≡ mid.processes.items
+    → after ≡ before ++ mode_over_at p t (slice_get mid.partitions.items p)
+    → HasRead (Some name) (event.Mode m) t old new before after
+has_gone_on old mid new name mode.Normal t p before after on kept at changed same_processes more = has_entered_normal old mid new name t p before after kept at changed same_processes more
+has_gone_on old mid new name mode.Idle t p before after on kept at changed same_processes more = absurd (false≢true (sym on))
+has_gone_on old mid new name mode.ColdStart t p before after on kept at changed same_processes more = absurd (false≢true (sym on))
+has_gone_on old mid new name mode.WarmStart t p before after on kept at changed same_processes more = absurd (false≢true (sym on))
+
+pub is_another : (m : Mode) → starts_again m ≡ true → m ≡ mode.Normal → ⊥
+is_another m h e = false≢true (sym (ap starts_again e) ∙ h)
+
+pub ruleset lanes_left = (within_entered, within_gone)
+
+pub ruleset lanes_found = (partition_found, partition_kept, process_found, process_kept, both_kept, within_longer, within_more, found_below)

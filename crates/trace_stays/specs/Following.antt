@@ -1,0 +1,223 @@
+-- The states of processes and the modes of partitions behind the lines of a trace.
+use Rattle.std.specs.Prelude.{◌≡◌, ◌⊎◌, ℕ, zero, suc, ◌+◌, Bool, true, false, ◌==◌, ◌&&◌, if◌then◌else◌, List, [], ◌∷◌, ◌++◌, length, Option, Some, None, slice_get}
+use Rattle.apex_types.specs.Line.{subject_text}
+use Rattle.apex_types.specs.declared.codes.Mode.{Mode}
+use Rattle.apex_types.specs.declared.codes.Mode.TheVariants as mode
+use Rattle.apex_types.specs.declared.codes.ProcessState.{ProcessState}
+use Rattle.apex_types.specs.declared.event.Event.{Event}
+use Rattle.apex_types.specs.declared.event.EventKind.{EventKind}
+use Rattle.apex_types.specs.declared.event.EventKind.TheVariants as event
+use Rattle.apex_types.specs.declared.event.Subject.{Subject}
+use Rattle.engine_meaning.specs.Digits.{same}
+use Rattle.trace_stays.specs.Stays.{held_behind, mode_behind, mode_ended, stay_ended, stay_left}
+use Rattle.trace_stays.specs.declared.lanes.Ended.{Ended}
+use Rattle.trace_stays.specs.declared.lanes.Ended.TheVariants as ended
+use Rattle.trace_stays.specs.declared.lanes.Lanes.{Lanes}
+use Rattle.trace_stays.specs.declared.lanes.PartitionLane.{PartitionLane}
+use Rattle.trace_stays.specs.declared.lanes.ProcessLane.{ProcessLane}
+use Rattle.trace_stays.specs.declared.stay.Held.{Held}
+use Rattle.trace_stays.specs.declared.stay.HeldMode.{HeldMode}
+use Rattle.trace_stays.specs.declared.stay.ModeStay.{ModeStay}
+use Rattle.trace_stays.specs.declared.stay.Stay.{Stay}
+
+-- ---- what a line changes. A process is named by its partition's name and its own word.
+
+abbrev pub is_of : List ℕ → Option (List ℕ) → Bool
+is_of name None = false
+is_of name (Some partition) = same partition name
+
+-- with any mode but NORMAL the partition starts again
+abbrev pub starts_again : Mode → Bool
+starts_again mode.Normal = false
+starts_again mode.Idle = true
+starts_again mode.ColdStart = true
+starts_again mode.WarmStart = true
+
+-- so its processes are gone
+abbrev pub state_left : Mode → Option Held → Option Held
+state_left mode.Normal held = held
+state_left mode.Idle held = None
+state_left mode.ColdStart held = None
+state_left mode.WarmStart held = None
+
+abbrev pub stay_left_by : Mode → Option Held → ℕ → Option Stay
+stay_left_by mode.Normal held t = None
+stay_left_by mode.Idle held t = stay_ended held None t
+stay_left_by mode.ColdStart held t = stay_ended held None t
+stay_left_by mode.WarmStart held t = stay_ended held None t
+
+-- the state that a process holds behind a line of its partition
+abbrev pub state_in : EventKind → ℕ → List ℕ → Option Held → Option Held
+state_in (event.State who state) t word held = if same (subject_text who) word then held_behind held (Some state) t else held
+state_in (event.Mode m) t word held = state_left m held
+state_in _ t word held = held
+
+-- the stay that such a line ends
+abbrev pub stay_in : EventKind → ℕ → List ℕ → Option Held → Option Stay
+stay_in (event.State who state) t word held = if same (subject_text who) word then stay_ended held (Some state) t else None
+stay_in (event.Mode m) t word held = stay_left_by m held t
+stay_in _ t word held = None
+
+-- the state that a process holds behind a line of this partition, and the stay that the line ends
+abbrev pub state_behind : Option (List ℕ) → EventKind → ℕ → List ℕ → List ℕ → Option Held → Option Held
+state_behind partition kind t name word held = if is_of name partition then state_in kind t word held else held
+
+abbrev pub stay_over : Option (List ℕ) → EventKind → ℕ → List ℕ → List ℕ → Option Held → Option Stay
+stay_over partition kind t name word held = if is_of name partition then stay_in kind t word held else None
+
+-- the mode of a partition behind a line
+abbrev pub mode_in : EventKind → ℕ → Option HeldMode → Option HeldMode
+mode_in (event.Mode m) t held = mode_behind held m t
+mode_in _ t held = held
+
+abbrev pub mode_after : Option (List ℕ) → EventKind → ℕ → List ℕ → Option HeldMode → Option HeldMode
+mode_after partition kind t name held = if is_of name partition then mode_in kind t held else held
+
+-- ---- where a process and a partition stand
+
+-- the place of the first of these that passes the test, where the first one has the place n
+unfoldable pub place_from : {A : Type 0} → ℕ → (A → Bool) → List A → Option ℕ
+place_from n test [] = None
+place_from n test (x ∷ xs) = if test x then Some n else place_from (n + 1) test xs
+
+abbrev pub has_name : List ℕ → PartitionLane → Bool
+has_name name lane = same lane.name name
+
+abbrev pub is_process : ℕ → List ℕ → ProcessLane → Bool
+is_process partition word lane = (lane.partition == partition) && same (subject_text lane.who) word
+
+abbrev pub partition_at : List ℕ → List PartitionLane → Option ℕ
+partition_at name lanes = place_from 0 (has_name name) lanes
+
+abbrev pub process_in : Option ℕ → List ℕ → List ProcessLane → Option ℕ
+process_in None word lanes = None
+process_in (Some partition) word lanes = place_from 0 (is_process partition word) lanes
+
+abbrev pub process_at : List ℕ → List ℕ → Lanes → Option ℕ
+process_at name word l = process_in (partition_at name l.partitions.items) word l.processes.items
+
+-- ---- what they hold
+
+abbrev pub held_in : Option ProcessLane → Option Held
+held_in None = None
+held_in (Some lane) = lane.watch.held
+
+abbrev pub held_at : Option ℕ → List ProcessLane → Option Held
+held_at None lanes = None
+held_at (Some place) lanes = held_in (slice_get lanes place)
+
+-- the state that a process holds
+abbrev pub held_by : List ℕ → List ℕ → Lanes → Option Held
+held_by name word l = held_at (process_at name word l) l.processes.items
+
+abbrev pub mode_held : Option PartitionLane → Option HeldMode
+mode_held None = None
+mode_held (Some lane) = lane.watch.held
+
+abbrev pub mode_at : Option ℕ → List PartitionLane → Option HeldMode
+mode_at None lanes = None
+mode_at (Some place) lanes = mode_held (slice_get lanes place)
+
+-- the mode of a partition
+abbrev pub mode_by : List ℕ → Lanes → Option HeldMode
+mode_by name l = mode_at (partition_at name l.partitions.items) l.partitions.items
+
+-- ---- the stays that are over
+
+abbrev pub if_at : Bool → Stay → List Stay
+if_at true stay = stay ∷ []
+if_at false stay = []
+
+-- those of the process at this place
+unfoldable pub stays_at : ℕ → List Ended → List Stay
+stays_at place [] = []
+stays_at place (ended.State other stay ∷ es) = if_at (other == place) stay ++ stays_at place es
+stays_at place (ended.Mode other stay ∷ es) = stays_at place es
+
+abbrev pub stays_of : Option ℕ → List Ended → List Stay
+stays_of None es = []
+stays_of (Some place) es = stays_at place es
+
+abbrev pub and_one : Option Stay → List Stay
+and_one None = []
+and_one (Some stay) = stay ∷ []
+
+-- Behind a line of this partition each process holds the state of the definition, and the stay that the line ends is the one that was added for it.
+pub record HasRead (partition : Option (List ℕ)) (kind : EventKind) (t : ℕ) (old new : Lanes) (before after : List Ended) : Type 0 where
+  pub held : (name word : List ℕ) → held_by name word new ≡ state_behind partition kind t name word (held_by name word old)
+  pub mode : (name : List ℕ) → mode_by name new ≡ mode_after partition kind t name (mode_by name old)
+  pub ended : (name word : List ℕ) → stays_of (process_at name word new) after ≡ stays_of (process_at name word new) before ++ and_one (stay_over partition kind t name word (held_by name word old))
+
+abbrev pub HasFollowed : Event → Lanes → Lanes → List Ended → List Ended → Type 0
+HasFollowed e old new before after = HasRead e.partition e.kind e.tick.0 old new before after
+
+-- each process and each partition is as it was
+pub record AreKept (old new : Lanes) : Type 0 where
+  pub held : (name word : List ℕ) → held_by name word new ≡ held_by name word old
+  pub mode : (name : List ℕ) → mode_by name new ≡ mode_by name old
+
+-- ---- the changes of the lists
+
+-- what has no state and no mode yet
+abbrev pub new_partition : List ℕ → PartitionLane
+new_partition name = record { name = name; watch = record { held = None } }
+
+abbrev pub new_process : ℕ → Subject → ProcessLane
+new_process partition who = record { partition = partition; who = who; watch = record { held = None } }
+
+-- the partition stands at this place; it is the last one if it was not there
+abbrev pub HasPartition : List ℕ → List PartitionLane → List PartitionLane → ℕ → Type 0
+HasPartition name old new place = ((new ≡ old) × (partition_at name old ≡ Some place)) ⊎ ((partition_at name old ≡ None) × (new ≡ old ++ new_partition name ∷ []) × (place ≡ length old))
+
+abbrev pub HasProcess : ℕ → Subject → List ProcessLane → List ProcessLane → ℕ → Type 0
+HasProcess partition who old new place =
+    ((new ≡ old) × (process_in (Some partition) (subject_text who) old ≡ Some place))
+    ⊎ ((process_in (Some partition) (subject_text who) old ≡ None) × (new ≡ old ++ new_process partition who ∷ []) × (place ≡ length old))
+
+abbrev pub change_at : {A : Type 0} → ℕ → (A → A) → List A → List A
+change_at place f [] = []
+change_at zero f (x ∷ xs) = f x ∷ xs
+change_at (suc place) f (x ∷ xs) = x ∷ change_at place f xs
+
+-- such a line of a process
+abbrev pub turned : Option ProcessState → ℕ → ProcessLane → ProcessLane
+turned next t lane = record lane { watch = record { held = held_behind lane.watch.held next t } }
+
+abbrev pub entered : Mode → ℕ → PartitionLane → PartitionLane
+entered m t lane = record lane { watch = record { held = mode_behind lane.watch.held m t } }
+
+abbrev pub state_over : ℕ → Option Stay → List Ended
+state_over place None = []
+state_over place (Some stay) = ended.State place stay ∷ []
+
+abbrev pub mode_over : ℕ → Option ModeStay → List Ended
+mode_over place None = []
+mode_over place (Some stay) = ended.Mode place stay ∷ []
+
+-- a partition starts again: its processes are gone
+abbrev pub gone_from : ℕ → ℕ → ProcessLane → ProcessLane
+gone_from partition t lane = if lane.partition == partition then turned None t lane else lane
+
+-- the stay of the process at a place that such a line ends
+abbrev pub over_at : ℕ → Option ProcessState → ℕ → Option ProcessLane → List Ended
+over_at place next t None = []
+over_at place next t (Some lane) = state_over place (stay_ended lane.watch.held next t)
+
+abbrev pub mode_over_at : ℕ → ℕ → Option PartitionLane → List Ended
+mode_over_at place t None = []
+mode_over_at place t (Some lane) = mode_over place (mode_ended lane.watch.held t)
+
+unfoldable pub over_with : ℕ → (partition t : ℕ) → List ProcessLane → List Ended
+over_with n partition t [] = []
+over_with n partition t (lane ∷ lanes) = (if lane.partition == partition then state_over n (stay_ended lane.watch.held None t) else []) ++ over_with (n + 1) partition t lanes
+
+-- ---- where a trace ends
+
+-- the stays of partitions and of processes that are not over, where the first one has the place n
+unfoldable pub modes_left : (n until : ℕ) → List PartitionLane → List Ended
+modes_left n until [] = []
+modes_left n until (lane ∷ lanes) = mode_over n (mode_ended lane.watch.held until) ++ modes_left (n + 1) until lanes
+
+unfoldable pub states_left : (n until : ℕ) → List ProcessLane → List Ended
+states_left n until [] = []
+states_left n until (lane ∷ lanes) = state_over n (stay_left lane.watch.held until) ++ states_left (n + 1) until lanes

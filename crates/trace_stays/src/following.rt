@@ -1,0 +1,356 @@
+//! The lines of a trace, one after another.
+
+ghost use Rattle.std.specs.Prelude.{◌≡◌, ◌≤◌, ◌++◌, length, map, slice_get, IfOk, OnErr, OnOk, Some};
+ghost use Rattle.apex_types.specs.Line.{subject_text};
+ghost use Rattle.apex_types.specs.declared.event.EventKind.TheVariants as event;
+ghost use Rattle.engine_meaning.specs.Digits.{same};
+ghost use Rattle.trace_stays.specs.Following.{AreKept, HasFollowed, HasPartition, HasProcess, HasRead, change_at, entered, gone_from, mode_over, mode_over_at, modes_left, over_at, over_with, partition_at, process_at, process_in, starts_again, state_over, states_left, turned};
+ghost use Rattle.trace_stays.specs.Stays.{mode_ended, stay_ended};
+
+use crate::fault::MemoryFull;
+use crate::lanes::{Ended, Lanes, PartitionLane, ProcessLane};
+use crate::stay::{ModeStay, ModeWatch, StateWatch, Stay};
+use crate::words::subject_word;
+use apex_types::{Event, EventKind, Mode, Name, ProcessState, Subject, Ticks};
+
+impl Lanes {
+    /// The place of the partition with this name, which gets one if it has none.
+    ///
+    /// # Errors
+    ///
+    /// Memory ran out.
+    #[tactic(auto, using(crate::proofs::Followed::lanes_found))]
+    pub fn partition_place(&mut self, name: &Name) -> Result<usize, MemoryFull>
+        ensures place { IfOk result
+            (λ place. partition_at name.now self.new.partitions.items ≡ Some place) }
+        ensures kept { OnOk result (AreKept self.old self.new) }
+        ensures processes { self.new.processes ≡ self.old.processes }
+    {
+        place_of_partition(&mut self.partitions, name)
+    }
+
+    /// The place of a process of the partition with this name; both get one if they have none.
+    ///
+    /// # Errors
+    ///
+    /// Memory ran out.
+    #[tactic(auto, using(crate::proofs::Followed::lanes_found))]
+    pub fn process_place(&mut self, partition: &Name, who: &Subject) -> Result<usize, MemoryFull>
+        ensures place { IfOk result
+            (λ place. process_at partition.now (subject_text who.now) self.new ≡ Some place) }
+        ensures kept { OnOk result (AreKept self.old self.new) }
+    {
+        let place = self.partition_place(partition)?;
+        place_of_process(&mut self.processes, place, who)
+    }
+
+    /// Follows one event, and adds the stays that are over with it.
+    ///
+    /// # Errors
+    ///
+    /// Memory ran out.
+    pub fn follow(&mut self, event: &Event, ended: &mut Vec<Ended>) -> Result<(), MemoryFull>
+        ensures { OnOk result
+            (HasFollowed event.now self.old self.new ended.old.items ended.new.items) }
+    {
+        let Some(name) = &event.partition else {
+            return Ok(());
+        };
+        match &event.kind {
+            EventKind::State(who, state) => self.turn(name, who, *state, event.tick, ended),
+            EventKind::Mode(mode) => self.enter(name, *mode, event.tick, ended),
+            _ => {
+                self.partition_place(name)?;
+                Ok(())
+            }
+        }
+    }
+
+    /// Adds the stays that are not over where the trace ends: first those of the partitions.
+    ///
+    /// # Errors
+    ///
+    /// Memory ran out.
+    pub fn finish(&self, until: Ticks, ended: &mut Vec<Ended>) -> Result<(), MemoryFull>
+        ensures { OnOk result
+            (ended.new.items
+            ≡ (ended.old.items ++ modes_left 0 until.0 self.now.partitions.items)
+            ++ states_left 0 until.0 self.now.processes.items) }
+    {
+        end_modes(self.partitions.as_slice(), until, ended)?;
+        end_states(self.processes.as_slice(), until, ended)
+    }
+
+    /// A process enters a state.
+    fn turn(
+        &mut self,
+        partition: &Name,
+        who: &Subject,
+        state: ProcessState,
+        tick: Ticks,
+        ended: &mut Vec<Ended>,
+    ) -> Result<(), MemoryFull>
+        ensures { OnOk result
+            (HasRead (Some partition.now) (event.State who.now state) tick.0 self.old self.new
+            ended.old.items ended.new.items) }
+    {
+        let place = self.process_place(partition, who)?;
+        turn_at(&mut self.processes, place, state, tick, ended)
+    }
+
+    /// A partition enters a mode. If it starts again, its processes are gone.
+    #[tactic(auto, using(crate::proofs::Followed::lanes_left))]
+    fn enter(
+        &mut self,
+        partition: &Name,
+        mode: Mode,
+        tick: Ticks,
+        ended: &mut Vec<Ended>,
+    ) -> Result<(), MemoryFull>
+        ensures { OnOk result
+            (HasRead (Some partition.now) (event.Mode mode) tick.0 self.old self.new
+            ended.old.items ended.new.items) }
+    {
+        let place = self.partition_place(partition)?;
+        enter_at(&mut self.partitions, place, mode, tick, ended)?;
+        if !starts_again(mode) {
+            return Ok(());
+        }
+        end_all(self.processes.as_slice(), place, tick, ended)?;
+        leave_all(&mut self.processes, place, tick);
+        Ok(())
+    }
+}
+
+/// Returns true if a partition starts again with this mode: with any but NORMAL.
+fn starts_again(mode: Mode) -> bool
+    ensures { result ≡ starts_again mode }
+{
+    match mode {
+        Mode::Normal => false,
+        Mode::Idle | Mode::ColdStart | Mode::WarmStart => true,
+    }
+}
+
+/// The place of the partition with this name, which becomes the last one if it has none.
+fn place_of_partition(lanes: &mut Vec<PartitionLane>, name: &Name) -> Result<usize, MemoryFull>
+    ensures found { IfOk result (HasPartition name.now lanes.old.items lanes.new.items) }
+    ensures length { length lanes.old.items ≤ length lanes.new.items }
+{
+    match known_partition(lanes.as_slice(), name) {
+        Some(place) => Ok(place),
+        None => {
+            let place = lanes.len();
+            lanes.push(PartitionLane {
+                name: *name,
+                watch: ModeWatch::new(),
+            })?;
+            Ok(place)
+        }
+    }
+}
+
+/// The place of the partition with this name; `None` if it has no line.
+#[tactic(auto, using(std::proofs::lemmas::List::drop_more), unfolding(crate::specs::Following::place_from))]
+fn known_partition(lanes: &[PartitionLane], name: &Name) -> Option<usize>
+    ensures { result ≡ partition_at name.now lanes.now }
+{
+    for (place, lane) in lanes.iter().enumerate() {
+        if lane.name.as_bytes() == name.as_bytes() {
+            return Some(place);
+        }
+    }
+    None
+}
+
+/// The place of a process of the partition at this place; it becomes the last one if it has none.
+fn place_of_process(
+    lanes: &mut Vec<ProcessLane>,
+    partition: usize,
+    who: &Subject,
+) -> Result<usize, MemoryFull>
+    ensures found { IfOk result (HasProcess partition who.now lanes.old.items lanes.new.items) }
+    ensures failed { OnErr result (lanes.new.items ≡ lanes.old.items) }
+{
+    match known_process(lanes.as_slice(), partition, who) {
+        Some(place) => Ok(place),
+        None => {
+            let place = lanes.len();
+            lanes.push(ProcessLane {
+                partition,
+                who: *who,
+                watch: StateWatch::new(),
+            })?;
+            Ok(place)
+        }
+    }
+}
+
+/// The place of a process of the partition at this place; `None` if it has no line.
+#[tactic(auto, using(std::proofs::lemmas::List::drop_more), unfolding(crate::specs::Following::place_from))]
+fn known_process(lanes: &[ProcessLane], partition: usize, who: &Subject) -> Option<usize>
+    ensures { result ≡ process_in (Some partition) (subject_text who.now) lanes.now }
+{
+    for (place, lane) in lanes.iter().enumerate() {
+        if lane.partition == partition && is_same_subject(&lane.who, who) {
+            return Some(place);
+        }
+    }
+    None
+}
+
+/// Returns true if both stand in a line with the same word.
+fn is_same_subject(one: &Subject, other: &Subject) -> bool
+    ensures { result ≡ same (subject_text one.now) (subject_text other.now) }
+{
+    subject_word(one).as_bytes() == subject_word(other).as_bytes()
+}
+
+/// Adds the stay of the process at this place, if one is over.
+fn add_stay(ended: &mut Vec<Ended>, place: usize, stay: Option<Stay>) -> Result<(), MemoryFull>
+    ensures { OnOk result (ended.new.items ≡ ended.old.items ++ state_over place stay) }
+{
+    if let Some(stay) = stay {
+        ended.push(Ended::State(place, stay))?;
+    }
+    Ok(())
+}
+
+/// Adds the stay of the partition at this place, if one is over.
+fn add_mode_stay(
+    ended: &mut Vec<Ended>,
+    place: usize,
+    stay: Option<ModeStay>,
+) -> Result<(), MemoryFull>
+    ensures { OnOk result (ended.new.items ≡ ended.old.items ++ mode_over place stay) }
+{
+    if let Some(stay) = stay {
+        ended.push(Ended::Mode(place, stay))?;
+    }
+    Ok(())
+}
+
+/// The process at this place enters a state.
+fn turn_at(
+    lanes: &mut Vec<ProcessLane>,
+    place: usize,
+    state: ProcessState,
+    tick: Ticks,
+    ended: &mut Vec<Ended>,
+) -> Result<(), MemoryFull>
+    ensures lanes { lanes.new.items
+        ≡ change_at place (turned (Some state) tick.0) lanes.old.items }
+    ensures ended { OnOk result
+        (ended.new.items
+        ≡ ended.old.items
+        ++ over_at place (Some state) tick.0 (slice_get lanes.old.items place)) }
+{
+    match lanes.get_mut(place) {
+        Some(lane) => add_stay(ended, place, lane.turn(Some(state), tick)),
+        None => Ok(()),
+    }
+}
+
+/// The partition at this place enters a mode.
+fn enter_at(
+    lanes: &mut Vec<PartitionLane>,
+    place: usize,
+    mode: Mode,
+    tick: Ticks,
+    ended: &mut Vec<Ended>,
+) -> Result<(), MemoryFull>
+    ensures lanes { lanes.new.items ≡ change_at place (entered mode tick.0) lanes.old.items }
+    ensures ended { OnOk result
+        (ended.new.items
+        ≡ ended.old.items ++ mode_over_at place tick.0 (slice_get lanes.old.items place)) }
+{
+    match lanes.get_mut(place) {
+        Some(lane) => add_mode_stay(ended, place, lane.enter(mode, tick)),
+        None => Ok(()),
+    }
+}
+
+/// Adds the stays of the processes of the partition at this place, which are gone with this tick.
+#[tactic(auto, using(std::proofs::lemmas::List::drop_more), unfolding(crate::specs::Following::over_with))]
+fn end_all(
+    lanes: &[ProcessLane],
+    partition: usize,
+    tick: Ticks,
+    ended: &mut Vec<Ended>,
+) -> Result<(), MemoryFull>
+    ensures { OnOk result
+        (ended.new.items ≡ ended.old.items ++ over_with 0 partition tick.0 lanes.now) }
+{
+    for (place, lane) in lanes.iter().enumerate() {
+        if lane.partition == partition {
+            let mut watch = lane.watch;
+            add_stay(ended, place, watch.turn(None, tick))?;
+        }
+    }
+    Ok(())
+}
+
+/// Adds the stays of the partitions that are not over at this tick.
+#[tactic(auto, using(std::proofs::lemmas::List::drop_more), unfolding(crate::specs::Following::modes_left))]
+fn end_modes(
+    lanes: &[PartitionLane],
+    until: Ticks,
+    ended: &mut Vec<Ended>,
+) -> Result<(), MemoryFull>
+    ensures { OnOk result (ended.new.items ≡ ended.old.items ++ modes_left 0 until.0 lanes.now) }
+{
+    for (place, lane) in lanes.iter().enumerate() {
+        add_mode_stay(ended, place, lane.watch.last_stay(until))?;
+    }
+    Ok(())
+}
+
+/// Adds the stays of the processes that are not over at this tick.
+#[tactic(auto, using(std::proofs::lemmas::List::drop_more), unfolding(crate::specs::Following::states_left))]
+fn end_states(lanes: &[ProcessLane], until: Ticks, ended: &mut Vec<Ended>) -> Result<(), MemoryFull>
+    ensures { OnOk result (ended.new.items ≡ ended.old.items ++ states_left 0 until.0 lanes.now) }
+{
+    for (place, lane) in lanes.iter().enumerate() {
+        add_stay(ended, place, lane.watch.last_stay(until))?;
+    }
+    Ok(())
+}
+
+/// The processes of the partition at this place are gone.
+#[tactic(auto, using(std::proofs::lemmas::List::drop_more))]
+fn leave_all(lanes: &mut Vec<ProcessLane>, partition: usize, tick: Ticks)
+    ensures { lanes.new.items ≡ map (gone_from partition tick.0) lanes.old.items }
+{
+    for lane in lanes.iter_mut() {
+        lane.leave(partition, tick);
+    }
+}
+
+impl PartitionLane {
+    /// The partition enters a mode. Returns the stay that is over.
+    fn enter(&mut self, mode: Mode, tick: Ticks) -> Option<ModeStay>
+        ensures lane { self.new ≡ entered mode tick.0 self.old }
+        ensures ended { result ≡ mode_ended self.old.watch.held tick.0 }
+    {
+        self.watch.enter(mode, tick)
+    }
+}
+
+impl ProcessLane {
+    /// The process enters the next state, or it is gone. Returns the stay that is over.
+    fn turn(&mut self, next: Option<ProcessState>, tick: Ticks) -> Option<Stay>
+        ensures lane { self.new ≡ turned next tick.0 self.old }
+        ensures ended { result ≡ stay_ended self.old.watch.held next tick.0 }
+    {
+        self.watch.turn(next, tick)
+    }
+
+    /// The process is gone, if it is one of the partition at this place.
+    fn leave(&mut self, partition: usize, tick: Ticks)
+        ensures { self.new ≡ gone_from partition tick.0 self.old }
+    {
+        if self.partition == partition {
+            self.turn(None, tick);
+        }
+    }
+}

@@ -1,0 +1,156 @@
+//! The lines of errors.
+
+ghost use Rattle.std.specs.Prelude.{◌≡◌, ◌↔◌, [], slice_get, IsTrue, MatchOption, OnErr, OnOk, Some};
+ghost use Rattle.trace_view.specs.Errors.{IsCounted, IsNoneOf, IsOf};
+ghost use Rattle.trace_view.specs.declared.errors.ErrorTotal.{ErrorTotal};
+
+use apex_types::{ErrorKind, Name, Response};
+use std::alloc::Global;
+use trace_stays::MemoryFull;
+
+/// The errors of one kind that were answered alike, of one partition or of the module.
+#[derive(Clone, Copy, Debug)]
+pub struct ErrorTotal {
+    /// The partition; `None` for a fault of the module.
+    pub partition: Option<Name>,
+    pub error: ErrorKind,
+    pub response: Response,
+    pub lines: u64,
+}
+
+impl ErrorTotal {
+    ghost use Rattle.std.specs.Prelude.{◌+◌};
+    ghost use Rattle.apex_types.specs.CodeWords.{action_word, error_word, level_of_response, level_word};
+    ghost use Rattle.trace_view.specs.Counting.{capped};
+    ghost use Rattle.trace_view.specs.Errors.{partition_word};
+
+    /// Returns true if these are the errors of this kind, of this partition, with this response.
+    fn is_of(&self, partition: &Option<Name>, error: ErrorKind, response: Response) -> bool
+        ensures { IsTrue result ↔ IsOf partition.now error response self.now }
+    {
+        is_same_partition(&self.partition, partition)
+            && self.error == error
+            && self.response == response
+    }
+
+    /// The name of the partition; `-` for a fault of the module.
+    pub fn partition_word(&self) -> &str
+        ensures { result.now ≡ partition_word self.now.partition }
+    {
+        match &self.partition {
+            Some(name) => name.as_str(),
+            None => "-",
+        }
+    }
+
+    /// The kind of error, as it stands in a trace.
+    pub fn error_word(&self) -> &str
+        ensures { result.now ≡ error_word self.now.error }
+    {
+        self.error.word()
+    }
+
+    /// The level of the error, as it stands in a trace.
+    pub fn level_word(&self) -> &str
+        ensures { result.now ≡ level_word (level_of_response self.now.response) }
+    {
+        self.response.level().word()
+    }
+
+    /// What was done on the error, as it stands in a trace.
+    pub fn action_word(&self) -> &str
+        ensures { result.now ≡ action_word self.now.response }
+    {
+        self.response.action_word()
+    }
+
+    /// Counts one more line.
+    fn count(&mut self)
+        ensures { self.new ≡ record self.old { lines = capped (self.old.lines + 1) } }
+    {
+        self.lines = self.lines.saturating_add(1);
+    }
+}
+
+/// Returns true if both are the same partition, or the module itself.
+fn is_same_partition(one: &Option<Name>, other: &Option<Name>) -> bool
+    ensures { IsTrue result ↔ (one.now ≡ other.now) }
+{
+    match (one, other) {
+        (Some(one), Some(other)) => one.as_bytes() == other.as_bytes(),
+        (None, None) => true,
+        _ => false,
+    }
+}
+
+/// The numbers of lines of errors, in the order of the first of each.
+#[derive(Drop)]
+pub struct Errors {
+    totals: Vec<ErrorTotal>,
+}
+
+impl Errors {
+    /// No errors.
+    pub fn new(alloc: Global) -> Errors
+        ensures { result.totals.items ≡ [] }
+    {
+        Errors {
+            totals: Vec::new(alloc),
+        }
+    }
+
+    /// Counts the line of an error.
+    ///
+    /// # Errors
+    ///
+    /// Memory ran out. Then nothing is counted.
+    pub fn count(
+        &mut self,
+        partition: &Option<Name>,
+        error: ErrorKind,
+        response: Response,
+    ) -> Result<(), MemoryFull>
+        ensures counted { OnOk result
+            (IsCounted partition.now error response self.old.totals.items
+            self.new.totals.items) }
+        ensures kept { OnErr result (self.new.totals.items ≡ self.old.totals.items) }
+    {
+        match self.place_of(partition, error, response) {
+            Some(place) => self.totals[place].count(),
+            None => self.totals.push(ErrorTotal {
+                partition: *partition,
+                error,
+                response,
+                lines: 1,
+            })?,
+        }
+        Ok(())
+    }
+
+    /// The place where such lines are counted; `None` if there was none.
+    fn place_of(
+        &self,
+        partition: &Option<Name>,
+        error: ErrorKind,
+        response: Response,
+    ) -> Option<usize>
+        ensures { MatchOption result (IsNoneOf partition.now error response self.now.totals.items)
+            (λ place. (one : ErrorTotal)
+            × ((slice_get self.now.totals.items place ≡ Some one)
+            × IsOf partition.now error response one)) }
+    {
+        for (place, total) in self.totals.iter().enumerate() {
+            if total.is_of(partition, error, response) {
+                return Some(place);
+            }
+        }
+        None
+    }
+
+    /// The totals.
+    pub fn into_totals(self) -> Vec<ErrorTotal>
+        ensures { result ≡ self.totals }
+    {
+        self.totals
+    }
+}

@@ -1,0 +1,43 @@
+use Rattle.std.proofs.Common.{rules, ◌≡◌, ℕ, length, refl, sym, ap, subst, ◌∙◌, string_bytes}
+use Rattle.streams.specs.Contents.{Opens}
+use Rattle.view_command.specs.Compared.{AreToldBy, asked}
+use Rattle.view_command.proofs.Compared.{told_in, told_none, told_some, trace_in, unread_of_both}
+use Rattle.view_command.proofs.comparing.compare.Goals.{then-is_empty, else-is_empty}
+use Rattle.view_command.proofs.comparing.compare.Goals as goal
+
+pub returns-in_err-read_both-clause-refused : goal.returns-in_err-read_both-clause-refused
+returns-in_err-read_both-clause-refused g c =
+    let texts = g.F.Sources.texts c.args.sources.now in
+    let remaining = g.F.Reader.Read.remaining in
+    let one : Opens texts (string_bytes c.args.pair.first) (remaining c.in-Ok.reader) = subst (λ n. Opens texts n (remaining c.in-Ok.reader)) c.as_str-first.ensures.value c.in-Ok.ensures.opened in
+    let two : Opens texts (string_bytes c.args.pair.second) (remaining c.in-Ok-open.reader) =
+    subst (λ n. Opens texts n (remaining c.in-Ok-open.reader)) c.as_str-second.ensures.value (subst (λ t. Opens t c.as_str-second.result.now (remaining c.in-Ok-open.reader)) c.open.ensures.kept c.in-Ok-open.ensures.opened) in
+    unread_of_both texts (string_bytes c.args.pair.first) (string_bytes c.args.pair.second) (string_bytes c.in_ok-first_name.first_name) (string_bytes c.in_ok-second_name.second_name)
+    (remaining c.in-Ok.reader) (remaining c.in-Ok-open.reader) _ _ c.in_err-read_both.field-0.0 c.from_residual-in_err-read_both.result
+    one two (search rules) (search rules) (search rules) c.in_err-read_both.ensures.refused c.from_residual-in_err-read_both.ensures
+
+pub returns-clause-told : goal.returns-clause-told
+returns-clause-told g c =
+    let texts = g.F.Sources.texts c.args.sources.now in
+    let remaining = g.F.Reader.Read.remaining in
+    let p = c.args.pair.partition in
+    let one : Opens texts (string_bytes c.args.pair.first) (remaining c.in-Ok.reader) = subst (λ n. Opens texts n (remaining c.in-Ok.reader)) c.as_str-first.ensures.value c.in-Ok.ensures.opened in
+    let two : Opens texts (string_bytes c.args.pair.second) (remaining c.in-Ok-open.reader) =
+    subst (λ n. Opens texts n (remaining c.in-Ok-open.reader)) c.as_str-second.ensures.value (subst (λ t. Opens t c.as_str-second.result.now (remaining c.in-Ok-open.reader)) c.open.ensures.kept c.in-Ok-open.ensures.opened) in
+    let compared = c.in_ok-read_both.ensures.compared c.new-comparison.ensures in
+    let found = c.in_ok-differences.differences.items in
+    let are = c.in_ok-differences.ensures compared.tick (asked p compared.first) (asked p compared.second) compared.are_read in
+    let told : AreToldBy c.if-is_empty.result p compared.first compared.second = elim c.if-is_empty.branch [
+      | then-is_empty w ↦ subst (λ o. AreToldBy o p compared.first compared.second) (sym w.result-is) (told_none found p compared.first compared.second are (search rules))
+      | else-is_empty w ↦ subst (λ o. AreToldBy o p compared.first compared.second) (sym w.result-is) (told_some found p compared.first compared.second are (λ h. search (rules, h)))
+    ] in
+    told_in texts (string_bytes c.args.pair.first) (string_bytes c.args.pair.second) (remaining c.in-Ok.reader) (remaining c.in-Ok-open.reader) p c.if-is_empty.result compared.first compared.second one two compared.first_text compared.second_text told
+
+pub returns-clause-second : goal.returns-clause-second
+returns-clause-second g c =
+    let texts = g.F.Sources.texts c.args.sources.now in
+    let remaining = g.F.Reader.Read.remaining in
+    let two : Opens texts (string_bytes c.args.pair.second) (remaining c.in-Ok-open.reader) =
+    subst (λ n. Opens texts n (remaining c.in-Ok-open.reader)) c.as_str-second.ensures.value (subst (λ t. Opens t c.as_str-second.result.now (remaining c.in-Ok-open.reader)) c.open.ensures.kept c.in-Ok-open.ensures.opened) in
+    let compared = c.in_ok-read_both.ensures.compared c.new-comparison.ensures in
+    trace_in texts (string_bytes c.args.pair.second) (remaining c.in-Ok-open.reader) compared.second two compared.second_text

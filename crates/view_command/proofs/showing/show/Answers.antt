@@ -1,0 +1,13 @@
+use Rattle.std.proofs.Common.{rules, string_bytes, subst}
+use Rattle.streams.specs.Contents.{Opens}
+use Rattle.view_command.proofs.Tables.{unread_or}
+use Rattle.view_command.proofs.showing.show.Goals as goal
+
+pub returns-in_err-read_all-clause-refused : goal.returns-in_err-read_all-clause-refused
+returns-in_err-read_all-clause-refused g c =
+    let texts = g.F.Sources.texts c.args.sources.now in
+    let left = g.F.Reader.Read.remaining c.in-Ok.reader in
+    let opens : Opens texts (string_bytes c.args.request.trace) left =
+    subst (λ n. Opens texts n left) c.as_str-2.ensures.value (subst (λ t. Opens t c.as_str-2.result.now left) c.table_asked.ensures.kept c.in-Ok.ensures.opened) in
+    unread_or _ texts (string_bytes c.args.request.trace) (string_bytes c.in_ok-name.name) left _ _ c.in_err-read_all.field-0.0 c.from_residual-in_err-read_all.result
+    opens (search rules) (search rules) c.in_err-read_all.ensures.refused c.from_residual-in_err-read_all.ensures

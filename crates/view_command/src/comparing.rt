@@ -1,0 +1,213 @@
+//! Two traces are read to their ends, and compared.
+
+ghost use Rattle.std.specs.Prelude.{◌≡◌, ◌⊎◌, ℕ, ◌-◌, ◌^◌, ◌<◌, ◌≤◌, List, [], IfErr, IfOk, OnOk, string_bytes};
+ghost use Rattle.apex_types.specs.declared.event.Event.{Event};
+ghost use Rattle.streams.specs.States.{IsFlushed, seen};
+ghost use Rattle.trace_difference.specs.Comparisons.{AreParts};
+ghost use Rattle.trace_difference.specs.Parts.{first_with, second_with};
+ghost use Rattle.view_command.specs.Answers.{IsRefused, IsUnread};
+ghost use Rattle.view_command.specs.Compared.{AreCompared, AreToldIn, IsInOrder, asked, first_behind, second_behind, tick_behind};
+ghost use Rattle.view_command.specs.Differences.{earlier};
+ghost use Rattle.view_command.specs.States.{state};
+ghost use Rattle.view_command.specs.Texts.{IsTraceIn};
+
+use crate::differences::report;
+use crate::refusal::Refusal;
+use crate::showing::{called, of_source, of_stream};
+use crate::views::Outcome;
+use apex_types::Event;
+use std::alloc::Global;
+use std::io::Read;
+use streams::{Sources, Stream, write_bytes};
+use trace_difference::{Comparison, Side};
+use trace_filter::is_of_partition;
+use trace_stays::MemoryFull;
+use trace_text::TraceStream;
+
+/// No text has more lines.
+const MOST_LINES: u64 = u64::MAX - 1;
+
+/// The traces to compare.
+#[derive(Drop)]
+pub struct Pair {
+    pub first: String,
+    pub second: String,
+    /// The partition whose lines are compared; without one, each is for itself.
+    pub partition: Option<String>,
+}
+
+/// Reads both traces to their ends, and then writes where they differ first.
+pub fn compare<F: Sources, O: Stream>(
+    alloc: Global,
+    pair: Pair,
+    sources: &mut F,
+    out: &mut O,
+) -> Result<Outcome, Refusal>
+    requires { O.failures out.old < 2 ^ 64 - 1 }
+    ensures told { IfOk result
+        (AreToldIn (F.texts sources.old) (string_bytes pair.first) (string_bytes pair.second)
+        pair.partition) }
+    ensures first { OnOk result (IsTraceIn (F.texts sources.old) (string_bytes pair.first)) }
+    ensures second { OnOk result (IsTraceIn (F.texts sources.old) (string_bytes pair.second)) }
+    ensures opened { OnOk result (F.unopened sources.new ≡ F.unopened sources.old) }
+    ensures flushed { OnOk result
+        (IsFlushed (seen O.taken O.failures O.is_flushed out.old)
+        (seen O.taken O.failures O.is_flushed out.new)) }
+    ensures refused { IfErr result
+        (λ r. IsRefused (F.texts sources.old) (string_bytes pair.first)
+        (state (F.unopened sources.old) (seen O.taken O.failures O.is_flushed out.old))
+        (state (F.unopened sources.new) (seen O.taken O.failures O.is_flushed out.new)) r
+        ⊎ IsRefused (F.texts sources.old) (string_bytes pair.second)
+        (state (F.unopened sources.old) (seen O.taken O.failures O.is_flushed out.old))
+        (state (F.unopened sources.new) (seen O.taken O.failures O.is_flushed out.new)) r) }
+{
+    let first = pair.first.as_str();
+    let second = pair.second.as_str();
+    let first_name = String::from_str(alloc, called(first))?;
+    let second_name = String::from_str(alloc, called(second))?;
+    let one = match sources.open(first) {
+        Ok(reader) => reader,
+        Err(fault) => return Err(of_source(first_name, fault)),
+    };
+    let other = match sources.open(second) {
+        Ok(reader) => reader,
+        Err(fault) => return Err(of_source(second_name, fault)),
+    };
+    let mut comparison = Comparison::new(alloc);
+    read_both(
+        alloc,
+        first_name,
+        second_name,
+        one,
+        other,
+        &pair.partition,
+        &mut comparison,
+    )?;
+    let differences = comparison.finish()?;
+    let text = report(alloc, differences.as_slice())?;
+    write_bytes(out, text.as_slice())?;
+    Ok(if differences.is_empty() {
+        Outcome::Shown
+    } else {
+        Outcome::Found
+    })
+}
+
+/// Reads every line of both traces, in the order of their ticks; of one tick those of the first trace
+/// come first.
+fn read_both<R: Read + Drop, Q: Read + Drop>(
+    alloc: Global,
+    name: String,
+    other_name: String,
+    reader: R,
+    other_reader: Q,
+    partition: &Option<String>,
+    comparison: &mut Comparison,
+) -> Result<(), Refusal>
+    ensures compared { OnOk result
+        (AreParts comparison.old.parts.items 0 [] []
+        → AreCompared (R.remaining reader) (Q.remaining other_reader) partition.now
+        comparison.new.parts.items) }
+    ensures refused { IfErr result
+        (λ r. IsUnread (R.remaining reader) (string_bytes name) r
+        ⊎ IsUnread (Q.remaining other_reader) (string_bytes other_name) r) }
+{
+    let mut stream = match TraceStream::new(alloc, reader) {
+        Ok(stream) => stream,
+        Err(_) => return Err(Refusal::Memory),
+    };
+    let mut other_stream = match TraceStream::new(alloc, other_reader) {
+        Ok(stream) => stream,
+        Err(_) => return Err(Refusal::Memory),
+    };
+    let mut line = match stream.next_event() {
+        Ok(event) => event,
+        Err(fault) => return Err(of_stream(name, fault)),
+    };
+    let mut other_line = match other_stream.next_event() {
+        Ok(event) => event,
+        Err(fault) => return Err(of_stream(other_name, fault)),
+    };
+    for _ in 0..MOST_LINES {
+        match earlier(&line, &other_line) {
+            Some(Side::First) => {
+                take(comparison, Side::First, line, partition)?;
+                line = match stream.next_event() {
+                    Ok(event) => event,
+                    Err(fault) => return Err(of_stream(name, fault)),
+                };
+            }
+            Some(Side::Second) => {
+                take(comparison, Side::Second, other_line, partition)?;
+                other_line = match other_stream.next_event() {
+                    Ok(event) => event,
+                    Err(fault) => return Err(of_stream(other_name, fault)),
+                };
+            }
+            None => return Ok(()),
+        }
+    }
+    Err(Refusal::Read(name))
+}
+
+/// The trace whose next line is read first; none if both are at their ends.
+fn earlier(one: &Option<Event>, other: &Option<Event>) -> Option<Side>
+    ensures { result ≡ earlier one.now other.now }
+{
+    match (one, other) {
+        (Some(one), Some(other)) => {
+            if other.tick.0 < one.tick.0 {
+                Some(Side::Second)
+            } else {
+                Some(Side::First)
+            }
+        }
+        (Some(_), None) => Some(Side::First),
+        (None, Some(_)) => Some(Side::Second),
+        (None, None) => None,
+    }
+}
+
+/// Compares the line of a trace that is read first, if there is one.
+fn take(
+    comparison: &mut Comparison,
+    side: Side,
+    event: Option<Event>,
+    partition: &Option<String>,
+) -> Result<(), MemoryFull>
+    ensures { OnOk result
+        ((now : ℕ) (a b : List Event)
+        → AreParts comparison.old.parts.items now (asked partition.now a) (asked partition.now b)
+        → IsInOrder now event
+        → AreParts comparison.new.parts.items (tick_behind now event)
+        (asked partition.now (first_behind side event a))
+        (asked partition.now (second_behind side event b))) }
+{
+    match event {
+        Some(event) => take_line(comparison, side, event, partition),
+        None => Ok(()),
+    }
+}
+
+/// Compares a line, if it is of the partition that is asked for.
+#[tactic(auto, using(crate::proofs::Compared::one_asked, crate::proofs::Compared::one_other))]
+fn take_line(
+    comparison: &mut Comparison,
+    side: Side,
+    event: Event,
+    partition: &Option<String>,
+) -> Result<(), MemoryFull>
+    ensures { OnOk result
+        ((now : ℕ) (a b : List Event)
+        → AreParts comparison.old.parts.items now (asked partition.now a) (asked partition.now b)
+        → now ≤ event.tick.0
+        → AreParts comparison.new.parts.items event.tick.0
+        (asked partition.now (first_with side event a))
+        (asked partition.now (second_with side event b))) }
+{
+    if is_of_partition(partition, &event.partition) {
+        comparison.add(side, event)
+    } else {
+        Ok(())
+    }
+}

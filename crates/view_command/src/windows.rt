@@ -1,0 +1,120 @@
+//! The module table, by whose windows ticks are counted and shown.
+
+ghost use Rattle.std.specs.Prelude.{◌≡◌, ℕ, List, Option, IfErr, IfOk, IfSome, OnOk, Ok, string_bytes};
+ghost use Rattle.streams.specs.States.{Seen};
+ghost use Rattle.view_command.specs.Answers.{IsRefusedByTable, IsTableRefused};
+ghost use Rattle.view_command.specs.Orders.{asked_text};
+ghost use Rattle.view_command.specs.States.{state};
+ghost use Rattle.view_command.specs.Texts.{IsRefusedTable, IsTable, IsTableAsked, IsTableIn};
+ghost use Rattle.view_command.specs.Windows.{IsBadTable};
+ghost use Rattle.window_table.specs.Answers.{AnswersText};
+
+use crate::refusal::Refusal;
+use crate::showing::{called, of_source};
+use apex_types::{Name, Ticks};
+use std::alloc::{AllocError, Global};
+use std::io::{ErrorKind, Read};
+use streams::Sources;
+use trace_page::{NOT_KNOWN, windows_text};
+use trace_shares::{Shares, SharesFault};
+use trace_stays::MemoryFull;
+use window_table::{ModuleTable, TableFault, read_table};
+
+/// The module table of this name, if one is asked for.
+pub fn table_asked<F: Sources>(
+    alloc: Global,
+    table: &Option<String>,
+    sources: &mut F,
+) -> Result<Option<ModuleTable>, Refusal>
+    ensures table { OnOk result (IsTableAsked (F.texts sources.old) (asked_text table.now)) }
+    ensures opened { OnOk result (F.unopened sources.new ≡ F.unopened sources.old) }
+    ensures kept { F.texts sources.new ≡ F.texts sources.old }
+    ensures refused { (out : Seen)
+        → IfErr result
+        (λ r. IsTableRefused (F.texts sources.old) (asked_text table.now)
+        (state (F.unopened sources.old) out) (state (F.unopened sources.new) out) r) }
+{
+    match table {
+        Some(name) => Ok(Some(table_of(alloc, name.as_str(), sources)?)),
+        None => Ok(None),
+    }
+}
+
+/// The module table of this name.
+fn table_of<F: Sources>(alloc: Global, name: &str, sources: &mut F) -> Result<ModuleTable, Refusal>
+    ensures table { OnOk result (IsTableIn (F.texts sources.old) name.now) }
+    ensures opened { OnOk result (F.unopened sources.new ≡ F.unopened sources.old) }
+    ensures kept { F.texts sources.new ≡ F.texts sources.old }
+    ensures refused { (out : Seen)
+        → IfErr result
+        (λ r. IsRefusedByTable (F.texts sources.old) name.now
+        (state (F.unopened sources.old) out) (state (F.unopened sources.new) out) r) }
+{
+    let shown = String::from_str(alloc, called(name))?;
+    let reader = match sources.open(name) {
+        Ok(reader) => reader,
+        Err(fault) => return Err(of_source(shown, fault)),
+    };
+    read_from(alloc, shown, reader)
+}
+
+/// The table that a reader has.
+fn read_from<R: Read + Drop>(alloc: Global, name: String, reader: R) -> Result<ModuleTable, Refusal>
+    ensures table { OnOk result (IfSome (R.remaining reader) (λ text. IsTable text)) }
+    ensures refused { IfErr result (λ r. IsBadTable (R.remaining reader) (string_bytes name) r) }
+{
+    let mut reader = reader;
+    let mut text = Vec::new(alloc);
+    if let Err(error) = reader.read_to_end(&mut text) {
+        return Err(of_reading(name, error.kind()));
+    }
+    match read_table(alloc, text.as_slice()) {
+        Ok(table) => Ok(table),
+        Err(TableFault::Memory) => Err(Refusal::Memory),
+        Err(fault) => Err(Refusal::Table { fault, table: name }),
+    }
+}
+
+/// The refusal of a text that was not read to its end.
+fn of_reading(name: String, kind: ErrorKind) -> Refusal
+    ensures { (text : Option (List ℕ)) → IsBadTable text (string_bytes name) result }
+{
+    match kind {
+        ErrorKind::OutOfMemory => Refusal::Memory,
+        _ => Refusal::Read(name),
+    }
+}
+
+/// The names of the partitions, in their order.
+fn names(alloc: Global, table: &ModuleTable) -> Result<Vec<Name>, AllocError> {
+    let mut names = Vec::with_capacity(alloc, table.partitions.len())?;
+    for partition in &table.partitions {
+        names.push(partition.name)?;
+    }
+    Ok(names)
+}
+
+/// Counts by the windows of a table, if there is one. The ticks `from` and later count.
+pub fn shares_of(
+    alloc: Global,
+    table: Option<ModuleTable>,
+    from: Ticks,
+) -> Result<Option<Shares>, SharesFault> {
+    let Some(table) = table else {
+        return Ok(None);
+    };
+    let names = names(alloc, &table)?;
+    Ok(Some(Shares::new(alloc, table.schedule, names.as_slice(), from)?))
+}
+
+/// The windows of a table as a page has them.
+pub fn page_windows(alloc: Global, table: &Option<ModuleTable>) -> Result<Vec<u8>, MemoryFull> {
+    match table {
+        Some(table) => {
+            let names = names(alloc, table)?;
+            let windows = table.schedule.windows.as_slice();
+            windows_text(alloc, table.schedule.frame, windows, names.as_slice())
+        }
+        None => Ok(Vec::from_slice(alloc, NOT_KNOWN.as_bytes())?),
+    }
+}
