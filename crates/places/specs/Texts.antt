@@ -60,7 +60,7 @@ spaces_below bytes = map space bytes
 
 -- two parts of a line, and these spaces and a mark below it
 abbrev pub with_mark : List ℕ → List ℕ → List ℕ → List ℕ
-with_mark end start spaces = end ++ start ++ 10 ∷ [] ++ spaces ++ 94 ∷ 10 ∷ []
+with_mark end start spaces = end ++ (start ++ (codes "\n" ++ (spaces ++ codes "^\n")))
 
 -- two parts of a line, and a mark below the beginning of the second one
 abbrev pub marked : List ℕ → List ℕ → List ℕ
