@@ -1,5 +1,5 @@
 -- The loops of the walk, a turn at a time.
-use Rattle.std.proofs.Common.{Bor, ◌≡◌, ℕ, zero, suc, ◌+◌, ◌-◌, ◌<◌, true, false, ◌&&◌, ◌||◌, ◌==◌, List, [], ◌∷◌, length, slice_index, drop, Option, Some, None, option_map, refl, ap, ◌∙◌, IfSome, arith}
+use Rattle.std.proofs.Common.{Bor, ◌≡◌, ℕ, zero, suc, ◌+◌, ◌-◌, ◌<◌, true, false, ◌==◌, List, [], length, slice_index, drop, Option, Some, None, ◌∙◌, IfSome, arith}
 use Rattle.toml_parser.specs.Lexical.{first, skip_blank}
 use Rattle.toml_parser.specs.Strings.{Key}
 use Rattle.toml.specs.Parse.{after_byte, after_element, header_key, key_equals, skip_bom}

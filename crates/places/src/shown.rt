@@ -34,12 +34,7 @@ fn marked(alloc: Global, end: &str, start: &str) -> Result<String, AllocError>
 }
 
 /// Two parts of a line, and these spaces and a mark below it.
-fn with_mark(
-    alloc: Global,
-    end: &str,
-    start: &str,
-    spaces: &str,
-) -> Result<String, AllocError>
+fn with_mark(alloc: Global, end: &str, start: &str, spaces: &str) -> Result<String, AllocError>
     ensures { IfOk result
         (λ text. string_bytes text ≡ with_mark end.now start.now spaces.now) }
 {

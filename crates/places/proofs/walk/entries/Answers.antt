@@ -1,7 +1,6 @@
 use Rattle.std.proofs.Common.{◌≡◌, ◌==◌, ◌-◌, suc, length, true, false, ◌∙◌, rules, arith}
 use Rattle.std.proofs.lemmas.Grind.{common_steps}
 use Rattle.toml_parser.specs.Lexical.{skip_blank}
-use Rattle.places.specs.Views.{entries_of, owned_path}
 use Rattle.places.proofs.Turns.{entries_are, lines_end, lines_more}
 use Rattle.places.proofs.walk.entries.Goals as goal
 
