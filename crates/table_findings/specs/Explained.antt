@@ -38,11 +38,11 @@ offset_of text es f = length text - left_at (length text) f.what (first_at (find
 -- ---- its lines
 
 abbrev pub heading : List ℕ → List ℕ → List ℕ → List ℕ
-heading file before finding = file ++ codes ":" ++ decimal (line_of before) ++ codes ":" ++ decimal (column_of before) ++ codes ": " ++ finding ++ 10 ∷ []
+heading file before finding = file ++ (codes ":" ++ (decimal (line_of before) ++ (codes ":" ++ (decimal (column_of before) ++ (codes ": " ++ (finding ++ codes "\n"))))))
 
 -- the finding with its place, the line around it with the mark, and the advice
 abbrev pub lines_at : List ℕ → List ℕ → ℕ → Finding → List ℕ
-lines_at file text offset f = heading file (take offset text) (finding_text f) ++ marked_line (take offset text) (drop offset text) ++ advice f.key f.what ++ 10 ∷ []
+lines_at file text offset f = heading file (take offset text) (finding_text f) ++ (marked_line (take offset text) (drop offset text) ++ (advice f.key f.what ++ codes "\n"))
 
 abbrev pub finding_lines : List ℕ → List ℕ → List Entry → Finding → List ℕ
 finding_lines file text es f = lines_at file text (offset_of text es f) f

@@ -10,7 +10,7 @@ use Rattle.table_findings.specs.declared.fields.Part.{Part}
 
 -- a word of the table in quotation marks, cut where it is long
 abbrev pub quoted : List ℕ → List ℕ
-quoted word = codes "`" ++ shown_start word ++ codes "`"
+quoted word = codes "`" ++ (shown_start word ++ codes "`")
 
 -- ---- what it is about
 
@@ -20,26 +20,26 @@ number_text index = decimal (min (index + 1) (2 ^ 64 - 1))
 
 abbrev pub name_text : Option (List ℕ) → List ℕ
 name_text None = []
-name_text (Some name) = codes " (" ++ shown_start name ++ codes ")"
+name_text (Some name) = codes " (" ++ (shown_start name ++ codes ")")
 
 -- a kind of row, its number, and its name, if it has one
 abbrev pub row_text : List ℕ → Row → List ℕ
-row_text kind row = kind ++ codes " " ++ number_text row.index ++ name_text row.name
+row_text kind row = kind ++ (codes " " ++ (number_text row.index ++ name_text row.name))
 
 abbrev pub subject_text : Subject → List ℕ
 subject_text Module = codes "the table"
 subject_text Costs = codes "`cost`"
 subject_text (Partition row) = row_text (codes "partition") row
 subject_text (Health row) = codes "`hm` of " ++ row_text (codes "partition") row
-subject_text (Port port partition) = row_text (codes "port") port ++ codes " of " ++ row_text (codes "partition") partition
+subject_text (Port port partition) = row_text (codes "port") port ++ (codes " of " ++ row_text (codes "partition") partition)
 subject_text (Window row) = row_text (codes "window") row
 subject_text (Channel row) = row_text (codes "channel") row
-subject_text (Destination index row) = codes "destination " ++ number_text index ++ codes " of " ++ row_text (codes "channel") row
+subject_text (Destination index row) = codes "destination " ++ (number_text index ++ (codes " of " ++ row_text (codes "channel") row))
 
 -- the key of the subject, or the subject itself
 abbrev pub place_text : Option (List ℕ) → Subject → List ℕ
 place_text None subject = subject_text subject
-place_text (Some key) subject = quoted key ++ codes " of " ++ subject_text subject
+place_text (Some key) subject = quoted key ++ (codes " of " ++ subject_text subject)
 
 abbrev pub key_text : Option (List ℕ) → List ℕ
 key_text None = []
@@ -59,40 +59,40 @@ direction_text as_source = if as_source then codes "SOURCE" else codes "DESTINAT
 
 -- what is said of an end that does not fit
 abbrev pub end_text : List ℕ → What → List ℕ
-end_text place (WrongDirection text as_source) = place ++ codes " is " ++ quoted text ++ codes ", which is no port of the direction " ++ direction_text as_source
-end_text place (OtherKind other) = place ++ codes " is of another kind than " ++ quoted other
-end_text place (OtherWords words other other_words) = place ++ codes " takes " ++ signed_decimal words ++ codes " words, and " ++ quoted other ++ codes " takes " ++ signed_decimal other_words
+end_text place (WrongDirection text as_source) = place ++ (codes " is " ++ (quoted text ++ (codes ", which is no port of the direction " ++ direction_text as_source)))
+end_text place (OtherKind other) = place ++ (codes " is of another kind than " ++ quoted other)
+end_text place (OtherWords words other other_words) = place ++ (codes " takes " ++ (signed_decimal words ++ (codes " words, and " ++ (quoted other ++ (codes " takes " ++ signed_decimal other_words)))))
 end_text place SamePartition = place ++ codes " is in the partition of the source"
 end_text place DeviceTwice = place ++ codes " is `DEVICE`, which is an end of the channel before"
-end_text place (SplitQueue number) = place ++ codes " stands for " ++ decimal number ++ codes " of them, and a channel of queuing ports has one"
-end_text place (PortTwice text) = place ++ codes " is " ++ quoted text ++ codes ", which is an end before"
+end_text place (SplitQueue number) = place ++ (codes " stands for " ++ (decimal number ++ codes " of them, and a channel of queuing ports has one"))
+end_text place (PortTwice text) = place ++ (codes " is " ++ (quoted text ++ codes ", which is an end before"))
 end_text place what = []
 
 -- what is said of a value
 abbrev pub value_text : Option (List ℕ) → Subject → What → List ℕ
-value_text key subject (OtherType wanted found) = place_text key subject ++ codes " is of the type " ++ found ++ codes ", not " ++ wanted
-value_text key subject (NoWord text words) = place_text key subject ++ codes " is " ++ quoted text ++ codes ", which is none of its words"
+value_text key subject (OtherType wanted found) = place_text key subject ++ (codes " is of the type " ++ (found ++ (codes ", not " ++ wanted)))
+value_text key subject (NoWord text words) = place_text key subject ++ (codes " is " ++ (quoted text ++ codes ", which is none of its words"))
 value_text key subject (Outside number low high) =
-    place_text key subject ++ codes " is " ++ signed_decimal number ++ codes ", and has to be " ++ signed_decimal low ++ codes " to " ++ signed_decimal high
-value_text key subject (Below number low) = place_text key subject ++ codes " is " ++ signed_decimal number ++ codes ", below " ++ signed_decimal low
+    place_text key subject ++ (codes " is " ++ (signed_decimal number ++ (codes ", and has to be " ++ (signed_decimal low ++ (codes " to " ++ signed_decimal high)))))
+value_text key subject (Below number low) = place_text key subject ++ (codes " is " ++ (signed_decimal number ++ (codes ", below " ++ signed_decimal low)))
 value_text key subject (Count number low high) =
-    place_text key subject ++ codes " stands for " ++ decimal number ++ codes " of them, and " ++ decimal low ++ codes " to " ++ decimal high ++ codes " are allowed"
-value_text key subject (NoName text) = place_text key subject ++ codes " is " ++ quoted text ++ codes ", which is no name"
-value_text key subject (SameName name earlier) = place_text key subject ++ codes " is also the name of " ++ kind_text subject ++ codes " " ++ number_text earlier
-value_text key subject (NoPartition text near) = place_text key subject ++ codes " is " ++ quoted text ++ codes ", which is no partition of the table"
-value_text key subject (NoEnd text) = place_text key subject ++ codes " is " ++ quoted text ++ codes ", which is neither `DEVICE` nor a port of the table"
+    place_text key subject ++ (codes " stands for " ++ (decimal number ++ (codes " of them, and " ++ (decimal low ++ (codes " to " ++ (decimal high ++ codes " are allowed"))))))
+value_text key subject (NoName text) = place_text key subject ++ (codes " is " ++ (quoted text ++ codes ", which is no name"))
+value_text key subject (SameName name earlier) = place_text key subject ++ (codes " is also the name of " ++ (kind_text subject ++ (codes " " ++ number_text earlier)))
+value_text key subject (NoPartition text near) = place_text key subject ++ (codes " is " ++ (quoted text ++ codes ", which is no partition of the table"))
+value_text key subject (NoEnd text) = place_text key subject ++ (codes " is " ++ (quoted text ++ codes ", which is neither `DEVICE` nor a port of the table"))
 value_text key subject what = end_text (place_text key subject) what
 
 abbrev pub what_text : Option (List ℕ) → Subject → What → List ℕ
-what_text key subject (Missing lacked part) = subject_text subject ++ codes " lacks the key " ++ quoted lacked
-what_text key subject (Unknown part) = subject_text subject ++ codes " has no key " ++ key_text key
+what_text key subject (Missing lacked part) = subject_text subject ++ (codes " lacks the key " ++ quoted lacked)
+what_text key subject (Unknown part) = subject_text subject ++ (codes " has no key " ++ key_text key)
 what_text key subject (Overlaps begin before) =
-    subject_text subject ++ codes " begins at " ++ signed_decimal begin ++ codes ", and the window before it ends at " ++ signed_decimal before
-what_text key subject (PastFrame end frame) = subject_text subject ++ codes " ends at " ++ signed_decimal end ++ codes ", past the frame of " ++ signed_decimal frame
+    subject_text subject ++ (codes " begins at " ++ (signed_decimal begin ++ (codes ", and the window before it ends at " ++ signed_decimal before)))
+what_text key subject (PastFrame end frame) = subject_text subject ++ (codes " ends at " ++ (signed_decimal end ++ (codes ", past the frame of " ++ signed_decimal frame)))
 what_text key subject (OddPeriod period frame) =
-    codes "the frame of " ++ decimal frame ++ codes " ticks is no multiple of " ++ decimal period ++ codes ", the period of " ++ subject_text subject
+    codes "the frame of " ++ (decimal frame ++ (codes " ticks is no multiple of " ++ (decimal period ++ (codes ", the period of " ++ subject_text subject))))
 what_text key subject (Short from offered wanted) =
-    subject_text subject ++ codes " is offered " ++ decimal offered ++ codes " ticks in its period from " ++ decimal from ++ codes ", and its duration is " ++ decimal wanted
+    subject_text subject ++ (codes " is offered " ++ (decimal offered ++ (codes " ticks in its period from " ++ (decimal from ++ (codes ", and its duration is " ++ decimal wanted)))))
 what_text key subject NoRelease = subject_text subject ++ codes " has no window with `release = true`"
 what_text key subject what = value_text key subject what
 
@@ -113,12 +113,12 @@ listed (word ∷ words) = quoted word ++ others words
 
 -- the nearest of the words, or all of them
 abbrev pub suggestion : List ℕ → List (List ℕ) → List ℕ
-suggestion word words = elim (nearest word words) [ Some near ↦ codes "Did you mean " ++ quoted near ++ codes "?" | None ↦ codes "Choose one of " ++ listed words ++ codes "." ]
+suggestion word words = elim (nearest word words) [ Some near ↦ codes "Did you mean " ++ (quoted near ++ codes "?") | None ↦ codes "Choose one of " ++ (listed words ++ codes ".") ]
 
 -- the nearest name, or else this
 abbrev pub near_or : Option (List ℕ) → List ℕ → List ℕ
 near_or None other = other
-near_or (Some near) other = codes "Did you mean " ++ quoted near ++ codes "?"
+near_or (Some near) other = codes "Did you mean " ++ (quoted near ++ codes "?")
 
 abbrev pub suggestion_at : Option (List ℕ) → List (List ℕ) → List ℕ
 suggestion_at None words = []
@@ -129,25 +129,25 @@ type_text None = []
 type_text (Some type) = type
 
 abbrev pub advice : Option (List ℕ) → What → List ℕ
-advice key (Missing lacked part) = codes "Add it, with a value of the type " ++ type_text (wanted part lacked) ++ codes "."
+advice key (Missing lacked part) = codes "Add it, with a value of the type " ++ (type_text (wanted part lacked) ++ codes ".")
 advice key (Unknown part) = suggestion_at key (keys part)
-advice key (OtherType wanted found) = codes "Write a value of the type " ++ wanted ++ codes "."
+advice key (OtherType wanted found) = codes "Write a value of the type " ++ (wanted ++ codes ".")
 advice key (NoWord text words) = suggestion text (words_of words)
-advice key (Outside number low high) = codes "Write a number from " ++ signed_decimal low ++ codes " to " ++ signed_decimal high ++ codes "."
-advice key (Below number low) = codes "Write " ++ signed_decimal low ++ codes " or more."
-advice key (Count number low high) = codes "Write " ++ decimal low ++ codes " to " ++ decimal high ++ codes " of them."
+advice key (Outside number low high) = codes "Write a number from " ++ (signed_decimal low ++ (codes " to " ++ (signed_decimal high ++ codes ".")))
+advice key (Below number low) = codes "Write " ++ (signed_decimal low ++ codes " or more.")
+advice key (Count number low high) = codes "Write " ++ (decimal low ++ (codes " to " ++ (decimal high ++ codes " of them.")))
 advice key (NoName text) = codes "A name is a lower-case letter, then lower-case letters, digits or `_`, 1 to 30 characters in all."
 advice key (SameName name earlier) = codes "Give it a name of its own."
 advice key (NoPartition text near) = near_or near (codes "Write the name of a partition of the table.")
 advice key (NoEnd text) = codes "Write `DEVICE`, or the names of a partition and of one of its ports, as `partition.port`."
-advice key (WrongDirection text as_source) = codes "Name a port of the direction " ++ direction_text as_source ++ codes ", or turn the channel around."
+advice key (WrongDirection text as_source) = codes "Name a port of the direction " ++ (direction_text as_source ++ codes ", or turn the channel around.")
 advice key (OtherKind other) = codes "All ports of a channel have the same kind."
 advice key (OtherWords words other other_words) = codes "All ports of a channel have the same `words`."
 advice key SamePartition = codes "A channel leads to other partitions."
 advice key DeviceTwice = codes "Name `DEVICE` once."
 advice key (SplitQueue number) = codes "Name one destination."
 advice key (PortTwice text) = codes "Name a port at one end only."
-advice key (Overlaps begin before) = codes "Windows stand in the order of the frame: let it begin at " ++ signed_decimal before ++ codes " or later."
+advice key (Overlaps begin before) = codes "Windows stand in the order of the frame: let it begin at " ++ (signed_decimal before ++ codes " or later.")
 advice key (PastFrame end frame) = codes "Make it shorter, or let it begin earlier."
 advice key (OddPeriod period frame) = codes "Choose a period that divides the frame, or a multiple of it as the frame."
 advice key (Short from offered wanted) = codes "Give it longer windows in this period, or a shorter duration."

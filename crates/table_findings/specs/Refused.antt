@@ -43,7 +43,7 @@ IsOfDocument file text ms f lines = (es : List Entry) × (entries text ≡ Some 
 
 -- that the reading of a document ended at an offset, in these words
 abbrev pub ended_at : List ℕ → List ℕ → ℕ → List ℕ → List ℕ
-ended_at file bytes offset said = heading file (take offset bytes) said ++ marked_line (take offset bytes) (drop offset bytes) ++ codes "The text is TOML up to this place." ++ 10 ∷ []
+ended_at file bytes offset said = heading file (take offset bytes) said ++ (marked_line (take offset bytes) (drop offset bytes) ++ codes "The text is TOML up to this place.\n")
 
 -- where the reading of a text ended, in the words of its reader
 abbrev pub IsEnded : List ℕ → List ℕ → List ℕ → Type 0

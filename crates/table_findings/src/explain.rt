@@ -10,14 +10,14 @@ ghost use Rattle.window_table.specs.Views.{table_text};
 use crate::actions::health;
 use crate::bounds::limits;
 use crate::durations::short_periods;
-use crate::explained::findings_text;
+use crate::explained::{findings_text, heading};
 use crate::finding::Finding;
 use crate::fitting::ends;
 use crate::forms::shape;
 use crate::repeated::repeated;
 use crate::schedule::{odd_periods, overlaps, without_release};
 use crate::unknown::unknown;
-use places::{TomlPlaces, marked_line, place_of};
+use places::{TomlPlaces, marked_line};
 use std::alloc::Global;
 use toml::Table;
 use toml::de::Error;
@@ -54,13 +54,10 @@ fn ended_at(alloc: Global, file: &str, bytes: &[u8], offset: usize, said: &str) 
     ensures { IfSome result
         (λ lines. string_bytes lines ≡ spec.ended_at file.now bytes.now offset said.now) }
 {
-    let place = place_of(bytes, offset);
-    let (line, column) = (place.line, place.column);
+    let heading = heading(alloc, file, bytes, offset, said).ok()?;
     let marked = marked_line(alloc, bytes, offset).ok()?;
-    let marked = marked.as_str();
-    format!(in alloc;
-        "{file}:{line}:{column}: {said}\n{marked}The text is TOML up to this place.\n"
-    ).ok()
+    let (heading, marked) = (heading.as_str(), marked.as_str());
+    format!(in alloc; "{heading}{marked}The text is TOML up to this place.\n").ok()
 }
 
 /// The findings of a document.

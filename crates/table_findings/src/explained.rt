@@ -3,7 +3,6 @@
 ghost use Rattle.std.specs.Prelude.{◌≡◌, flat_map, IfOk, option_map, string_bytes, take};
 ghost use Rattle.places.specs.Views.{entries_in, entry_of, path_of};
 ghost use Rattle.table_findings.specs.Explained as spec;
-ghost use Rattle.table_findings.specs.Phrases.{finding_text};
 ghost use Rattle.table_findings.specs.Views.{finding_of, findings_of, what_of};
 
 use crate::finding::{Finding, What};
@@ -93,29 +92,31 @@ fn lines_at(
     ensures { IfOk result
         (λ lines. string_bytes lines ≡ spec.lines_at file.now text.now offset (finding_of finding.entry)) }
 {
-    let heading = heading(alloc, file, text, offset, finding)?;
+    let said = finding_text(alloc, finding)?;
+    let heading = heading(alloc, file, text.as_bytes(), offset, said.as_str())?;
     let marked = marked_line(alloc, text.as_bytes(), offset)?;
     let advice = advice(alloc, finding.key, finding.what)?;
     let (heading, marked, advice) = (heading.as_str(), marked.as_str(), advice.as_str());
     format!(in alloc; "{heading}{marked}{advice}\n")
 }
 
-/// The line with the place, and what the finding says.
-fn heading(
+/// The line with a place of a text, and what is said of it.
+///
+/// # Errors
+///
+/// Only if memory runs out.
+pub fn heading(
     alloc: Global,
     file: &str,
-    text: &str,
+    text: &[u8],
     offset: usize,
-    finding: Finding<'_>,
+    said: &str,
 ) -> Result<String, AllocError>
     ensures { IfOk result
-        (λ line. string_bytes line
-        ≡ spec.heading file.now (take offset text.now) (finding_text (finding_of finding.entry))) }
+        (λ line. string_bytes line ≡ spec.heading file.now (take offset text.now) said.now) }
 {
-    let place = place_of(text.as_bytes(), offset);
+    let place = place_of(text, offset);
     let (line, column) = (place.line, place.column);
-    let said = finding_text(alloc, finding)?;
-    let said = said.as_str();
     format!(in alloc; "{file}:{line}:{column}: {said}\n")
 }
 
