@@ -7,7 +7,7 @@ ghost use Rattle.table_findings.specs.Views.{finding_of, findings_of, what_of};
 
 use crate::finding::{Finding, What};
 use crate::phrases::{advice, finding_text};
-use crate::subject::subject_path;
+use crate::subject::{push_key, subject_path};
 use places::{Entry, Step, TomlPlaces, marked_line, place_of};
 use std::alloc::{AllocError, Global};
 
@@ -142,7 +142,7 @@ fn finding_path<'a>(alloc: Global, finding: Finding<'a>) -> Result<Vec<Step<'a>>
 {
     let mut path = subject_path(alloc, finding.subject)?;
     if let Some(key) = finding.key {
-        path.extend_from_slice(&[Step::Key(key)])?;
+        push_key(&mut path, key)?;
     }
     Ok(path)
 }

@@ -1,6 +1,7 @@
 //! What a finding is about.
 
-ghost use Rattle.std.specs.Prelude.{◌≡◌, ◌++◌, IfOk, OnOk};
+ghost use Rattle.std.specs.Prelude.{◌≡◌, ◌∷◌, ◌++◌, [], IfOk, OnOk};
+ghost use Rattle.places.specs.Entries.{key as key_step};
 ghost use Rattle.places.specs.Views.{path_of};
 ghost use Rattle.table_findings.specs.Subjects as spec;
 ghost use Rattle.table_findings.specs.Views.{subject_of};
@@ -42,11 +43,11 @@ pub fn subject_path<'a>(alloc: Global, subject: Subject<'a>) -> Result<Vec<Step<
     let mut path = Vec::new(alloc);
     match subject {
         Subject::Module => {}
-        Subject::Costs => path.extend_from_slice(&[Step::Key("cost")])?,
+        Subject::Costs => push_key(&mut path, "cost")?,
         Subject::Partition(row) => push_row(&mut path, "partition", row.index)?,
         Subject::Health(row) => {
             push_row(&mut path, "partition", row.index)?;
-            path.extend_from_slice(&[Step::Key("hm")])?;
+            push_key(&mut path, "hm")?;
         }
         Subject::Port { port, partition } => {
             push_row(&mut path, "partition", partition.index)?;
@@ -62,8 +63,20 @@ pub fn subject_path<'a>(alloc: Global, subject: Subject<'a>) -> Result<Vec<Step<
     Ok(path)
 }
 
+/// Adds the step to a key.
+///
+/// # Errors
+///
+/// Only if memory runs out.
+pub fn push_key<'a>(path: &mut Vec<Step<'a>>, key: &'a str) -> Result<(), AllocError>
+    ensures { OnOk result
+        (path_of path.new.items ≡ path_of path.old.items ++ key_step key.now ∷ []) }
+{
+    path.extend_from_slice(&[Step::Key(key)])
+}
+
 /// Adds the steps to an element of the list at a key.
-fn push_row<'a>(path: &mut Vec<Step<'a>>, key: &'static str, index: usize) -> Result<(), AllocError>
+fn push_row<'a>(path: &mut Vec<Step<'a>>, key: &'a str, index: usize) -> Result<(), AllocError>
     ensures { OnOk result
         (path_of path.new.items ≡ path_of path.old.items ++ spec.row_path key.now index) }
 {
