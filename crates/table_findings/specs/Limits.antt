@@ -46,12 +46,14 @@ ports_from partition i (p ∷ ps) = one_port partition i p ++ ports_from partiti
 abbrev pub partition_row : ℕ → PartitionText → Row
 partition_row i p = record { index = i; name = Some p.name }
 
+abbrev pub times : Subject → ℤ → PartitionText → List Finding
+times subject frame p = outside subject (codes "period") 1 frame p.period ++ outside subject (codes "duration") 0 p.period p.duration
+
 abbrev pub partition_limits : ℤ → ℕ → PartitionText → List Finding
 partition_limits frame i p =
     name (partition_at i p) p.name
-    ++ (outside (partition_at i p) (codes "period") 1 frame p.period
-    ++ (outside (partition_at i p) (codes "duration") 0 p.period p.duration
-    ++ (count (partition_at i p) (codes "port") 0 MOST_PORTS (length p.ports) ++ ports_from (partition_row i p) 0 p.ports)))
+    ++ (times (partition_at i p) frame p
+    ++ (count (partition_at i p) (codes "port") 0 MOST_PORTS (length p.ports) ++ ports_from (partition_row i p) 0 p.ports))
 
 abbrev pub partitions_from : ℤ → ℕ → List PartitionText → List Finding
 partitions_from frame i [] = []
@@ -88,11 +90,16 @@ costs_limits (Some numbers) = costs_at cost_keys numbers
 
 -- ---- the table
 
+abbrev pub sizes : TableText → List Finding
+sizes t =
+    count Module (codes "partition") 1 MOST_PARTITIONS (length t.partitions)
+    ++ (count Module (codes "window") 1 MOST_WINDOWS (length t.windows) ++ count Module (codes "channel") 0 MOST_CHANNELS (length t.channels))
+
 abbrev pub counts : TableText → List Finding
-counts t =
-    outside Module (codes "frame") 1 (pos MOST_FRAME_TICKS) t.frame
-    ++ (count Module (codes "partition") 1 MOST_PARTITIONS (length t.partitions)
-    ++ (count Module (codes "window") 1 MOST_WINDOWS (length t.windows) ++ count Module (codes "channel") 0 MOST_CHANNELS (length t.channels)))
+counts t = outside Module (codes "frame") 1 (pos MOST_FRAME_TICKS) t.frame ++ sizes t
+
+abbrev pub rows : TableText → List Finding
+rows t = partitions_from t.frame 0 t.partitions ++ (windows_from 0 t.windows ++ channels_from 0 t.channels)
 
 abbrev pub limits : TableText → List Finding
-limits t = counts t ++ (costs_limits t.costs ++ (partitions_from t.frame 0 t.partitions ++ (windows_from 0 t.windows ++ channels_from 0 t.channels)))
+limits t = counts t ++ (costs_limits t.costs ++ rows t)

@@ -1,5 +1,5 @@
 -- What a finding says, and what it advises.
-use Rattle.std.specs.Prelude.{ℕ, ◌+◌, ◌-◌, ◌^◌, min, Bool, if◌then◌else◌, List, [], ◌∷◌, ◌++◌, codes, flat_map, Option, Some, None}
+use Rattle.std.specs.Prelude.{ℕ, ℤ, ◌+◌, ◌-◌, ◌^◌, min, Bool, if◌then◌else◌, List, [], ◌∷◌, ◌++◌, codes, flat_map, Option, Some, None}
 use Rattle.std.specs.Fmt.{decimal, signed_decimal}
 use Rattle.places.specs.Nearest.{nearest}
 use Rattle.places.specs.Texts.{shown_start}
@@ -18,13 +18,13 @@ quoted word = codes "`" ++ (shown_start word ++ codes "`")
 abbrev pub number_text : ℕ → List ℕ
 number_text index = decimal (min (index + 1) (2 ^ 64 - 1))
 
-abbrev pub name_text : Option (List ℕ) → List ℕ
-name_text None = []
-name_text (Some name) = codes " (" ++ (shown_start name ++ codes ")")
+-- a kind of row and its number, and its name, if it has one
+abbrev pub named_text : List ℕ → ℕ → Option (List ℕ) → List ℕ
+named_text kind index None = kind ++ (codes " " ++ number_text index)
+named_text kind index (Some name) = kind ++ (codes " " ++ (number_text index ++ (codes " (" ++ (shown_start name ++ codes ")"))))
 
--- a kind of row, its number, and its name, if it has one
 abbrev pub row_text : List ℕ → Row → List ℕ
-row_text kind row = kind ++ (codes " " ++ (number_text row.index ++ name_text row.name))
+row_text kind row = named_text kind row.index row.name
 
 abbrev pub subject_text : Subject → List ℕ
 subject_text Module = codes "the table"
@@ -57,23 +57,39 @@ kind_text subject = codes "port"
 abbrev pub direction_text : Bool → List ℕ
 direction_text as_source = if as_source then codes "SOURCE" else codes "DESTINATION"
 
+-- how many words a port takes
+abbrev pub takes_text : List ℕ → ℤ → List ℕ
+takes_text place words = place ++ (codes " takes " ++ signed_decimal words)
+
+abbrev pub other_words_text : List ℕ → ℤ → List ℕ → ℤ → List ℕ
+other_words_text place words other other_words = takes_text place words ++ (codes " words, and " ++ takes_text (quoted other) other_words)
+
 -- what is said of an end that does not fit
 abbrev pub end_text : List ℕ → What → List ℕ
 end_text place (WrongDirection text as_source) = place ++ (codes " is " ++ (quoted text ++ (codes ", which is no port of the direction " ++ direction_text as_source)))
 end_text place (OtherKind other) = place ++ (codes " is of another kind than " ++ quoted other)
-end_text place (OtherWords words other other_words) = place ++ (codes " takes " ++ (signed_decimal words ++ (codes " words, and " ++ (quoted other ++ (codes " takes " ++ signed_decimal other_words)))))
+end_text place (OtherWords words other other_words) = other_words_text place words other other_words
 end_text place SamePartition = place ++ codes " is in the partition of the source"
 end_text place DeviceTwice = place ++ codes " is `DEVICE`, which is an end of the channel before"
 end_text place (SplitQueue number) = place ++ (codes " stands for " ++ (decimal number ++ codes " of them, and a channel of queuing ports has one"))
 end_text place (PortTwice text) = place ++ (codes " is " ++ (quoted text ++ codes ", which is an end before"))
 end_text place what = []
 
+-- two limits
+abbrev pub limits_text : ℤ → ℤ → List ℕ
+limits_text low high = signed_decimal low ++ (codes " to " ++ signed_decimal high)
+
+abbrev pub is_text : List ℕ → ℤ → List ℕ
+is_text place number = place ++ (codes " is " ++ signed_decimal number)
+
+abbrev pub outside_text : List ℕ → ℤ → ℤ → ℤ → List ℕ
+outside_text place number low high = is_text place number ++ (codes ", and has to be " ++ limits_text low high)
+
 -- what is said of a value
 abbrev pub value_text : Option (List ℕ) → Subject → What → List ℕ
 value_text key subject (OtherType wanted found) = place_text key subject ++ (codes " is of the type " ++ (found ++ (codes ", not " ++ wanted)))
 value_text key subject (NoWord text words) = place_text key subject ++ (codes " is " ++ (quoted text ++ codes ", which is none of its words"))
-value_text key subject (Outside number low high) =
-    place_text key subject ++ (codes " is " ++ (signed_decimal number ++ (codes ", and has to be " ++ (signed_decimal low ++ (codes " to " ++ signed_decimal high)))))
+value_text key subject (Outside number low high) = outside_text (place_text key subject) number low high
 value_text key subject (Below number low) = place_text key subject ++ (codes " is " ++ (signed_decimal number ++ (codes ", below " ++ signed_decimal low)))
 value_text key subject (Count number low high) =
     place_text key subject ++ (codes " stands for " ++ (decimal number ++ (codes " of them, and " ++ (decimal low ++ (codes " to " ++ (decimal high ++ codes " are allowed"))))))
@@ -83,16 +99,30 @@ value_text key subject (NoPartition text near) = place_text key subject ++ (code
 value_text key subject (NoEnd text) = place_text key subject ++ (codes " is " ++ (quoted text ++ codes ", which is neither `DEVICE` nor a port of the table"))
 value_text key subject what = end_text (place_text key subject) what
 
+abbrev pub unknown_text : List ℕ → Option (List ℕ) → List ℕ
+unknown_text about key = about ++ (codes " has no key " ++ key_text key)
+
+abbrev pub begins_text : List ℕ → ℤ → List ℕ
+begins_text about begin = about ++ (codes " begins at " ++ signed_decimal begin)
+
+abbrev pub overlap_text : List ℕ → ℤ → ℤ → List ℕ
+overlap_text about begin before = begins_text about begin ++ (codes ", and the window before it ends at " ++ signed_decimal before)
+
+abbrev pub odd_period_text : List ℕ → ℕ → ℕ → List ℕ
+odd_period_text about period frame =
+    codes "the frame of " ++ (decimal frame ++ (codes " ticks is no multiple of " ++ (decimal period ++ (codes ", the period of " ++ about))))
+
+abbrev pub short_text : List ℕ → ℕ → ℕ → ℕ → List ℕ
+short_text about from offered wanted =
+    about ++ (codes " is offered " ++ (decimal offered ++ (codes " ticks in its period from " ++ (decimal from ++ (codes ", and its duration is " ++ decimal wanted)))))
+
 abbrev pub what_text : Option (List ℕ) → Subject → What → List ℕ
 what_text key subject (Missing lacked part) = subject_text subject ++ (codes " lacks the key " ++ quoted lacked)
-what_text key subject (Unknown part) = subject_text subject ++ (codes " has no key " ++ key_text key)
-what_text key subject (Overlaps begin before) =
-    subject_text subject ++ (codes " begins at " ++ (signed_decimal begin ++ (codes ", and the window before it ends at " ++ signed_decimal before)))
+what_text key subject (Unknown part) = unknown_text (subject_text subject) key
+what_text key subject (Overlaps begin before) = overlap_text (subject_text subject) begin before
 what_text key subject (PastFrame end frame) = subject_text subject ++ (codes " ends at " ++ (signed_decimal end ++ (codes ", past the frame of " ++ signed_decimal frame)))
-what_text key subject (OddPeriod period frame) =
-    codes "the frame of " ++ (decimal frame ++ (codes " ticks is no multiple of " ++ (decimal period ++ (codes ", the period of " ++ subject_text subject))))
-what_text key subject (Short from offered wanted) =
-    subject_text subject ++ (codes " is offered " ++ (decimal offered ++ (codes " ticks in its period from " ++ (decimal from ++ (codes ", and its duration is " ++ decimal wanted)))))
+what_text key subject (OddPeriod period frame) = odd_period_text (subject_text subject) period frame
+what_text key subject (Short from offered wanted) = short_text (subject_text subject) from offered wanted
 what_text key subject NoRelease = subject_text subject ++ codes " has no window with `release = true`"
 what_text key subject what = value_text key subject what
 

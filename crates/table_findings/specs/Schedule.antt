@@ -17,10 +17,14 @@ window_at i w = Window (record { index = i; name = Some w.partition })
 abbrev pub window_end : WindowText → ℤ
 window_end w = w.offset +ℤ w.length
 
+abbrev pub early : ℤ → ℕ → WindowText → List Finding
+early before i w = if int_lt w.offset before then one (window_at i w) (Some (codes "offset")) (Overlaps w.offset before) else []
+
+abbrev pub late : ℤ → ℕ → WindowText → List Finding
+late frame i w = if int_lt frame (window_end w) then one (window_at i w) (Some (codes "length")) (PastFrame (window_end w) frame) else []
+
 abbrev pub placed : ℤ → ℤ → ℕ → WindowText → List Finding
-placed frame before i w =
-    (if int_lt w.offset before then one (window_at i w) (Some (codes "offset")) (Overlaps w.offset before) else [])
-    ++ (if int_lt frame (window_end w) then one (window_at i w) (Some (codes "length")) (PastFrame (window_end w) frame) else [])
+placed frame before i w = early before i w ++ late frame i w
 
 abbrev pub overlaps_from : ℤ → ℤ → ℕ → List WindowText → List Finding
 overlaps_from frame before i [] = []

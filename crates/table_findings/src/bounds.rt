@@ -32,6 +32,15 @@ pub fn limits<'a>(found: &mut Vec<Finding<'a>>, table: &WrittenTable<'a>) -> Res
 {
     counts(found, table)?;
     costs(found, &table.costs)?;
+    rows(found, table)
+}
+
+/// Adds what is outside its limits in the rows of a table.
+fn rows<'a>(found: &mut Vec<Finding<'a>>, table: &WrittenTable<'a>) -> Result<(), AllocError>
+    ensures { OnOk result
+        (findings_of found.new.items
+        ≡ findings_of found.old.items ++ spec.rows (table_text table.now)) }
+{
     partitions(found, table.frame, table.partitions.as_slice())?;
     windows(found, table.windows.as_slice())?;
     channels(found, table.channels.as_slice())
@@ -43,15 +52,18 @@ fn counts<'a>(found: &mut Vec<Finding<'a>>, table: &WrittenTable<'a>) -> Result<
         (findings_of found.new.items
         ≡ findings_of found.old.items ++ spec.counts (table_text table.now)) }
 {
+    let most = MOST_FRAME_TICKS as i64;
+    outside(found, Subject::Module, "frame", 1, most, table.frame)?;
+    sizes(found, table)
+}
+
+/// Adds what is outside of the limits of counts.
+fn sizes<'a>(found: &mut Vec<Finding<'a>>, table: &WrittenTable<'a>) -> Result<(), AllocError>
+    ensures { OnOk result
+        (findings_of found.new.items
+        ≡ findings_of found.old.items ++ spec.sizes (table_text table.now)) }
+{
     let module = Subject::Module;
-    outside(
-        found,
-        module,
-        "frame",
-        1,
-        MOST_FRAME_TICKS as i64,
-        table.frame,
-    )?;
     count(
         found,
         module,
@@ -234,15 +246,7 @@ fn partition<'a>(
     };
     let subject = Subject::Partition(row);
     name(found, subject, partition.name)?;
-    outside(found, subject, "period", 1, frame, partition.period)?;
-    outside(
-        found,
-        subject,
-        "duration",
-        0,
-        partition.period,
-        partition.duration,
-    )?;
+    times(found, subject, frame, partition)?;
     count(
         found,
         subject,
@@ -252,6 +256,29 @@ fn partition<'a>(
         partition.ports.len(),
     )?;
     ports(found, row, partition.ports.as_slice())
+}
+
+/// Adds a period and a duration that are outside their limits.
+fn times<'a>(
+    found: &mut Vec<Finding<'a>>,
+    subject: Subject<'a>,
+    frame: i64,
+    partition: &WrittenPartition<'a>,
+) -> Result<(), AllocError>
+    ensures { OnOk result
+        (findings_of found.new.items
+        ≡ findings_of found.old.items
+        ++ spec.times (subject_of subject.entry) frame (partition_text partition.now)) }
+{
+    outside(found, subject, "period", 1, frame, partition.period)?;
+    outside(
+        found,
+        subject,
+        "duration",
+        0,
+        partition.period,
+        partition.duration,
+    )
 }
 
 #[tactic(auto, using(std::proofs::lemmas::List::drop_more, std::proofs::lemmas::List::append_assoc, crate::proofs::Steps::append_nil))]

@@ -66,22 +66,35 @@ fn short_period<'a>(
     if period == 0 {
         return Ok(());
     }
-    match first_short(windows, partition, frame / period) {
-        None => Ok(()),
-        Some((from, offered)) => {
-            let subject = Subject::Partition(Row {
-                index,
-                name: Some(partition.name),
-            });
-            let wanted = partition.duration.unsigned_abs();
-            let what = What::Short {
-                from,
-                offered,
-                wanted,
-            };
-            add(found, subject, Some("duration"), what)
-        }
-    }
+    let first = first_short(windows, partition, frame / period);
+    short_of(found, index, partition, first)
+}
+
+/// Adds a partition with such a period: where it begins, and what the windows offer.
+fn short_of<'a>(
+    found: &mut Vec<Finding<'a>>,
+    index: usize,
+    partition: &WrittenPartition<'a>,
+    first: Option<(u128, u128)>,
+) -> Result<(), AllocError>
+    ensures { OnOk result
+        (findings_of found.new.items
+        ≡ findings_of found.old.items ++ spec.short_of index (partition_text partition.now) first) }
+{
+    let Some((from, offered)) = first else {
+        return Ok(());
+    };
+    let subject = Subject::Partition(Row {
+        index,
+        name: Some(partition.name),
+    });
+    let wanted = partition.duration.unsigned_abs();
+    let what = What::Short {
+        from,
+        offered,
+        wanted,
+    };
+    add(found, subject, Some("duration"), what)
 }
 
 /// The first of these many periods in which the windows offer less than the duration: where it

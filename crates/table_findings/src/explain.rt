@@ -14,9 +14,9 @@ use crate::explained::{findings_text, heading};
 use crate::finding::Finding;
 use crate::fitting::ends;
 use crate::forms::shape;
-use crate::repeated::repeated;
+use crate::repeated::repeated_names;
 use crate::schedule::{odd_periods, overlaps, without_release};
-use crate::unknown::unknown;
+use crate::unknown::unknown_names;
 use places::{TomlPlaces, marked_line};
 use std::alloc::Global;
 use toml::Table;
@@ -127,8 +127,8 @@ fn findings_in<'a>(
     match fault {
         TableFault::Limit => limits(found, table).ok(),
         TableFault::Name => {
-            repeated(alloc, found, table).ok()?;
-            unknown(alloc, found, table).ok()
+            repeated_names(alloc, found, table).ok()?;
+            unknown_names(alloc, found, table).ok()
         }
         TableFault::Overlap => overlaps(found, table).ok(),
         TableFault::Period => odd_periods(found, table).ok(),

@@ -26,17 +26,9 @@ pub fn finding_text(alloc: Global, finding: Finding<'_>) -> Result<String, Alloc
             let lacked = lacked.as_str();
             format!(in alloc; "{about} lacks the key {lacked}")
         }
-        What::Unknown(_) => {
-            let key = key_text(alloc, key)?;
-            let key = key.as_str();
-            format!(in alloc; "{about} has no key {key}")
-        }
-        What::OddPeriod { period, frame } => format!(in alloc;
-            "the frame of {frame} ticks is no multiple of {period}, the period of {about}"
-        ),
-        What::Overlaps { begin, before } => format!(in alloc;
-            "{about} begins at {begin}, and the window before it ends at {before}"
-        ),
+        What::Unknown(_) => unknown_text(alloc, about, key),
+        What::OddPeriod { period, frame } => odd_period_text(alloc, about, period, frame),
+        What::Overlaps { begin, before } => overlap_text(alloc, about, begin, before),
         What::PastFrame { end, frame } => {
             format!(in alloc; "{about} ends at {end}, past the frame of {frame}")
         }
@@ -44,12 +36,122 @@ pub fn finding_text(alloc: Global, finding: Finding<'_>) -> Result<String, Alloc
             from,
             offered,
             wanted,
-        } => format!(in alloc;
-            "{about} is offered {offered} ticks in its period from {from}, and its duration is {wanted}"
-        ),
+        } => short_text(alloc, about, from, offered, wanted),
         What::NoRelease => format!(in alloc; "{about} has no window with `release = true`"),
         _ => value_text(alloc, subject, key, what),
     }
+}
+
+fn unknown_text(alloc: Global, about: &str, key: Option<&str>) -> Result<String, AllocError>
+    ensures { IfOk result
+        (λ text. string_bytes text ≡ spec.unknown_text about.now (option_copied key.entry)) }
+{
+    let key = key_text(alloc, key)?;
+    let key = key.as_str();
+    format!(in alloc; "{about} has no key {key}")
+}
+
+fn odd_period_text(
+    alloc: Global,
+    about: &str,
+    period: u64,
+    frame: u64,
+) -> Result<String, AllocError>
+    ensures { IfOk result
+        (λ text. string_bytes text ≡ spec.odd_period_text about.now period frame) }
+{
+    format!(in alloc;
+        "the frame of {frame} ticks is no multiple of {period}, the period of {about}"
+    )
+}
+
+fn overlap_text(
+    alloc: Global,
+    about: &str,
+    begin: i64,
+    before: i128,
+) -> Result<String, AllocError>
+    ensures { IfOk result
+        (λ text. string_bytes text ≡ spec.overlap_text about.now begin before) }
+{
+    let first = begins_text(alloc, about, begin)?;
+    let first = first.as_str();
+    format!(in alloc; "{first}, and the window before it ends at {before}")
+}
+
+fn begins_text(alloc: Global, about: &str, begin: i64) -> Result<String, AllocError>
+    ensures { IfOk result (λ text. string_bytes text ≡ spec.begins_text about.now begin) }
+{
+    format!(in alloc; "{about} begins at {begin}")
+}
+
+fn short_text(
+    alloc: Global,
+    about: &str,
+    from: u128,
+    offered: u128,
+    wanted: u64,
+) -> Result<String, AllocError>
+    ensures { IfOk result
+        (λ text. string_bytes text ≡ spec.short_text about.now from offered wanted) }
+{
+    format!(in alloc;
+        "{about} is offered {offered} ticks in its period from {from}, and its duration is {wanted}"
+    )
+}
+
+fn outside_text(
+    alloc: Global,
+    place: &str,
+    number: i64,
+    low: i64,
+    high: i64,
+) -> Result<String, AllocError>
+    ensures { IfOk result
+        (λ text. string_bytes text ≡ spec.outside_text place.now number low high) }
+{
+    let first = is_text(alloc, place, number)?;
+    let limits = limits_text(alloc, low, high)?;
+    let (first, limits) = (first.as_str(), limits.as_str());
+    format!(in alloc; "{first}, and has to be {limits}")
+}
+
+fn is_text(alloc: Global, place: &str, number: i64) -> Result<String, AllocError>
+    ensures { IfOk result (λ text. string_bytes text ≡ spec.is_text place.now number) }
+{
+    format!(in alloc; "{place} is {number}")
+}
+
+/// Two limits.
+fn limits_text(alloc: Global, low: i64, high: i64) -> Result<String, AllocError>
+    ensures { IfOk result (λ text. string_bytes text ≡ spec.limits_text low high) }
+{
+    format!(in alloc; "{low} to {high}")
+}
+
+fn other_words_text(
+    alloc: Global,
+    place: &str,
+    words: i64,
+    other: &str,
+    other_words: i64,
+) -> Result<String, AllocError>
+    ensures { IfOk result
+        (λ text. string_bytes text
+        ≡ spec.other_words_text place.now words other.now other_words) }
+{
+    let first = takes_text(alloc, place, words)?;
+    let other = quoted(alloc, other)?;
+    let second = takes_text(alloc, other.as_str(), other_words)?;
+    let (first, second) = (first.as_str(), second.as_str());
+    format!(in alloc; "{first} words, and {second}")
+}
+
+/// How many words a port takes.
+fn takes_text(alloc: Global, place: &str, words: i64) -> Result<String, AllocError>
+    ensures { IfOk result (λ text. string_bytes text ≡ spec.takes_text place.now words) }
+{
+    format!(in alloc; "{place} takes {words}")
 }
 
 /// What is said of a value.
@@ -74,9 +176,7 @@ fn value_text(
             let text = text.as_str();
             format!(in alloc; "{place} is {text}, which is none of its words")
         }
-        What::Outside { number, low, high } => {
-            format!(in alloc; "{place} is {number}, and has to be {low} to {high}")
-        }
+        What::Outside { number, low, high } => outside_text(alloc, place, number, low, high),
         What::Below { number, low } => format!(in alloc; "{place} is {number}, below {low}"),
         What::Count { number, low, high } => format!(in alloc;
             "{place} stands for {number} of them, and {low} to {high} are allowed"
@@ -125,11 +225,7 @@ fn end_text(alloc: Global, place: &str, what: What<'_>) -> Result<String, AllocE
             words,
             other,
             other_words,
-        } => {
-            let other = quoted(alloc, other)?;
-            let other = other.as_str();
-            format!(in alloc; "{place} takes {words} words, and {other} takes {other_words}")
-        }
+        } => other_words_text(alloc, place, words, other, other_words),
         What::SamePartition => format!(in alloc; "{place} is in the partition of the source"),
         What::DeviceTwice => {
             format!(in alloc; "{place} is `DEVICE`, which is an end of the channel before")

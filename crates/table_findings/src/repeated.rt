@@ -39,7 +39,7 @@ fn subject_in<'a>(named: Named<'a>, row: Row<'a>) -> Subject<'a>
 /// # Errors
 ///
 /// Only if memory runs out.
-pub fn repeated<'a>(
+pub fn repeated_names<'a>(
     alloc: Global,
     found: &mut Vec<Finding<'a>>,
     table: &WrittenTable<'a>,

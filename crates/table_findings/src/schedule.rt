@@ -2,7 +2,7 @@
 
 ghost use Rattle.std.specs.Prelude.{◌≡◌, ◌++◌, map, OnOk, pos};
 ghost use Rattle.table_findings.specs.Schedule as spec;
-ghost use Rattle.table_findings.specs.Views.{findings_of};
+ghost use Rattle.table_findings.specs.Views.{findings_of, subject_of};
 ghost use Rattle.window_table.specs.Views.{partition_text, table_text, window_text};
 
 use crate::finding::{Finding, What};
@@ -59,29 +59,58 @@ fn placed<'a>(
         (findings_of found.new.items
         ≡ findings_of found.old.items ++ spec.placed frame before index (window_text window.entry)) }
 {
-    let subject = Subject::Window(Row {
-        index,
-        name: Some(window.partition),
-    });
+    early(found, before, index, window)?;
+    late(found, frame, index, window)
+}
+
+/// Adds a window that begins before `before`.
+fn early<'a>(
+    found: &mut Vec<Finding<'a>>,
+    before: i128,
+    index: usize,
+    window: WrittenWindow<'a>,
+) -> Result<(), AllocError>
+    ensures { OnOk result
+        (findings_of found.new.items
+        ≡ findings_of found.old.items ++ spec.early before index (window_text window.entry)) }
+{
     let begin = window.offset;
     if i128::from(begin) < before {
-        add(
-            found,
-            subject,
-            Some("offset"),
-            What::Overlaps { begin, before },
-        )?;
+        let what = What::Overlaps { begin, before };
+        add(found, subject_at(index, window), Some("offset"), what)
+    } else {
+        Ok(())
     }
+}
+
+/// Adds a window that ends past the frame.
+fn late<'a>(
+    found: &mut Vec<Finding<'a>>,
+    frame: i64,
+    index: usize,
+    window: WrittenWindow<'a>,
+) -> Result<(), AllocError>
+    ensures { OnOk result
+        (findings_of found.new.items
+        ≡ findings_of found.old.items ++ spec.late frame index (window_text window.entry)) }
+{
     let end = window_end(window);
     if i128::from(frame) < end {
-        add(
-            found,
-            subject,
-            Some("length"),
-            What::PastFrame { end, frame },
-        )?;
+        let what = What::PastFrame { end, frame };
+        add(found, subject_at(index, window), Some("length"), what)
+    } else {
+        Ok(())
     }
-    Ok(())
+}
+
+/// The window at a place of the list.
+fn subject_at<'a>(index: usize, window: WrittenWindow<'a>) -> Subject<'a>
+    ensures { subject_of result ≡ spec.window_at index (window_text window.entry) }
+{
+    Subject::Window(Row {
+        index,
+        name: Some(window.partition),
+    })
 }
 
 /// Where a window ends.

@@ -3,8 +3,10 @@
 ghost use Rattle.std.specs.Prelude.{◌≡◌, ◌∷◌, ◌++◌, map, OnOk};
 ghost use Rattle.std.specs.List.{list_any};
 ghost use Rattle.module_meaning.specs.TableRules.{same};
+ghost use Rattle.places.specs.Nearest.{nearest};
+ghost use Rattle.table_findings.specs.Findings.{NoPartition};
 ghost use Rattle.table_findings.specs.Names as spec;
-ghost use Rattle.table_findings.specs.Views.{findings_of, row_of};
+ghost use Rattle.table_findings.specs.Views.{findings_of, row_of, what_of};
 ghost use Rattle.window_table.specs.Views.{channel_text, partition_text, port_text, table_text, window_text};
 
 use crate::finding::{Finding, What};
@@ -22,7 +24,7 @@ use window_table::{
 /// # Errors
 ///
 /// Only if memory runs out.
-pub fn unknown<'a>(
+pub fn unknown_names<'a>(
     alloc: Global,
     found: &mut Vec<Finding<'a>>,
     table: &WrittenTable<'a>,
@@ -77,13 +79,23 @@ fn window<'a>(
         index,
         name: Some(text),
     });
-    let near = nearest(text.as_bytes(), names);
     add(
         found,
         subject,
         Some("partition"),
-        What::NoPartition { text, near },
+        no_partition(text, names),
     )
+}
+
+/// That a text is none of the names, with the nearest one.
+fn no_partition<'a>(text: &'a str, names: &[&'a str]) -> What<'a>
+    ensures { what_of result
+        ≡ NoPartition text.now (nearest text.now (map (λ name. name.now) names.now)) }
+{
+    What::NoPartition {
+        text,
+        near: nearest(text.as_bytes(), names),
+    }
 }
 
 /// Returns true if a name is one of some names.
