@@ -21,10 +21,13 @@ first_short (suc n) low p ws =
     let given = offered p.name low (low + nat_abs p.period) ws in
     if nat_lt given (nat_abs p.duration) then Some (low, given) else first_short n (low + nat_abs p.period) p ws
 
+abbrev pub short : ℕ → PartitionText → ℕ → ℕ → List Finding
+short i p from given = one (partition_at i p) (Some (codes "duration")) (Short from given (nat_abs p.duration))
+
 -- the finding of such a period
 abbrev pub short_of : ℕ → PartitionText → Option (ℕ × ℕ) → List Finding
 short_of i p None = []
-short_of i p (Some found) = one (partition_at i p) (Some (codes "duration")) (Short found.0 found.1 (nat_abs p.duration))
+short_of i p (Some found) = short i p found.0 found.1
 
 abbrev pub short_period : ℕ → List WindowText → ℕ → PartitionText → List Finding
 short_period frame ws i p = if nat_abs p.period == 0 then [] else short_of i p (first_short (frame / nat_abs p.period) 0 p ws)

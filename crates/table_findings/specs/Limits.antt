@@ -46,8 +46,14 @@ ports_from partition i (p ∷ ps) = one_port partition i p ++ ports_from partiti
 abbrev pub partition_row : ℕ → PartitionText → Row
 partition_row i p = record { index = i; name = Some p.name }
 
+abbrev pub period : Subject → ℤ → PartitionText → List Finding
+period subject frame p = outside subject (codes "period") 1 frame p.period
+
+abbrev pub duration : Subject → PartitionText → List Finding
+duration subject p = outside subject (codes "duration") 0 p.period p.duration
+
 abbrev pub times : Subject → ℤ → PartitionText → List Finding
-times subject frame p = outside subject (codes "period") 1 frame p.period ++ outside subject (codes "duration") 0 p.period p.duration
+times subject frame p = period subject frame p ++ duration subject p
 
 abbrev pub partition_limits : ℤ → ℕ → PartitionText → List Finding
 partition_limits frame i p =
@@ -95,8 +101,11 @@ sizes t =
     count Module (codes "partition") 1 MOST_PARTITIONS (length t.partitions)
     ++ (count Module (codes "window") 1 MOST_WINDOWS (length t.windows) ++ count Module (codes "channel") 0 MOST_CHANNELS (length t.channels))
 
+abbrev pub frame_limits : ℤ → List Finding
+frame_limits frame = outside Module (codes "frame") 1 (pos MOST_FRAME_TICKS) frame
+
 abbrev pub counts : TableText → List Finding
-counts t = outside Module (codes "frame") 1 (pos MOST_FRAME_TICKS) t.frame ++ sizes t
+counts t = frame_limits t.frame ++ sizes t
 
 abbrev pub rows : TableText → List Finding
 rows t = partitions_from t.frame 0 t.partitions ++ (windows_from 0 t.windows ++ channels_from 0 t.channels)

@@ -59,9 +59,12 @@ same_ports_from i (p ∷ ps) = same_names (Ports (partition_row i p)) (port_name
 abbrev pub is_among : List ℕ → List (List ℕ) → Bool
 is_among name names = list_any (same name) names
 
+abbrev pub lost : List (List ℕ) → ℕ → WindowText → List Finding
+lost names i w = one (window_at i w) (Some (codes "partition")) (NoPartition w.partition (nearest w.partition names))
+
 -- a window's partition that is not in the table
 abbrev pub partition_of : List (List ℕ) → ℕ → WindowText → List Finding
-partition_of names i w = if is_among w.partition names then [] else one (window_at i w) (Some (codes "partition")) (NoPartition w.partition (nearest w.partition names))
+partition_of names i w = if is_among w.partition names then [] else lost names i w
 
 abbrev pub partitions_of : List (List ℕ) → ℕ → List WindowText → List Finding
 partitions_of names i [] = []

@@ -52,9 +52,17 @@ fn counts<'a>(found: &mut Vec<Finding<'a>>, table: &WrittenTable<'a>) -> Result<
         (findings_of found.new.items
         ≡ findings_of found.old.items ++ spec.counts (table_text table.now)) }
 {
-    let most = MOST_FRAME_TICKS as i64;
-    outside(found, Subject::Module, "frame", 1, most, table.frame)?;
+    frame_limits(found, table.frame)?;
     sizes(found, table)
+}
+
+/// Adds a frame that is outside its limits.
+fn frame_limits<'a>(found: &mut Vec<Finding<'a>>, frame: i64) -> Result<(), AllocError>
+    ensures { OnOk result
+        (findings_of found.new.items ≡ findings_of found.old.items ++ spec.frame_limits frame) }
+{
+    let most = MOST_FRAME_TICKS as i64;
+    outside(found, Subject::Module, "frame", 1, most, frame)
 }
 
 /// Adds what is outside of the limits of counts.
@@ -270,15 +278,38 @@ fn times<'a>(
         ≡ findings_of found.old.items
         ++ spec.times (subject_of subject.entry) frame (partition_text partition.now)) }
 {
-    outside(found, subject, "period", 1, frame, partition.period)?;
-    outside(
-        found,
-        subject,
-        "duration",
-        0,
-        partition.period,
-        partition.duration,
-    )
+    period(found, subject, frame, partition)?;
+    duration(found, subject, partition)
+}
+
+/// Adds a period that is outside its limits.
+fn period<'a>(
+    found: &mut Vec<Finding<'a>>,
+    subject: Subject<'a>,
+    frame: i64,
+    partition: &WrittenPartition<'a>,
+) -> Result<(), AllocError>
+    ensures { OnOk result
+        (findings_of found.new.items
+        ≡ findings_of found.old.items
+        ++ spec.period (subject_of subject.entry) frame (partition_text partition.now)) }
+{
+    outside(found, subject, "period", 1, frame, partition.period)
+}
+
+/// Adds a duration that is outside its limits.
+fn duration<'a>(
+    found: &mut Vec<Finding<'a>>,
+    subject: Subject<'a>,
+    partition: &WrittenPartition<'a>,
+) -> Result<(), AllocError>
+    ensures { OnOk result
+        (findings_of found.new.items
+        ≡ findings_of found.old.items
+        ++ spec.duration (subject_of subject.entry) (partition_text partition.now)) }
+{
+    let (high, number) = (partition.period, partition.duration);
+    outside(found, subject, "duration", 0, high, number)
 }
 
 #[tactic(auto, using(std::proofs::lemmas::List::drop_more, std::proofs::lemmas::List::append_assoc, crate::proofs::Steps::append_nil))]

@@ -1,8 +1,10 @@
 //! Partitions to which windows offer less than their duration.
 
-ghost use Rattle.std.specs.Prelude.{◌≡◌, ◌++◌, ◌+◌, ◌-◌, ◌^◌, ◌<◌, ◌≤◌, map, OnOk};
+ghost use Rattle.std.specs.Prelude.{◌≡◌, ◌++◌, ◌+◌, ◌-◌, ◌^◌, ◌<◌, ◌≤◌, map, nat_abs, OnOk};
 ghost use Rattle.table_findings.specs.Durations as spec;
-ghost use Rattle.table_findings.specs.Views.{findings_of};
+ghost use Rattle.table_findings.specs.Findings.{Short};
+ghost use Rattle.table_findings.specs.Schedule.{partition_at};
+ghost use Rattle.table_findings.specs.Views.{findings_of, subject_of, what_of};
 ghost use Rattle.window_table.specs.Views.{partition_text, table_text, window_text};
 
 use crate::finding::{Finding, What};
@@ -81,20 +83,48 @@ fn short_of<'a>(
         (findings_of found.new.items
         ≡ findings_of found.old.items ++ spec.short_of index (partition_text partition.now) first) }
 {
-    let Some((from, offered)) = first else {
-        return Ok(());
-    };
-    let subject = Subject::Partition(Row {
-        index,
-        name: Some(partition.name),
-    });
-    let wanted = partition.duration.unsigned_abs();
-    let what = What::Short {
+    match first {
+        Some((from, offered)) => short(found, index, partition, from, offered),
+        None => Ok(()),
+    }
+}
+
+fn short<'a>(
+    found: &mut Vec<Finding<'a>>,
+    index: usize,
+    partition: &WrittenPartition<'a>,
+    from: u128,
+    offered: u128,
+) -> Result<(), AllocError>
+    ensures { OnOk result
+        (findings_of found.new.items
+        ≡ findings_of found.old.items
+        ++ spec.short index (partition_text partition.now) from offered) }
+{
+    let what = offers_less(partition, from, offered);
+    add(found, row_subject(index, partition), Some("duration"), what)
+}
+
+/// That in the period from `from` on the windows offer less than the duration.
+fn offers_less<'a>(partition: &WrittenPartition<'a>, from: u128, offered: u128) -> What<'a>
+    ensures { what_of result
+        ≡ Short from offered (nat_abs (partition_text partition.now).duration) }
+{
+    What::Short {
         from,
         offered,
-        wanted,
-    };
-    add(found, subject, Some("duration"), what)
+        wanted: partition.duration.unsigned_abs(),
+    }
+}
+
+/// The partition at a place of the list.
+fn row_subject<'a>(index: usize, partition: &WrittenPartition<'a>) -> Subject<'a>
+    ensures { subject_of result ≡ partition_at index (partition_text partition.now) }
+{
+    Subject::Partition(Row {
+        index,
+        name: Some(partition.name),
+    })
 }
 
 /// The first of these many periods in which the windows offer less than the duration: where it

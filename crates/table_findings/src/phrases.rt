@@ -1,6 +1,7 @@
 //! What a finding says, and what it advises.
 
 ghost use Rattle.std.specs.Prelude.{◌≡◌, ◌++◌, IfOk, map, OnOk, option_copied, string_bytes};
+ghost use Rattle.std.specs.Fmt.{signed_decimal};
 ghost use Rattle.table_findings.specs.Phrases as spec;
 ghost use Rattle.table_findings.specs.Views.{finding_of, row_of, subject_of, what_of};
 
@@ -65,18 +66,20 @@ fn odd_period_text(
     )
 }
 
-fn overlap_text(
-    alloc: Global,
-    about: &str,
-    begin: i64,
-    before: i128,
-) -> Result<String, AllocError>
+fn overlap_text(alloc: Global, about: &str, begin: i64, before: i128) -> Result<String, AllocError>
     ensures { IfOk result
         (λ text. string_bytes text ≡ spec.overlap_text about.now begin before) }
 {
     let first = begins_text(alloc, about, begin)?;
-    let first = first.as_str();
-    format!(in alloc; "{first}, and the window before it ends at {before}")
+    let end = signed_text(alloc, before)?;
+    let (first, end) = (first.as_str(), end.as_str());
+    format!(in alloc; "{first}, and the window before it ends at {end}")
+}
+
+fn signed_text(alloc: Global, number: i128) -> Result<String, AllocError>
+    ensures { IfOk result (λ text. string_bytes text ≡ signed_decimal number) }
+{
+    format!(in alloc; "{number}")
 }
 
 fn begins_text(alloc: Global, about: &str, begin: i64) -> Result<String, AllocError>

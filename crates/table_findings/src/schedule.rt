@@ -104,7 +104,7 @@ fn late<'a>(
 }
 
 /// The window at a place of the list.
-fn subject_at<'a>(index: usize, window: WrittenWindow<'a>) -> Subject<'a>
+pub fn subject_at<'a>(index: usize, window: WrittenWindow<'a>) -> Subject<'a>
     ensures { subject_of result ≡ spec.window_at index (window_text window.entry) }
 {
     Subject::Window(Row {

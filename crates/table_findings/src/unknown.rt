@@ -12,6 +12,7 @@ ghost use Rattle.window_table.specs.Views.{channel_text, partition_text, port_te
 use crate::finding::{Finding, What};
 use crate::part::add;
 use crate::repeated::partition_names;
+use crate::schedule::subject_at;
 use crate::subject::{Row, Subject};
 use places::nearest;
 use std::alloc::{AllocError, Global};
@@ -71,20 +72,26 @@ fn window<'a>(
         ≡ findings_of found.old.items
         ++ spec.partition_of (map (λ name. name.now) names.now) index (window_text window.entry)) }
 {
-    let text = window.partition;
-    if is_among(text, names) {
+    if is_among(window.partition, names) {
         return Ok(());
     }
-    let subject = Subject::Window(Row {
-        index,
-        name: Some(text),
-    });
-    add(
-        found,
-        subject,
-        Some("partition"),
-        no_partition(text, names),
-    )
+    lost(found, names, index, window)
+}
+
+/// Adds a window whose partition is none of the names.
+fn lost<'a>(
+    found: &mut Vec<Finding<'a>>,
+    names: &[&'a str],
+    index: usize,
+    window: WrittenWindow<'a>,
+) -> Result<(), AllocError>
+    ensures { OnOk result
+        (findings_of found.new.items
+        ≡ findings_of found.old.items
+        ++ spec.lost (map (λ name. name.now) names.now) index (window_text window.entry)) }
+{
+    let what = no_partition(window.partition, names);
+    add(found, subject_at(index, window), Some("partition"), what)
 }
 
 /// That a text is none of the names, with the nearest one.
