@@ -1,13 +1,10 @@
 -- The findings of a table as `--explain` shows them.
-use Rattle.std.specs.Prelude.{◌≡◌, ℕ, ◌-◌, Bool, true, false, if◌then◌else◌, List, [], ◌∷◌, ◌++◌, codes, drop, flat_map, length, Option, Some, None, take}
+use Rattle.std.specs.Prelude.{ℕ, ◌-◌, Bool, true, false, if◌then◌else◌, List, [], ◌∷◌, ◌++◌, codes, drop, flat_map, length, Option, Some, None, take}
 use Rattle.std.specs.Fmt.{decimal}
-use Rattle.places.specs.Entries.{Entry, Path, entries, first_at, key}
+use Rattle.places.specs.Entries.{Entry, Path, first_at, key}
 use Rattle.places.specs.Texts.{column_of, line_of, marked_line}
-use Rattle.toml.specs.Data.{Members}
-use Rattle.module_meaning.specs.Accepted.{IsDocument}
 use Rattle.table_findings.specs.Findings.{Finding, Missing, Unknown, What}
 use Rattle.table_findings.specs.Phrases.{advice, finding_text}
-use Rattle.table_findings.specs.Shape.{shape}
 use Rattle.table_findings.specs.Subjects.{subject_path}
 
 -- ---- the place of a finding
@@ -22,8 +19,8 @@ finding_path f = subject_path f.subject ++ key_step f.key
 
 -- what is found is about the key, or about its value
 abbrev pub is_of_key : What → Bool
-is_of_key (Missing k part) = true
-is_of_key (Unknown part) = true
+is_of_key (Missing _ _) = true
+is_of_key (Unknown _) = true
 is_of_key what = false
 
 -- how much of the text is left at the place of a finding; all of it, if the text has no entry there

@@ -1,5 +1,5 @@
 -- What is wrong with the health tables and with the actions of a document.
-use Rattle.std.specs.Prelude.{ℕ, if◌then◌else◌, List, [], ◌∷◌, ◌++◌, codes, Some, None}
+use Rattle.std.specs.Prelude.{ℕ, if◌then◌else◌, List, [], ◌++◌, codes, Some, None}
 use Rattle.toml.specs.Data.{Data, Members, no_members, member, as_str, as_table}
 use Rattle.module_meaning.specs.TableRules.{is_one_of, table_at}
 use Rattle.table_findings.specs.Fields.{words_of}

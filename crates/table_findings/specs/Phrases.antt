@@ -6,7 +6,6 @@ use Rattle.places.specs.Texts.{shown_start}
 use Rattle.table_findings.specs.Fields.{keys, wanted, words_of}
 use Rattle.table_findings.specs.Findings.{Finding, What, Missing, Unknown, OtherType, NoWord, Outside, Below, Count, NoName, SameName, NoPartition, NoEnd, WrongDirection, OtherKind, OtherWords, SamePartition, DeviceTwice, SplitQueue, PortTwice, Overlaps, PastFrame, OddPeriod, Short, NoRelease}
 use Rattle.table_findings.specs.Subjects.{Row, Subject, Module, Costs, Partition, Health, Port, Window, Channel, Destination}
-use Rattle.table_findings.specs.declared.fields.Part.{Part}
 
 -- a word of the table in quotation marks, cut where it is long
 abbrev pub quoted : List ℕ → List ℕ
@@ -117,8 +116,8 @@ short_text about from offered wanted =
     about ++ (codes " is offered " ++ (decimal offered ++ (codes " ticks in its period from " ++ (decimal from ++ (codes ", and its duration is " ++ decimal wanted)))))
 
 abbrev pub what_text : Option (List ℕ) → Subject → What → List ℕ
-what_text key subject (Missing lacked part) = subject_text subject ++ (codes " lacks the key " ++ quoted lacked)
-what_text key subject (Unknown part) = unknown_text (subject_text subject) key
+what_text key subject (Missing lacked _) = subject_text subject ++ (codes " lacks the key " ++ quoted lacked)
+what_text key subject (Unknown _) = unknown_text (subject_text subject) key
 what_text key subject (Overlaps begin before) = overlap_text (subject_text subject) begin before
 what_text key subject (PastFrame end frame) = subject_text subject ++ (codes " ends at " ++ (signed_decimal end ++ (codes ", past the frame of " ++ signed_decimal frame)))
 what_text key subject (OddPeriod period frame) = odd_period_text (subject_text subject) period frame

@@ -1,5 +1,5 @@
 -- What is wrong with a table that is refused.
-use Rattle.std.specs.Prelude.{◌≡◌, ◌⊎◌, ℕ, ◌≤◌, List, [], ◌∷◌, ◌++◌, codes, drop, length, Some, None, take}
+use Rattle.std.specs.Prelude.{◌≡◌, ◌⊎◌, ℕ, ◌≤◌, List, [], ◌++◌, codes, drop, length, Some, None, take}
 use Rattle.places.specs.Entries.{Entry, entries}
 use Rattle.places.specs.Texts.{marked_line}
 use Rattle.toml.specs.Data.{Members}

@@ -1,6 +1,6 @@
 -- What is wrong with the keys and the types of a document: each place where a key is missing or unknown, where a value is of another type,
 -- and where a text is none of its words.
-use Rattle.std.specs.Prelude.{ℕ, ◌+◌, Bool, not, is_none, if◌then◌else◌, List, [], ◌∷◌, ◌++◌, codes, Option, Some, None, unwrap_or}
+use Rattle.std.specs.Prelude.{ℕ, ◌+◌, is_none, if◌then◌else◌, List, [], ◌∷◌, ◌++◌, codes, Option, Some, None, unwrap_or}
 use Rattle.std.specs.Str.{bytes_eq}
 use Rattle.toml.specs.Data.{Data, Items, no_items, item, Members, no_members, member, as_table, get_member, type_name}
 use Rattle.module_meaning.specs.TableRules.{array_at, is_one_of, same, table_at, text_at}
@@ -30,7 +30,7 @@ one subject key what = record { subject = subject; key = key; what = what } ∷ 
 
 -- the keys of these that a table lacks
 abbrev pub missing : Subject → Part → Members → List (List ℕ) → List Finding
-missing subject part ms [] = []
+missing subject _ ms [] = []
 missing subject part ms (key ∷ keys) = (if is_none (get_member key ms) then one subject None (Missing key part) else []) ++ missing subject part ms keys
 
 -- a value of another type than the wanted one
@@ -42,7 +42,7 @@ abbrev pub one_member : Subject → Part → List ℕ → Data → List Finding
 one_member subject part key d = elim (wanted part key) [ None ↦ one subject (Some key) (Unknown part) | Some type ↦ of_type subject (Some key) type d ]
 
 abbrev pub members : Subject → Part → Members → List Finding
-members subject part no_members = []
+members subject _ no_members = []
 members subject part (member key d ms) = one_member subject part key d ++ members subject part ms
 
 -- the keys of a part, and the types of their values
