@@ -1,15 +1,17 @@
 -- A rule is broken if and only if there is a finding.
-use Rattle.std.proofs.Common.{◌≡◌, ◌≤◌, arith, ℕ, ℤ, pos, ◌+◌, ◌+ℤ◌, ◌||◌, Bool, true, false, not, cond, List, [], ◌∷◌, ◌++◌, Option, Some, None, length, refl, sym, ap, ◌∙◌, inl, inr, codes}
-use Rattle.std.proofs.lemmas.Bool.{cases_Bool}
+use Rattle.std.proofs.Common.{◌≡◌, ◌≤◌, arith, ℕ, ℤ, pos, ◌+◌, ◌+ℤ◌, ◌||◌, Bool, true, false, not, cond, List, [], ◌∷◌, ◌++◌, Option, Some, None, length, map, refl, sym, ap, ◌∙◌, inl, inr, codes}
+use Rattle.std.proofs.lemmas.Bool.{false≢true}
+use Rattle.window_table.proofs.Rules.{periods_there}
+use Rattle.module_meaning.specs.Table.{has_odd_period}
 use Rattle.std.specs.List.{list_any}
 use Rattle.std.specs.Prelude.{◌==◌, ◌%◌, int_lt, nat_abs, nat_lt}
 use Rattle.apex_types.specs.NameText.{is_name}
-use Rattle.module_meaning.specs.TableRules.{ChannelText, KindText, PartitionText, PortText, Queuing, Sampling, TableText, WindowText, is_outside, is_outside_cost, cost_keys, exceeds_counts, exceeds_kind, exceeds_limits, exceeds_port, exceeds_partition, exceeds_rows, exceeds_times, exceeds_window, exceeds_channel, has_costs_outside, has_many_ports, is_count_outside, overlaps_after}
+use Rattle.module_meaning.specs.TableRules.{ChannelText, KindText, PartitionText, PortText, Queuing, Sampling, TableText, WindowText, is_outside, is_outside_cost, cost_keys, exceeds_counts, exceeds_kind, exceeds_limits, exceeds_port, exceeds_partition, exceeds_rows, exceeds_times, exceeds_window, exceeds_channel, has_costs_outside, has_many_ports, is_count_outside, overlaps_after, partition_row}
 use Rattle.apex_types.specs.declared.limits.TheConstants.{MOST_CHANNELS, MOST_COST, MOST_DEPTH, MOST_DESTINATIONS, MOST_FRAME_TICKS, MOST_PARTITIONS, MOST_PORTS, MOST_TICKS, MOST_WINDOWS, MOST_WORDS}
 use Rattle.finding_laws.specs.Any.{AreFew, has_any}
 use Rattle.table_findings.specs.Findings.{Finding}
-use Rattle.table_findings.specs.Limits.{below, channel_at, partition_row, port_at, channel_limits, channels_from, costs_at, costs_limits, count, counts, kind, limits, name, one_port, outside, partition_limits, partitions_from, port_limits, ports_from, sizes, times, window_limits, windows_from}
-use Rattle.table_findings.specs.Schedule.{early, late, partition_at, window_at, odd_period, overlaps_from, placed, window_end}
+use Rattle.table_findings.specs.Limits.{below, channel_at, partition_row as row_of_partition, port_at, channel_limits, channels_from, costs_at, costs_limits, count, counts, kind, limits, name, one_port, outside, partition_limits, partitions_from, port_limits, ports_from, sizes, times, window_limits, windows_from}
+use Rattle.table_findings.specs.Schedule.{early, late, partition_at, window_at, odd_period, odd_periods, odd_periods_from, overlaps_from, placed, window_end}
 use Rattle.table_findings.specs.Subjects.{Row, Subject, Costs, Module}
 
 pub any_append : (xs ys : List Finding) → has_any (xs ++ ys) ≡ has_any xs || has_any ys
@@ -89,7 +91,7 @@ unfolding exceeds_partition
 partition_any frame i p =
     partition_parts (not (is_name p.name)) (exceeds_times frame p) (has_many_ports p) (list_any exceeds_port p.ports)
     ∙ two _ _ _ _ (name_any (partition_at i p) p.name)
-    (two _ _ _ _ (times_any (partition_at i p) frame p) (two _ _ _ _ (count_any (partition_at i p) (codes "port") 0 MOST_PORTS (length p.ports)) (ports_any (partition_row i p) 0 p.ports)))
+    (two _ _ _ _ (times_any (partition_at i p) frame p) (two _ _ _ _ (count_any (partition_at i p) (codes "port") 0 MOST_PORTS (length p.ports)) (ports_any (row_of_partition i p) 0 p.ports)))
 
 partitions_any : (frame : ℤ) (i : ℕ) (ps : List PartitionText) → list_any (exceeds_partition frame) ps ≡ has_any (partitions_from frame i ps)
 partitions_any frame i [] = refl
@@ -160,3 +162,29 @@ unfolding exceeds_rows
 limits_any t few =
     limit_parts (exceeds_counts t) (list_any exceeds_window t.windows) (list_any exceeds_channel t.channels) (has_costs_outside t.costs) (list_any (exceeds_partition t.frame) t.partitions)
     ∙ two _ _ _ _ (counts_any t) (two _ _ _ _ (costs_any t.costs few) (two _ _ _ _ (partitions_any t.frame 0 t.partitions) (two _ _ _ _ (windows_any 0 t.windows) (channels_any 0 t.channels))))
+
+-- ---- periods
+
+or_first : (a b : Bool) → a || b ≡ false → a ≡ false
+or_first true b h = h
+or_first false b h = refl
+
+or_second : (a b : Bool) → a || b ≡ false → b ≡ false
+or_second true b h = absurd (false≢true (sym h))
+or_second false b h = h
+
+odd_any : (frame i : ℕ) (p : PartitionText) → (nat_abs p.period == 0) ≡ false → not (frame % nat_abs p.period == 0) ≡ has_any (odd_period frame i p)
+odd_any frame i p there =
+    ap (λ (b : Bool). not (b || (frame % nat_abs p.period == 0))) (sym there)
+    ∙ sym (any_unless (nat_abs p.period == 0 || frame % nat_abs p.period == 0) _ _ refl refl)
+
+odds_any : (frame i : ℕ) (ps : List PartitionText) → list_any (λ p. p.period == 0) (map partition_row ps) ≡ false → has_odd_period frame (map partition_row ps) ≡ has_any (odd_periods_from frame i ps)
+odds_any frame i [] there = refl
+odds_any frame i (p ∷ ps) there =
+    two _ _ _ _ (odd_any frame i p (or_first (nat_abs p.period == 0) (list_any (λ p. p.period == 0) (map partition_row ps)) there))
+    (odds_any frame (i + 1) ps (or_second (nat_abs p.period == 0) (list_any (λ p. p.period == 0) (map partition_row ps)) there))
+
+pub odd_periods_any : (t : TableText) → exceeds_limits t ≡ false → has_odd_period (nat_abs t.frame) (map partition_row t.partitions) ≡ has_any (odd_periods t)
+odd_periods_any t kept =
+    odds_any (nat_abs t.frame) 0 t.partitions
+    (periods_there t.frame t.partitions (or_second (exceeds_counts t || exceeds_rows t || has_costs_outside t.costs) (list_any (exceeds_partition t.frame) t.partitions) kept))

@@ -4,4 +4,4 @@
 
 mod laws;
 
-pub use laws::{limits_are_found, overlaps_are_found};
+pub use laws::{limits_are_found, odd_periods_are_found, overlaps_are_found};
