@@ -1,5 +1,5 @@
 -- A rule is broken if and only if there is a finding.
-use Rattle.std.proofs.Common.{◌≡◌, ◌≤◌, arith, ℕ, ℤ, pos, ◌+◌, ◌+ℤ◌, ◌||◌, Bool, true, false, not, cond, List, [], ◌∷◌, ◌++◌, Option, Some, None, length, map, refl, sym, ap, ◌∙◌, inl, inr, codes}
+use Rattle.std.proofs.Common.{◌≡◌, ◌≤◌, arith, ℕ, ℤ, pos, ◌+◌, ◌||◌, Bool, true, false, not, cond, List, [], ◌∷◌, ◌++◌, Option, Some, None, length, map, refl, sym, ap, ◌∙◌, codes}
 use Rattle.std.proofs.lemmas.Bool.{false≢true}
 use Rattle.window_table.proofs.Rules.{periods_there}
 use Rattle.module_meaning.specs.Table.{has_odd_period}
@@ -10,7 +10,7 @@ use Rattle.module_meaning.specs.TableRules.{ChannelText, KindText, PartitionText
 use Rattle.apex_types.specs.declared.limits.TheConstants.{MOST_CHANNELS, MOST_COST, MOST_DEPTH, MOST_DESTINATIONS, MOST_FRAME_TICKS, MOST_PARTITIONS, MOST_PORTS, MOST_TICKS, MOST_WINDOWS, MOST_WORDS}
 use Rattle.finding_laws.specs.Any.{AreFew, has_any}
 use Rattle.table_findings.specs.Findings.{Finding}
-use Rattle.table_findings.specs.Limits.{below, channel_at, partition_row as row_of_partition, port_at, channel_limits, channels_from, costs_at, costs_limits, count, counts, kind, limits, name, one_port, outside, partition_limits, partitions_from, port_limits, ports_from, sizes, times, window_limits, windows_from}
+use Rattle.table_findings.specs.Limits.{below, channel_at, partition_row as row_of_partition, port_at, channel_limits, channels_from, costs_at, costs_limits, count, counts, kind, limits, name, outside, partition_limits, partitions_from, port_limits, ports_from, sizes, times, window_limits, windows_from}
 use Rattle.table_findings.specs.Schedule.{early, late, partition_at, window_at, odd_period, odd_periods, odd_periods_from, overlaps_from, placed, window_end}
 use Rattle.table_findings.specs.Subjects.{Row, Subject, Costs, Module}
 
