@@ -1,8 +1,8 @@
 //! Where the words of a Pal source stand.
 #![tactic(auto)]
 
-ghost use Rattle.std.specs.Prelude.{◌≡◌, ◌≤◌, drop, find, length, nat_eq, option_map};
-ghost use Rattle.std.specs.List.{starts_with};
+ghost use Rattle.std.specs.Prelude.{◌≡◌, ◌≤◌, drop, false, find, length, nat_eq, option_map};
+ghost use Rattle.std.specs.List.{prefix_len, starts_with};
 ghost use Rattle.pal_base.specs.Marks.{mark_text};
 ghost use Rattle.pal_meaning.specs.Grammar as grammar;
 ghost use Rattle.pal_meaning.specs.Grammar.{behind_blanks, in_name, in_service, is_lower, is_upper, word_at};
@@ -85,22 +85,37 @@ fn behind(text: &[u8], count: usize) -> &[u8]
 fn behind_name(text: &[u8]) -> &[u8]
     ensures { result.now ≡ grammar.behind in_name text.now }
 {
-    let count = text.iter().take_while(|byte| is_in_name(**byte)).count();
-    behind(text, count)
+    behind(text, name_length(text))
+}
+
+fn name_length(text: &[u8]) -> usize
+    ensures { result ≡ prefix_len in_name text.now }
+{
+    text.iter().take_while(|byte| is_in_name(**byte)).count()
 }
 
 fn behind_digits(text: &[u8]) -> &[u8]
     ensures { result.now ≡ grammar.behind is_digit text.now }
 {
-    let count = text.iter().take_while(|byte| is_digit(**byte)).count();
-    behind(text, count)
+    behind(text, digits_length(text))
+}
+
+fn digits_length(text: &[u8]) -> usize
+    ensures { result ≡ prefix_len is_digit text.now }
+{
+    text.iter().take_while(|byte| is_digit(**byte)).count()
 }
 
 fn behind_service(text: &[u8]) -> &[u8]
     ensures { result.now ≡ grammar.behind in_service text.now }
 {
-    let count = text.iter().take_while(|byte| is_in_service(**byte)).count();
-    behind(text, count)
+    behind(text, service_length(text))
+}
+
+fn service_length(text: &[u8]) -> usize
+    ensures { result ≡ prefix_len in_service text.now }
+{
+    text.iter().take_while(|byte| is_in_service(**byte)).count()
 }
 
 fn is_lower(byte: u8) -> bool
