@@ -25,6 +25,7 @@ mod tally;
 mod traffic;
 mod writing;
 
+pub use cell::{Cell, cell_text};
 pub use extent::Extent;
 pub use extremes::Extremes;
 pub use fault::ReportFault;
@@ -35,4 +36,5 @@ pub use report::{PartitionTotal, ProcessTotal, Report, RouteTotal};
 pub use share::Share;
 pub use states::StateTicks;
 pub use summary::Summary;
+pub use table::Table;
 pub use tally::{Tally, Turn};

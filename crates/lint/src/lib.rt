@@ -1,0 +1,22 @@
+//! What of a module is accepted and probably not meant: findings in a source, each with its place.
+//!
+//! A finding says that a stated condition on the text holds. Nothing else is concluded.
+#![tactic(auto)]
+
+mod arrays;
+mod calls;
+mod finding;
+mod gathering;
+mod lives;
+mod names;
+mod port_rules;
+mod sentence;
+mod services;
+mod slow;
+mod uses;
+mod wanted;
+
+pub use finding::{Finding, FindingKind};
+pub use gathering::findings;
+pub use sentence::write_findings;
+pub use slow::slow_processes;
