@@ -1,2 +1,4 @@
 pub mod Adding
 pub mod Blocks
+pub mod UnderWay
+pub mod Pieces

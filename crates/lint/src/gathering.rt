@@ -10,6 +10,7 @@ ghost use Rattle.lint.specs.Views.{calls_seen, found_all};
 
 use crate::calls::{Call, add_body, add_handler, add_procedures, add_processes};
 use crate::finding::Finding;
+use crate::unused::add_unused;
 use crate::{arrays, lives, port_rules};
 use apex_types::PortRow;
 use pal_base::syntax::Program;
@@ -138,5 +139,6 @@ pub fn findings<'a>(
     add_port_findings(rows, ports, program, &calls, &mut findings)?;
     add_creations(program, &calls, &mut findings)?;
     add_waits(alloc, program, &mut findings)?;
+    add_unused(alloc, program, &mut findings)?;
     Ok(findings)
 }
