@@ -1,4 +1,5 @@
 pub mod Adding
 pub mod Blocks
+pub mod Naming
 pub mod UnderWay
 pub mod Pieces

@@ -82,7 +82,8 @@ unused_declarations names ds = flat_map (λ d. unused_declaration names d.kind d
 
 -- the parameters and the locals that no statement of their body names
 abbrev pub unused_in_body : List (List ℕ) → written.Body → List Found
-unused_in_body parameters b = flat_map (unused (names_of b) finding.UnusedParameter) parameters ++ flat_map (unused (names_of b) finding.UnusedVariable) b.locals
+unused_in_body parameters b =
+    flat_map (unused (names_of b) finding.UnusedParameter) parameters ++ flat_map (unused (names_of b) finding.UnusedVariable) b.locals
 
 abbrev pub unused_in_handler : Option written.StackBody → List Found
 unused_in_handler None = []

@@ -257,7 +257,8 @@ fn add_procedures(
     ensures { OnOk result
         (names_seen (texts names.now.keys) used.new.items
         ≡ names_seen (texts names.now.keys) used.old.items
-        ++ meant.names_of_procedures (map (declaration_of (texts names.now.keys)) declarations.now)) }
+        ++ meant.names_of_procedures
+        (map (declaration_of (texts names.now.keys)) declarations.now)) }
 {
     for declaration in declarations {
         add_procedure(names, used, &declaration.kind)?;
@@ -284,7 +285,8 @@ fn all_names(alloc: Global, program: &Program) -> Result<Vec<NameId>, AllocError
 #[tactic(auto, using(std::proofs::lemmas::List::drop_more))]
 fn is_used(names: &IndexSet<String>, used: &[NameId], name: NameId) -> bool
     ensures { result
-        ≡ meant.is_used (names_seen (texts names.now.keys) used.now) (id_text (texts names.now.keys) name) }
+        ≡ meant.is_used (names_seen (texts names.now.keys) used.now)
+        (id_text (texts names.now.keys) name) }
 {
     for other in used {
         if is_same_name(names, *other, name) {
@@ -305,7 +307,8 @@ fn expect_use<'a>(
     ensures { OnOk result
         (found_all findings.new.items
         ≡ found_all findings.old.items
-        ++ meant.unused (names_seen (texts names.now.keys) used.now) kind (name_of (texts names.now.keys) name)) }
+        ++ meant.unused (names_seen (texts names.now.keys) used.now) kind
+        (name_of (texts names.now.keys) name)) }
 {
     let finding = Finding {
         line: name.line,
@@ -325,7 +328,9 @@ fn add_declaration<'a>(
     ensures { OnOk result
         (found_all findings.new.items
         ≡ found_all findings.old.items
-        ++ meant.unused_declaration (names_seen (texts names.now.keys) used.now) (declared_of (texts names.now.keys) declaration.now.kind) (name_of (texts names.now.keys) declaration.now.name)) }
+        ++ meant.unused_declaration (names_seen (texts names.now.keys) used.now)
+        (declared_of (texts names.now.keys) declaration.now.kind)
+        (name_of (texts names.now.keys) declaration.now.name)) }
 {
     match &declaration.kind {
         DeclarationKind::Variable(_) | DeclarationKind::Array { .. } => {
@@ -365,7 +370,8 @@ fn add_declarations<'a>(
     ensures { OnOk result
         (found_all findings.new.items
         ≡ found_all findings.old.items
-        ++ meant.unused_declarations (names_seen (texts names.now.keys) used.now) (map (declaration_of (texts names.now.keys)) declarations.now)) }
+        ++ meant.unused_declarations (names_seen (texts names.now.keys) used.now)
+        (map (declaration_of (texts names.now.keys)) declarations.now)) }
 {
     for declaration in declarations {
         add_declaration(names, used, declaration, findings)?;
@@ -385,7 +391,8 @@ fn add_own<'a>(
     ensures { OnOk result
         (found_all findings.new.items
         ≡ found_all findings.old.items
-        ++ flat_map (meant.unused (names_seen (texts names.now.keys) used.now) kind) (map (name_of (texts names.now.keys)) own.now)) }
+        ++ flat_map (meant.unused (names_seen (texts names.now.keys) used.now) kind)
+        (map (name_of (texts names.now.keys)) own.now)) }
 {
     for name in own {
         expect_use(names, used, kind, *name, findings)?;
@@ -404,7 +411,8 @@ fn add_in_body<'a>(
     ensures { OnOk result
         (found_all findings.new.items
         ≡ found_all findings.old.items
-        ++ meant.unused_in_body (map (name_of (texts names.now.keys)) parameters.now) (body_of (texts names.now.keys) body.now)) }
+        ++ meant.unused_in_body (map (name_of (texts names.now.keys)) parameters.now)
+        (body_of (texts names.now.keys) body.now)) }
 {
     let mut used = Vec::new(alloc);
     add_body(names, &mut used, body)?;
@@ -434,7 +442,8 @@ fn add_in_handler<'a>(
     ensures { OnOk result
         (found_all findings.new.items
         ≡ found_all findings.old.items
-        ++ meant.unused_in_handler (option_map (stack_body_of (texts names.now.keys)) handler.now)) }
+        ++ meant.unused_in_handler
+        (option_map (stack_body_of (texts names.now.keys)) handler.now)) }
 {
     match handler {
         Some(handler) => add_in_body(alloc, names, &[], &handler.body, findings),
@@ -498,7 +507,8 @@ fn add_in_procedures<'a>(
     ensures { OnOk result
         (found_all findings.new.items
         ≡ found_all findings.old.items
-        ++ meant.unused_in_procedures (map (declaration_of (texts names.now.keys)) declarations.now)) }
+        ++ meant.unused_in_procedures
+        (map (declaration_of (texts names.now.keys)) declarations.now)) }
 {
     for declaration in declarations {
         add_in_procedure(alloc, names, &declaration.kind, findings)?;

@@ -43,7 +43,7 @@ struct Row {
     found: &'static [(u32, FindingKind, &'static str)],
 }
 
-static ROWS: [Row; 15] = [
+static ROWS: [Row; 17] = [
     // Nothing.
     Row {
         source: "port out; port in; event e;
@@ -203,6 +203,31 @@ static ROWS: [Row; 15] = [
             (6, FindingKind::WaitInInit, "TIMED_WAIT"),
             (7, FindingKind::WaitInInit, "RECEIVE_QUEUING_MESSAGE"),
         ],
+    },
+    // What no statement names: a variable, an array, a procedure, a local of INIT, a parameter and a local
+    // of a procedure. What is only written is named.
+    Row {
+        source: "port out; port in; var v; array m[2];
+            proc f(a, b) { local c; a := 1; }
+            init stack 32 { local r; local i; local k; CREATE_SAMPLING_PORT(out) -> r, i;
+            CREATE_QUEUING_PORT(in) -> r, i; SET_PARTITION_MODE(3) -> r; }",
+        found: &[
+            (1, FindingKind::UnusedVariable, "v"),
+            (1, FindingKind::UnusedVariable, "m"),
+            (2, FindingKind::UnusedProcedure, "f"),
+            (3, FindingKind::UnusedVariable, "k"),
+            (2, FindingKind::UnusedParameter, "b"),
+            (2, FindingKind::UnusedVariable, "c"),
+        ],
+    },
+    // Names in each form of statement and expression, in INIT, a handler, a process and a procedure.
+    Row {
+        source: "port out; port in; var v; var w; array m[2]; array n[2]; var x; var y; var z;
+            proc f(a, b) { while a { if (b) { return -v + w * 2; } else { m[x] := n[y]; } } }
+            init stack 32 { local r; local i; CREATE_SAMPLING_PORT(out) -> r, i;
+            CREATE_QUEUING_PORT(in) -> r, i; CREATE_ERROR_HANDLER() -> r; SET_PARTITION_MODE(3) -> r; }
+            handler stack 32 { local r; r := f(z, 1); }",
+        found: &[],
     },
     // An empty INIT.
     Row {
