@@ -3,3 +3,4 @@ pub mod Blocks
 pub mod Naming
 pub mod UnderWay
 pub mod Pieces
+pub mod Waits
