@@ -17,7 +17,7 @@ use pal_base::syntax::Program;
 use std::alloc::{AllocError, Global};
 use window_table::PartitionRow;
 
-/// What is found in the source of a partition.
+/// The name of a partition, and what is found in its source.
 #[derive(Drop)]
 pub struct PartitionFindings<'a> {
     pub partition: &'a str,
