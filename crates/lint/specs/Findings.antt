@@ -1,5 +1,5 @@
 -- All that is found in the source of a partition.
-use Rattle.std.specs.Prelude.{ℕ, List, ◌++◌, flat_map}
+use Rattle.std.specs.Prelude.{List, ◌++◌, flat_map}
 use Rattle.apex_types.specs.declared.row.PortRow.{PortRow}
 use Rattle.module_meaning.specs.Table.{Partition}
 use Rattle.pal_meaning.specs.Syntax as written

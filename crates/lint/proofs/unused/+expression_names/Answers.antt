@@ -1,4 +1,3 @@
-use Rattle.std.proofs.Common.{map}
 use Rattle.pal_base.specs.View.{texts}
 use Rattle.lint.specs.Views.{names_seen}
 use Rattle.lint.proofs.Naming.{in_apply, in_chain}

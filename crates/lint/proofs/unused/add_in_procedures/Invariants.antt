@@ -1,7 +1,7 @@
 use Rattle.std.proofs.Common.{◌≡◌, ◌++◌, map, drop}
 use Rattle.pal_base.specs.View.{declaration_of, texts}
 use Rattle.lint.specs.Unused.{unused_in_procedures}
-use Rattle.lint.specs.Views.{found_all, names_seen}
+use Rattle.lint.specs.Views.{found_all}
 use Rattle.lint.proofs.unused.add_in_procedures.Given as goal
 
 abbrev pub invariant-loop-declaration : goal.invariant-loop-declaration

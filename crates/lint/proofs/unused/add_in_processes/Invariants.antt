@@ -1,7 +1,7 @@
 use Rattle.std.proofs.Common.{◌≡◌, ◌++◌, map, drop}
 use Rattle.pal_base.specs.View.{process_of, texts}
 use Rattle.lint.specs.Unused.{unused_in_processes}
-use Rattle.lint.specs.Views.{found_all, names_seen}
+use Rattle.lint.specs.Views.{found_all}
 use Rattle.lint.proofs.unused.add_in_processes.Given as goal
 
 abbrev pub invariant-loop-process : goal.invariant-loop-process
