@@ -1,7 +1,6 @@
 //! Variables, procedures and parameters that no statement names.
 
 ghost use Rattle.std.specs.Prelude.{◌≡◌, ◌++◌, ◌∷◌, [], map, flat_map, option_map, OnOk, IfOk};
-ghost use Rattle.std.specs.List.{list_any};
 ghost use Rattle.pal_base.specs.View.{texts, id_text, name_of, expr_of, exprs_of, links_of, kind_of, block_of, body_of, stack_body_of, process_of, declaration_of, declared_of};
 ghost use Rattle.pal_base.specs.WrittenView.{program_of};
 ghost use Rattle.lint.specs.Unused as meant;

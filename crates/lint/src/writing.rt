@@ -1,9 +1,9 @@
 //! Findings as lines for a reader.
 
-ghost use Rattle.std.specs.Prelude.{◌≡◌, ℕ, ◌+◌, ◌-◌, ◌^◌, ◌<◌, ◌++◌, flat_map};
+ghost use Rattle.std.specs.Prelude.{◌-◌, ◌^◌, ◌<◌, flat_map};
 ghost use Rattle.lint.specs.Listed.{IsListed};
 ghost use Rattle.lint.specs.Pieces.{piece_text};
-ghost use Rattle.lint.specs.Sentences.{finding_line, findings_text, partition_text, place_text};
+ghost use Rattle.lint.specs.Sentences.{finding_line, findings_text, place_text};
 
 use crate::finding::Finding;
 use crate::report::PartitionFindings;
