@@ -1,5 +1,5 @@
 -- All that is found in the source of a partition.
-use Rattle.std.specs.Prelude.{ℕ, List, ◌++◌, flat_map}
+use Rattle.std.specs.Prelude.{List, ◌++◌, flat_map}
 use Rattle.apex_types.specs.declared.row.PortRow.{PortRow}
 use Rattle.module_meaning.specs.Table.{Partition}
 use Rattle.pal_meaning.specs.Syntax as written
@@ -7,6 +7,7 @@ use Rattle.lint.specs.Arrays.{small_arrays}
 use Rattle.lint.specs.Calls.{all_calls, calls_of_procedures}
 use Rattle.lint.specs.Lives.{objects_never_created, processes_never_created, handler_never_created, never_started, never_normal, without_waits, waits_in_init}
 use Rattle.lint.specs.Ports.{unknown_ports, misfits, better_row, undeclared_ports, wrong_use}
+use Rattle.lint.specs.Unused.{unused_names}
 use Rattle.lint.specs.Views.{Found}
 
 -- about ports, of a source for a partition with these ports in a table with these rows
@@ -31,4 +32,4 @@ abbrev pub wait_findings : written.Program → List Found
 wait_findings p = never_normal p ++ without_waits (calls_of_procedures p.declarations) p.processes ++ waits_in_init p
 
 abbrev pub findings : List Partition → List PortRow → written.Program → List Found
-findings rows ports p = port_findings rows ports p ++ creation_findings p ++ wait_findings p
+findings rows ports p = port_findings rows ports p ++ creation_findings p ++ wait_findings p ++ unused_names p

@@ -7,4 +7,8 @@ pub mod Ports
 pub mod Arrays
 pub mod Lives
 pub mod Slow
+pub mod Unused
 pub mod Findings
+pub mod Listed
+pub mod Sentences
+pub mod Pieces

@@ -1,12 +1,12 @@
 -- What is never created, started or ended in its first round, and what waits where nothing may wait.
-use Rattle.std.specs.Prelude.{ℕ, ◌+◌, Bool, true, false, not, ◌&&◌, ◌||◌, List, [], ◌∷◌, ◌++◌, Option, Some, None, if◌then◌else◌, flat_map}
+use Rattle.std.specs.Prelude.{ℕ, ◌+◌, Bool, false, not, ◌&&◌, ◌||◌, List, [], ◌∷◌, ◌++◌, Option, Some, None, if◌then◌else◌, flat_map}
 use Rattle.std.specs.List.{list_any}
 use Rattle.apex_types.specs.ServiceShape.{service_word}
 use Rattle.apex_types.specs.declared.denotation.ObjectKind.{ObjectKind}
 use Rattle.apex_types.specs.declared.denotation.ObjectKind.TheVariants as object
 use Rattle.pal_meaning.specs.Syntax as written
 use Rattle.pal_meaning.specs.WellFormed.{is_same_kind}
-use Rattle.lint.specs.Calls.{Call, all_calls, calls_of, calls_of_procedures, first_of, last_or}
+use Rattle.lint.specs.Calls.{Call, calls_of, calls_of_procedures, first_of, last_or}
 use Rattle.lint.specs.Services.{created_kind, is_start, is_set_mode, is_periodic_wait, is_handler_creation, always_waits, has_time_out}
 use Rattle.lint.specs.Uses.{name_in, is_name, is_zero, may_be, may_be_number, subject_of}
 use Rattle.lint.specs.Views.{Found}

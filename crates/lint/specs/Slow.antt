@@ -1,7 +1,7 @@
 -- Processes whose bodies cost more than their time capacities, each construct counted once.
 use Rattle.std.specs.Prelude.{ℕ, nat_lt, Bool, false, List, [], ◌∷◌, Option, Some, None, if◌then◌else◌, flat_map}
 use Rattle.apex_types.specs.declared.cost.Costs.{Costs}
-use Rattle.pal_meaning.specs.Program as cost
+use Rattle.pal_meaning.specs.BodyCosts as cost
 use Rattle.pal_base.specs.Costs.{comes_to}
 use Rattle.pal_base.specs.ProgramView.{body_of}
 use Rattle.pal_base.specs.declared.program.Process.{Process}

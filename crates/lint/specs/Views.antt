@@ -1,6 +1,7 @@
 -- The calls and the findings of the code, as the definitions see them.
 use Rattle.std.specs.Prelude.{ℕ, Bool, List, [], ◌∷◌, map, option_map, if◌then◌else◌}
 use Rattle.pal_base.specs.View.{id_text, exprs_of}
+use Rattle.pal_base.specs.declared.syntax.NameId.{NameId}
 use Rattle.lint.specs.Calls as meant
 use Rattle.lint.specs.declared.calls.Call as code_call
 use Rattle.lint.specs.declared.calls.Created as code_created
@@ -23,6 +24,10 @@ call_of names c = record { service = c.service; arguments = meant.plains (exprs_
 -- the calls of a list, as the definitions see them
 abbrev pub calls_seen : List (List ℕ) → List code_call.Call → List meant.Call
 calls_seen names calls = map (call_of names) calls
+
+-- the names of a list, as the definitions see them
+abbrev pub names_seen : List (List ℕ) → List NameId → List (List ℕ)
+names_seen names used = map (id_text names) used
 
 -- what was found, and the name that it is about; the lines are not seen
 pub record Found : Type 0 where

@@ -32,6 +32,12 @@ pub enum FindingKind {
     NoPeriodicWait,
     /// INIT calls a service that waits.
     WaitInInit,
+    /// No statement names a variable or an array; or a local, in its body.
+    UnusedVariable,
+    /// No statement names a procedure.
+    UnusedProcedure,
+    /// No statement of its body names a parameter.
+    UnusedParameter,
     /// The body of a process costs more than its time capacity, each construct counted once.
     AboveCapacity,
 }

@@ -6,10 +6,12 @@ ghost use Rattle.pal_base.specs.WrittenView.{program_of};
 ghost use Rattle.window_table.specs.Views.{partition_view};
 ghost use Rattle.lint.specs.Calls.{all_calls, calls_of, calls_of_procedures};
 ghost use Rattle.lint.specs.Findings as meant;
+ghost use Rattle.lint.specs.Lives.{never_normal, waits_in_init, without_waits};
 ghost use Rattle.lint.specs.Views.{calls_seen, found_all};
 
 use crate::calls::{Call, add_body, add_handler, add_procedures, add_processes};
 use crate::finding::Finding;
+use crate::unused::add_unused;
 use crate::{arrays, lives, port_rules};
 use apex_types::PortRow;
 use pal_base::syntax::Program;
@@ -101,6 +103,55 @@ fn add_creations<'a>(
     lives::add_unstarted(names, calls, &program.processes, findings)
 }
 
+/// Adds that neither INIT nor a procedure may enter NORMAL, if it is so.
+fn add_never_normal<'a>(
+    alloc: Global,
+    program: &'a Program,
+    findings: &mut Vec<Finding<'a>>,
+) -> Result<(), AllocError>
+    ensures { OnOk result
+        (found_all findings.new.items
+        ≡ found_all findings.old.items ++ never_normal (program_of program.now)) }
+{
+    let calls = init_and_procedure_calls(alloc, program)?;
+    lives::add_never_normal(&program.names, &calls, program.init.line, findings)
+}
+
+/// Adds the periodic processes that do not wait for their next release.
+fn add_without_waits<'a>(
+    alloc: Global,
+    program: &'a Program,
+    findings: &mut Vec<Finding<'a>>,
+) -> Result<(), AllocError>
+    ensures { OnOk result
+        (found_all findings.new.items
+        ≡ found_all findings.old.items
+        ++ without_waits (calls_of_procedures (program_of program.now).declarations)
+        (program_of program.now).processes) }
+{
+    lives::add_without_waits(
+        alloc,
+        &program.names,
+        &program.declarations,
+        &program.processes,
+        findings,
+    )
+}
+
+/// Adds the waits in INIT.
+fn add_init_waits<'a>(
+    alloc: Global,
+    program: &'a Program,
+    findings: &mut Vec<Finding<'a>>,
+) -> Result<(), AllocError>
+    ensures { OnOk result
+        (found_all findings.new.items
+        ≡ found_all findings.old.items ++ waits_in_init (program_of program.now)) }
+{
+    let calls = init_calls(alloc, program)?;
+    lives::add_waits(&program.names, &calls, findings)
+}
+
 /// Adds what is found about NORMAL, about periods and about waits.
 fn add_waits<'a>(
     alloc: Global,
@@ -111,18 +162,14 @@ fn add_waits<'a>(
         (found_all findings.new.items
         ≡ found_all findings.old.items ++ meant.wait_findings (program_of program.now)) }
 {
-    let names = &program.names;
-    let init = init_calls(alloc, program)?;
-    let both = init_and_procedure_calls(alloc, program)?;
-    lives::add_never_normal(names, &both, program.init.line, findings)?;
-    let declarations = program.declarations.as_slice();
-    lives::add_without_waits(alloc, names, declarations, &program.processes, findings)?;
-    lives::add_waits(names, &init, findings)
+    add_never_normal(alloc, program, findings)?;
+    add_without_waits(alloc, program, findings)?;
+    add_init_waits(alloc, program, findings)
 }
 
-/// What is found in a source for a partition with these ports, in a table with these rows, in the
-/// order of the kinds; those of a kind stand in the order of the text. Fails only if memory runs
-/// out.
+/// What is found in a source for a partition with these ports, in a table with these rows: about
+/// ports, about creation and starts, about NORMAL, periods and waits, and about names that no
+/// statement names. Fails only if memory runs out.
 pub fn findings<'a>(
     alloc: Global,
     rows: &'a [PartitionRow],
@@ -138,5 +185,6 @@ pub fn findings<'a>(
     add_port_findings(rows, ports, program, &calls, &mut findings)?;
     add_creations(program, &calls, &mut findings)?;
     add_waits(alloc, program, &mut findings)?;
+    add_unused(alloc, program, &mut findings)?;
     Ok(findings)
 }

@@ -10,13 +10,17 @@ mod gathering;
 mod lives;
 mod names;
 mod port_rules;
+mod report;
 mod sentence;
 mod services;
 mod slow;
+mod unused;
 mod uses;
 mod wanted;
+mod writing;
 
 pub use finding::{Finding, FindingKind};
 pub use gathering::findings;
-pub use sentence::write_findings;
+pub use report::{PartitionFindings, have_findings, partition_findings, status};
 pub use slow::slow_processes;
+pub use writing::write_findings;

@@ -1,12 +1,15 @@
-//! Findings as lines for a reader.
+//! Findings as sentences.
 
-use crate::finding::{Finding, FindingKind};
-use std::io;
-use std::io::Write;
+ghost use Rattle.std.specs.Prelude.{◌≡◌};
+ghost use Rattle.lint.specs.Sentences.{advice, opening};
+
+use crate::finding::FindingKind;
 
 impl FindingKind {
     /// What is said in front of the name that a finding is about.
-    fn opening(self) -> &'static str {
+    pub fn opening(self) -> &'static str
+        ensures { result.now ≡ opening self }
+    {
         match self {
             FindingKind::UnknownPort => "the table has no port ",
             FindingKind::FitsAnother => "the ports fit another partition better: ",
@@ -20,12 +23,17 @@ impl FindingKind {
             FindingKind::NeverNormal => "INIT does not enter NORMAL",
             FindingKind::NoPeriodicWait => "nothing waits for the next release of ",
             FindingKind::WaitInInit => "INIT calls a service that waits: ",
+            FindingKind::UnusedVariable => "no statement names the variable ",
+            FindingKind::UnusedProcedure => "no statement calls the procedure ",
+            FindingKind::UnusedParameter => "no statement names the parameter ",
             FindingKind::AboveCapacity => "the time capacity is below the cost of ",
         }
     }
 
     /// What to do about it.
-    pub fn advice(self) -> &'static str {
+    pub fn advice(self) -> &'static str
+        ensures { result.now ≡ advice self }
+    {
         match self {
             FindingKind::UnknownPort => "add it to the partition, or take the declaration out",
             FindingKind::FitsAnother => {
@@ -41,39 +49,10 @@ impl FindingKind {
             FindingKind::NeverNormal => "call SET_PARTITION_MODE(3) at the end of INIT",
             FindingKind::NoPeriodicWait => "call PERIODIC_WAIT at the end of each round",
             FindingKind::WaitInInit => "leave the wait to a process, or give the time-out 0",
+            FindingKind::UnusedVariable => "take it out",
+            FindingKind::UnusedProcedure => "take it out",
+            FindingKind::UnusedParameter => "take it out, and the arguments of its calls",
             FindingKind::AboveCapacity => "raise the time capacity, or let the body do less",
         }
-    }
-}
-
-/// Writes a line for each finding: the partition, the line in its source if the finding has one,
-/// what was found, and what to do about it.
-///
-/// # Errors
-///
-/// The writer failed; then a beginning of the lines is out.
-pub fn write_findings<W: Write>(
-    partition: &str,
-    findings: &[Finding<'_>],
-    out: &mut W,
-) -> io::Result<()> {
-    for finding in findings {
-        write_finding(partition, finding, out)?;
-    }
-    Ok(())
-}
-
-fn write_finding<W: Write>(partition: &str, finding: &Finding<'_>, out: &mut W) -> io::Result<()> {
-    let opening = finding.kind.opening();
-    let subject = finding.subject;
-    let advice = finding.kind.advice();
-    let line = finding.line;
-    if line == 0 {
-        write!(out, "{partition}: {opening}{subject}; {advice}\n")
-    } else {
-        write!(
-            out,
-            "{partition} line {line}: {opening}{subject}; {advice}\n"
-        )
     }
 }

@@ -1,7 +1,10 @@
 //! Rows: a source, and what is found in it.
 
-use apex_types::Costs;
-use lint::{Finding, FindingKind, findings, slow_processes};
+use apex_types::{Costs, WriterSink};
+use lint::{
+    Finding, FindingKind, PartitionFindings, findings, have_findings, partition_findings,
+    slow_processes, status, write_findings,
+};
 use pal::check;
 use pal_base::parse::parse;
 use pal_base::syntax::Program;
@@ -43,7 +46,7 @@ struct Row {
     found: &'static [(u32, FindingKind, &'static str)],
 }
 
-static ROWS: [Row; 15] = [
+static ROWS: [Row; 17] = [
     // Nothing.
     Row {
         source: "port out; port in; event e;
@@ -204,6 +207,31 @@ static ROWS: [Row; 15] = [
             (7, FindingKind::WaitInInit, "RECEIVE_QUEUING_MESSAGE"),
         ],
     },
+    // What no statement names: a variable, an array, a procedure, a local of INIT, a parameter and a local
+    // of a procedure. What is only written is named.
+    Row {
+        source: "port out; port in; var v; array m[2];
+            proc f(a, b) { local c; a := 1; }
+            init stack 32 { local r; local i; local k; CREATE_SAMPLING_PORT(out) -> r, i;
+            CREATE_QUEUING_PORT(in) -> r, i; SET_PARTITION_MODE(3) -> r; }",
+        found: &[
+            (1, FindingKind::UnusedVariable, "v"),
+            (1, FindingKind::UnusedVariable, "m"),
+            (2, FindingKind::UnusedProcedure, "f"),
+            (3, FindingKind::UnusedVariable, "k"),
+            (2, FindingKind::UnusedParameter, "b"),
+            (2, FindingKind::UnusedVariable, "c"),
+        ],
+    },
+    // Names in each form of statement and expression, in INIT, a handler, a process and a procedure.
+    Row {
+        source: "port out; port in; var v; var w; array m[2]; array n[2]; var x; var y; var z;
+            proc f(a, b) { while a { if (b) { return -v + w * 2; } else { m[x] := n[y]; } } }
+            init stack 32 { local r; local i; CREATE_SAMPLING_PORT(out) -> r, i;
+            CREATE_QUEUING_PORT(in) -> r, i; CREATE_ERROR_HANDLER() -> r; SET_PARTITION_MODE(3) -> r; }
+            handler stack 32 { local r; r := f(z, 1); }",
+        found: &[],
+    },
     // An empty INIT.
     Row {
         source: "init stack 16 { }",
@@ -269,4 +297,61 @@ fn costs_above_capacities(rt: HostRuntime) {
     let processes = &checked.program.processes;
     let found = slow_processes(alloc, &Costs::written(), processes).expect(&rt, "memory");
     expect(&rt, &found, &[(0, FindingKind::AboveCapacity, "slow")]);
+}
+
+/// What is found for `a` in a source whose process costs more than its time capacity, as it is told:
+/// what is about the row of the table has no line.
+static TOLD: &str =
+    "a: the table has a port that is not declared: out; declare it, or take it out of the table
+a: the table has a port that is not declared: in; declare it, or take it out of the table
+a line 3: nothing creates slow; create it in INIT, or take the declaration out
+a line 4: nothing creates fast; create it in INIT, or take the declaration out
+a line 5: nothing creates free; create it in INIT, or take the declaration out
+a line 3: nothing starts slow; start it in INIT, or take it out
+a line 4: nothing starts fast; start it in INIT, or take it out
+a line 5: nothing starts free; start it in INIT, or take it out
+a line 2: INIT does not enter NORMAL; call SET_PARTITION_MODE(3) at the end of INIT
+a line 3: nothing waits for the next release of slow; call PERIODIC_WAIT at the end of each round
+a line 4: nothing waits for the next release of fast; call PERIODIC_WAIT at the end of each round
+a line 5: nothing waits for the next release of free; call PERIODIC_WAIT at the end of each round
+a: the time capacity is below the cost of slow; raise the time capacity, or let the body do less
+";
+
+#[test]
+fn told(rt: HostRuntime) {
+    let alloc = rt.alloc();
+    let table = table(&rt, alloc);
+    let Some(own) = table.partitions.first() else {
+        return;
+    };
+    let written = program(&rt, alloc, SLOW);
+    let checked = check(alloc, program(&rt, alloc, SLOW), own).expect(&rt, "accepted");
+    let processes = &checked.program.processes;
+    let costs = Costs::written();
+    let found = partition_findings(
+        alloc,
+        &table.partitions,
+        own,
+        &written,
+        &costs,
+        processes,
+    ).expect(&rt, "memory");
+    let all = [found];
+    assert!(&rt; have_findings(&all));
+    assert_eq!(&rt; status(&all), 3);
+    let mut sink = WriterSink::new(Vec::new(alloc));
+    write_findings(&all, &mut sink).expect(&rt, "a sink");
+    assert!(&rt; sink.writer.as_slice() == TOLD.as_bytes());
+}
+
+#[test]
+fn nothing_is_told(rt: HostRuntime) {
+    let all = [PartitionFindings {
+        partition: "a",
+        findings: Vec::new(rt.alloc()),
+    }];
+    assert_eq!(&rt; status(&all), 0);
+    let mut sink = WriterSink::new(Vec::new(rt.alloc()));
+    write_findings(&all, &mut sink).expect(&rt, "a sink");
+    assert!(&rt; sink.writer.is_empty());
 }

@@ -99,6 +99,6 @@ pub fn body_text(body: &BodyName) -> &str {
 }
 
 /// Whether a window begins at a release point.
-pub fn release_text(window: &WindowRow) -> &'static str {
+pub fn release_text(window: &WindowRow) -> &str {
     if window.release { "yes" } else { "no" }
 }

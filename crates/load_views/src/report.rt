@@ -1,6 +1,7 @@
 //! What is shown of a load.
 
-ghost use Rattle.std.specs.Prelude.{◌≡◌, IfOk, string_bytes};
+ghost use Rattle.std.specs.Prelude.{◌≡◌, ◌≤◌, IfOk, if◌then◌else◌, string_bytes};
+ghost use Rattle.load_views.specs.Report.{name_of, windows_of};
 ghost use Rattle.trace_picture.specs.Page.{IsPicture};
 
 use crate::{picture, sheet, tables};
@@ -57,7 +58,9 @@ impl<'a> LoadReport<'a> {
     }
 
     /// The name of a partition; empty if there is none of this number.
-    pub fn name_of(&self, partition: PartitionId) -> &str {
+    pub fn name_of(&self, partition: PartitionId) -> &str
+        ensures { result.now ≡ name_of self.now.load.now.partitions.items partition.0 }
+    {
         let Some(place) = partition.place() else {
             return "";
         };
@@ -68,13 +71,22 @@ impl<'a> LoadReport<'a> {
     }
 
     /// How many windows a partition has.
-    pub fn windows_of(&self, partition: PartitionId) -> u64 {
-        let mut count: u64 = 0;
+    #[tactic(auto, using(std::proofs::lemmas::List::drop_more))]
+    pub fn windows_of(&self, partition: PartitionId) -> u64
+        ensures { result ≡ windows_of partition.0 self.now.windows.now }
+    {
+        let mut count: usize = 0;
         for window in self.windows {
-            if window.partition.0 == partition.0 {
-                count = count.saturating_add(1);
-            }
+            count += one_if(window.partition.0 == partition.0);
         }
-        count
+        count as u64
     }
+}
+
+/// 1 if something is so, else 0.
+fn one_if(so: bool) -> usize
+    ensures exact { result ≡ (if so then 1 else 0) }
+    ensures small { result ≤ 1 }
+{
+    if so { 1 } else { 0 }
 }

@@ -63,9 +63,9 @@ fn write_partitions<W: Write>(
     )
 }
 
-fn write_windows<W: Write>(
+fn write_windows<'x, W: Write>(
     alloc: Global,
-    report: &LoadReport<'_>,
+    report: &'x LoadReport<'x>,
     out: &mut W,
 ) -> Result<(), ReportFault> {
     let mut table = Table::new(

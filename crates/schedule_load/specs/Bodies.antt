@@ -1,7 +1,7 @@
 -- The costs of the bodies of a source, and their shares in the time capacities.
 use Rattle.std.specs.Prelude.{ℕ, List, [], ◌∷◌, ◌++◌, map, Option, Some, None}
 use Rattle.apex_types.specs.declared.cost.Costs.{Costs}
-use Rattle.pal_meaning.specs.Program as cost
+use Rattle.pal_meaning.specs.BodyCosts as cost
 use Rattle.pal_base.specs.Costs.{comes_to}
 use Rattle.pal_base.specs.ProgramView.{body_of, procedure_of}
 use Rattle.pal_base.specs.declared.program.Body.{Body}

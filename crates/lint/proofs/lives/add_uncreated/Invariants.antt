@@ -1,4 +1,4 @@
-use Rattle.std.proofs.Common.{◌≡◌, ◌++◌, map, drop, flat_map}
+use Rattle.std.proofs.Common.{◌≡◌, ◌++◌, map, drop}
 use Rattle.pal_base.specs.View.{process_of, texts}
 use Rattle.lint.specs.Lives.{processes_never_created}
 use Rattle.lint.specs.Views.{calls_seen, found_all}

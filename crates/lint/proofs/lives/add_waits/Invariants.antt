@@ -1,4 +1,4 @@
-use Rattle.std.proofs.Common.{◌≡◌, ◌++◌, map, drop, flat_map}
+use Rattle.std.proofs.Common.{◌≡◌, ◌++◌, drop, flat_map}
 use Rattle.pal_base.specs.View.{texts}
 use Rattle.lint.specs.Lives.{wait_in_init}
 use Rattle.lint.specs.Views.{calls_seen, found_all}

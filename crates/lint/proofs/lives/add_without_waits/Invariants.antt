@@ -1,4 +1,4 @@
-use Rattle.std.proofs.Common.{◌≡◌, ◌++◌, map, drop, flat_map}
+use Rattle.std.proofs.Common.{◌≡◌, ◌++◌, map, drop}
 use Rattle.pal_base.specs.View.{declaration_of, process_of, texts}
 use Rattle.lint.specs.Lives.{without_waits}
 use Rattle.lint.specs.Calls.{calls_of_procedures}

@@ -6,4 +6,6 @@ use Rattle.lint.specs.Views.{found_all}
 use Rattle.lint.proofs.port_rules.add_first_better.Given as goal
 
 abbrev pub invariant-loop-row : goal.invariant-loop-row
-invariant-loop-row l = better_row l.own (map (declaration_of (texts l.names.keys)) l.declarations) (map partition_view l.rows) ≡ better_row l.own (map (declaration_of (texts l.names.keys)) l.declarations) (map partition_view (drop l.row-index l.rows))
+invariant-loop-row l =
+    found_all l.findings.items ++ better_row l.own (map (declaration_of (texts l.names.keys)) l.declarations) (map partition_view (drop l.row-index l.rows))
+    ≡ found_all l.fn.findings.items ++ better_row l.own (map (declaration_of (texts l.names.keys)) l.declarations) (map partition_view l.rows)

@@ -1,7 +1,7 @@
-use Rattle.std.proofs.Common.{◌≡◌, ◌++◌, map, drop, flat_map}
+use Rattle.std.proofs.Common.{◌≡◌, ◌++◌, map, drop}
 use Rattle.pal_base.specs.View.{declaration_of, texts}
 use Rattle.lint.specs.Ports.{unknown_ports}
-use Rattle.lint.specs.Views.{calls_seen, found_all}
+use Rattle.lint.specs.Views.{found_all}
 use Rattle.lint.proofs.port_rules.add_unknown.Given as goal
 
 abbrev pub invariant-loop-declaration : goal.invariant-loop-declaration
