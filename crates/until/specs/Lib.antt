@@ -1,0 +1,3 @@
+pub mod Scan
+pub mod Until
+pub mod Views

@@ -1,0 +1,7 @@
+//! Runs that end behind a line: a sink that hands on the lines up to the first one with the words
+//! that are asked for, and the others of its tick.
+#![tactic(auto)]
+
+mod need;
+
+pub use need::Need;
