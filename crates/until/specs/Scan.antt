@@ -81,13 +81,33 @@ reads_behind asked s b =
     then record { head = []; need = whole_need asked; tick = found s.tick s.head (is_met s.need) }
     else record { head = s.head; need = takes_byte s.need b; tick = s.tick }
 
+-- the next byte is one of a line's tick
+abbrev pub is_in_tick : Scan → Bool
+is_in_tick s = nat_lt (length s.head) tick_bytes
+
 -- one more byte
 abbrev pub reads : List (List ℕ) → Scan → ℕ → Scan
 reads asked s b =
-    if nat_lt (length s.head) tick_bytes
+    if is_in_tick s
     then record { head = s.head ++ b ∷ []; need = s.need; tick = s.tick }
     else reads_behind asked s b
 
 -- a text up to its end
 abbrev pub scan : List (List ℕ) → List ℕ → Scan
 scan asked text = fold (reads asked) (fresh asked) text
+
+abbrev pub is_found : Option (List ℕ) → Bool
+is_found None = false
+is_found (Some tick) = true
+
+-- a line has matched
+abbrev pub has_matched : Scan → Bool
+has_matched s = is_found s.tick
+
+abbrev pub is_other : List ℕ → Option (List ℕ) → Bool
+is_other head None = false
+is_other head (Some tick) = not (same head tick)
+
+-- the unfinished line is of another tick than that of the first match
+abbrev pub is_closed : Scan → Bool
+is_closed s = not (is_in_tick s) && is_other s.head s.tick

@@ -3,5 +3,9 @@
 #![tactic(auto)]
 
 mod need;
+mod scan;
+mod until;
 
 pub use need::Need;
+pub use scan::{Scan, Tick};
+pub use until::Until;

@@ -1,0 +1,110 @@
+//! A sink that hands on the lines up to one that is asked for.
+
+ghost use Rattle.std.specs.Prelude.{◌≡◌, ◌+◌, ◌-◌, ◌^◌, ◌<◌, ◌≤◌, OnErr, OnOk, [], drop, length};
+ghost use Rattle.std.specs.Io.KnownBytes.{Keeps, append_known};
+
+use crate::scan::Scan;
+use apex_types::{Sink, SinkFault};
+
+/// A sink over another one. It hands on a text up to the first line with the words that are asked
+/// for, and the further lines of its tick. Then it refuses all bytes, and each offer of nothing.
+#[derive(Drop)]
+pub struct Until<'a, S: Sink> {
+    sink: &'a mut S,
+    scan: Scan<'a>,
+    /// How many bytes of the line's tick were handed on.
+    handed: usize,
+    refusals: u64,
+    ghost within: { handed ≤ length scan.head.items },
+}
+
+impl<'a, S: Sink> Until<'a, S> {
+    /// Nothing was handed on yet.
+    pub fn new(sink: &'a mut S, asked: &'a [&'a str]) -> Self {
+        Until {
+            sink,
+            scan: Scan::new(asked),
+            handed: 0,
+            refusals: 0,
+        }
+    }
+
+    /// Hands on what is left of the line's tick.
+    #[tactic(auto, using(crate::proofs::Handing::handed_more))]
+    fn hand_on_tick(&mut self) -> Result<(), SinkFault>
+        requires { S.failures self.old.sink.now < 2 ^ 64 - 1 }
+        ensures taken { Keeps
+            (append_known (S.taken self.old.sink.now) (drop self.old.handed self.old.scan.head.items))
+            (append_known (S.taken self.new.sink.now) (drop self.new.handed self.new.scan.head.items)) }
+        ensures scan { self.new.scan ≡ self.old.scan }
+        ensures refusals { self.new.refusals ≡ self.old.refusals }
+        ensures quiet { OnOk result (S.failures self.new.sink.now ≡ S.failures self.old.sink.now) }
+        ensures failed { OnErr result
+            (S.failures self.new.sink.now ≡ S.failures self.old.sink.now + 1) }
+        ensures whole { OnOk result (length self.new.scan.head.items ≤ self.new.handed) }
+    {
+        while self.handed < self.scan.head.len() {
+            let (_, rest) = self.scan.head.as_slice().split_at(self.handed);
+            match self.sink.put(rest) {
+                Ok(0) => return Err(SinkFault),
+                Ok(count) => self.handed += count,
+                Err(fault) => return Err(fault),
+            }
+        }
+        Ok(())
+    }
+
+    /// Reads a byte that was handed on behind the line's tick.
+    fn read_on(&mut self, byte: u8)
+        ensures sink { self.new.sink.now ≡ self.old.sink.now }
+        ensures kept { drop self.new.handed self.new.scan.head.items ≡ [] }
+        ensures refusals { self.new.refusals ≡ self.old.refusals }
+    {
+        self.handed = 0;
+        self.scan.read(byte);
+        self.handed = self.scan.head.len();
+    }
+
+    /// Takes nothing, and hands on nothing.
+    fn refuse(&mut self) -> SinkFault
+        requires { self.old.refusals < 2 ^ 64 - 1 }
+        ensures sink { self.new.sink.now ≡ self.old.sink.now }
+        ensures scan { self.new.scan ≡ self.old.scan }
+        ensures handed { self.new.handed ≡ self.old.handed }
+        ensures refusals { self.new.refusals ≡ self.old.refusals + 1 }
+    {
+        self.refusals += 1;
+        SinkFault
+    }
+}
+
+impl<'a, S: Sink> Sink for Until<'a, S> {
+    ghost use Rattle.std.specs.Prelude.{◌+◌, drop};
+    ghost use Rattle.std.specs.Io.KnownBytes.{append_known};
+
+    ghost taken = { λ u. append_known (S.taken u.sink.now) (drop u.handed u.scan.head.items) };
+
+    ghost failures = { λ u. S.failures u.sink.now + u.refusals };
+
+    fn put(&mut self, bytes: &[u8]) -> Result<usize, SinkFault> {
+        let Some(byte) = bytes.first() else {
+            if self.scan.has_matched() {
+                return Err(self.refuse());
+            }
+            return self.sink.put(bytes);
+        };
+        if self.scan.is_in_tick() {
+            self.scan.read(*byte);
+            return Ok(1);
+        }
+        if self.scan.is_closed() {
+            return Err(self.refuse());
+        }
+        self.hand_on_tick()?;
+        let taken = self.sink.put(&bytes[..1])?;
+        if taken > 0 {
+            self.read_on(*byte);
+        }
+        Ok(taken)
+    }
+}
