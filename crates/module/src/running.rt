@@ -1,6 +1,8 @@
 //! Running an image: its partitions in their windows, tick by tick, and the text of their trace.
 
-ghost use Rattle.std.specs.Prelude.{◌≡◌, ◌≢◌, ◌≤◌, ◌<◌, ◌+◌, ◌-◌, ◌^◌, Ok, map, IfOk, IfErr, OnOk, IsErrOf};
+ghost use Rattle.std.specs.Prelude.{◌≡◌, ◌≢◌, ◌≤◌, ◌<◌, ◌+◌, ◌-◌, ◌^◌, [], Ok, map, IfOk, IfErr, OnOk, IsErrOf};
+ghost use Rattle.std.specs.Io.KnownBytes.{Appends};
+ghost use Rattle.apex_types.specs.Line.{TakesBeginning};
 ghost use Rattle.apex_types.specs.declared.limits.TheConstants.{MOST_TICKS};
 ghost use Rattle.machine_meaning.specs.MachineMeaning.{verdict_for};
 ghost use Rattle.machine_meaning.specs.ImageReading.{image_at};
@@ -59,17 +61,34 @@ pub fn run<S: Sink>(
     run_ticks(&mut machine, &lines, ticks, sink)
 }
 
-/// The most ticks that are made at once.
-const MOST_AT_ONCE: u32 = 4_000_000_000;
+/// The most ticks that are made between two offers of nothing.
+const MOST_UNTOLD: u32 = 1 << 20;
 
-/// `ticks`, or the most that are made at once.
+/// `ticks`, or the most that are made between two offers of nothing.
 fn at_once(ticks: u64) -> u32
     ensures { result ≤ ticks }
 {
-    if ticks < u64::from(MOST_AT_ONCE) {
+    if ticks < u64::from(MOST_UNTOLD) {
         ticks as u32
     } else {
-        MOST_AT_ONCE
+        MOST_UNTOLD
+    }
+}
+
+/// Offers nothing to a sink, which may use the time for what it has kept back.
+fn offer_nothing<S: Sink>(sink: &mut S) -> Result<(), RunFault>
+    requires { S.failures sink.old < 2 ^ 64 - 1 }
+    ensures ok { OnOk result
+        (Appends (S.taken sink.old) (S.taken sink.new) []
+        × (S.failures sink.new ≡ S.failures sink.old)) }
+    ensures write { IfErr result
+        (λ fault.
+        (fault ≡ RunFault.Write) × TakesBeginning (S.taken sink.old) (S.taken sink.new) []
+        × (S.failures sink.new ≡ S.failures sink.old + 1)) }
+{
+    match sink.put(&[]) {
+        Ok(_) => Ok(()),
+        Err(_) => Err(RunFault::Write),
     }
 }
 
@@ -92,15 +111,19 @@ fn run_ticks<S: Sink>(
     let mut left = ticks;
     let mut lines = devices;
     while left > 0 && !machine.is_shut_down() {
-        let count = machine.advance(lines, at_once(left), sink)?;
-        if count > 0 {
-            left -= u64::from(count);
-            continue;
+        let stop = left.saturating_sub(u64::from(MOST_UNTOLD));
+        while left > stop && !machine.is_shut_down() {
+            let count = machine.advance(lines, at_once(left - stop), sink)?;
+            if count > 0 {
+                left -= u64::from(count);
+                continue;
+            }
+            let (now, later) = split_tick(lines, machine.now());
+            machine.tick(now, sink)?;
+            lines = later;
+            left -= 1;
         }
-        let (now, later) = split_tick(lines, machine.now());
-        machine.tick(now, sink)?;
-        lines = later;
-        left -= 1;
+        offer_nothing(sink)?;
     }
     Ok(())
 }
