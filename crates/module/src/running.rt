@@ -1,8 +1,7 @@
 //! Running an image: its partitions in their windows, tick by tick, and the text of their trace.
 
-ghost use Rattle.std.specs.Prelude.{◌≡◌, ◌≢◌, ◌≤◌, ◌<◌, ◌+◌, ◌-◌, ◌^◌, [], Ok, map, IfOk, IfErr, OnOk, IsErrOf};
-ghost use Rattle.std.specs.Io.KnownBytes.{Appends};
-ghost use Rattle.apex_types.specs.Line.{TakesBeginning};
+ghost use Rattle.std.specs.Prelude.{◌≡◌, ◌≢◌, ◌≤◌, ◌<◌, ◌+◌, ◌-◌, ◌^◌, Ok, map, IfOk, IfErr, OnOk, IsErrOf};
+ghost use Rattle.std.specs.Io.KnownBytes.{Keeps};
 ghost use Rattle.apex_types.specs.declared.limits.TheConstants.{MOST_TICKS};
 ghost use Rattle.machine_meaning.specs.MachineMeaning.{verdict_for};
 ghost use Rattle.machine_meaning.specs.ImageReading.{image_at};
@@ -78,13 +77,10 @@ fn at_once(ticks: u64) -> u32
 /// Offers nothing to a sink, which may use the time for what it has kept back.
 fn offer_nothing<S: Sink>(sink: &mut S) -> Result<(), RunFault>
     requires { S.failures sink.old < 2 ^ 64 - 1 }
-    ensures ok { OnOk result
-        (Appends (S.taken sink.old) (S.taken sink.new) []
-        × (S.failures sink.new ≡ S.failures sink.old)) }
-    ensures write { IfErr result
-        (λ fault.
-        (fault ≡ RunFault.Write) × TakesBeginning (S.taken sink.old) (S.taken sink.new) []
-        × (S.failures sink.new ≡ S.failures sink.old + 1)) }
+    ensures kept { Keeps (S.taken sink.old) (S.taken sink.new) }
+    ensures quiet { OnOk result (S.failures sink.new ≡ S.failures sink.old) }
+    ensures write { IfErr result (λ fault.
+        (fault ≡ RunFault.Write) × (S.failures sink.new ≡ S.failures sink.old + 1)) }
 {
     match sink.put(&[]) {
         Ok(_) => Ok(()),

@@ -1,9 +1,8 @@
-use Rattle.std.proofs.Common.{rules, ◌≡◌, ◌≤◌, ◌+◌, ◌-◌, suc, [], refl, sym, ap, subst, ◌∙◌, arith}
-use Rattle.apex_types.proofs.Writing.{under_way_fails}
+use Rattle.std.proofs.Common.{rules, ◌≡◌, ◌≤◌, ◌+◌, ◌-◌, suc, refl, sym, ap, subst, ◌∙◌, arith}
 use Rattle.module_meaning.specs.Module.{of_tick}
 use Rattle.module.specs.Machines.{Machine, machine_of}
 use Rattle.module.specs.Written.{AreFrom}
-use Rattle.module.proofs.Machines.{begins_with, goes_on, ends_early, only_write, run_fails, shut_down}
+use Rattle.module.proofs.Machines.{begins_with, goes_on, ends_early, only_write, run_fails, shut_down, kept_fails, kept_under_way}
 use Rattle.module.proofs.Runs.{only_broken, runs_by, breaks_by}
 use Rattle.module.proofs.running.run_ticks.Goals as goal
 
@@ -107,7 +106,19 @@ pub returns-in_err-offer_nothing-clause-trace : goal.returns-in_err-offer_nothin
 returns-in_err-offer_nothing-clause-trace g c =
     let failed = c.in_err-offer_nothing.ensures.write in
     run_fails _ _ _ c.in_err-offer_nothing.field-0.0 _ (search rules) failed.0
-    (under_way_fails _ (g.S.Sink.taken c.loop-left-2.sink) _ _ [] _ c.loop-left-2.invariant.under_way failed.1)
+    (kept_fails _ (g.S.Sink.taken c.loop-left-2.sink) _ _ _ c.loop-left-2.invariant.under_way c.in_err-offer_nothing.ensures.kept)
+
+pub loop-left-preserved : goal.loop-left-preserved
+loop-left-preserved g c =
+    let i = c.loop-left-2.invariant in
+    record {
+      image = i.image;
+      failed = i.failed;
+      order = i.order;
+      limit = i.limit;
+      under_way = kept_under_way i.under_way c.in_ok-offer_nothing.ensures.kept;
+      quiet = search rules;
+    }
 
 pub returns-else-not-is_shut_down-clause-trace : goal.returns-else-not-is_shut_down-clause-trace
 returns-else-not-is_shut_down-clause-trace g c =
