@@ -4,6 +4,8 @@
 
 mod need;
 mod scan;
+#[cfg(test)]
+mod tests;
 mod until;
 
 pub use need::Need;

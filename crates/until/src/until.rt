@@ -2,6 +2,8 @@
 
 ghost use Rattle.std.specs.Prelude.{◌≡◌, ◌+◌, ◌-◌, ◌^◌, ◌<◌, ◌≤◌, OnErr, OnOk, [], drop, length};
 ghost use Rattle.std.specs.Io.KnownBytes.{Keeps, append_known};
+ghost use Rattle.until.specs.Scan.{has_matched};
+ghost use Rattle.until.specs.Views.{scan_of};
 
 use crate::scan::Scan;
 use apex_types::{Sink, SinkFault};
@@ -27,6 +29,13 @@ impl<'a, S: Sink> Until<'a, S> {
             handed: 0,
             refusals: 0,
         }
+    }
+
+    /// Whether a line has matched.
+    pub fn has_matched(&self) -> bool
+        ensures { result ≡ has_matched (scan_of self.now.scan) }
+    {
+        self.scan.has_matched()
     }
 
     /// Hands on what is left of the line's tick.
