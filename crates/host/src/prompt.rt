@@ -12,11 +12,12 @@ use streams::Stream;
 const MOST_UNSEEN: u32 = 64;
 
 /// So many milliseconds at least lie between two flushes that nobody asks for.
-const LEAST_APART: u64 = 100;
+const LEAST_APART: u64 = 50;
 
 /// A stream that is flushed without being asked. An offer looks at the clock if it is of no bytes,
-/// or if those before it did not; if bytes are kept back then, and the last such flush is
-/// 0.1 seconds ago, they go out. So a byte goes out 0.1 seconds after it came, at the next look.
+/// or if none of the 64 before it did. If bytes are kept back then, and the last flush of this kind
+/// is 0.05 seconds ago, they go out first. So a byte goes out at the first look that is 0.05 seconds
+/// or more behind it, or at an earlier one.
 #[derive(Drop)]
 pub struct PromptStream<'a, S: Stream, C: Clock> {
     stream: S,
