@@ -1,5 +1,5 @@
 -- Lines that are read byte by byte: what a line still needs to match, and what was found.
-use Rattle.std.specs.Prelude.{ℕ, Bool, true, false, not, ◌&&◌, ◌==◌, nat_lt, if◌then◌else◌, List, [], ◌∷◌, ◌++◌, length, codes, fold, Option, Some, None}
+use Rattle.std.specs.Prelude.{◌≡◌, ℕ, Bool, true, false, not, ◌&&◌, ◌==◌, nat_lt, if◌then◌else◌, List, [], ◌∷◌, ◌++◌, length, codes, fold, take, Result, MatchResult, Option, Some, None}
 use Rattle.apex_types.specs.Line.{space}
 use Rattle.engine_meaning.specs.Digits.{same}
 use Rattle.until.specs.Until.{tick_bytes}
@@ -111,3 +111,7 @@ is_other head (Some tick) = not (same head tick)
 -- the unfinished line is of another tick than that of the first match
 abbrev pub is_closed : Scan → Bool
 is_closed s = not (is_in_tick s) && is_other s.head s.tick
+
+-- between two states these of the bytes were read
+abbrev pub reads_some : {E : Type 0} → List (List ℕ) → Scan → Scan → Result ℕ E → List ℕ → Type 0
+reads_some asked old new answer bytes = MatchResult answer (λ n. new ≡ fold (reads asked) old (take n bytes)) (λ _. new ≡ old)

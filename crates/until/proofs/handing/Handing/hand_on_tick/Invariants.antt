@@ -1,6 +1,6 @@
 use Rattle.std.proofs.Common.{◌≡◌, ◌-◌, drop, length}
 use Rattle.std.specs.Io.KnownBytes.{Keeps, append_known}
-use Rattle.until.proofs.until.Until.hand_on_tick.Given as goal
+use Rattle.until.proofs.handing.Handing.hand_on_tick.Given as goal
 
 abbrev pub invariant-loop-self : goal.invariant-loop-self
 invariant-loop-self g l = record {

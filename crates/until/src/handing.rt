@@ -1,17 +1,20 @@
-//! A sink that hands on the lines up to one that is asked for.
+//! Bytes that are handed on to a sink, up to a line that is asked for.
 
-ghost use Rattle.std.specs.Prelude.{◌≡◌, ◌+◌, ◌-◌, ◌^◌, ◌<◌, ◌≤◌, OnErr, OnOk, [], drop, length};
-ghost use Rattle.std.specs.Io.KnownBytes.{Keeps, append_known};
-ghost use Rattle.until.specs.Scan.{has_matched};
+ghost use Rattle.std.specs.Prelude.{◌≡◌, ◌+◌, ◌-◌, ◌^◌, ◌<◌, ◌≤◌, OnErr, OnOk, [], drop, length, map};
+ghost use Rattle.std.specs.Io.{WritesAtMost};
+ghost use Rattle.std.specs.Io.KnownBytes.{Keeps, WriteAppends, append_known};
+ghost use Rattle.apex_types.specs.Sink.{failures_of};
+ghost use Rattle.until.specs.Scan.{fresh, has_matched, reads, reads_some};
 ghost use Rattle.until.specs.Views.{scan_of};
 
 use crate::scan::Scan;
 use apex_types::{Sink, SinkFault};
 
-/// A sink over another one. It hands on a text up to the first line with the words that are asked
-/// for, and the further lines of its tick. Then it refuses all bytes, and each offer of nothing.
+/// A sink, and what is handed on to it: a text up to the first line with the words that are asked
+/// for, and the further lines of its tick. The bytes of a line's tick are kept back until all are
+/// there.
 #[derive(Drop)]
-pub struct Until<'a, S: Sink> {
+pub struct Handing<'a, S: Sink> {
     sink: &'a mut S,
     scan: Scan<'a>,
     /// How many bytes of the line's tick were handed on.
@@ -20,10 +23,17 @@ pub struct Until<'a, S: Sink> {
     ghost within: { handed ≤ length scan.head.items },
 }
 
-impl<'a, S: Sink> Until<'a, S> {
+impl<'a, S: Sink> Handing<'a, S> {
+    ghost use Rattle.until.specs.Handed.{asked_of, failures_of_both, taken_of};
+
     /// Nothing was handed on yet.
-    pub fn new(sink: &'a mut S, asked: &'a [&'a str]) -> Self {
-        Until {
+    pub fn new(sink: &'a mut S, asked: &'a [&'a str]) -> Self
+        ensures asked { asked_of S.Sink result ≡ map (λ a. a.now) asked.now }
+        ensures taken { taken_of S.Sink result ≡ append_known (S.taken sink.old) [] }
+        ensures failures { failures_of_both S.Sink result ≡ S.failures sink.old }
+        ensures fresh { scan_of result.scan ≡ fresh (map (λ a. a.now) asked.now) }
+    {
+        Handing {
             sink,
             scan: Scan::new(asked),
             handed: 0,
@@ -39,7 +49,7 @@ impl<'a, S: Sink> Until<'a, S> {
     }
 
     /// Hands on what is left of the line's tick.
-    #[tactic(auto, using(crate::proofs::Handing::handed_more))]
+    #[tactic(auto, using(crate::proofs::Kept::handed_more))]
     fn hand_on_tick(&mut self) -> Result<(), SinkFault>
         requires { S.failures self.old.sink.now < 2 ^ 64 - 1 }
         ensures taken { Keeps
@@ -65,6 +75,9 @@ impl<'a, S: Sink> Until<'a, S> {
 
     /// Reads a byte that was handed on behind the line's tick.
     fn read_on(&mut self, byte: u8)
+        ensures asked { asked_of S.Sink self.new ≡ asked_of S.Sink self.old }
+        ensures read { scan_of self.new.scan
+            ≡ reads (asked_of S.Sink self.old) (scan_of self.old.scan) byte }
         ensures sink { self.new.sink.now ≡ self.old.sink.now }
         ensures kept { drop self.new.handed self.new.scan.head.items ≡ [] }
         ensures refusals { self.new.refusals ≡ self.old.refusals }
@@ -85,17 +98,19 @@ impl<'a, S: Sink> Until<'a, S> {
         self.refusals += 1;
         SinkFault
     }
-}
 
-impl<'a, S: Sink> Sink for Until<'a, S> {
-    ghost use Rattle.std.specs.Prelude.{◌+◌, drop};
-    ghost use Rattle.std.specs.Io.KnownBytes.{append_known};
-
-    ghost taken = { λ u. append_known (S.taken u.sink.now) (drop u.handed u.scan.head.items) };
-
-    ghost failures = { λ u. S.failures u.sink.now + u.refusals };
-
-    fn put(&mut self, bytes: &[u8]) -> Result<usize, SinkFault> {
+    /// Takes some of these bytes, and hands on what is to be.
+    pub fn take(&mut self, bytes: &[u8]) -> Result<usize, SinkFault>
+        requires { failures_of_both S.Sink self.old < 2 ^ 64 - 1 }
+        ensures asked { asked_of S.Sink self.new ≡ asked_of S.Sink self.old }
+        ensures bound { WritesAtMost result bytes.now }
+        ensures bytes { WriteAppends (taken_of S.Sink self.old) (taken_of S.Sink self.new) result
+            bytes.now }
+        ensures count { failures_of_both S.Sink self.new
+            ≡ failures_of_both S.Sink self.old + failures_of result bytes.now }
+        ensures read { reads_some (asked_of S.Sink self.old) (scan_of self.old.scan)
+            (scan_of self.new.scan) result bytes.now }
+    {
         let Some(byte) = bytes.first() else {
             if self.scan.has_matched() {
                 return Err(self.refuse());
