@@ -1,3 +1,4 @@
+pub mod Follows
 pub mod Handed
 pub mod Scan
 pub mod Until

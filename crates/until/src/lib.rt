@@ -5,7 +5,9 @@
 mod handing;
 mod need;
 mod scan;
+mod until;
 
 pub use handing::Handing;
 pub use need::Need;
 pub use scan::{Scan, Tick};
+pub use until::{Start, Until};

@@ -1,0 +1,35 @@
+-- A text that is taken step by step, and read as it is taken.
+use Rattle.std.proofs.Common.{◌≡◌, ℕ, Bool, List, [], ◌++◌, take, Option, Some, None, Result, Ok, Err, refl, sym, ap, subst, ◌∙◌, append-nil}
+use Rattle.std.proofs.KnownBytes.{Appends-kept, Appends-trans}
+use Rattle.std.proofs.Math.Logic.{∥∥₁_map}
+use Rattle.std.specs.Io.KnownBytes.{Appends, Keeps, WriteAppends, append_known}
+use Rattle.std.specs.Prelude.{fold}
+use Rattle.std.proofs.lemmas.Grind.{fold-append}
+use Rattle.until.specs.Follows.{Follows}
+use Rattle.until.specs.Scan.{Scan, fresh, reads, reads_some, scan}
+
+nothing_yet : (start : Option (List ℕ)) → Appends start (append_known start []) []
+nothing_yet None = tt
+nothing_yet (Some xs) = refl
+
+-- before the first byte
+pub follows_fresh : (asked : List (List ℕ)) (start now : Option (List ℕ)) (s : Scan) → now ≡ append_known start [] → s ≡ fresh asked → Follows asked start now s
+follows_fresh asked start now s same new = record { text = []; taken = subst (λ o. Appends start o []) (sym same) (nothing_yet start); read = new }
+
+-- behind one more call
+pub follows_on : {E : Type 0} (asked : List (List ℕ)) (start old new : Option (List ℕ)) (s next : Scan) (answer : Result ℕ E) (bytes : List ℕ)
+    → Follows asked start old s → WriteAppends old new answer bytes → reads_some asked s next answer bytes → Follows asked start new next
+follows_on asked start old new s next (Ok n) bytes f more read = record {
+  text = f.text ++ take n bytes;
+  taken = Appends-trans start old new f.text (take n bytes) f.taken more;
+  read = read ∙ ap (λ x. fold (reads asked) x (take n bytes)) f.read ∙ sym (fold-append (reads asked) (fresh asked) f.text (take n bytes));
+}
+follows_on asked start old new s next (Err fault) bytes f kept same = record {
+  text = f.text;
+  taken = Appends-kept start old new f.text f.taken kept;
+  read = same ∙ f.read;
+}
+
+pub follows_all : {E : Type 0} (busy : Bool) (other : Bool) (asked : List (List ℕ)) (start old new : Option (List ℕ)) (s next : Scan) (answer : Result ℕ E) (bytes : List ℕ)
+    → ∥ (busy ≡ other → Follows asked start old s) ∥₁ → WriteAppends old new answer bytes → reads_some asked s next answer bytes → ∥ (busy ≡ other → Follows asked start new next) ∥₁
+follows_all busy other asked start old new s next answer bytes f more read = ∥∥₁_map f (λ g e. follows_on asked start old new s next answer bytes (g e) more read)

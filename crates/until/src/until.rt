@@ -1,0 +1,67 @@
+//! A sink that takes a text up to a line that is asked for.
+
+ghost use Rattle.std.specs.Prelude.{◌≡◌, ◌+◌, false};
+ghost use Rattle.std.specs.Io.KnownBytes.{append_known};
+ghost use Rattle.until.specs.Follows.{Follows};
+ghost use Rattle.until.specs.Handed.{asked_of, failures_of_both, taken_of};
+ghost use Rattle.until.specs.Views.{scan_of};
+
+use crate::handing::Handing;
+use apex_types::{Sink, SinkFault};
+use std::marker::{Brand, PhantomData};
+
+/// What a sink had taken before a run, if it makes that known. A caller that speaks of it picks it.
+pub trait Start {
+    ghost use Rattle.std.specs.Prelude.{ℕ, List, Option};
+
+    ghost start: { Option (List ℕ) };
+}
+
+impl Start for Brand {
+    ghost use Rattle.std.specs.Prelude.{None};
+
+    ghost start = { None };
+}
+
+/// A sink over another one. It hands on a text up to the first line with the words that are asked
+/// for, and the further lines of its tick. It takes the tick of the next line, and hands that on no
+/// more; then it refuses all bytes. Once a line has matched, it refuses an offer of nothing, too.
+#[derive(Drop)]
+pub struct Until<'a, S: Sink, K: Start> {
+    handing: Handing<'a, S>,
+    is_in_hand: bool,
+    start: PhantomData<K>,
+    ghost follows: { ∥ (is_in_hand ≡ false
+        → Follows (asked_of S.Sink handing) K.start (taken_of S.Sink handing)
+        (scan_of handing.scan)) ∥₁ },
+}
+
+impl<'a, S: Sink, K: Start> Until<'a, S, K> {
+    /// Nothing was handed on yet.
+    pub fn new(sink: &'a mut S, asked: &'a [&'a str]) -> Self
+        requires { S.taken sink.old ≡ K.start }
+    {
+        Until {
+            handing: Handing::new(sink, asked),
+            is_in_hand: false,
+            start: PhantomData,
+        }
+    }
+}
+
+impl<'a, S: Sink, K: Start> Sink for Until<'a, S, K> {
+    ghost use Rattle.until.specs.Follows.{taken_unless};
+    ghost use Rattle.until.specs.Handed.{failures_of_both, taken_of};
+
+    ghost taken = { λ u. taken_unless u.is_in_hand (taken_of S.Sink u.handing) };
+
+    ghost failures = { λ u. failures_of_both S.Sink u.handing };
+
+    fn put(&mut self, bytes: &[u8]) -> Result<usize, SinkFault> {
+        let was = self.is_in_hand;
+        self.is_in_hand = true;
+        let taken = self.handing.take(bytes);
+        self.is_in_hand = was;
+        taken
+    }
+}
