@@ -1,11 +1,13 @@
 -- A text that is taken step by step, and read as it is taken.
-use Rattle.std.proofs.Common.{◌≡◌, ℕ, Bool, List, [], ◌++◌, take, Option, Some, None, Result, Ok, Err, refl, sym, ap, subst, ◌∙◌, append-nil}
+use Rattle.std.proofs.Common.{◌≡◌, ℕ, Bool, true, false, List, [], ◌++◌, take, Option, Some, None, Result, Ok, Err, refl, sym, ap, subst, ◌∙◌, append-nil}
 use Rattle.std.proofs.KnownBytes.{Appends-kept, Appends-trans}
-use Rattle.std.proofs.Math.Logic.{∥∥₁_map}
+use Rattle.std.proofs.Math.Logic.{∥∥₁_elim, ∥∥₁_map}
 use Rattle.std.specs.Io.KnownBytes.{Appends, Keeps, WriteAppends, append_known}
 use Rattle.std.specs.Prelude.{fold}
 use Rattle.std.proofs.lemmas.Grind.{fold-append}
-use Rattle.until.specs.Follows.{Follows}
+use Rattle.std.proofs.Props.{props}
+use Rattle.std.proofs.lemmas.List.{append_cancel_left}
+use Rattle.until.specs.Follows.{Follows, IsTold, taken_unless}
 use Rattle.until.specs.Scan.{Scan, fresh, reads, reads_some, scan}
 
 nothing_yet : (start : Option (List ℕ)) → Appends start (append_known start []) []
@@ -33,3 +35,18 @@ follows_on asked start old new s next (Err fault) bytes f kept same = record {
 pub follows_all : {E : Type 0} (busy : Bool) (other : Bool) (asked : List (List ℕ)) (start old new : Option (List ℕ)) (s next : Scan) (answer : Result ℕ E) (bytes : List ℕ)
     → ∥ (busy ≡ other → Follows asked start old s) ∥₁ → WriteAppends old new answer bytes → reads_some asked s next answer bytes → ∥ (busy ≡ other → Follows asked start new next) ∥₁
 follows_all busy other asked start old new s next answer bytes f more read = ∥∥₁_map f (λ g e. follows_on asked start old new s next answer bytes (g e) more read)
+
+told_by : (test : Scan → Bool) (asked : List (List ℕ)) (start now : Option (List ℕ)) (s : Scan) (answer : Bool) → ∥ Follows asked start now s ∥₁ → answer ≡ test s → IsTold test asked start now answer
+told_by test asked None now s answer f e = tt
+told_by test asked (Some before) None s answer f e = tt
+told_by test asked (Some before) (Some all) s answer f e = λ text same.
+    e ∙ ∥∥₁_elim f (Prim.hlevel props) (λ h.
+    let whole : h.text ≡ text = append_cancel_left before h.text text (sym h.taken ∙ same) in
+    ap test (h.read ∙ ap (scan asked) whole))
+
+-- what the test says of the state is what it says of the text
+pub told : (busy : Bool) (test : Scan → Bool) (asked : List (List ℕ)) (start now : Option (List ℕ)) (s : Scan) (answer : Bool)
+    → ∥ (busy ≡ false → Follows asked start now s) ∥₁ → answer ≡ test s → IsTold test asked start (taken_unless busy now) answer
+told true test asked None now s answer f e = tt
+told true test asked (Some before) now s answer f e = tt
+told false test asked start now s answer f e = told_by test asked start now s answer (∥∥₁_map f (λ g. g refl)) e

@@ -4,7 +4,7 @@ ghost use Rattle.std.specs.Prelude.{◌≡◌, ◌+◌, ◌-◌, ◌^◌, ◌<�
 ghost use Rattle.std.specs.Io.{WritesAtMost};
 ghost use Rattle.std.specs.Io.KnownBytes.{Keeps, WriteAppends, append_known};
 ghost use Rattle.apex_types.specs.Sink.{failures_of};
-ghost use Rattle.until.specs.Scan.{fresh, has_matched, reads, reads_some};
+ghost use Rattle.until.specs.Scan.{fresh, has_matched, is_closed, reads, reads_some};
 ghost use Rattle.until.specs.Views.{scan_of};
 
 use crate::scan::Scan;
@@ -46,6 +46,13 @@ impl<'a, S: Sink> Handing<'a, S> {
         ensures { result ≡ has_matched (scan_of self.now.scan) }
     {
         self.scan.has_matched()
+    }
+
+    /// Whether the line is of another tick than that of the first match.
+    pub fn is_closed(&self) -> bool
+        ensures { result ≡ is_closed (scan_of self.now.scan) }
+    {
+        self.scan.is_closed()
     }
 
     /// Hands on what is left of the line's tick.

@@ -2,7 +2,8 @@
 
 ghost use Rattle.std.specs.Prelude.{◌≡◌, ◌+◌, false};
 ghost use Rattle.std.specs.Io.KnownBytes.{append_known};
-ghost use Rattle.until.specs.Follows.{Follows};
+ghost use Rattle.until.specs.Follows.{Follows, IsTold, taken_unless};
+ghost use Rattle.until.specs.Scan.{has_matched, is_closed};
 ghost use Rattle.until.specs.Handed.{asked_of, failures_of_both, taken_of};
 ghost use Rattle.until.specs.Views.{scan_of};
 
@@ -46,6 +47,24 @@ impl<'a, S: Sink, K: Start> Until<'a, S, K> {
             is_in_hand: false,
             start: PhantomData,
         }
+    }
+
+    /// Whether a line of the text that was taken matches.
+    #[tactic(auto, using(crate::proofs::Following::told))]
+    pub fn has_matched(&self) -> bool
+        ensures { IsTold has_matched (asked_of S.Sink self.now.handing) K.start
+            (taken_unless self.now.is_in_hand (taken_of S.Sink self.now.handing)) result }
+    {
+        self.handing.has_matched()
+    }
+
+    /// Whether the text that was taken ends in the tick of a line that is not shown.
+    #[tactic(auto, using(crate::proofs::Following::told))]
+    pub fn is_closed(&self) -> bool
+        ensures { IsTold is_closed (asked_of S.Sink self.now.handing) K.start
+            (taken_unless self.now.is_in_hand (taken_of S.Sink self.now.handing)) result }
+    {
+        self.handing.is_closed()
     }
 }
 

@@ -1,0 +1,103 @@
+-- A text of whole lines, read byte by byte: the first line that matches is found.
+use Rattle.std.proofs.Common.{◌≡◌, ◌≤◌, ◌<◌, ℕ, zero, suc, ◌+◌, Bool, true, false, cond, List, [], ◌∷◌, ◌++◌, length, take, drop, Option, Some, None, refl, sym, ap, subst, ◌∙◌, append_assoc, append-nil, take-append-drop, arith, rules, length-append, length-take}
+use Rattle.std.specs.Prelude.{fold, not, ◌&&◌, ◌==◌, nat_lt}
+use Rattle.std.specs.List.{list_all}
+use Rattle.std.proofs.lemmas.Bool.{and_parts}
+use Rattle.std.proofs.lemmas.Bool.Decides.{nat_tests}
+use Rattle.std.proofs.lemmas.Grind.{fold-append}
+use Rattle.apex_types.specs.Line.{space}
+use Rattle.module_meaning.specs.DeviceText.{pieces_behind_marks}
+use Rattle.until.specs.Until.{first_match, matches, text_of_lines, tick_bytes}
+use Rattle.until.specs.Lines.{AreLines, IsLine, is_free}
+use Rattle.until.specs.Scan.{Need, Scan, found, fresh, is_in_tick, is_met, is_met_by, reads, reads_behind, scan, takes_byte, whole_need}
+use Rattle.until.proofs.Needs.{whole_need_is_words}
+
+not_true_false : (t : Bool) → not t ≡ true → t ≡ false
+not_true_false true h = cc
+not_true_false false h = refl
+
+-- a line up to some byte
+abbrev state : List ℕ → Option Need → Option (List ℕ) → Scan
+state head need tick = record { head = head; need = need; tick = tick }
+
+step_if : (t : Bool) (a b : Scan) → t ≡ true → cond t a b ≡ a
+step_if true a b h = refl
+step_if false a b h = cc
+
+step_else : (t : Bool) (a b : Scan) → t ≡ false → cond t a b ≡ b
+step_else true a b h = cc
+step_else false a b h = refl
+
+-- the bytes of a tick
+reads_tick : (asked : List (List ℕ)) (bs head : List ℕ) (need : Option Need) (tick : Option (List ℕ)) → length head + length bs ≤ tick_bytes
+    → fold (reads asked) (state head need tick) bs ≡ state (head ++ bs) need tick
+reads_tick asked [] head need tick few = ap (λ h. state h need tick) (sym (append-nil head))
+reads_tick asked (b ∷ bs) head need tick few =
+    let first : reads asked (state head need tick) b ≡ state (head ++ b ∷ []) need tick = step_if (nat_lt (length head) tick_bytes) _ _ (grind (arith, nat_tests)) in
+    ap (λ s. fold (reads asked) s bs) first
+    ∙ reads_tick asked bs (head ++ b ∷ []) need tick (simp length-append (omega (arith, few)))
+    ∙ ap (λ h. state h need tick) (append_assoc head (b ∷ []) bs)
+
+-- the bytes behind it
+reads_rest : (asked : List (List ℕ)) (bs head : List ℕ) (need : Option Need) (tick : Option (List ℕ)) → length head ≡ tick_bytes → is_free 10 bs ≡ true
+    → fold (reads asked) (state head need tick) bs ≡ state head (fold takes_byte need bs) tick
+reads_rest asked [] head need tick full free = refl
+reads_rest asked (b ∷ bs) head need tick full free =
+    let parts = and_parts (not (b == 10)) (is_free 10 bs) free in
+    let first : reads asked (state head need tick) b ≡ state head (takes_byte need b) tick =
+    step_else (nat_lt (length head) tick_bytes) _ _ (grind (arith, nat_tests)) ∙ step_else (b == 10) _ _ (not_true_false (b == 10) parts.0) in
+    ap (λ s. fold (reads asked) s bs) first ∙ reads_rest asked bs head (takes_byte need b) tick full parts.1
+
+met_at_end : (need : Option Need) (bs : List ℕ) → is_met (fold takes_byte need bs) ≡ is_met_by need bs
+met_at_end need [] = refl
+met_at_end need (b ∷ bs) = met_at_end (takes_byte need b) bs
+
+-- a whole line
+reads_line : (asked : List (List ℕ)) (line : List ℕ) (tick : Option (List ℕ)) → IsLine line
+    → fold (reads asked) (state [] (whole_need asked) tick) (line ++ 10 ∷ []) ≡ state [] (whole_need asked) (found tick (take tick_bytes line) (matches asked line))
+reads_line asked line tick is =
+    let front = take tick_bytes line in
+    let rest = drop tick_bytes line in
+    let full : length front ≡ tick_bytes = simp length-take (omega (arith, is.long)) in
+    let split : line ++ 10 ∷ [] ≡ front ++ (rest ++ 10 ∷ []) = ap (λ (l : List ℕ). l ++ 10 ∷ []) (sym (take-append-drop tick_bytes line)) ∙ append_assoc front rest (10 ∷ []) in
+    let begun = state [] (whole_need asked) tick in
+    let behind = state front (whole_need asked) tick in
+    let need = fold takes_byte (whole_need asked) rest in
+    let met : is_met need ≡ matches asked line = met_at_end (whole_need asked) rest ∙ whole_need_is_words asked rest in
+    ap (fold (reads asked) begun) split
+    ∙ fold-append (reads asked) begun front (rest ++ 10 ∷ [])
+    ∙ ap (λ (s : Scan). fold (reads asked) s (rest ++ 10 ∷ [])) (reads_tick asked front [] (whole_need asked) tick (omega (arith, full)))
+    ∙ fold-append (reads asked) behind rest (10 ∷ [])
+    ∙ ap (λ (s : Scan). reads asked s 10) (reads_rest asked rest front (whole_need asked) tick full is.free)
+    ∙ step_else (nat_lt (length front) tick_bytes) _ _ (grind (arith, nat_tests))
+    ∙ ap (λ t. state [] (whole_need asked) (found tick front t)) met
+
+-- the tick of the first match, behind further lines
+abbrev pub found_in : List (List ℕ) → Option (List ℕ) → List (List ℕ) → Option (List ℕ)
+found_in asked tick [] = tick
+found_in asked tick (l ∷ ls) = found_in asked (found tick (take tick_bytes l) (matches asked l)) ls
+
+reads_lines : (asked : List (List ℕ)) (lines : List (List ℕ)) (tick : Option (List ℕ)) → AreLines lines
+    → fold (reads asked) (state [] (whole_need asked) tick) (text_of_lines lines) ≡ state [] (whole_need asked) (found_in asked tick lines)
+reads_lines asked [] tick are = refl
+reads_lines asked (l ∷ ls) tick are =
+    fold-append (reads asked) (state [] (whole_need asked) tick) (l ++ 10 ∷ []) (text_of_lines ls)
+    ∙ ap (λ (s : Scan). fold (reads asked) s (text_of_lines ls)) (reads_line asked l tick are.0)
+    ∙ reads_lines asked ls (found tick (take tick_bytes l) (matches asked l)) are.1
+
+found_once : (asked : List (List ℕ)) (lines : List (List ℕ)) (tick : List ℕ) → found_in asked (Some tick) lines ≡ Some tick
+found_once asked [] tick = refl
+found_once asked (l ∷ ls) tick = found_once asked ls tick
+
+found_if : (t : Bool) (asked : List (List ℕ)) (head : List ℕ) (lines : List (List ℕ)) → found_in asked None lines ≡ first_match asked lines
+    → found_in asked (found None head t) lines ≡ cond t (Some head) (first_match asked lines)
+found_if true asked head lines h = found_once asked lines head
+found_if false asked head lines h = h
+
+found_first : (asked : List (List ℕ)) (lines : List (List ℕ)) → found_in asked None lines ≡ first_match asked lines
+found_first asked [] = refl
+found_first asked (l ∷ ls) = found_if (matches asked l) asked (take tick_bytes l) ls (found_first asked ls)
+
+-- a text of whole lines, read to its end, has found the tick of its first line that matches
+pub scan_of_lines : (asked : List (List ℕ)) (lines : List (List ℕ)) → AreLines lines → scan asked (text_of_lines lines) ≡ record { head = []; need = whole_need asked; tick = first_match asked lines }
+scan_of_lines asked lines are = reads_lines asked lines None are ∙ ap (state [] (whole_need asked)) (found_first asked lines)
