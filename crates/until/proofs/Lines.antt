@@ -7,7 +7,7 @@ use Rattle.std.proofs.lemmas.Bool.Decides.{nat_tests}
 use Rattle.std.proofs.lemmas.Grind.{fold-append}
 use Rattle.apex_types.specs.Line.{space}
 use Rattle.module_meaning.specs.DeviceText.{pieces_behind_marks}
-use Rattle.until.specs.Until.{first_match, matches, text_of_lines, tick_bytes}
+use Rattle.until.specs.Until.{first_match, matches, same_tick, text_of_lines, through, tick_bytes}
 use Rattle.until.specs.Lines.{AreLines, IsLine, is_free}
 use Rattle.until.specs.Scan.{Need, Scan, found, fresh, is_in_tick, is_met, is_met_by, reads, reads_behind, scan, takes_byte, whole_need}
 use Rattle.until.proofs.Needs.{whole_need_is_words}
@@ -101,3 +101,10 @@ found_first asked (l ∷ ls) = found_if (matches asked l) asked (take tick_bytes
 -- a text of whole lines, read to its end, has found the tick of its first line that matches
 pub scan_of_lines : (asked : List (List ℕ)) (lines : List (List ℕ)) → AreLines lines → scan asked (text_of_lines lines) ≡ record { head = []; need = whole_need asked; tick = first_match asked lines }
 scan_of_lines asked lines are = reads_lines asked lines None are ∙ ap (state [] (whole_need asked)) (found_first asked lines)
+
+-- ---- what is shown
+
+-- the lines that are shown, behind a first match or before one
+abbrev pub shown_from : List (List ℕ) → Option (List ℕ) → List (List ℕ) → List (List ℕ)
+shown_from asked None lines = through asked lines
+shown_from asked (Some tick) lines = same_tick tick lines

@@ -112,6 +112,23 @@ is_other head (Some tick) = not (same head tick)
 abbrev pub is_closed : Scan → Bool
 is_closed s = not (is_in_tick s) && is_other s.head s.tick
 
--- between two states these of the bytes were read
+-- no byte is read behind the tick of a line that is not shown
+abbrev pub stays_open : List (List ℕ) → Scan → List ℕ → Bool
+stays_open asked s [] = true
+stays_open asked s (b ∷ bs) = not (is_closed s) && stays_open asked (reads asked s b) bs
+
+-- a line of the text matches
+abbrev pub finds : List (List ℕ) → List ℕ → Bool
+finds asked text = has_matched (scan asked text)
+
+-- the text ends in the tick of a line that is not shown
+abbrev pub closes : List (List ℕ) → List ℕ → Bool
+closes asked text = is_closed (scan asked text)
+
+-- no byte of the text stands behind the tick of a line that is not shown
+abbrev pub is_shown : List (List ℕ) → List ℕ → Bool
+is_shown asked text = stays_open asked (fresh asked) text
+
+-- between two states these of the bytes were read, if any behind a line that is shown
 abbrev pub reads_some : {E : Type 0} → List (List ℕ) → Scan → Scan → Result ℕ E → List ℕ → Type 0
-reads_some asked old new answer bytes = MatchResult answer (λ n. new ≡ fold (reads asked) old (take n bytes)) (λ _. new ≡ old)
+reads_some asked old new answer bytes = MatchResult answer (λ n. (new ≡ fold (reads asked) old (take n bytes)) × (stays_open asked old (take n bytes) ≡ true)) (λ _. new ≡ old)

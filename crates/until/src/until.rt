@@ -1,9 +1,9 @@
 //! A sink that takes a text up to a line that is asked for.
 
-ghost use Rattle.std.specs.Prelude.{◌≡◌, ◌+◌, false};
+ghost use Rattle.std.specs.Prelude.{◌≡◌, ◌+◌, false, true};
 ghost use Rattle.std.specs.Io.KnownBytes.{append_known};
 ghost use Rattle.until.specs.Follows.{Follows, IsTold, taken_unless};
-ghost use Rattle.until.specs.Scan.{has_matched, is_closed};
+ghost use Rattle.until.specs.Scan.{closes, finds, is_shown};
 ghost use Rattle.until.specs.Handed.{asked_of, failures_of_both, taken_of};
 ghost use Rattle.until.specs.Views.{scan_of};
 
@@ -50,18 +50,18 @@ impl<'a, S: Sink, K: Start> Until<'a, S, K> {
     }
 
     /// Whether a line of the text that was taken matches.
-    #[tactic(auto, using(crate::proofs::Following::told))]
     pub fn has_matched(&self) -> bool
-        ensures { IsTold has_matched (asked_of S.Sink self.now.handing) K.start
+        ensures shown { IsTold (is_shown (asked_of S.Sink self.now.handing)) K.start
+            (taken_unless self.now.is_in_hand (taken_of S.Sink self.now.handing)) true }
+        ensures found { IsTold (finds (asked_of S.Sink self.now.handing)) K.start
             (taken_unless self.now.is_in_hand (taken_of S.Sink self.now.handing)) result }
     {
         self.handing.has_matched()
     }
 
     /// Whether the text that was taken ends in the tick of a line that is not shown.
-    #[tactic(auto, using(crate::proofs::Following::told))]
     pub fn is_closed(&self) -> bool
-        ensures { IsTold is_closed (asked_of S.Sink self.now.handing) K.start
+        ensures { IsTold (closes (asked_of S.Sink self.now.handing)) K.start
             (taken_unless self.now.is_in_hand (taken_of S.Sink self.now.handing)) result }
     {
         self.handing.is_closed()
