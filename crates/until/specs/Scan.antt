@@ -117,6 +117,10 @@ abbrev pub stays_open : List (List ℕ) → Scan → List ℕ → Bool
 stays_open asked s [] = true
 stays_open asked s (b ∷ bs) = not (is_closed s) && stays_open asked (reads asked s b) bs
 
+-- the line is shown, and its tick is known
+abbrev pub is_open : Scan → Bool
+is_open s = not (is_in_tick s) && not (is_other s.head s.tick)
+
 -- a line of the text matches
 abbrev pub finds : List (List ℕ) → List ℕ → Bool
 finds asked text = has_matched (scan asked text)

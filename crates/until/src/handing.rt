@@ -1,10 +1,10 @@
 //! Bytes that are handed on to a sink, up to a line that is asked for.
 
-ghost use Rattle.std.specs.Prelude.{◌≡◌, ◌+◌, ◌-◌, ◌^◌, ◌<◌, ◌≤◌, OnErr, OnOk, [], drop, length, map};
+ghost use Rattle.std.specs.Prelude.{◌≡◌, ◌+◌, ◌-◌, ◌^◌, ◌<◌, ◌≤◌, false, true, OnErr, OnOk, [], drop, length, map};
 ghost use Rattle.std.specs.Io.{WritesAtMost};
 ghost use Rattle.std.specs.Io.KnownBytes.{Keeps, WriteAppends, append_known};
 ghost use Rattle.apex_types.specs.Sink.{failures_of};
-ghost use Rattle.until.specs.Scan.{fresh, has_matched, is_closed, reads, reads_some};
+ghost use Rattle.until.specs.Scan.{fresh, has_matched, is_closed, is_open, reads, reads_some};
 ghost use Rattle.until.specs.Views.{scan_of};
 
 use crate::scan::Scan;
@@ -21,6 +21,7 @@ pub struct Handing<'a, S: Sink> {
     handed: usize,
     refusals: u64,
     ghost within: { handed ≤ length scan.head.items },
+    ghost kept: { is_open (scan_of scan) ≡ false → handed ≡ 0 },
 }
 
 impl<'a, S: Sink> Handing<'a, S> {
@@ -58,7 +59,8 @@ impl<'a, S: Sink> Handing<'a, S> {
     /// Hands on what is left of the line's tick.
     #[tactic(auto, using(crate::proofs::Kept::handed_more))]
     fn hand_on_tick(&mut self) -> Result<(), SinkFault>
-        requires { S.failures self.old.sink.now < 2 ^ 64 - 1 }
+        requires shown { is_open (scan_of self.old.scan) ≡ true }
+        requires failures { S.failures self.old.sink.now < 2 ^ 64 - 1 }
         ensures taken { Keeps
             (append_known (S.taken self.old.sink.now) (drop self.old.handed self.old.scan.head.items))
             (append_known (S.taken self.new.sink.now) (drop self.new.handed self.new.scan.head.items)) }
@@ -82,6 +84,7 @@ impl<'a, S: Sink> Handing<'a, S> {
 
     /// Reads a byte that was handed on behind the line's tick.
     fn read_on(&mut self, byte: u8)
+        requires { is_open (scan_of self.old.scan) ≡ true }
         ensures asked { asked_of S.Sink self.new ≡ asked_of S.Sink self.old }
         ensures read { scan_of self.new.scan
             ≡ reads (asked_of S.Sink self.old) (scan_of self.old.scan) byte }
