@@ -8,8 +8,8 @@ use Rattle.std.proofs.lemmas.Bool.{and_from, and_parts}
 use Rattle.std.proofs.lemmas.Grind.{fold-append}
 use Rattle.std.proofs.Props.{props}
 use Rattle.std.proofs.lemmas.List.{append_cancel_left}
-use Rattle.until.specs.Follows.{Follows, IsTold, taken_unless}
-use Rattle.until.specs.Scan.{Scan, fresh, is_closed, reads, reads_some, scan, stays_open}
+use Rattle.until.specs.Follows.{Follows, IsKept, IsTold, taken_unless}
+use Rattle.until.specs.Scan.{Scan, fresh, is_closed, is_open, reads, reads_some, scan, stays_open}
 
 nothing_yet : (start : Option (List ℕ)) → Appends start (append_known start []) []
 nothing_yet None = tt
@@ -66,3 +66,19 @@ told busy test asked start now s answer f e = told_if busy (λ text. test (scan 
 pub told_open : (busy : Bool) (asked : List (List ℕ)) (start now : Option (List ℕ)) (s : Scan)
     → ∥ (busy ≡ false → Follows asked start now s) ∥₁ → IsTold (stays_open asked (fresh asked)) start (taken_unless busy now) true
 told_open busy asked start now s f = told_if busy (stays_open asked (fresh asked)) asked start now s true f (λ h. sym h.open_so_far)
+
+kept_by : (asked : List (List ℕ)) (start now : Option (List ℕ)) (s : Scan) (kept : List ℕ) → ∥ Follows asked start now s ∥₁ → (is_open s ≡ false → kept ≡ s.head) → IsKept asked start now kept
+kept_by asked None now s kept f e = tt
+kept_by asked (Some before) None s kept f e = tt
+kept_by asked (Some before) (Some all) s kept f e = λ text same shut.
+    ∥∥₁_elim f (Prim.hlevel props) (λ h.
+    let whole : h.text ≡ text = append_cancel_left before h.text text (sym h.taken ∙ same) in
+    let is : s ≡ scan asked text = h.read ∙ ap (scan asked) whole in
+    e (ap is_open is ∙ shut) ∙ ap (λ (x : Scan). x.head) is)
+
+-- what is kept of the state is what is kept of the text
+pub kept_is : (busy : Bool) (asked : List (List ℕ)) (start now : Option (List ℕ)) (s : Scan) (kept : List ℕ)
+    → ∥ (busy ≡ false → Follows asked start now s) ∥₁ → (is_open s ≡ false → kept ≡ s.head) → IsKept asked start (taken_unless busy now) kept
+kept_is true asked None now s kept f e = tt
+kept_is true asked (Some before) now s kept f e = tt
+kept_is false asked start now s kept f e = kept_by asked start now s kept (∥∥₁_map f (λ g. g refl)) e

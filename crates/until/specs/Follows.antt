@@ -1,7 +1,7 @@
 -- A text that a sink has taken since some state, and what was read of it.
 use Rattle.std.specs.Prelude.{◌≡◌, ℕ, Bool, true, false, List, ◌++◌, Option, Some, None, ⊤}
 use Rattle.std.specs.Io.KnownBytes.{Appends}
-use Rattle.until.specs.Scan.{Scan, fresh, scan, stays_open}
+use Rattle.until.specs.Scan.{Scan, fresh, is_open, scan, stays_open}
 
 -- From `start` to `now` a text was taken, and it was read to its end.
 pub record Follows (asked : List (List ℕ)) (start now : Option (List ℕ)) (s : Scan) : Type 0 where
@@ -20,3 +20,9 @@ abbrev pub IsTold : (List ℕ → Bool) → Option (List ℕ) → Option (List �
 IsTold test None now answer = ⊤
 IsTold test (Some before) None answer = ⊤
 IsTold test (Some before) (Some all) answer = (text : List ℕ) → all ≡ before ++ text → answer ≡ test text
+
+-- these bytes are the unfinished tick of the text that was taken, or the tick of a line that is not shown, if the text is known
+abbrev pub IsKept : List (List ℕ) → Option (List ℕ) → Option (List ℕ) → List ℕ → Type 0
+IsKept asked None now kept = ⊤
+IsKept asked (Some before) None kept = ⊤
+IsKept asked (Some before) (Some all) kept = (text : List ℕ) → all ≡ before ++ text → is_open (scan asked text) ≡ false → kept ≡ (scan asked text).head

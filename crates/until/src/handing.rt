@@ -56,6 +56,16 @@ impl<'a, S: Sink> Handing<'a, S> {
         self.scan.is_closed()
     }
 
+    /// What was taken and not handed on.
+    pub fn kept(&self) -> &[u8]
+        ensures value { result.now ≡ drop self.now.handed self.now.scan.head.items }
+        ensures shut { is_open (scan_of self.now.scan) ≡ false
+            → result.now ≡ self.now.scan.head.items }
+    {
+        let (_, kept) = self.scan.head.as_slice().split_at(self.handed);
+        kept
+    }
+
     /// Hands on what is left of the line's tick.
     #[tactic(auto, using(crate::proofs::Kept::handed_more))]
     fn hand_on_tick(&mut self) -> Result<(), SinkFault>

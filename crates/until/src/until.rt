@@ -2,7 +2,7 @@
 
 ghost use Rattle.std.specs.Prelude.{◌≡◌, ◌+◌, false, true};
 ghost use Rattle.std.specs.Io.KnownBytes.{append_known};
-ghost use Rattle.until.specs.Follows.{Follows, IsTold, taken_unless};
+ghost use Rattle.until.specs.Follows.{Follows, IsKept, IsTold, taken_unless};
 ghost use Rattle.until.specs.Scan.{closes, finds, is_shown};
 ghost use Rattle.until.specs.Handed.{asked_of, failures_of_both, taken_of};
 ghost use Rattle.until.specs.Views.{scan_of};
@@ -57,6 +57,16 @@ impl<'a, S: Sink, K: Start> Until<'a, S, K> {
             (taken_unless self.now.is_in_hand (taken_of S.Sink self.now.handing)) result }
     {
         self.handing.has_matched()
+    }
+
+    /// What was taken and not handed on: nothing behind a whole line that is shown.
+    pub fn kept(&self) -> &[u8]
+        ensures below { taken_of S.Sink self.now.handing
+            ≡ append_known (S.taken self.now.handing.sink.now) result.now }
+        ensures kept { IsKept (asked_of S.Sink self.now.handing) K.start
+            (taken_unless self.now.is_in_hand (taken_of S.Sink self.now.handing)) result.now }
+    {
+        self.handing.kept()
     }
 
     /// Whether the text that was taken ends in the tick of a line that is not shown.
