@@ -5,6 +5,8 @@
 mod handing;
 mod need;
 mod scan;
+#[cfg(test)]
+mod tests;
 mod until;
 
 pub use handing::Handing;

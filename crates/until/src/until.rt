@@ -1,6 +1,6 @@
 //! A sink that takes a text up to a line that is asked for.
 
-ghost use Rattle.std.specs.Prelude.{◌≡◌, ◌+◌, false, true};
+ghost use Rattle.std.specs.Prelude.{◌≡◌, ◌+◌, false, true, [], map};
 ghost use Rattle.std.specs.Io.KnownBytes.{append_known};
 ghost use Rattle.until.specs.Follows.{Follows, IsKept, IsTold, taken_unless};
 ghost use Rattle.until.specs.Scan.{closes, finds, is_shown};
@@ -41,6 +41,10 @@ impl<'a, S: Sink, K: Start> Until<'a, S, K> {
     /// Nothing was handed on yet.
     pub fn new(sink: &'a mut S, asked: &'a [&'a str]) -> Self
         requires { S.taken sink.old ≡ K.start }
+        ensures asked { asked_of S.Sink result.handing ≡ map (λ a. a.now) asked.now }
+        ensures taken { taken_unless result.is_in_hand (taken_of S.Sink result.handing)
+            ≡ append_known (S.taken sink.old) [] }
+        ensures failures { failures_of_both S.Sink result.handing ≡ S.failures sink.old }
     {
         Until {
             handing: Handing::new(sink, asked),
