@@ -19,6 +19,7 @@ use crate::building::build;
 use crate::fault::{BuildAndRunFault, RunFault};
 use crate::machine::Machine;
 use crate::ticks::split_tick;
+use crate::watch::{Unwatched, Watch};
 use apex_types::limits::MOST_TICKS;
 use apex_types::{DeviceLine, Sink};
 use image::load_image;
@@ -52,12 +53,39 @@ pub fn run<S: Sink>(
     ensures quiet { IfErr result
         (λ fault. fault ≢ RunFault.Write → S.failures sink.new ≡ S.failures sink.old) }
 {
+    run_watched(alloc, image, devices, ticks, sink, &mut Unwatched)
+}
+
+/// Runs the image as [`run`] does, and tells a watcher how far the run is: behind at most 2^20 ticks
+/// that are made, each time.
+///
+/// # Errors
+///
+/// Those of [`run`].
+pub fn run_watched<S: Sink, W: Watch>(
+    alloc: Global,
+    image: &[u8],
+    devices: &[u8],
+    ticks: u64,
+    sink: &mut S,
+    watch: &mut W,
+) -> Result<(), RunFault>
+    requires { S.failures sink.old < 2 ^ 64 - 1 }
+    ensures trace { Runs (image_at image.now) devices.now ticks (S.taken sink.old)
+        (S.taken sink.new) result }
+    ensures isolated { OnOk result
+        (IsIsolated (image_at image.now) devices.now ticks (S.taken sink.old) (S.taken sink.new)) }
+    ensures ok { OnOk result (S.failures sink.new ≡ S.failures sink.old) }
+    ensures write { IsErrOf result RunFault.Write → S.failures sink.new ≡ S.failures sink.old + 1 }
+    ensures quiet { IfErr result
+        (λ fault. fault ≢ RunFault.Write → S.failures sink.new ≡ S.failures sink.old) }
+{
     if ticks > MOST_TICKS {
         return Err(RunFault::Ticks);
     }
     let mut machine = Machine::load(alloc, load_image(alloc, image)?)?;
     let lines = machine.devices(alloc, devices)?;
-    run_ticks(&mut machine, &lines, ticks, sink)
+    run_ticks(&mut machine, &lines, ticks, sink, watch)
 }
 
 /// The most ticks that are made between two offers of nothing.
@@ -89,11 +117,12 @@ fn offer_nothing<S: Sink>(sink: &mut S) -> Result<(), RunFault>
 }
 
 /// So many ticks of a machine, with these lines of the devices; after a shutdown nothing happens.
-fn run_ticks<S: Sink>(
+fn run_ticks<S: Sink, W: Watch>(
     machine: &mut Machine,
     devices: &[DeviceLine],
     ticks: u64,
     sink: &mut S,
+    watch: &mut W,
 ) -> Result<(), RunFault>
     requires ticks { ticks ≤ MOST_TICKS }
     requires fresh { machine_of machine.old ≡ fresh_machine (machine_of machine.old).image }
@@ -120,6 +149,7 @@ fn run_ticks<S: Sink>(
             left -= 1;
         }
         offer_nothing(sink)?;
+        watch.reached(machine.now(), ticks);
     }
     Ok(())
 }
