@@ -1,9 +1,9 @@
 -- A text that is taken step by step, and read as it is taken.
-use Rattle.std.proofs.Common.{◌≡◌, ℕ, Bool, true, false, List, [], ◌∷◌, ◌++◌, take, Option, Some, None, Result, Ok, Err, refl, sym, ap, subst, ◌∙◌, append-nil}
+use Rattle.std.proofs.Common.{◌≡◌, ℕ, Bool, true, false, List, [], ◌∷◌, ◌++◌, take, Option, Some, None, Result, Ok, Err, refl, sym, ap, subst, ◌∙◌}
 use Rattle.std.proofs.KnownBytes.{Appends-kept, Appends-trans}
 use Rattle.std.proofs.Math.Logic.{∥∥₁_elim, ∥∥₁_map}
-use Rattle.std.specs.Io.KnownBytes.{Appends, Keeps, WriteAppends, append_known}
-use Rattle.std.specs.Prelude.{fold, not, ◌&&◌}
+use Rattle.std.specs.Io.KnownBytes.{Appends, WriteAppends, append_known}
+use Rattle.std.specs.Prelude.{fold, not}
 use Rattle.std.proofs.lemmas.Bool.{and_from, and_parts}
 use Rattle.std.proofs.lemmas.Grind.{fold-append}
 use Rattle.std.proofs.Props.{props}

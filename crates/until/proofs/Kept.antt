@@ -1,5 +1,5 @@
 -- What a sink has taken, and what is kept back for it.
-use Rattle.std.proofs.Common.{◌≡◌, ◌≤◌, ℕ, zero, suc, ◌+◌, List, [], ◌∷◌, length, arith, ◌++◌, append-nil, subst, drop, take, Option, refl, sym, ap, ◌∙◌, take-append-drop, Result, Ok}
+use Rattle.std.proofs.Common.{◌≡◌, ◌≤◌, ℕ, zero, suc, ◌+◌, List, [], ◌∷◌, length, arith, ◌++◌, append-nil, subst, drop, take, Option, refl, sym, ap, ◌∙◌, take-append-drop}
 use Rattle.std.proofs.KnownBytes.{append_known-moved, append_known-passed, Keeps-trans}
 use Rattle.std.specs.Io.KnownBytes.{Appends, Keeps, append_known}
 use Rattle.std.proofs.lemmas.List.{drop-drop}

@@ -1,16 +1,13 @@
 -- A text of whole lines, read byte by byte: the first line that matches is found.
-use Rattle.std.proofs.Common.{◌≡◌, ◌≤◌, ◌<◌, ℕ, zero, suc, ◌+◌, Bool, true, false, cond, List, [], ◌∷◌, ◌++◌, length, take, drop, Option, Some, None, refl, sym, ap, subst, ◌∙◌, append_assoc, append-nil, take-append-drop, arith, rules, length-append, length-take}
+use Rattle.std.proofs.Common.{◌≡◌, ◌≤◌, ℕ, ◌+◌, Bool, true, false, cond, List, [], ◌∷◌, ◌++◌, length, take, drop, Option, Some, None, refl, sym, ap, subst, ◌∙◌, append_assoc, append-nil, take-append-drop, arith, length-append, length-take}
 use Rattle.std.specs.Prelude.{fold, not, ◌&&◌, ◌==◌, nat_lt}
-use Rattle.std.specs.List.{list_all}
 use Rattle.std.proofs.lemmas.Bool.{and_from, and_parts}
 use Rattle.std.proofs.lemmas.Bool.Decides.{nat_tests}
 use Rattle.std.proofs.lemmas.Grind.{fold-append}
-use Rattle.apex_types.specs.Line.{space}
 use Rattle.engine_meaning.specs.Digits.{same}
-use Rattle.module_meaning.specs.DeviceText.{pieces_behind_marks}
 use Rattle.until.specs.Until.{first_match, matches, same_tick, text_of_lines, through, tick_bytes}
 use Rattle.until.specs.Lines.{AreLines, IsLine, is_free}
-use Rattle.until.specs.Scan.{Need, Scan, found, fresh, is_in_tick, is_closed, is_met, is_met_by, is_other, is_shown, reads, reads_behind, scan, stays_open, takes_byte, whole_need}
+use Rattle.until.specs.Scan.{Need, Scan, found, is_closed, is_met, is_met_by, is_other, is_shown, reads, scan, stays_open, takes_byte, whole_need}
 use Rattle.until.proofs.Needs.{whole_need_is_words}
 
 not_true_false : (t : Bool) → not t ≡ true → t ≡ false

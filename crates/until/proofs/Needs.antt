@@ -4,9 +4,9 @@ use Rattle.std.specs.Prelude.{not, ◌&&◌, ◌||◌, ◌==◌, codes}
 use Rattle.std.specs.List.{prefix_len}
 use Rattle.apex_types.specs.Line.{space}
 use Rattle.engine_meaning.specs.Digits.{same}
-use Rattle.module_meaning.specs.DeviceText.{piece, pieces, pieces_behind_marks}
+use Rattle.module_meaning.specs.DeviceText.{piece, pieces_behind_marks}
 use Rattle.until.specs.Until.{stands_for, stand_for}
-use Rattle.until.specs.Scan.{Need, word_of, is_complete, is_last, is_met, is_met_by, next_byte, next_word, takes, takes_byte, whole_need}
+use Rattle.until.specs.Scan.{Need, word_of, is_complete, is_last, is_met_by, next_byte, next_word, whole_need}
 
 -- the rest of a word is this text
 abbrev pub is_word : Option (List ℕ) → List ℕ → Bool

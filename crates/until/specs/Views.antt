@@ -1,5 +1,5 @@
 -- How the definitions see what a line needs.
-use Rattle.std.specs.Prelude.{ℕ, List, Option, map, option_map, option_copied}
+use Rattle.std.specs.Prelude.{Option, map, option_map, option_copied}
 use Rattle.until.specs.Scan as spec
 use Rattle.until.specs.declared.need.Need.{Need}
 use Rattle.until.specs.declared.scan.Scan.{Scan}

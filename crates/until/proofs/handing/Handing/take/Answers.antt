@@ -1,4 +1,4 @@
-use Rattle.std.proofs.Common.{◌≡◌, ℕ, [], drop, take, subst, sym}
+use Rattle.std.proofs.Common.{◌≡◌, [], drop, take, subst, sym}
 use Rattle.std.specs.Io.KnownBytes.{Appends}
 use Rattle.std.proofs.lemmas.List.{drop_all}
 use Rattle.until.proofs.Kept.{handed_on, one_at_most, take_one}
