@@ -29,6 +29,7 @@ impl<'a, S: Sink> Handing<'a, S> {
 
     /// Nothing was handed on yet.
     pub fn new(sink: &'a mut S, asked: &'a [&'a str]) -> Self
+        ensures same_sink { result.sink.ghost_name ≡ sink.entry.ghost_name }
         ensures asked { asked_of S.Sink result ≡ map (λ a. a.now) asked.now }
         ensures taken { taken_of S.Sink result ≡ append_known (S.taken sink.old) [] }
         ensures failures { failures_of_both S.Sink result ≡ S.failures sink.old }
@@ -71,6 +72,7 @@ impl<'a, S: Sink> Handing<'a, S> {
     fn hand_on_tick(&mut self) -> Result<(), SinkFault>
         requires shown { is_open (scan_of self.old.scan) ≡ true }
         requires failures { S.failures self.old.sink.now < 2 ^ 64 - 1 }
+        ensures same_sink { self.new.sink.ghost_name ≡ self.old.sink.ghost_name }
         ensures taken { Keeps
             (append_known (S.taken self.old.sink.now) (drop self.old.handed self.old.scan.head.items))
             (append_known (S.taken self.new.sink.now) (drop self.new.handed self.new.scan.head.items)) }
@@ -95,6 +97,7 @@ impl<'a, S: Sink> Handing<'a, S> {
     /// Reads a byte that was handed on behind the line's tick.
     fn read_on(&mut self, byte: u8)
         requires { is_open (scan_of self.old.scan) ≡ true }
+        ensures same_sink { self.new.sink.ghost_name ≡ self.old.sink.ghost_name }
         ensures asked { asked_of S.Sink self.new ≡ asked_of S.Sink self.old }
         ensures read { scan_of self.new.scan
             ≡ reads (asked_of S.Sink self.old) (scan_of self.old.scan) byte }
@@ -110,6 +113,7 @@ impl<'a, S: Sink> Handing<'a, S> {
     /// Takes nothing, and hands on nothing.
     fn refuse(&mut self) -> SinkFault
         requires { self.old.refusals < 2 ^ 64 - 1 }
+        ensures same_sink { self.new.sink.ghost_name ≡ self.old.sink.ghost_name }
         ensures sink { self.new.sink.now ≡ self.old.sink.now }
         ensures scan { self.new.scan ≡ self.old.scan }
         ensures handed { self.new.handed ≡ self.old.handed }
@@ -122,6 +126,7 @@ impl<'a, S: Sink> Handing<'a, S> {
     /// Takes some of these bytes, and hands on what is to be.
     pub fn take(&mut self, bytes: &[u8]) -> Result<usize, SinkFault>
         requires { failures_of_both S.Sink self.old < 2 ^ 64 - 1 }
+        ensures same_sink { self.new.sink.ghost_name ≡ self.old.sink.ghost_name }
         ensures asked { asked_of S.Sink self.new ≡ asked_of S.Sink self.old }
         ensures bound { WritesAtMost result bytes.now }
         ensures bytes { WriteAppends (taken_of S.Sink self.old) (taken_of S.Sink self.new) result

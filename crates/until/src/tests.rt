@@ -1,6 +1,6 @@
 //! Texts that are shown until a line.
 
-ghost use Rattle.std.specs.Prelude.{◌≡◌, ◌+◌, ◌-◌, ◌^◌, ◌<◌, ◌≤◌};
+ghost use Rattle.std.specs.Prelude.{◌≡◌, ◌+◌, ◌-◌, ◌^◌, ◌<◌, ◌≤◌, map};
 
 use crate::until::{Start, Until};
 use apex_types::{Sink, WriterSink, put_all};
@@ -94,6 +94,7 @@ struct Outcome {
 /// Offers the text to a sink over this one, which has taken `K.start`.
 fn offered<S: Sink, K: Start>(sink: &mut S, row: &Row, most: usize) -> Outcome
     requires taken { S.taken sink.old ≡ K.start }
+    requires asked { map (λ a. a.now) row.now.asked.now ≡ K.asked }
     requires failures { S.failures sink.old < 2 ^ 64 - 3 }
 {
     let mut until = Until::<'_, S, K>::new(sink, row.asked);

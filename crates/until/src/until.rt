@@ -11,17 +11,22 @@ use crate::handing::Handing;
 use apex_types::{Sink, SinkFault};
 use std::marker::{Brand, PhantomData};
 
-/// What a sink had taken before a run, if it makes that known. A caller that speaks of it picks it.
+/// What a sink had taken before, if it makes that known, and which words are asked for. A caller that
+/// speaks of them picks them.
 pub trait Start {
     ghost use Rattle.std.specs.Prelude.{ℕ, List, Option};
 
     ghost start: { Option (List ℕ) };
+
+    ghost asked: { List (List ℕ) };
 }
 
 impl Start for Brand {
-    ghost use Rattle.std.specs.Prelude.{None};
+    ghost use Rattle.std.specs.Prelude.{None, []};
 
     ghost start = { None };
+
+    ghost asked = { [] };
 }
 
 /// A sink over another one. It hands on a text up to the first line with the words that are asked
@@ -32,16 +37,18 @@ pub struct Until<'a, S: Sink, K: Start> {
     handing: Handing<'a, S>,
     is_in_hand: bool,
     start: PhantomData<K>,
+    ghost same_words: { asked_of S.Sink handing ≡ K.asked },
     ghost follows: { ∥ (is_in_hand ≡ false
-        → Follows (asked_of S.Sink handing) K.start (taken_of S.Sink handing)
+        → Follows K.asked K.start (taken_of S.Sink handing)
         (scan_of handing.scan)) ∥₁ },
 }
 
 impl<'a, S: Sink, K: Start> Until<'a, S, K> {
     /// Nothing was handed on yet.
     pub fn new(sink: &'a mut S, asked: &'a [&'a str]) -> Self
-        requires { S.taken sink.old ≡ K.start }
-        ensures asked { asked_of S.Sink result.handing ≡ map (λ a. a.now) asked.now }
+        requires start { S.taken sink.old ≡ K.start }
+        requires asked { map (λ a. a.now) asked.now ≡ K.asked }
+        ensures same_sink { result.handing.sink.ghost_name ≡ sink.entry.ghost_name }
         ensures taken { taken_unless result.is_in_hand (taken_of S.Sink result.handing)
             ≡ append_known (S.taken sink.old) [] }
         ensures failures { failures_of_both S.Sink result.handing ≡ S.failures sink.old }
@@ -55,9 +62,9 @@ impl<'a, S: Sink, K: Start> Until<'a, S, K> {
 
     /// Whether a line of the text that was taken matches.
     pub fn has_matched(&self) -> bool
-        ensures shown { IsTold (is_shown (asked_of S.Sink self.now.handing)) K.start
+        ensures shown { IsTold (is_shown K.asked) K.start
             (taken_unless self.now.is_in_hand (taken_of S.Sink self.now.handing)) true }
-        ensures found { IsTold (finds (asked_of S.Sink self.now.handing)) K.start
+        ensures found { IsTold (finds K.asked) K.start
             (taken_unless self.now.is_in_hand (taken_of S.Sink self.now.handing)) result }
     {
         self.handing.has_matched()
@@ -67,7 +74,7 @@ impl<'a, S: Sink, K: Start> Until<'a, S, K> {
     pub fn kept(&self) -> &[u8]
         ensures below { taken_of S.Sink self.now.handing
             ≡ append_known (S.taken self.now.handing.sink.now) result.now }
-        ensures kept { IsKept (asked_of S.Sink self.now.handing) K.start
+        ensures kept { IsKept K.asked K.start
             (taken_unless self.now.is_in_hand (taken_of S.Sink self.now.handing)) result.now }
     {
         self.handing.kept()
@@ -75,7 +82,7 @@ impl<'a, S: Sink, K: Start> Until<'a, S, K> {
 
     /// Whether the text that was taken ends in the tick of a line that is not shown.
     pub fn is_closed(&self) -> bool
-        ensures { IsTold (closes (asked_of S.Sink self.now.handing)) K.start
+        ensures { IsTold (closes K.asked) K.start
             (taken_unless self.now.is_in_hand (taken_of S.Sink self.now.handing)) result }
     {
         self.handing.is_closed()
