@@ -1,6 +1,6 @@
 //! Runs a program with the words of its process.
 
-ghost use Rattle.std.specs.Prelude.{◌≡◌, ◌≢◌, ◌≤◌, ◌-◌, ◌^◌, ◌<◌, codes};
+ghost use Rattle.std.specs.Prelude.{◌≡◌, ◌≢◌, ◌≤◌, ◌-◌, ◌^◌, ◌<◌, ℕ, codes, max};
 ghost use Rattle.streams.specs.States.{TakesLine, seen};
 
 use std::alloc::AllocGlobal;
@@ -12,11 +12,14 @@ use streams::{Stream, WriterStream, tell_line};
 
 /// A program, as far as its words and its streams are known.
 pub trait Program {
+    /// The greatest exit status that it answers.
+    ghost greatest: { ℕ };
+
     /// Does what the words say, the program's name first, and returns the exit status.
     fn obey<O: Stream, E: Stream>(&mut self, words: &[String], out: &mut O, err: &mut E) -> u8
         requires out { O.failures out.old < 2 ^ 64 - 1 }
         requires err { E.failures err.old < 2 ^ 64 - 1 }
-        ensures { result ≤ 3 };
+        ensures { result ≤ greatest };
 }
 
 /// Does what the words of the process say. Reports `memory` if memory runs out for that.
@@ -26,7 +29,7 @@ pub fn run<P: Program>(rt: &HostRuntime, program: &mut P, memory: &str) -> ExitC
 
 /// Does what the words of the process say, and returns the exit status.
 fn status<P: Program>(rt: &HostRuntime, program: &mut P, memory: &str) -> u8
-    ensures { result ≤ 3 }
+    ensures { result ≤ max 2 P.greatest }
 {
     let mut err = WriterStream::new(rt.stderr());
     let words = match words(rt) {

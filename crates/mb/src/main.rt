@@ -14,6 +14,8 @@ use streams::Stream;
 struct Commands<'a>(&'a HostRuntime);
 
 impl<'a> Program for Commands<'a> {
+    ghost greatest = { 2 };
+
     fn obey<O: Stream, E: Stream>(&mut self, words: &[String], out: &mut O, err: &mut E) -> u8 {
         let mut files = HostFiles::new(self.0);
         command(self.0.alloc(), words, &mut files, out, err)

@@ -14,6 +14,8 @@ use view_command::view;
 struct Views<'a>(&'a HostRuntime);
 
 impl<'a> Program for Views<'a> {
+    ghost greatest = { 3 };
+
     fn obey<O: Stream, E: Stream>(&mut self, words: &[String], out: &mut O, err: &mut E) -> u8 {
         let mut sources = HostSources::new(self.0);
         view(self.0.alloc(), words, &mut sources, out, err)
