@@ -41,7 +41,7 @@ refused_named files now table sources table_text texts (Err (Build fault)) same 
 refused_named files now table sources table_text texts (Err (Run fault)) same in_table in_sources h = absurd h
 refused_named files now table sources table_text texts (Err (Replay fault)) same in_table in_sources h = absurd h
 refused_named files now table sources table_text texts (Err (Inputs fault)) same in_table in_sources h = absurd h
-refused_named files now table sources table_text texts (Err (File name)) same in_table in_sources h = absurd h
+refused_named files now table sources table_text texts (Err (File name reason)) same in_table in_sources h = absurd h
 refused_named files now table sources table_text texts (Err Memory) same in_table in_sources h = tt
 refused_named files now table sources table_text texts (Err Write) same in_table in_sources h = absurd h
 
@@ -60,7 +60,7 @@ uncosted_named files now table sources table_text texts (Err (Build fault)) same
 uncosted_named files now table sources table_text texts (Err (Run fault)) same in_table in_sources h = absurd h
 uncosted_named files now table sources table_text texts (Err (Replay fault)) same in_table in_sources h = absurd h
 uncosted_named files now table sources table_text texts (Err (Inputs fault)) same in_table in_sources h = absurd h
-uncosted_named files now table sources table_text texts (Err (File name)) same in_table in_sources h = absurd h
+uncosted_named files now table sources table_text texts (Err (File name reason)) same in_table in_sources h = absurd h
 uncosted_named files now table sources table_text texts (Err Memory) same in_table in_sources h = tt
 uncosted_named files now table sources table_text texts (Err Write) same in_table in_sources h = absurd h
 
@@ -73,7 +73,7 @@ unnamed_text old new table_text texts (Err (Build fault)) same h = same
 unnamed_text old new table_text texts (Err (Run fault)) same h = same
 unnamed_text old new table_text texts (Err (Replay fault)) same h = same
 unnamed_text old new table_text texts (Err (Inputs fault)) same h = same
-unnamed_text old new table_text texts (Err (File name)) same h = absurd h
+unnamed_text old new table_text texts (Err (File name reason)) same h = absurd h
 unnamed_text old new table_text texts (Err Memory) same h = same
 unnamed_text old new table_text texts (Err Write) same h = same
 
@@ -84,6 +84,6 @@ unnamed_costs old new table_text texts (Err (Build fault)) same h = same
 unnamed_costs old new table_text texts (Err (Run fault)) same h = same
 unnamed_costs old new table_text texts (Err (Replay fault)) same h = same
 unnamed_costs old new table_text texts (Err (Inputs fault)) same h = same
-unnamed_costs old new table_text texts (Err (File name)) same h = absurd h
+unnamed_costs old new table_text texts (Err (File name reason)) same h = absurd h
 unnamed_costs old new table_text texts (Err Memory) same h = same
 unnamed_costs old new table_text texts (Err Write) same h = same

@@ -2,8 +2,8 @@
 use Rattle.std.specs.Prelude.{◌≡◌, ℕ, Bool, true, false, List, [], ◌∷◌, ◌++◌, if◌then◌else◌, Option, Some, None, string_bytes}
 use Rattle.std.specs.Str.{bytes_eq}
 use Rattle.module_meaning.specs.Table.{Partition, Table}
-use Rattle.explanations.specs.Explanation.{IsExplanationOf}
-use Rattle.explanations.specs.Sentences.{command_sentence, device_sentence, image_sentence, replay_sentence, source_sentence, table_sentence}
+use Rattle.explanations.specs.Explanation.{IsExplanationOf, IsTableExplanation}
+use Rattle.explanations.specs.Sentences.{command_sentence, device_sentence, file_sentence, image_sentence, replay_sentence, source_sentence, table_sentence}
 use Rattle.explanations.specs.declared.sentences.CommandFault.TheVariants as command
 use Rattle.module_meaning.specs.Accepted.{IsTable}
 use Rattle.module.specs.declared.fault.BuildFault.{BuildFault}
@@ -15,7 +15,7 @@ use Rattle.module.specs.declared.fault.RunFault.TheVariants as run
 use Rattle.pal_base.specs.declared.fault.PalFault.{PalFault}
 use Rattle.command_line.specs.Lines.{line_of}
 use Rattle.command_line.specs.declared.explaining.Note.{Note}
-use Rattle.command_line.specs.declared.explaining.Note.TheVariants.{Unwanted, Wanted, Source}
+use Rattle.command_line.specs.declared.explaining.Note.TheVariants.{Unwanted, Wanted, Explained}
 use Rattle.command_line.specs.declared.refusal.Refusal.{Refusal}
 use Rattle.command_line.specs.declared.refusal.Refusal.TheVariants.{Build, Run, Replay, Inputs, File, Memory, Write}
 
@@ -55,19 +55,19 @@ sentence_of (Build fault) = build_sentence fault
 sentence_of (Run fault) = run_sentence fault
 sentence_of (Replay fault) = sentence_of_replay fault
 sentence_of (Inputs fault) = inputs_sentence fault
-sentence_of (File name) = command_sentence command.File
+sentence_of (File name reason) = file_sentence reason
 sentence_of Memory = command_sentence command.Memory
 sentence_of Write = command_sentence command.Write
 
--- The line alone, or the line and its explanation: the note on a refused source, or else the
+-- The line alone, or the line and its explanation: the note on a refused source or table, or else the
 -- sentence.
 abbrev pub told_text : Bool → Refusal → Note → List ℕ
 told_text false r note = line_of r ++ 10 ∷ []
 told_text true r Unwanted = line_of r ++ 10 ∷ sentence_of r ++ 10 ∷ []
 told_text true r Wanted = line_of r ++ 10 ∷ sentence_of r ++ 10 ∷ []
-told_text true r (Source text) = line_of r ++ 10 ∷ string_bytes text
+told_text true r (Explained text) = line_of r ++ 10 ∷ string_bytes text
 
--- ---- the note on a refused source
+-- ---- the note on a refused source or table
 
 -- the source of the partition of this name, one source standing for each partition
 abbrev pub source_of : List Partition → List (List ℕ) → List ℕ → Option (List ℕ)
@@ -82,8 +82,13 @@ IsExplainedWith t sources name fault text = (source : List ℕ) × (source_of t.
 abbrev pub IsExplained : List ℕ → List (List ℕ) → List ℕ → PalFault → List ℕ → Type 0
 IsExplained table sources name fault text = (t : Table) × IsTable table t × IsExplainedWith t sources name fault text
 
--- If an explanation was wanted, the refused source may be explained: that of the partition that the
--- fault names.
-abbrev pub IsNoteOf : List ℕ → List (List ℕ) → BuildFault → Note → Note → Type 0
-IsNoteOf table sources (build.Pal name fault) Wanted (Source text) = IsExplained table sources name fault (string_bytes text)
-IsNoteOf table sources fault old new = new ≡ old
+-- the text explains the refusal of a table, which is that of this file, or of the source of the partition that the fault names
+abbrev pub IsNoted : List ℕ → List ℕ → List (List ℕ) → BuildFault → List ℕ → Type 0
+IsNoted file table sources (build.Table fault) text = IsTableExplanation file table fault text
+IsNoted file table sources (build.Pal name fault) text = IsExplained table sources name fault text
+IsNoted file table sources fault text = ⊥
+
+-- If an explanation was wanted, the refused table or source may be explained.
+abbrev pub IsNoteOf : List ℕ → List ℕ → List (List ℕ) → BuildFault → Note → Note → Type 0
+IsNoteOf file table sources fault Wanted (Explained text) = IsNoted file table sources fault (string_bytes text)
+IsNoteOf file table sources fault old new = new ≡ old

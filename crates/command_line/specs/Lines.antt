@@ -9,6 +9,6 @@ line_of (Build fault) = codes "mb: " ++ build_line fault
 line_of (Run fault) = codes "mb: " ++ run_line fault
 line_of (Replay fault) = codes "mb: " ++ run_line fault
 line_of (Inputs fault) = codes "mb: " ++ inputs_line fault
-line_of (File name) = codes "mb: file " ++ string_bytes name
+line_of (File name reason) = codes "mb: file " ++ string_bytes name
 line_of Memory = codes "mb: memory"
 line_of Write = codes "mb: write"

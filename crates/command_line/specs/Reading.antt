@@ -14,13 +14,13 @@ texts_of sources = map (λ v. v.items) sources
 
 -- the file of this name is not read
 abbrev pub IsUnread : List ℕ → Refusal → Type 0
-IsUnread name (File shown) = string_bytes shown ≡ name
+IsUnread name (File shown reason) = string_bytes shown ≡ name
 IsUnread name Memory = Unit {0}
 IsUnread name _ = ⊥
 
 -- one of the files of these names is not read
 abbrev pub IsUnreadAmong : Option Contents → List (List ℕ) → Refusal → Type 0
-IsUnreadAmong files names (File shown) = IsFirstUnread files names (string_bytes shown)
+IsUnreadAmong files names (File shown reason) = IsFirstUnread files names (string_bytes shown)
 IsUnreadAmong files names Memory = Unit {0}
 IsUnreadAmong files names _ = ⊥
 

@@ -35,7 +35,7 @@ refusal_of_both (both.Run fault) = Run fault
 
 -- the file of this name was not read or not written, or memory ran out
 abbrev pub IsRefusalOfFile : List ℕ → Refusal → Type 0
-IsRefusalOfFile name (File shown) = string_bytes shown ≡ name
+IsRefusalOfFile name (File shown reason) = string_bytes shown ≡ name
 IsRefusalOfFile name Memory = Unit {0}
 IsRefusalOfFile name _ = ⊥
 
@@ -48,21 +48,21 @@ IsFirstUnread files (next ∷ rest) name = (name ≡ next) ⊎ (((text : List �
 
 -- why no image is built of the texts in these files
 abbrev pub IsNotBuilt : Option Contents → List ℕ → List (List ℕ) → Refusal → Type 0
-IsNotBuilt files table sources (File name) = IsFirstUnread files (table ∷ sources) (string_bytes name)
+IsNotBuilt files table sources (File name reason) = IsFirstUnread files (table ∷ sources) (string_bytes name)
 IsNotBuilt files table sources (Build fault) = (texts : Texts files table sources) × IsRefusal texts.table_text texts.source_texts fault
 IsNotBuilt files table sources Memory = Unit {0}
 IsNotBuilt files table sources _ = ⊥
 
 -- why no costs are found of the texts in these files
 abbrev pub IsNotCosted : Option Contents → List ℕ → List (List ℕ) → Refusal → Type 0
-IsNotCosted files table sources (File name) = IsFirstUnread files (table ∷ sources) (string_bytes name)
+IsNotCosted files table sources (File name reason) = IsFirstUnread files (table ∷ sources) (string_bytes name)
 IsNotCosted files table sources (Build fault) = (texts : Texts files table sources) × IsCostRefusal texts.table_text texts.source_texts fault
 IsNotCosted files table sources Memory = Unit {0}
 IsNotCosted files table sources _ = ⊥
 
 -- why no image is loaded of the file of this name
 abbrev pub IsNotLoaded : Option Contents → List ℕ → Refusal → Type 0
-IsNotLoaded files name (File shown) = string_bytes shown ≡ name
+IsNotLoaded files name (File shown reason) = string_bytes shown ≡ name
 IsNotLoaded files name (Run fault) = (bytes : List ℕ) × Holds files name bytes × promises.IsRefused (image_at bytes) fault
 IsNotLoaded files name Memory = Unit {0}
 IsNotLoaded files name _ = ⊥
@@ -106,7 +106,7 @@ IsBuildRefused table name sources before after r =
 
 -- why a run of n ticks is refused
 abbrev pub IsRunRefused : List ℕ → List ℕ → ℕ → State → State → Refusal → Type 0
-IsRunRefused image devices n before after (File name) = IsUntouched before after × IsFirstUnread before.files (image ∷ devices ∷ []) (string_bytes name)
+IsRunRefused image devices n before after (File name reason) = IsUntouched before after × IsFirstUnread before.files (image ∷ devices ∷ []) (string_bytes name)
 IsRunRefused image devices n before after (Run fault) =
     HasFailedBy fault before.out after.out × (after.files ≡ before.files)
     × (given : ImageAndText before.files image devices) × IsRunOf given n before.out.taken after.out.taken (Err fault)
@@ -116,7 +116,7 @@ IsRunRefused image devices n before after _ = ⊥
 
 -- why a replay of a partition for n ticks is refused
 abbrev pub IsReplayRefused : List ℕ → List ℕ → List ℕ → ℕ → State → State → Refusal → Type 0
-IsReplayRefused image partition text n before after (File name) = IsUntouched before after × IsFirstUnread before.files (image ∷ text ∷ []) (string_bytes name)
+IsReplayRefused image partition text n before after (File name reason) = IsUntouched before after × IsFirstUnread before.files (image ∷ text ∷ []) (string_bytes name)
 IsReplayRefused image partition text n before after (Replay fault) =
     HasFailedBy fault before.out after.out × (after.files ≡ before.files)
     × (given : ImageAndText before.files image text) × IsReplayOf given partition n before.out.taken after.out.taken (Err fault)
@@ -126,7 +126,7 @@ IsReplayRefused image partition text n before after _ = ⊥
 
 -- why the inputs that n ticks of a run bring a partition are refused
 abbrev pub AreInputsRefused : List ℕ → List ℕ → List ℕ → ℕ → State → State → Refusal → Type 0
-AreInputsRefused image partition devices n before after (File name) = IsUntouched before after × IsFirstUnread before.files (image ∷ devices ∷ []) (string_bytes name)
+AreInputsRefused image partition devices n before after (File name reason) = IsUntouched before after × IsFirstUnread before.files (image ∷ devices ∷ []) (string_bytes name)
 AreInputsRefused image partition devices n before after (Inputs fault) =
     HasFailedByInputs fault before.out after.out × (after.files ≡ before.files)
     × (given : ImageAndText before.files image devices) × AreInputsOf given partition n before.out.taken after.out.taken (Err fault)

@@ -3,13 +3,13 @@
 ghost use Rattle.std.specs.Prelude.{◌≡◌, Some, map, option_map, string_bytes, IfSome};
 ghost use Rattle.module_meaning.specs.Accepted.{IsTable};
 ghost use Rattle.window_table.specs.Views.{partition_view, table_of};
-ghost use Rattle.command_line.specs.Explained.{IsExplained, IsExplainedWith, IsNoteOf, build_sentence, inputs_sentence, run_sentence, sentence_of, sentence_of_replay, source_of, told_text};
+ghost use Rattle.command_line.specs.Explained.{IsExplained, IsExplainedWith, IsNoted, IsNoteOf, build_sentence, inputs_sentence, run_sentence, sentence_of, sentence_of_replay, source_of, told_text};
 
 use crate::refusal::Refusal;
 use apex_types::Name;
 use explanations::{
-    CommandFault, command_sentence, device_sentence, explain_source, image_sentence,
-    replay_sentence, source_sentence, table_sentence,
+    CommandFault, command_sentence, device_sentence, explain_source, explain_table, file_sentence,
+    image_sentence, replay_sentence, source_sentence, table_sentence,
 };
 use module::{BuildFault, InputsFault, RunFault};
 use pal_base::fault::PalFault;
@@ -17,15 +17,15 @@ use std::alloc::Global;
 use std::fmt;
 use window_table::{ModuleTable, PartitionRow, read_table};
 
-/// The explanation of a refused source, for the lines behind that of its refusal.
+/// The explanation of a refused source or table, for the lines behind that of its refusal.
 #[derive(Drop)]
 pub enum Note {
     /// Nobody asked for an explanation.
     Unwanted,
-    /// No source is refused so far.
+    /// No source and no table is refused so far.
     Wanted,
-    /// The lines that explain the refusal of a source, to their end.
-    Source(String),
+    /// The lines that explain the refusal of a source or a table, to their end.
+    Explained(String),
 }
 
 impl Note {
@@ -34,19 +34,46 @@ impl Note {
         if wanted { Note::Wanted } else { Note::Unwanted }
     }
 
-    /// Notes the explanation of a refused source, if it is wanted and there is memory for it.
-    pub fn explain(&mut self, alloc: Global, table: &[u8], sources: &[&[u8]], fault: &BuildFault)
-        ensures { IsNoteOf table.now (map (λ s. s.now) sources.now) fault.now self.old self.new }
+    /// Notes the explanation of a refused table or source, if it is wanted and there is memory for
+    /// it. `file` is the name of the table's file.
+    pub fn explain(
+        &mut self,
+        alloc: Global,
+        file: &str,
+        table: &[u8],
+        sources: &[&[u8]],
+        fault: &BuildFault,
+    )
+        ensures { IsNoteOf file.now table.now (map (λ s. s.now) sources.now) fault.now self.old
+            self.new }
     {
         let Note::Wanted = self else {
             return;
         };
-        let BuildFault::Pal { partition, fault } = fault else {
-            return;
-        };
-        if let Some(text) = explained(alloc, table, sources, partition, *fault) {
-            *self = Note::Source(text);
+        if let Some(text) = explanation(alloc, file, table, sources, fault) {
+            *self = Note::Explained(text);
         }
+    }
+}
+
+/// The explanation of a refused table or source, if there is memory for it.
+fn explanation(
+    alloc: Global,
+    file: &str,
+    table: &[u8],
+    sources: &[&[u8]],
+    fault: &BuildFault,
+) -> Option<String>
+    ensures { IfSome result
+        (λ text. IsNoted file.now table.now (map (λ s. s.now) sources.now) fault.now
+        (string_bytes text)) }
+{
+    match fault {
+        BuildFault::Table(fault) => explain_table(alloc, file, table, *fault),
+        BuildFault::Pal { partition, fault } => {
+            explained(alloc, table, sources, partition, *fault)
+        }
+        _ => None,
     }
 }
 
@@ -127,7 +154,7 @@ pub fn sentence_of(refusal: &Refusal) -> &'static str
         Refusal::Run(fault) => run_sentence(fault),
         Refusal::Replay(fault) => sentence_of_replay(fault),
         Refusal::Inputs(fault) => inputs_sentence(fault),
-        Refusal::File(_) => command_sentence(CommandFault::File),
+        Refusal::File(_, reason) => file_sentence(*reason),
         Refusal::Memory => command_sentence(CommandFault::Memory),
         Refusal::Write => command_sentence(CommandFault::Write),
     }
@@ -198,7 +225,7 @@ impl fmt::Display for Told {
             return writeln!(f, "{refusal}");
         }
         match &self.note {
-            Note::Source(text) => write!(f, "{refusal}\n{text}"),
+            Note::Explained(text) => write!(f, "{refusal}\n{text}"),
             Note::Unwanted | Note::Wanted => writeln!(f, "{refusal}\n{}", sentence_of(refusal)),
         }
     }

@@ -71,14 +71,16 @@ pub fn build_named<F: Files>(
     ensures noted { OnOk result (F.failed files.new ≡ F.failed files.old) }
     ensures named { IfErr result (λ r. IsOfFailed (F.failed files.old) (F.failed files.new) r) }
 {
-    let table = read(alloc, table, files)?;
+    let name = table;
+    let table = read(alloc, name, files)?;
     let sources = read_all(alloc, sources, files)?;
-    build_texts(alloc, table.as_slice(), sources.as_slice(), note)
+    build_texts(alloc, name, table.as_slice(), sources.as_slice(), note)
 }
 
 /// The image of a table and its sources.
 fn build_texts(
     alloc: Global,
+    name: &str,
     table: &[u8],
     sources: &[Vec<u8>],
     note: &mut Note,
@@ -90,7 +92,7 @@ fn build_texts(
     match module::build(alloc, table, texts.as_slice()) {
         Ok(image) => Ok(image),
         Err(fault) => {
-            note.explain(alloc, table, texts.as_slice(), &fault);
+            note.explain(alloc, name, table, texts.as_slice(), &fault);
             Err(Refusal::Build(fault))
         }
     }
@@ -114,14 +116,16 @@ pub fn costs_named<F: Files>(
     ensures noted { OnOk result (F.failed files.new ≡ F.failed files.old) }
     ensures named { IfErr result (λ r. IsOfFailed (F.failed files.old) (F.failed files.new) r) }
 {
-    let table = read(alloc, table, files)?;
+    let name = table;
+    let table = read(alloc, name, files)?;
     let sources = read_all(alloc, sources, files)?;
-    costs_of_texts(alloc, table.as_slice(), sources.as_slice(), note)
+    costs_of_texts(alloc, name, table.as_slice(), sources.as_slice(), note)
 }
 
 /// The costs of a table and its sources.
 fn costs_of_texts(
     alloc: Global,
+    name: &str,
     table: &[u8],
     sources: &[Vec<u8>],
     note: &mut Note,
@@ -133,7 +137,7 @@ fn costs_of_texts(
     match module::costs(alloc, table, texts.as_slice()) {
         Ok(costs) => Ok(costs),
         Err(fault) => {
-            note.explain(alloc, table, texts.as_slice(), &fault);
+            note.explain(alloc, name, table, texts.as_slice(), &fault);
             Err(Refusal::Build(fault))
         }
     }

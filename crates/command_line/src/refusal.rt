@@ -11,7 +11,7 @@ use command_words::WantOfMemory;
 use module::{BuildAndRunFault, BuildFault, InputsFault, RunFault};
 use std::alloc::{AllocError, AllocFailed};
 use std::fmt;
-use streams::NameFault;
+use streams::{NameFault, Reason};
 
 /// A refused command. Displays as its line on standard error.
 #[derive(Drop)]
@@ -21,8 +21,8 @@ pub enum Refusal {
     /// A replay is refused. Its text has rules of its own.
     Replay(RunFault),
     Inputs(InputsFault),
-    /// The file of that name was not read or not written.
-    File(String),
+    /// The file of that name was not read or not written, for that reason.
+    File(String, Reason),
     Memory,
     /// Standard output took no more bytes.
     Write,
@@ -34,7 +34,7 @@ impl Refusal {
         ensures { result ≡ of_file name fault }
     {
         match fault {
-            NameFault::Unavailable => Refusal::File(name),
+            NameFault::Unavailable(reason) => Refusal::File(name, reason),
             NameFault::Memory => Refusal::Memory,
         }
     }
@@ -48,7 +48,7 @@ impl fmt::Display for Refusal {
             Refusal::Build(fault) => write!(f, "mb: {fault}"),
             Refusal::Run(fault) | Refusal::Replay(fault) => write!(f, "mb: {fault}"),
             Refusal::Inputs(fault) => write!(f, "mb: {fault}"),
-            Refusal::File(name) => write!(f, "mb: file {name}"),
+            Refusal::File(name, _) => write!(f, "mb: file {name}"),
             Refusal::Memory => write!(f, "mb: memory"),
             Refusal::Write => write!(f, "mb: write"),
         }

@@ -8,6 +8,8 @@ use Rattle.image.specs.declared.fault.ImageFault.{ImageFault}
 use Rattle.image.specs.declared.fault.ImageFault.TheVariants as image
 use Rattle.apex_types.specs.declared.device.DeviceFault.{DeviceFault}
 use Rattle.apex_types.specs.declared.device.DeviceFault.TheVariants as device
+use Rattle.streams.specs.declared.names.Reason.{Reason}
+use Rattle.streams.specs.declared.names.Reason.TheVariants as reason
 use Rattle.explanations.specs.declared.sentences.CommandFault.{CommandFault}
 use Rattle.explanations.specs.declared.sentences.CommandFault.TheVariants as command
 
@@ -65,6 +67,14 @@ command_sentence command.Compile = codes "The program of the partition has more 
 command_sentence command.Ticks = codes "The number of ticks is above 1,099,511,627,776, which is 2^40."
 command_sentence command.Partition = codes "The image has no partition of this name."
 command_sentence command.Inputs = codes "More than 65,536 inputs come to the partition, and a replay text has no more lines."
-command_sentence command.File = codes "The file cannot be opened, read or written."
 command_sentence command.Memory = codes "Memory ran out; this says nothing about the files."
 command_sentence command.Write = codes "Standard output took no more bytes."
+
+-- a file that was not opened, read or written
+abbrev pub file_sentence : Reason → List ℕ
+file_sentence reason.Missing = codes "The file cannot be opened, read or written: nothing has this name."
+file_sentence reason.Folder = codes "The file cannot be opened, read or written: it is a folder."
+file_sentence reason.Denied = codes "The file cannot be opened, read or written: it is not allowed."
+file_sentence reason.Unwritable = codes "The file cannot be opened, read or written: nothing can be written there."
+file_sentence reason.WasRead = codes "The file is not written, because this command has read it."
+file_sentence reason.Other = codes "The file cannot be opened, read or written."

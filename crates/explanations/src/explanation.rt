@@ -1,14 +1,15 @@
-//! The explanation of a refused source.
+//! The explanations of a refused source and of a refused table.
 
-ghost use Rattle.std.specs.Prelude.{◌≡◌, IfOk, string_bytes};
-ghost use Rattle.explanations.specs.Explanation.{IsExplanationOf, place_line, sentence_line};
+ghost use Rattle.std.specs.Prelude.{◌≡◌, IfOk, IfSome, string_bytes};
+ghost use Rattle.explanations.specs.Explanation.{IsExplanationOf, IsTableExplanation, place_line, sentence_line};
 
 use crate::lines::{refused_line, shown};
 use crate::looking::looked_for;
-use crate::sentences::source_sentence;
+use crate::sentences::{source_sentence, table_sentence};
 use crate::sought::Sought;
 use pal_base::fault::{PalFault, Refusal};
 use std::alloc::{AllocError, Global};
+use window_table::TableFault;
 
 /// The explanation of a refusal of that source: a line with the sentence of the rule, and one with
 /// the text of the refused line and what was looked for there. A lack of memory has the sentence
@@ -29,6 +30,17 @@ pub fn explain_source(alloc: Global, source: &[u8], fault: PalFault) -> Result<S
             Ok(text)
         }
     }
+}
+
+/// The explanation of a refusal of that table: a line with the sentence of the rule, and the lines of
+/// what is wrong with it. `file` is its name. There is none if memory runs out.
+pub fn explain_table(alloc: Global, file: &str, table: &[u8], fault: TableFault) -> Option<String>
+    ensures { IfSome result
+        (λ text. IsTableExplanation file.now table.now fault (string_bytes text)) }
+{
+    let lines = table_findings::explain_table(alloc, file, table, fault)?;
+    let (sentence, lines) = (table_sentence(fault), lines.as_str());
+    format!(in alloc; "{sentence}\n{lines}").ok()
 }
 
 /// The sentence of the rule, on a line of its own.

@@ -2,11 +2,12 @@
 //! command is refused. The pages quote them word for word.
 
 ghost use Rattle.std.specs.Prelude.{◌≡◌};
-ghost use Rattle.explanations.specs.Sentences.{command_sentence, device_sentence, image_sentence, replay_sentence, source_sentence, table_sentence};
+ghost use Rattle.explanations.specs.Sentences.{command_sentence, device_sentence, file_sentence, image_sentence, replay_sentence, source_sentence, table_sentence};
 
 use apex_types::DeviceFault;
 use image::ImageFault;
 use pal_base::fault::Refusal;
+use streams::Reason;
 use window_table::TableFault;
 
 /// Why a command is refused that breaks no rule for a text or an image.
@@ -22,8 +23,6 @@ pub enum CommandFault {
     Partition,
     /// A partition gets more than 65,536 inputs.
     Inputs,
-    /// A file was not opened, read or written.
-    File,
     Memory,
     /// Standard output took no more bytes.
     Write,
@@ -145,8 +144,23 @@ pub fn command_sentence(fault: CommandFault) -> &'static str
         CommandFault::Inputs => {
             "More than 65,536 inputs come to the partition, and a replay text has no more lines."
         }
-        CommandFault::File => "The file cannot be opened, read or written.",
         CommandFault::Memory => "Memory ran out; this says nothing about the files.",
         CommandFault::Write => "Standard output took no more bytes.",
+    }
+}
+
+/// The sentence of a file that was not opened, read or written, for this reason.
+pub fn file_sentence(reason: Reason) -> &'static str
+    ensures { result.now ≡ file_sentence reason }
+{
+    match reason {
+        Reason::Missing => "The file cannot be opened, read or written: nothing has this name.",
+        Reason::Folder => "The file cannot be opened, read or written: it is a folder.",
+        Reason::Denied => "The file cannot be opened, read or written: it is not allowed.",
+        Reason::Unwritable => {
+            "The file cannot be opened, read or written: nothing can be written there."
+        }
+        Reason::WasRead => "The file is not written, because this command has read it.",
+        Reason::Other => "The file cannot be opened, read or written.",
     }
 }

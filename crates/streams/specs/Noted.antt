@@ -5,7 +5,7 @@ use Rattle.streams.specs.declared.names.NameFault.TheVariants.{Unavailable, Memo
 
 -- A call that fails notes its name; running out of memory is no failure of a file or text.
 abbrev pub IsNotedFault : List ℕ → List (List ℕ) → List (List ℕ) → NameFault → Type 0
-IsNotedFault name old new Unavailable = new ≡ old ++ name ∷ []
+IsNotedFault name old new (Unavailable reason) = new ≡ old ++ name ∷ []
 IsNotedFault name old new Memory = new ≡ old
 
 abbrev pub IsNoted : {X : Type 0} → List ℕ → List (List ℕ) → List (List ℕ) → Result X NameFault → Type 0

@@ -4,13 +4,15 @@
 
 mod files;
 mod names;
+mod read_names;
 mod sources;
 mod stream;
 mod writer;
 mod writing;
 
 pub use files::Files;
-pub use names::{FailedNames, NameFault};
+pub use names::{FailedNames, NameFault, Reason, reason_of};
+pub use read_names::ReadNames;
 pub use sources::Sources;
 pub use stream::Stream;
 pub use writer::WriterStream;

@@ -2,16 +2,46 @@
 
 ghost use Rattle.std.specs.Prelude.{◌≡◌, ◌++◌, ◌∷◌, [], OnOk, OnErr};
 ghost use Rattle.streams.specs.Names.{names_of};
+ghost use Rattle.streams.specs.Reasons.{reason_of};
 ghost use Rattle.streams.specs.Noted.{IsNotedFault};
 
 use std::alloc::{AllocError, Global};
 use std::io::ErrorKind;
 
+/// Why a file or text is not opened, read or written.
+#[derive(Clone, Copy, Debug, PartialEq, Eq)]
+pub enum Reason {
+    /// Nothing has this name.
+    Missing,
+    /// The name is that of a folder.
+    Folder,
+    /// It is not allowed.
+    Denied,
+    /// Nothing can be written there.
+    Unwritable,
+    /// It was read before, and so it is not written.
+    WasRead,
+    Other,
+}
+
+/// The reason for an error of this kind.
+pub fn reason_of(kind: ErrorKind) -> Reason
+    ensures { result ≡ reason_of kind }
+{
+    match kind {
+        ErrorKind::NotFound => Reason::Missing,
+        ErrorKind::IsADirectory => Reason::Folder,
+        ErrorKind::PermissionDenied => Reason::Denied,
+        ErrorKind::ReadOnlyFilesystem => Reason::Unwritable,
+        _ => Reason::Other,
+    }
+}
+
 /// Why a named file or text is not available.
 #[derive(Clone, Copy, Debug, PartialEq, Eq)]
 pub enum NameFault {
-    /// It cannot be opened, read or written.
-    Unavailable,
+    /// It is not opened, read or written.
+    Unavailable(Reason),
     Memory,
 }
 
@@ -44,13 +74,13 @@ impl FailedNames {
         }
     }
 
-    /// The fault of a call on a file or text of this name that is not available. Notes the name;
+    /// The fault of a call on a file or text of this name that is not available for this reason. Notes the name;
     /// the fault is `Memory` if there is no memory to note it.
-    pub fn unavailable(&mut self, alloc: Global, name: &str) -> NameFault
+    pub fn unavailable(&mut self, alloc: Global, name: &str, reason: Reason) -> NameFault
         ensures { IsNotedFault name.now (names_of self.old) (names_of self.new) result }
     {
         match self.note(alloc, name) {
-            Ok(()) => NameFault::Unavailable,
+            Ok(()) => NameFault::Unavailable(reason),
             Err(_) => NameFault::Memory,
         }
     }
@@ -62,7 +92,7 @@ impl FailedNames {
     {
         match kind {
             ErrorKind::OutOfMemory => NameFault::Memory,
-            _ => self.unavailable(alloc, name),
+            _ => self.unavailable(alloc, name, reason_of(kind)),
         }
     }
 }

@@ -12,7 +12,7 @@ use Rattle.view_command.specs.declared.views.ViewFault.TheVariants as view
 
 -- a text of this name was not opened
 abbrev pub of_source : String Global → NameFault → Refusal
-of_source called source.Unavailable = Open called
+of_source called (source.Unavailable reason) = Open called
 of_source called source.Memory = Memory
 
 -- a text of this name was not read on

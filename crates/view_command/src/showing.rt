@@ -100,7 +100,7 @@ pub fn of_source(name: String, fault: NameFault) -> Refusal
     ensures { result ≡ faults.of_source name fault }
 {
     match fault {
-        NameFault::Unavailable => Refusal::Open(name),
+        NameFault::Unavailable(_) => Refusal::Open(name),
         NameFault::Memory => Refusal::Memory,
     }
 }

@@ -25,7 +25,12 @@ pub use channels::{has_unknown_port, has_wrong_ends};
 pub use durations::{has_odd_period, has_short_period, has_wrong_window, lacks_release};
 pub use fault::TableFault;
 pub use few::ModulePartitions;
+pub use names::is_port_name;
 pub use read::read_table;
 pub use row::HasRow;
 pub use schedule::Schedule;
 pub use table::{ChannelRow, ModuleTable, PartitionRow};
+pub use written::{
+    WrittenChannel, WrittenKind, WrittenPartition, WrittenPort, WrittenTable, WrittenWindow,
+    read_written,
+};

@@ -126,7 +126,7 @@ pub fn partition_number(partitions: FewPartitions<'_>, name: &str) -> Option<Par
 
 /// Returns true if a text is the name of a port of a partition, as `partition.port`.
 #[tactic(auto, using(crate::proofs::PortNames::same_after))]
-fn is_port_name(text: &str, partition: &str, port: &str) -> bool
+pub fn is_port_name(text: &str, partition: &str, port: &str) -> bool
     ensures { result ≡ same text.now (partition.now ++ 46 ∷ port.now) }
 {
     match text.as_bytes().strip_prefix(partition.as_bytes()) {

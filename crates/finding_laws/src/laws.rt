@@ -1,0 +1,27 @@
+//! A rule is broken if and only if there is a finding.
+
+ghost use Rattle.std.specs.Prelude.{◌≡◌, false, map, nat_abs};
+ghost use Rattle.module_meaning.specs.Table.{has_odd_period};
+ghost use Rattle.module_meaning.specs.TableRules as rule;
+ghost use Rattle.finding_laws.specs.Any.{AreFew, has_any};
+ghost use Rattle.table_findings.specs.Limits.{limits};
+ghost use Rattle.table_findings.specs.Schedule.{odd_periods, overlaps};
+
+/// A table has a number, a count or a name outside its limits if and only if one is found. Its costs
+/// are not more than there are keys for them, as those of each document are.
+pub fn limits_are_found()
+    ensures { (t : rule.TableText) → AreFew t.costs → rule.exceeds_limits t ≡ has_any (limits t) }
+{}
+
+/// A window begins before the end of the one before it, or ends past the frame, if and only if one
+/// is found.
+pub fn overlaps_are_found()
+    ensures { (t : rule.TableText) → rule.overlaps t ≡ has_any (overlaps t) }
+{}
+
+/// In a table within its limits, a period does not divide the frame if and only if one is found.
+pub fn odd_periods_are_found()
+    ensures { (t : rule.TableText) → rule.exceeds_limits t ≡ false
+        → has_odd_period (nat_abs t.frame) (map rule.partition_row t.partitions)
+        ≡ has_any (odd_periods t) }
+{}

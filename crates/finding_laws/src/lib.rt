@@ -1,0 +1,7 @@
+//! Laws: a table breaks a rule if and only if a place is found where it does. The functions do
+//! nothing, and promise a law each.
+#![tactic(auto)]
+
+mod laws;
+
+pub use laws::{limits_are_found, odd_periods_are_found, overlaps_are_found};

@@ -1,0 +1,4 @@
+pub mod Texts
+pub mod Nearest
+pub mod Entries
+pub mod Views

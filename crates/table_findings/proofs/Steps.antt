@@ -1,0 +1,31 @@
+-- A loop that adds findings: those of the rest, behind those that it has added, are all of them.
+use Rattle.std.proofs.Common.{◌≡◌, ℕ, ◌+◌, ◌<◌, ◌≤◌, List, [], ◌∷◌, ◌++◌, length, drop, get_or, length-drop, sym, ap, ◌∙◌, arith}
+use Rattle.std.proofs.lemmas.List.{append_assoc, append-nil, drop_more, nil_from_length}
+use Rattle.std.proofs.Common.{take}
+use Rattle.std.proofs.lemmas.List.{take-map}
+use Rattle.toml.specs.declared.value.Value.{Value}
+use Rattle.table_findings.specs.declared.finding.Finding.{Finding}
+use Rattle.table_findings.specs.Views.{finding_of, findings_of}
+
+-- one turn: the first of the rest adds its own
+pub step : {X A : Type 0} (all rest : List X → List A) (own : X → List A) (xs others : List X) (x : X) (old new whole : List A) → ((y : X) (ys : List X) → all (y ∷ ys) ≡ own y ++ rest ys)
+    → old ++ all xs ≡ whole → xs ≡ x ∷ others → new ≡ old ++ own x → new ++ rest others ≡ whole
+step all rest own xs others x old new whole cons inv is grows =
+    ap (λ (a : List _). a ++ rest others) grows ∙ append_assoc old (own x) (rest others) ∙ ap (λ (a : List _). old ++ a) (sym (cons x others)) ∙ ap (λ (ys : List _). old ++ all ys) (sym is) ∙ inv
+
+-- the end: nothing is left
+pub done : {X A : Type 0} (all : List X → List A) (xs : List X) (old whole : List A) → all [] ≡ [] → old ++ all xs ≡ whole → xs ≡ [] → old ≡ whole
+done all xs old whole nil inv is = sym (append-nil old) ∙ ap (λ (a : List _). old ++ a) (sym nil) ∙ ap (λ (ys : List _). old ++ all ys) (sym is) ∙ inv
+
+-- the next of several values, and what is left after the last
+pub next_value : (vs : List Value) (i : ℕ) (v : Value) → v ≡ get_or vs i v → i < length vs → drop i vs ≡ v ∷ drop (i + 1) vs
+next_value vs i v is here = drop_more vs i v here ∙ ap (λ (x : Value). x ∷ drop (i + 1) vs) (sym is)
+
+pub all_seen : {X : Type 0} (xs : List X) (i : ℕ) → length xs ≤ i → drop i xs ≡ []
+all_seen xs i h = nil_from_length (drop i xs) (omega (arith, length-drop i xs))
+
+pub append_nil : {A : Type 0} (xs : List A) → xs ++ [] ≡ xs
+append_nil xs = append-nil xs
+
+pub findings_taken : (n : ℕ) (fs : List Finding) → findings_of (take n fs) ≡ take n (findings_of fs)
+findings_taken n fs = sym (take-map finding_of n fs)

@@ -1,0 +1,9 @@
+use Rattle.std.proofs.Common.{◌≡◌, ◌++◌, drop}
+use Rattle.toml.specs.View.{items_view}
+use Rattle.table_findings.specs.Shape.{each, port}
+use Rattle.table_findings.specs.Views.{findings_of, row_of}
+use Rattle.table_findings.proofs.forms.ports.Given as goal
+
+abbrev pub invariant-loop-index : goal.invariant-loop-index
+invariant-loop-index l =
+    findings_of l.found.items ++ each (port (row_of l.partition)) l.index (items_view (drop l.index l.values)) ≡ findings_of l.fn.found.items ++ each (port (row_of l.partition)) 0 (items_view l.values)

@@ -1,0 +1,10 @@
+use Rattle.std.proofs.Common.{◌≡◌, ◌++◌, drop, map}
+use Rattle.table_findings.specs.Names.{same_ports_from}
+use Rattle.table_findings.specs.Views.{findings_of}
+use Rattle.window_table.specs.Views.{partition_text}
+use Rattle.table_findings.proofs.repeated.same_ports.Given as goal
+
+abbrev pub invariant-loop-index : goal.invariant-loop-index
+invariant-loop-index l =
+    findings_of l.found.items ++ same_ports_from l.index (map partition_text (drop l.index l.partitions))
+    ≡ findings_of l.fn.found.items ++ same_ports_from 0 (map partition_text l.partitions)

@@ -1,0 +1,49 @@
+-- The findings of a table as `--explain` shows them.
+use Rattle.std.specs.Prelude.{ℕ, ◌-◌, Bool, true, false, if◌then◌else◌, List, [], ◌∷◌, ◌++◌, codes, drop, flat_map, length, Option, Some, None, take}
+use Rattle.std.specs.Fmt.{decimal}
+use Rattle.places.specs.Entries.{Entry, Path, first_at, key}
+use Rattle.places.specs.Texts.{column_of, line_of, marked_line}
+use Rattle.table_findings.specs.Findings.{Finding, Missing, Unknown, What}
+use Rattle.table_findings.specs.Phrases.{advice, finding_text}
+use Rattle.table_findings.specs.Subjects.{subject_path}
+
+-- ---- the place of a finding
+
+abbrev pub key_step : Option (List ℕ) → Path
+key_step None = []
+key_step (Some k) = key k ∷ []
+
+-- the key path of a finding
+abbrev pub finding_path : Finding → Path
+finding_path f = subject_path f.subject ++ key_step f.key
+
+-- what is found is about the key, or about its value
+abbrev pub is_of_key : What → Bool
+is_of_key (Missing _ _) = true
+is_of_key (Unknown _) = true
+is_of_key what = false
+
+-- how much of the text is left at the place of a finding; all of it, if the text has no entry there
+abbrev pub left_at : ℕ → What → Option Entry → ℕ
+left_at whole what None = whole
+left_at whole what (Some e) = if is_of_key what then e.key_left else e.value_left
+
+-- how much of a text with these entries is before the place of a finding
+abbrev pub offset_of : List ℕ → List Entry → Finding → ℕ
+offset_of text es f = length text - left_at (length text) f.what (first_at (finding_path f) es)
+
+-- ---- its lines
+
+abbrev pub heading : List ℕ → List ℕ → List ℕ → List ℕ
+heading file before finding = file ++ (codes ":" ++ (decimal (line_of before) ++ (codes ":" ++ (decimal (column_of before) ++ (codes ": " ++ (finding ++ codes "\n"))))))
+
+-- the finding with its place, the line around it with the mark, and the advice
+abbrev pub lines_at : List ℕ → List ℕ → ℕ → Finding → List ℕ
+lines_at file text offset f = heading file (take offset text) (finding_text f) ++ (marked_line (take offset text) (drop offset text) ++ (advice f.key f.what ++ codes "\n"))
+
+abbrev pub finding_lines : List ℕ → List ℕ → List Entry → Finding → List ℕ
+finding_lines file text es f = lines_at file text (offset_of text es f) f
+
+-- the lines of the first twenty findings
+abbrev pub findings_text : List ℕ → List ℕ → List Entry → List Finding → List ℕ
+findings_text file text es found = flat_map (finding_lines file text es) (take 20 found)

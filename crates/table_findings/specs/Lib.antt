@@ -1,0 +1,15 @@
+pub mod Any
+pub mod Durations
+pub mod Ends
+pub mod Explained
+pub mod Fields
+pub mod Findings
+pub mod Health
+pub mod Limits
+pub mod Names
+pub mod Phrases
+pub mod Refused
+pub mod Schedule
+pub mod Shape
+pub mod Subjects
+pub mod Views
