@@ -1,5 +1,5 @@
 -- From the outcome of a command to its exit status.
-use Rattle.std.proofs.Common.{◌≡◌, ◌⊎◌, inl, inr, ℕ, ◌+◌, ◌-◌, ◌^◌, ◌<◌, Bool, true, false, List, [], Some, Result, Ok, Err, refl, sym, ap, subst, ◌∙◌, arith}
+use Rattle.std.proofs.Common.{◌≡◌, ◌⊎◌, inl, inr, ℕ, ◌+◌, ◌-◌, ◌^◌, ◌<◌, Bool, true, false, List, [], ◌∷◌, Some, Result, Ok, Err, refl, sym, ap, subst, ◌∙◌, arith}
 use Rattle.std.specs.Prelude.{IfErr, OnOk}
 use Rattle.clap.specs.Faults.{is_simple_and_free}
 use Rattle.clap.specs.Kinds.{Kinds, IsAmong}
@@ -14,7 +14,7 @@ use Rattle.command_words.proofs.ErrorKinds.{help_or}
 use Rattle.command_line.specs.Answers.{AreNoCommand, IsAnswer, IsTold}
 use Rattle.command_line.specs.Done.{IsDone}
 use Rattle.command_line.specs.Lines.{line_of}
-use Rattle.command_line.specs.Orders.{Order, First, Check, Build, Run, Replay, Inputs, Cost, Dis, Upgrade}
+use Rattle.command_line.specs.Orders.{Order, First, Check, Build, Run, Replay, Inputs, Cost, Dis, Upgrade, Load}
 use Rattle.command_line.specs.Refusals.{IsFailure, IsFailureOfWords, IsRefused, IsWrongTicks}
 use Rattle.command_line.specs.States.{IsSilent, State, state}
 use Rattle.command_line.specs.Told.{IsOfFailedFile}
@@ -42,6 +42,8 @@ memory_refused (Inputs image partition devices ticks) s = (inr refl, (refl, (ref
 memory_refused (Cost table sources) s = ((refl, (refl, refl)), tt)
 memory_refused (Dis image) s = ((refl, (refl, refl)), tt)
 memory_refused (Upgrade old new) s = ((refl, refl), inl (refl, tt))
+memory_refused (Load form table []) s = ((refl, (refl, refl)), tt)
+memory_refused (Load form table (source ∷ sources)) s = ((refl, (refl, refl)), tt)
 
 -- words that the library takes, whose order is not done
 pub order_failed : (kinds : Kinds) (own order : Order) (before after : State) (answer : Result (Unit {0}) (Failure Refusal)) → kinds ≡ [] → own ≡ order

@@ -19,7 +19,9 @@ use Rattle.module.specs.declared.fault.BuildAndRunFault.{BuildAndRunFault}
 use Rattle.module.specs.declared.inputs_fault.InputsFault.{InputsFault}
 use Rattle.module.specs.declared.fault.RunFault.{RunFault}
 use Rattle.streams.specs.Contents.{Contents, Holds, HoldAll, Spares}
-use Rattle.command_line.specs.Orders.{Order, First, Check, Build, Run, Replay, Inputs, Cost, Dis, Upgrade}
+use Rattle.command_line.specs.Orders.{Order, First, Check, Build, Run, Replay, Inputs, Cost, Dis, Upgrade, Load}
+use Rattle.command_line.specs.Loading.{AreLoaded, IsLoadOfText, IsShown}
+use Rattle.schedule_load.specs.declared.load.FrameLoad.{FrameLoad}
 use Rattle.command_line.specs.States.{State}
 use Rattle.command_line.specs.declared.first_run.TheConstants.{SOURCE, TABLE, TICKS}
 
@@ -41,6 +43,11 @@ pub record IsBuilt (files : Option Contents) (table : List ℕ) (sources : List 
 pub record AreCosted (files : Option Contents) (table : List ℕ) (sources : List (List ℕ)) (costs : List PartitionCosts) : Type 0 where
   pub texts : Texts files table sources
   pub costed : AreCosts texts.table_text texts.source_texts costs
+
+-- The load of a table; of a table with its sources, all of them accepted.
+abbrev pub IsLoadIn : Option Contents → List ℕ → List (List ℕ) → FrameLoad → Type 0
+IsLoadIn files table [] load = (text : List ℕ) × Holds files table text × IsLoadOfText text load
+IsLoadIn files table (source ∷ sources) load = (texts : Texts files table (source ∷ sources)) × AreLoaded texts.table_text texts.source_texts load
 
 -- This image, in the file of this name.
 pub record IsImageIn (files : Option Contents) (name : List ℕ) (image : Image) : Type 0 where
@@ -124,6 +131,9 @@ IsDone (Cost table sources) before after =
     (after.files ≡ before.files) × (costs : List PartitionCosts) × AreCosted before.files table sources costs × Appends before.out.taken after.out.taken (costs_text costs)
 IsDone (Dis name) before after =
     (after.files ≡ before.files) × (image : Image) × IsImageIn before.files name image × Appends before.out.taken after.out.taken (code_text image)
+IsDone (Load form table sources) before after =
+    (after.files ≡ before.files) × ((load : FrameLoad) × IsLoadIn before.files table sources load)
+    × (text : List ℕ) × IsShown form text × Appends before.out.taken after.out.taken text
 IsDone (Upgrade old new) before after =
     (bytes : List ℕ) × IsUpgradedIn before.files old bytes × Holds after.files new bytes × Spares new before.files after.files
     × Appends before.out.taken after.out.taken (upgraded_text (length bytes))

@@ -2,6 +2,7 @@ pub mod Answers
 pub mod Done
 pub mod Explained
 pub mod Lines
+pub mod Loading
 pub mod Orders
 pub mod Reading
 pub mod Refusals

@@ -3,6 +3,8 @@ use Rattle.std.specs.Prelude.{ℕ, Bool, false, List, Some, None, if◌then◌el
 use Rattle.std.specs.Str.{bytes_eq}
 use Rattle.clap.specs.Walk.{Row}
 use Rattle.command_words.specs.Found.{Entered, word_at, words_at}
+use Rattle.command_line.specs.declared.form.Form.{Form}
+use Rattle.command_line.specs.declared.form.Form.TheVariants.{Tables, Rows, Picture}
 
 -- files and partitions are named; ticks are a word
 pub data Order : Type 0 where
@@ -15,6 +17,7 @@ pub data Order : Type 0 where
   Cost : (table : List ℕ) (sources : List (List ℕ)) → Order
   Dis : (image : List ℕ) → Order
   Upgrade : (old : List ℕ) (new : List ℕ) → Order
+  Load : (form : Form) (table : List ℕ) (sources : List (List ℕ)) → Order
 
 abbrev pub check_of : List Row → Order
 check_of rows = Check (word_at (codes "TABLE") rows) (words_at (codes "SOURCE") rows)
@@ -40,6 +43,17 @@ dis_of rows = Dis (word_at (codes "IMAGE") rows)
 abbrev pub upgrade_of : List Row → Order
 upgrade_of rows = Upgrade (word_at (codes "OLD") rows) (word_at (codes "NEW") rows)
 
+-- a flag that was entered
+abbrev pub is_flagged : List ℕ → List Row → Bool
+is_flagged name rows = bytes_eq (word_at name rows) (codes "true")
+
+-- with both flags the picture
+abbrev pub form_of : List Row → Form
+form_of rows = if is_flagged (codes "svg") rows then Picture else if is_flagged (codes "csv") rows then Rows else Tables
+
+abbrev pub load_of : List Row → Order
+load_of rows = Load (form_of rows) (word_at (codes "TABLE") rows) (words_at (codes "SOURCE") rows)
+
 -- a command by its name
 abbrev pub order_named : List ℕ → List Row → Order
 order_named name rows =
@@ -51,6 +65,7 @@ order_named name rows =
     else if bytes_eq name (codes "cost") then cost_of rows
     else if bytes_eq name (codes "dis") then dis_of rows
     else if bytes_eq name (codes "upgrade") then upgrade_of rows
+    else if bytes_eq name (codes "load") then load_of rows
     else First
 
 -- without a command the stored module

@@ -21,8 +21,10 @@ use Rattle.module.specs.declared.inputs_fault.InputsFault.TheVariants as input_f
 use Rattle.module.specs.declared.fault.RunFault.{RunFault}
 use Rattle.module.specs.declared.fault.RunFault.TheVariants as faults
 use Rattle.streams.specs.Contents.{Contents, Holds, Spares}
-use Rattle.command_line.specs.Done.{Texts, IsBuilt, AreCosted, IsImageIn, IsUpgradedIn, ImageAndText, IsRunOf, IsRunDone, IsReplayOf, IsReplayDone, AreInputsOf, AreInputsDone, IsFirstRun, is_ok}
-use Rattle.command_line.specs.Orders.{Order, First as first, Check as check, Build as build, Run as run, Replay as replay, Inputs as inputs, Cost as cost, Dis as dis, Upgrade as upgrade}
+use Rattle.command_line.specs.Done.{Texts, IsBuilt, AreCosted, IsLoadIn, IsImageIn, IsUpgradedIn, ImageAndText, IsRunOf, IsRunDone, IsReplayOf, IsReplayDone, AreInputsOf, AreInputsDone, IsFirstRun, is_ok}
+use Rattle.command_line.specs.Orders.{Order, First as first, Check as check, Build as build, Run as run, Replay as replay, Inputs as inputs, Cost as cost, Dis as dis, Upgrade as upgrade, Load as load}
+use Rattle.command_line.specs.Loading.{IsRefusedTable}
+use Rattle.schedule_load.specs.declared.load.FrameLoad.{FrameLoad}
 use Rattle.command_line.specs.States.{IsSilent, IsUntouched, State}
 use Rattle.command_line.specs.declared.refusal.Refusal.{Refusal}
 use Rattle.command_line.specs.declared.refusal.Refusal.TheVariants.{Build, Run, Replay, Inputs, File, Memory, Write}
@@ -59,6 +61,18 @@ IsNotCosted files table sources (File name reason) = IsFirstUnread files (table 
 IsNotCosted files table sources (Build fault) = (texts : Texts files table sources) × IsCostRefusal texts.table_text texts.source_texts fault
 IsNotCosted files table sources Memory = Unit {0}
 IsNotCosted files table sources _ = ⊥
+
+-- why no table is taken of the file of this name
+abbrev pub IsNoTableIn : Option Contents → List ℕ → Refusal → Type 0
+IsNoTableIn files name (File shown) = string_bytes shown ≡ name
+IsNoTableIn files name (Build fault) = (text : List ℕ) × Holds files name text × IsRefusedTable text (Build fault)
+IsNoTableIn files name Memory = Unit {0}
+IsNoTableIn files name _ = ⊥
+
+-- why there is no load of the table, and of the sources if any are named
+abbrev pub IsNotLoadedFrom : Option Contents → List ℕ → List (List ℕ) → Refusal → Type 0
+IsNotLoadedFrom files table [] r = IsNoTableIn files table r
+IsNotLoadedFrom files table (source ∷ sources) r = IsNotCosted files table (source ∷ sources) r
 
 -- why no image is loaded of the file of this name
 abbrev pub IsNotLoaded : Option Contents → List ℕ → Refusal → Type 0
@@ -149,6 +163,11 @@ IsCostRefused table sources before after Write =
     × (costs : List PartitionCosts) × AreCosted before.files table sources costs × TakesBeginning before.out.taken after.out.taken (costs_text costs)
 IsCostRefused table sources before after r = IsUntouched before after × IsNotCosted before.files table sources r
 
+abbrev pub IsLoadRefused : List ℕ → List (List ℕ) → State → State → Refusal → Type 0
+IsLoadRefused table sources before after Write =
+    HasFailed before.out after.out × (after.files ≡ before.files) × ((load : FrameLoad) × IsLoadIn before.files table sources load)
+IsLoadRefused table sources before after r = IsUntouched before after × IsNotLoadedFrom before.files table sources r
+
 abbrev pub IsDisRefused : List ℕ → State → State → Refusal → Type 0
 IsDisRefused name before after Write =
     HasFailed before.out after.out × (after.files ≡ before.files)
@@ -167,6 +186,7 @@ IsRefused first before after r = (after.files ≡ before.files) × IsStoredRefus
 IsRefused (check table sources) before after r = IsCheckRefused table sources before after r
 IsRefused (build table image sources) before after r = IsBuildRefused table image sources before after r
 IsRefused (cost table sources) before after r = IsCostRefused table sources before after r
+IsRefused (load form table sources) before after r = IsLoadRefused table sources before after r
 IsRefused (dis image) before after r = IsDisRefused image before after r
 IsRefused (upgrade old new) before after r = IsUpgradeRefused old new before after r
 IsRefused (run image devices ticks) before after r =

@@ -10,6 +10,10 @@ use Rattle.command_words.specs.Grammar.{flag_rule, word_rule}
 abbrev pub sources_rule : Rule
 sources_rule = record (new_rule (codes "SOURCE")) { required = true; range = Some (record { start_inclusive = 1; end_inclusive = usize_max }); action = Some Append }
 
+-- as many words as are given, or none
+abbrev pub any_sources_rule : Rule
+any_sources_rule = record (new_rule (codes "SOURCE")) { range = Some (record { start_inclusive = 1; end_inclusive = usize_max }); action = Some Append }
+
 -- the flag that asks for an explanation of a refusal
 abbrev pub explain_rule : Rule
 explain_rule = flag_rule (codes "explain")
@@ -46,7 +50,11 @@ dis_app = with_rule (explained_app (codes "dis")) (word_rule (codes "IMAGE"))
 abbrev pub upgrade_app : App
 upgrade_app = with_rule (with_rule (explained_app (codes "upgrade")) (word_rule (codes "OLD"))) (word_rule (codes "NEW"))
 
+abbrev pub load_app : App
+load_app =
+    with_rule (with_rule (with_rule (with_rule (explained_app (codes "load")) (flag_rule (codes "csv"))) (flag_rule (codes "svg"))) (word_rule (codes "TABLE"))) any_sources_rule
+
 abbrev pub mb_app : App
 mb_app =
-    with_subcommand (with_subcommand (with_subcommand (with_subcommand (with_subcommand (with_subcommand (with_subcommand (with_subcommand
-    (new_app (codes "mb")) check_app.top) build_app.top) run_app.top) replay_app.top) inputs_app.top) cost_app.top) dis_app.top) upgrade_app.top
+    with_subcommand (with_subcommand (with_subcommand (with_subcommand (with_subcommand (with_subcommand (with_subcommand (with_subcommand (with_subcommand
+    (new_app (codes "mb")) check_app.top) build_app.top) run_app.top) replay_app.top) inputs_app.top) cost_app.top) dis_app.top) upgrade_app.top) load_app.top

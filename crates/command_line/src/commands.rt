@@ -2,9 +2,11 @@
 
 ghost use Rattle.std.specs.Prelude.{◌≡◌, ◌-◌, ◌^◌, ◌<◌, [], map, false, IfErr, OnOk};
 ghost use Rattle.clap.specs.Faults.{fault_of};
+ghost use Rattle.clap.specs.Matches.{found_of};
 ghost use Rattle.clap.specs.Simple.{subcommand_of, subcommand_rows_of};
+ghost use Rattle.clap.specs.Walk.{rows_of};
 ghost use Rattle.command_line.specs.Done.{IsDone};
-ghost use Rattle.command_line.specs.Orders.{Build, Check, Upgrade, asks, order_of};
+ghost use Rattle.command_line.specs.Orders.{Build, Check, Upgrade, asks, form_of, order_of};
 ghost use Rattle.command_line.specs.Refusals.{IsBuildRefused, IsCheckRefused, IsFailure, IsFailureOfWords, IsUpgradeRefused};
 ghost use Rattle.command_line.specs.States.{state};
 ghost use Rattle.command_line.specs.Told.{IsOfFailed, IsOfFailedFile};
@@ -12,7 +14,9 @@ ghost use Rattle.streams.specs.States.{IsFlushed, seen};
 ghost use Rattle.command_line.specs.Words.{mb_app};
 
 use crate::explaining::Note;
+use crate::form::Form;
 use crate::grammar::grammar;
+use crate::loading::load;
 use crate::reading::{build_named, upgrade_named};
 use crate::refusal::Refusal;
 use crate::replaying::{inputs, replay};
@@ -127,7 +131,25 @@ fn obey<F: Files, O: Stream>(
             let (old, new) = (word(found, "OLD"), word(found, "NEW"));
             Ok(upgrade(alloc, old, new, files, out)?)
         }
+        Some(("load", found)) => {
+            let table = word(found, "TABLE");
+            let sources = found.get_strs("SOURCE").unwrap_or(&[]);
+            Ok(load(alloc, form_of(found), table, sources, files, out, note)?)
+        }
         _ => Ok(run_stored(alloc, out)?),
+    }
+}
+
+/// How a load is to be shown.
+fn form_of(found: &ArgMatches<'_>) -> Form
+    ensures { result ≡ form_of (rows_of (found_of found.now)) }
+{
+    if word(found, "svg").as_bytes() == b"true".as_slice() {
+        Form::Picture
+    } else if word(found, "csv").as_bytes() == b"true".as_slice() {
+        Form::Rows
+    } else {
+        Form::Tables
     }
 }
 

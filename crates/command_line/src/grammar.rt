@@ -6,7 +6,7 @@ ghost use Rattle.clap.specs.Values.{kind_of};
 ghost use Rattle.clap.specs.Walk.{rule_of};
 ghost use Rattle.clap.specs.declared.error.kind.ErrorKind.TheVariants.{ValueValidation};
 ghost use Rattle.command_words.specs.Grammar.{IsCommand};
-ghost use Rattle.command_line.specs.Words.{sources_rule, explained_app, check_app, build_app, run_app, partition_app, replay_app, inputs_app, cost_app, dis_app, upgrade_app, mb_app};
+ghost use Rattle.command_line.specs.Words.{sources_rule, explained_app, check_app, build_app, run_app, partition_app, replay_app, inputs_app, cost_app, dis_app, upgrade_app, load_app, any_sources_rule, mb_app};
 
 use clap::error::ErrorKind;
 use clap::{Arg, ArgAction, Command, Error};
@@ -25,7 +25,8 @@ pub fn grammar<'a>(alloc: Global) -> Result<Command<'a>, AllocError>
         .subcommand(inputs(alloc)?)?
         .subcommand(cost(alloc)?)?
         .subcommand(dis(alloc)?)?
-        .subcommand(upgrade(alloc)?)
+        .subcommand(upgrade(alloc)?)?
+        .subcommand(load(alloc)?)
 }
 
 /// The program without its commands.
@@ -148,6 +149,18 @@ fn upgrade<'a>(alloc: Global) -> Result<Command<'a>, AllocError>
         ))
 }
 
+fn load<'a>(alloc: Global) -> Result<Command<'a>, AllocError>
+    ensures { IfOk result (λ command. IsCommand command load_app) }
+{
+    explained(alloc, "load")?
+        .about("Writes whose the ticks of the frame are, and with sources what each body costs")
+        .after_help("Example: mb load table.toml a.pal b.pal")
+        .arg(flag(alloc, "csv", "Writes one table of comma-separated values"))?
+        .arg(flag(alloc, "svg", "Writes a picture of the frame"))?
+        .arg(required_word(alloc, "TABLE", "The file of the module table"))?
+        .arg(any_sources(alloc))
+}
+
 /// A command on one partition of an image.
 fn of_partition<'a>(alloc: Global, name: &'a str) -> Result<Command<'a>, AllocError>
     ensures { IfOk result (λ command. IsCommand command (partition_app name.entry.now)) }
@@ -170,6 +183,16 @@ fn sources<'a>(alloc: Global) -> Arg<'a>
 {
     Arg::new(alloc, "SOURCE")
         .required(true)
+        .num_args(1..)
+        .action(ArgAction::Append)
+        .help("The file of each partition's source, in the order of the table")
+}
+
+fn any_sources<'a>(alloc: Global) -> Arg<'a>
+    ensures rule { rule_of result ≡ any_sources_rule }
+    ensures local { result.global ≡ false }
+{
+    Arg::new(alloc, "SOURCE")
         .num_args(1..)
         .action(ArgAction::Append)
         .help("The file of each partition's source, in the order of the table")

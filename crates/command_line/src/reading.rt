@@ -36,7 +36,11 @@ pub fn read<F: Files>(alloc: Global, name: &str, files: &mut F) -> Result<Vec<u8
 }
 
 /// The bytes of the files of these names, in their order.
-fn read_all<F: Files>(alloc: Global, names: &[&str], files: &mut F) -> Result<Vec<Vec<u8>>, Refusal>
+pub fn read_all<F: Files>(
+    alloc: Global,
+    names: &[&str],
+    files: &mut F,
+) -> Result<Vec<Vec<u8>>, Refusal>
     ensures held { IfOk result
         (λ texts.
         HoldAll (F.contents files.old) (map (λ s. s.now) names.now) (texts_of texts.items)) }
@@ -186,7 +190,7 @@ fn upgraded(alloc: Global, bytes: &[u8]) -> Result<Vec<u8>, RunFault>
 }
 
 /// Each of them as a slice.
-fn slices<'a>(alloc: Global, sources: &'a [Vec<u8>]) -> Result<Vec<&'a [u8]>, AllocError>
+pub fn slices<'a>(alloc: Global, sources: &'a [Vec<u8>]) -> Result<Vec<&'a [u8]>, AllocError>
     ensures { IfOk result (λ slices. map (λ s. s.now) slices.items ≡ texts_of sources.now) }
 {
     let mut slices = Vec::with_capacity(alloc, sources.len())?;

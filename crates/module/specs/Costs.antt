@@ -14,7 +14,10 @@ use Rattle.pal.specs.declared.report.BodyName.TheVariants as body
 use Rattle.pal_meaning.specs.Grammar.{IsProgramOf}
 use Rattle.module_meaning.specs.Accepted.{IsTable}
 use Rattle.module.specs.Refusals.{IsRefusal, IsRefusedWith}
+use Rattle.module.specs.Sources.{AreSources}
+use Rattle.window_table.specs.Views.{table_of}
 use Rattle.pal_base.specs.declared.checked.Checked.{Checked}
+use Rattle.module.specs.declared.costing.AcceptedModule.{AcceptedModule}
 use Rattle.module.specs.declared.costing.PartitionCosts.{PartitionCosts}
 use Rattle.module.specs.declared.fault.BuildFault.{BuildFault}
 use Rattle.module.specs.declared.fault.BuildFault.TheVariants as fault
@@ -67,7 +70,14 @@ pub record AreCosts (table : List ℕ) (sources : List (List ℕ)) (costs : List
   pub accepted : IsTable table rows
   pub costed : AreCosted rows.costs rows.partitions sources costs
 
--- ---- the costs of accepted sources
+-- ---- accepted sources
+
+-- The table and the sources are accepted, and this is what the code holds of them.
+pub record IsAcceptedModule (table : List ℕ) (sources : List (List ℕ)) (a : AcceptedModule) : Type 0 where
+  pub accepted : IsTable table (table_of a.table)
+  pub programs : AreSources (table_of a.table).partitions sources a.sources.items
+
+-- ---- their costs
 
 pub record IsCostOf (costs : Costs) (row : Partition) (a : Checked) (c : PartitionCosts) : Type 0 where
   pub partition : c.partition ≡ row.name

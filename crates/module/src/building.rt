@@ -38,12 +38,16 @@ pub fn build(alloc: Global, table: &[u8], sources: &[&[u8]]) -> Result<Vec<u8>, 
     ensures refused { IfErr result
         (λ fault. IsRefusal table.now (map (λ s. s.now) sources.now) fault) }
 {
-    let table = read(alloc, table)?;
+    let table = accept_table(alloc, table)?;
     build_table(alloc, table, sources)
 }
 
 /// The module table that the text is.
-pub fn read(alloc: Global, text: &[u8]) -> Result<ModuleTable, BuildFault>
+///
+/// # Errors
+///
+/// The lowest rule that the text breaks, or `Memory`.
+pub fn accept_table(alloc: Global, text: &[u8]) -> Result<ModuleTable, BuildFault>
     ensures table { IfOk result (λ table. IsTable text.now (table_of table)) }
     ensures refused { IfErr result (λ fault. IsTableRefusal text.now fault) }
 {

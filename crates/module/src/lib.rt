@@ -31,8 +31,8 @@ mod ticks;
 mod upgrading;
 mod watching;
 
-pub use building::build;
-pub use costing::{PartitionCosts, costs};
+pub use building::{accept_table, build};
+pub use costing::{AcceptedModule, PartitionCosts, accept_module, costs};
 pub use fault::{BuildAndRunFault, BuildFault, RunFault};
 pub use inputs_fault::InputsFault;
 pub use load_fault::LoadFault;

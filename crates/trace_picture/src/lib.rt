@@ -18,8 +18,17 @@ mod rows;
 mod shape;
 mod style;
 
-pub use drawing::Drawing;
+pub use axis::{Axis, LEFT, LONG};
+pub use bars::{Bar, bar_attributes, draw_text};
+pub use drawing::{Drawing, WIDE};
+pub use element::{Attribute, Key, Tag, Value, at, moved, set, view};
 pub use escaped::push_escaped;
 pub use fault::PictureFault;
+pub use frame::draw_axis;
+pub use length::Length;
+pub use marks::REPORT;
+pub use page::Page;
 pub use picture::Picture;
+pub use rows::{FIRST_ROW, ROW};
 pub use shape::MOST_SHAPES;
+pub use style::draw_style;

@@ -27,6 +27,7 @@ mod traffic;
 mod usage;
 mod writing;
 
+pub use cell::{Cell, cell_text};
 pub use errors::ErrorTotal;
 pub use extent::Extent;
 pub use extremes::Extremes;
@@ -38,4 +39,5 @@ pub use report::{PartitionTotal, ProcessTotal, Report, RouteTotal};
 pub use share::Share;
 pub use states::StateTicks;
 pub use summary::Summary;
+pub use table::Table;
 pub use tally::{Tally, Turn};

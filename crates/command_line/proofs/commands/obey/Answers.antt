@@ -11,7 +11,7 @@ use Rattle.command_line.specs.States.{state}
 use Rattle.command_words.specs.declared.failure.Failure.TheVariants.{Refused}
 use Rattle.command_words.specs.Found.{words_at}
 use Rattle.command_words.proofs.Found.{words_are}
-use Rattle.command_line.proofs.Found.{check_is, build_is, run_is, replay_is, inputs_is, cost_is, dis_is, upgrade_is, other_is, none_entered}
+use Rattle.command_line.proofs.Found.{check_is, build_is, run_is, replay_is, inputs_is, cost_is, dis_is, upgrade_is, load_is, other_is, none_entered}
 use Rattle.command_line.proofs.Ran.{told_as}
 use Rattle.command_line.proofs.commands.obey.Goals.{in_default-via-in-Some+in_default, in_default-via-in_default}
 use Rattle.command_line.proofs.commands.obey.Goals as goal
@@ -77,6 +77,19 @@ returns-in_err-upgrade-in-Some-upgrade-default-clause-failed g c =
     told_as _ (Refused r) c.from_residual-in_err-upgrade-in-Some-upgrade-default.result c.from_residual-in_err-upgrade-in-Some-upgrade-default.ensures
     (subst (λ o. IsRefused o before after r) (sym order) c.in_err-upgrade-in-Some-upgrade-default.ensures.refused)
 
+pub returns-in_err-load-in-Some-load-default-clause-failed : goal.returns-in_err-load-in-Some-load-default-clause-failed
+returns-in_err-load-in-Some-load-default-clause-failed g c =
+    let before = state (g.F.Files.contents c.args.files.now) (seen g.O.Sink.taken g.O.Sink.failures g.O.Stream.is_flushed c.args.out.now) in
+    let after = state (g.F.Files.contents c.load.new.files) (seen g.O.Sink.taken g.O.Sink.failures g.O.Stream.is_flushed c.load.new.out) in
+    let arm = c.in-Some-load-default in
+    let rows = rows_of (found_of arm.found.now) in
+    let sources : map (λ s. s.now) c.unwrap_or-sources-in-Some-load-default.result.now ≡ words_at (codes "SOURCE") rows =
+    words_are (found_of arm.found.now) (codes "SOURCE") c.get_strs-in-Some-load-default.result _ c.unwrap_or-sources-in-Some-load-default.result c.get_strs-in-Some-load-default.ensures (search rules) c.unwrap_or-sources-in-Some-load-default.ensures in
+    let order = load_is c.args.matches.now arm.field-0-0.now rows c.form_of.result c.word-table-in-Some-load-default.result.now (map (λ s. s.now) c.unwrap_or-sources-in-Some-load-default.result.now) arm.ensures.name arm.ensures.rows arm.is-load c.form_of.ensures c.word-table-in-Some-load-default.ensures sources in
+    let r = c.in_err-load-in-Some-load-default.field-0.0 in
+    told_as _ (Refused r) c.from_residual-in_err-load-in-Some-load-default.result c.from_residual-in_err-load-in-Some-load-default.ensures
+    (subst (λ o. IsRefused o before after r) (sym order) c.in_err-load-in-Some-load-default.ensures.refused)
+
 pub returns-in_ok-check-in-Some-check-default-clause-done : goal.returns-in_ok-check-in-Some-check-default-clause-done
 returns-in_ok-check-in-Some-check-default-clause-done g c =
     let before = state (g.F.Files.contents c.args.files.now) (seen g.O.Sink.taken g.O.Sink.failures g.O.Stream.is_flushed c.args.out.now) in
@@ -128,6 +141,17 @@ returns-in_ok-upgrade-in-Some-upgrade-default-clause-done g c =
     let order = upgrade_is c.args.matches.now arm.field-0-0.now rows c.word-old.result.now c.word-new.result.now arm.ensures.name arm.ensures.rows arm.is-upgrade c.word-old.ensures c.word-new.ensures in
     subst (λ o. IsDone o before after) (sym order) c.in_ok-upgrade-in-Some-upgrade-default.ensures.done
 
+pub returns-in_ok-load-in-Some-load-default-clause-done : goal.returns-in_ok-load-in-Some-load-default-clause-done
+returns-in_ok-load-in-Some-load-default-clause-done g c =
+    let before = state (g.F.Files.contents c.args.files.now) (seen g.O.Sink.taken g.O.Sink.failures g.O.Stream.is_flushed c.args.out.now) in
+    let after = state (g.F.Files.contents c.load.new.files) (seen g.O.Sink.taken g.O.Sink.failures g.O.Stream.is_flushed c.load.new.out) in
+    let arm = c.in-Some-load-default in
+    let rows = rows_of (found_of arm.found.now) in
+    let sources : map (λ s. s.now) c.unwrap_or-sources-in-Some-load-default.result.now ≡ words_at (codes "SOURCE") rows =
+    words_are (found_of arm.found.now) (codes "SOURCE") c.get_strs-in-Some-load-default.result _ c.unwrap_or-sources-in-Some-load-default.result c.get_strs-in-Some-load-default.ensures (search rules) c.unwrap_or-sources-in-Some-load-default.ensures in
+    let order = load_is c.args.matches.now arm.field-0-0.now rows c.form_of.result c.word-table-in-Some-load-default.result.now (map (λ s. s.now) c.unwrap_or-sources-in-Some-load-default.result.now) arm.ensures.name arm.ensures.rows arm.is-load c.form_of.ensures c.word-table-in-Some-load-default.ensures sources in
+    subst (λ o. IsDone o before after) (sym order) c.in_ok-load-in-Some-load-default.ensures.done
+
 pub returns-in-Some-run-default-clause-done : goal.returns-in-Some-run-default-clause-done
 returns-in-Some-run-default-clause-done g c =
     let before = state (g.F.Files.contents c.args.files.now) (seen g.O.Sink.taken g.O.Sink.failures g.O.Stream.is_flushed c.args.out.now) in
@@ -163,7 +187,7 @@ returns-in_err-run_stored-in_default-clause-failed g c =
     let before = state (g.F.Files.contents c.args.files.now) (seen g.O.Sink.taken g.O.Sink.failures g.O.Stream.is_flushed c.args.out.now) in
     let after = state (g.F.Files.contents c.args.files.now) (seen g.O.Sink.taken g.O.Sink.failures g.O.Stream.is_flushed c.run_stored.new.out) in
     let order : order_of (subcommand_rows_of c.args.matches.now) ≡ First = elim c.in_default.branch [
-      | in_default-via-in-Some+in_default w ↦ other_is c.args.matches.now w.in_default.field-0.0.now (rows_of (found_of w.in_default.field-0.1.now)) (search (rules, c.subcommand.ensures.name)) (search (rules, c.subcommand.ensures.rows)) (search rules) (search rules) (search rules) (search rules) (search rules) (search rules) (search rules) (search rules)
+      | in_default-via-in-Some+in_default w ↦ other_is c.args.matches.now w.in_default.field-0.0.now (rows_of (found_of w.in_default.field-0.1.now)) (search (rules, c.subcommand.ensures.name)) (search (rules, c.subcommand.ensures.rows)) (search rules) (search rules) (search rules) (search rules) (search rules) (search rules) (search rules) (search rules) (search rules)
       | in_default-via-in_default w ↦ none_entered c.args.matches.now (search (rules, c.subcommand.ensures.name))
     ] in
     let r = c.in_err-run_stored-in_default.field-0.0 in
@@ -175,7 +199,7 @@ returns-in_ok-run_stored-in_default-clause-done g c =
     let before = state (g.F.Files.contents c.args.files.now) (seen g.O.Sink.taken g.O.Sink.failures g.O.Stream.is_flushed c.args.out.now) in
     let after = state (g.F.Files.contents c.args.files.now) (seen g.O.Sink.taken g.O.Sink.failures g.O.Stream.is_flushed c.run_stored.new.out) in
     let order : order_of (subcommand_rows_of c.args.matches.now) ≡ First = elim c.in_default.branch [
-      | in_default-via-in-Some+in_default w ↦ other_is c.args.matches.now w.in_default.field-0.0.now (rows_of (found_of w.in_default.field-0.1.now)) (search (rules, c.subcommand.ensures.name)) (search (rules, c.subcommand.ensures.rows)) (search rules) (search rules) (search rules) (search rules) (search rules) (search rules) (search rules) (search rules)
+      | in_default-via-in-Some+in_default w ↦ other_is c.args.matches.now w.in_default.field-0.0.now (rows_of (found_of w.in_default.field-0.1.now)) (search (rules, c.subcommand.ensures.name)) (search (rules, c.subcommand.ensures.rows)) (search rules) (search rules) (search rules) (search rules) (search rules) (search rules) (search rules) (search rules) (search rules)
       | in_default-via-in_default w ↦ none_entered c.args.matches.now (search (rules, c.subcommand.ensures.name))
     ] in
     subst (λ o. IsDone o before after) (sym order) (refl, c.in_ok-run_stored-in_default.ensures.done)

@@ -1,0 +1,12 @@
+//! How a load is shown.
+
+/// How a load is shown.
+#[derive(Clone, Copy, Debug, PartialEq, Eq)]
+pub enum Form {
+    /// Tables for people.
+    Tables,
+    /// Comma-separated values.
+    Rows,
+    /// A picture of the frame, an SVG.
+    Picture,
+}

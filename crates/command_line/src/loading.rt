@@ -1,0 +1,183 @@
+//! The load of a schedule.
+
+ghost use Rattle.std.specs.Prelude.{◌≡◌, ◌-◌, ◌^◌, ◌<◌, map, IfOk, IfErr, OnOk};
+ghost use Rattle.command_line.specs.Done.{IsDone, IsLoadIn};
+ghost use Rattle.command_line.specs.Loading.{AreLoaded, IsLoadOfText, IsRefusedTable, IsShown};
+ghost use Rattle.command_line.specs.Orders.{Load};
+ghost use Rattle.command_line.specs.Reading.{IsUncostedText, texts_of};
+ghost use Rattle.command_line.specs.Refusals.{IsLoadRefused, IsNotLoadedFrom};
+ghost use Rattle.command_line.specs.States.{state};
+ghost use Rattle.command_line.specs.Told.{IsOfFailed};
+ghost use Rattle.streams.specs.States.{IsFlushed, seen};
+ghost use Rattle.window_table.specs.Views.{table_of};
+ghost use Rattle.schedule_load.specs.Load.{IsLoadOf};
+
+use crate::explaining::Note;
+use crate::form::Form;
+use crate::reading::{read, read_all, slices};
+use crate::refusal::Refusal;
+use load_views::{LoadReport, PartitionBodies};
+use module::{AcceptedModule, accept_module, accept_table};
+use pal::Checked;
+use schedule_load::{FrameLoad, body_loads, frame_load};
+use std::alloc::{AllocError, Global};
+use streams::{Files, Stream, write_bytes};
+use trace_view::ReportFault;
+use window_table::ModuleTable;
+
+/// The load of a module table, and of the bodies of its sources if these are given.
+#[derive(Drop)]
+struct Loaded {
+    table: ModuleTable,
+    load: FrameLoad,
+    bodies: Vec<PartitionBodies>,
+}
+
+/// Shows the load of a module table, and what the bodies of its sources cost if these are named.
+pub fn load<F: Files, O: Stream>(
+    alloc: Global,
+    form: Form,
+    table: &str,
+    sources: &[&str],
+    files: &mut F,
+    out: &mut O,
+    note: &mut Note,
+) -> Result<(), Refusal>
+    requires { O.failures out.old < 2 ^ 64 - 1 }
+    ensures done { OnOk result
+        (IsDone (Load form table.now (map (λ s. s.now) sources.now))
+        (state (F.contents files.old) (seen O.taken O.failures O.is_flushed out.old))
+        (state (F.contents files.new) (seen O.taken O.failures O.is_flushed out.new))) }
+    ensures flushed { OnOk result
+        (IsFlushed (seen O.taken O.failures O.is_flushed out.old)
+        (seen O.taken O.failures O.is_flushed out.new)) }
+    ensures refused { IfErr result
+        (λ r. IsLoadRefused table.now (map (λ s. s.now) sources.now)
+        (state (F.contents files.old) (seen O.taken O.failures O.is_flushed out.old))
+        (state (F.contents files.new) (seen O.taken O.failures O.is_flushed out.new)) r) }
+    ensures noted { OnOk result (F.failed files.new ≡ F.failed files.old) }
+    ensures named { IfErr result (λ r. IsOfFailed (F.failed files.old) (F.failed files.new) r) }
+{
+    let loaded = loaded_named(alloc, table, sources, files, note)?;
+    let text = shown(alloc, form, &loaded)?;
+    Ok(write_bytes(out, text.as_slice())?)
+}
+
+/// The load of the table, with its sources if there are any, in the files of these names. A refusal
+/// is explained in `note`.
+fn loaded_named<F: Files>(
+    alloc: Global,
+    table: &str,
+    sources: &[&str],
+    files: &mut F,
+    note: &mut Note,
+) -> Result<Loaded, Refusal>
+    ensures loaded { IfOk result
+        (λ loaded.
+        IsLoadIn (F.contents files.old) table.now (map (λ s. s.now) sources.now) loaded.load) }
+    ensures refused { IfErr result
+        (λ r. IsNotLoadedFrom (F.contents files.old) table.now (map (λ s. s.now) sources.now) r) }
+    ensures unchanged { F.contents files.new ≡ F.contents files.old }
+    ensures noted { OnOk result (F.failed files.new ≡ F.failed files.old) }
+    ensures named { IfErr result (λ r. IsOfFailed (F.failed files.old) (F.failed files.new) r) }
+{
+    let table = read(alloc, table, files)?;
+    match sources.split_first() {
+        None => load_of_text(alloc, table.as_slice(), note),
+        Some(_) => {
+            let sources = read_all(alloc, sources, files)?;
+            load_of_texts(alloc, table.as_slice(), sources.as_slice(), note)
+        }
+    }
+}
+
+/// The load of a table.
+fn load_of_text(alloc: Global, table: &[u8], note: &mut Note) -> Result<Loaded, Refusal>
+    ensures loaded { IfOk result (λ loaded. IsLoadOfText table.now loaded.load) }
+    ensures refused { IfErr result (λ r. IsRefusedTable table.now r) }
+{
+    match accept_table(alloc, table) {
+        Ok(accepted) => Ok(loaded(alloc, accepted, Vec::new(alloc))?),
+        Err(fault) => {
+            note.explain(alloc, table, &[], &fault);
+            Err(Refusal::Build(fault))
+        }
+    }
+}
+
+/// The load of a table and its sources.
+fn load_of_texts(
+    alloc: Global,
+    table: &[u8],
+    sources: &[Vec<u8>],
+    note: &mut Note,
+) -> Result<Loaded, Refusal>
+    ensures loaded { IfOk result (λ loaded. AreLoaded table.now (texts_of sources.now) loaded.load) }
+    ensures refused { IfErr result (λ r. IsUncostedText table.now (texts_of sources.now) r) }
+{
+    let texts = slices(alloc, sources)?;
+    match accept_module(alloc, table, texts.as_slice()) {
+        Ok(AcceptedModule { table, sources }) => Ok(loaded(alloc, table, sources)?),
+        Err(fault) => {
+            note.explain(alloc, table, texts.as_slice(), &fault);
+            Err(Refusal::Build(fault))
+        }
+    }
+}
+
+/// The load of an accepted table and accepted sources.
+fn loaded(alloc: Global, table: ModuleTable, sources: Vec<Checked>) -> Result<Loaded, AllocError>
+    ensures { IfOk result (λ loaded. IsLoadOf (table_of table) loaded.load) }
+{
+    let load = frame_load(alloc, &table)?;
+    let bodies = bodies_of(alloc, &table, sources.as_slice())?;
+    Ok(Loaded {
+        table,
+        load,
+        bodies,
+    })
+}
+
+/// The costs of the bodies of accepted sources, for the partitions in their order.
+fn bodies_of(
+    alloc: Global,
+    table: &ModuleTable,
+    sources: &[Checked],
+) -> Result<Vec<PartitionBodies>, AllocError> {
+    let mut bodies = Vec::with_capacity(alloc, sources.len())?;
+    let mut place = 0usize;
+    for source in sources {
+        let Some(row) = table.partitions.get(place) else {
+            break;
+        };
+        bodies.push(PartitionBodies {
+            partition: row.name,
+            bodies: body_loads(alloc, &table.costs, &source.program)?,
+        })?;
+        place += 1;
+    }
+    Ok(bodies)
+}
+
+/// The text of a load.
+fn shown(alloc: Global, form: Form, loaded: &Loaded) -> Result<Vec<u8>, AllocError>
+    ensures { IfOk result (λ text. IsShown form text.items) }
+{
+    let report = LoadReport {
+        load: &loaded.load,
+        windows: loaded.table.schedule.windows.as_slice(),
+        bodies: loaded.bodies.as_slice(),
+    };
+    let mut text = Vec::new(alloc);
+    match form {
+        Form::Tables => report.write_table(alloc, &mut text).map_err(no_memory)?,
+        Form::Rows => report.write_csv(alloc, &mut text).map_err(no_memory)?,
+        Form::Picture => text.extend_from_slice(report.picture(alloc)?.as_bytes())?,
+    }
+    Ok(text)
+}
+
+/// Bytes in memory take all that is written, unless memory runs out.
+fn no_memory(_: ReportFault) -> AllocError {
+    AllocError
+}

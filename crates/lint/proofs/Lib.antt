@@ -1,0 +1,6 @@
+pub mod Adding
+pub mod Blocks
+pub mod Naming
+pub mod UnderWay
+pub mod Pieces
+pub mod Waits

@@ -1,0 +1,14 @@
+pub mod Calls
+pub mod Services
+pub mod Views
+pub mod Uses
+pub mod Seen
+pub mod Ports
+pub mod Arrays
+pub mod Lives
+pub mod Slow
+pub mod Unused
+pub mod Findings
+pub mod Listed
+pub mod Sentences
+pub mod Pieces

@@ -1,0 +1,73 @@
+-- The text of findings: the exact bytes of each line, and the exit status.
+use Rattle.std.specs.Prelude.{ℕ, ◌==◌, Bool, not, List, [], ◌∷◌, ◌++◌, length, flat_map, codes, if◌then◌else◌}
+use Rattle.std.specs.List.{list_any}
+use Rattle.std.specs.Fmt.{decimal}
+use Rattle.lint.specs.declared.finding.Finding.{Finding}
+use Rattle.lint.specs.declared.finding.FindingKind.{FindingKind}
+use Rattle.lint.specs.declared.finding.FindingKind.TheVariants as finding
+use Rattle.lint.specs.declared.report.PartitionFindings.{PartitionFindings}
+
+-- what is said in front of the name that a finding is about
+abbrev pub opening : FindingKind → List ℕ
+opening finding.UnknownPort = codes "the table has no port "
+opening finding.FitsAnother = codes "the ports fit another partition better: "
+opening finding.UndeclaredPort = codes "the table has a port that is not declared: "
+opening finding.WrongKind = codes "the service is for ports of the other kind than "
+opening finding.WrongDirection = codes "the service is for ports of the other direction than "
+opening finding.SmallArray = codes "messages may be longer than the array "
+opening finding.NeverCreated = codes "nothing creates "
+opening finding.HandlerNeverCreated = codes "nothing creates the handler"
+opening finding.NeverStarted = codes "nothing starts "
+opening finding.NeverNormal = codes "INIT does not enter NORMAL"
+opening finding.NoPeriodicWait = codes "nothing waits for the next release of "
+opening finding.WaitInInit = codes "INIT calls a service that waits: "
+opening finding.UnusedVariable = codes "no statement names the variable "
+opening finding.UnusedProcedure = codes "no statement calls the procedure "
+opening finding.UnusedParameter = codes "no statement names the parameter "
+opening finding.AboveCapacity = codes "the time capacity is below the cost of "
+
+-- what to do about it
+abbrev pub advice : FindingKind → List ℕ
+advice finding.UnknownPort = codes "add it to the partition, or take the declaration out"
+advice finding.FitsAnother = codes "give the sources in the order of the partitions in the table"
+advice finding.UndeclaredPort = codes "declare it, or take it out of the table"
+advice finding.WrongKind = codes "call the service for its kind"
+advice finding.WrongDirection = codes "send to a source port, receive from a destination port"
+advice finding.SmallArray = codes "give it as many words as the messages have"
+advice finding.NeverCreated = codes "create it in INIT, or take the declaration out"
+advice finding.HandlerNeverCreated = codes "call CREATE_ERROR_HANDLER in INIT"
+advice finding.NeverStarted = codes "start it in INIT, or take it out"
+advice finding.NeverNormal = codes "call SET_PARTITION_MODE(3) at the end of INIT"
+advice finding.NoPeriodicWait = codes "call PERIODIC_WAIT at the end of each round"
+advice finding.WaitInInit = codes "leave the wait to a process, or give the time-out 0"
+advice finding.UnusedVariable = codes "take it out"
+advice finding.UnusedProcedure = codes "take it out"
+advice finding.UnusedParameter = codes "take it out, and the arguments of its calls"
+advice finding.AboveCapacity = codes "raise the time capacity, or let the body do less"
+
+-- the line in the source, if the finding has one
+abbrev pub place_text : ℕ → List ℕ
+place_text line = if line == 0 then [] else codes " line " ++ decimal line
+
+-- the line of a finding of this partition
+abbrev pub finding_line : List ℕ → Finding → List ℕ
+finding_line partition f = partition ++ place_text f.line ++ codes ": " ++ opening f.kind ++ f.subject.now ++ codes "; " ++ advice f.kind ++ 10 ∷ []
+
+-- the lines of the findings of a partition
+abbrev pub partition_text : PartitionFindings → List ℕ
+partition_text p = flat_map (finding_line p.partition.now) p.findings.items
+
+-- the text of all findings: the partitions in their order
+abbrev pub findings_text : List PartitionFindings → List ℕ
+findings_text found = flat_map partition_text found
+
+-- something is found in a partition, or in any of them
+abbrev pub has_finding : PartitionFindings → Bool
+has_finding p = not (length p.findings.items == 0)
+
+abbrev pub have_findings : List PartitionFindings → Bool
+have_findings found = list_any has_finding found
+
+-- the exit status: 3 if something is found in any partition, else 0
+abbrev pub status : List PartitionFindings → ℕ
+status found = if have_findings found then 3 else 0

@@ -1,0 +1,86 @@
+//! Findings.
+
+ghost use Rattle.std.specs.Prelude.{◌≡◌, ◌++◌, OnOk};
+ghost use Rattle.lint.specs.Views.{found_all, found_of, if_so, unless};
+
+use std::alloc::AllocError;
+
+/// What is probably not meant.
+#[derive(Clone, Copy, Debug, PartialEq, Eq)]
+pub enum FindingKind {
+    /// A port is declared that the partition's row has not.
+    UnknownPort,
+    /// The row of the named partition lacks fewer of the declared ports than the partition's own.
+    FitsAnother,
+    /// The row has a port that the source does not declare.
+    UndeclaredPort,
+    /// A call on a port is for ports of the other kind.
+    WrongKind,
+    /// A call on a port is for ports of the other direction.
+    WrongDirection,
+    /// A service stores messages in an array that is smaller than they may be.
+    SmallArray,
+    /// No call creates what is declared.
+    NeverCreated,
+    /// No call creates the handler.
+    HandlerNeverCreated,
+    /// No call may start the process.
+    NeverStarted,
+    /// No call in INIT or in a procedure may enter NORMAL.
+    NeverNormal,
+    /// A periodic process has no call of PERIODIC_WAIT, nor has a procedure.
+    NoPeriodicWait,
+    /// INIT calls a service that waits.
+    WaitInInit,
+    /// No statement names a variable or an array; or a local, in its body.
+    UnusedVariable,
+    /// No statement names a procedure.
+    UnusedProcedure,
+    /// No statement of its body names a parameter.
+    UnusedParameter,
+    /// The body of a process costs more than its time capacity, each construct counted once.
+    AboveCapacity,
+}
+
+/// A finding: its line in the source, from 1, or 0 if it is about the row of the table; what is
+/// probably not meant; and the name that it is about, which is empty for INIT and the handler.
+#[derive(Clone, Copy, Debug)]
+pub struct Finding<'a> {
+    pub line: u32,
+    pub kind: FindingKind,
+    pub subject: &'a str,
+}
+
+/// Adds a finding if something is so.
+pub fn add_if<'a>(
+    so: bool,
+    finding: Finding<'a>,
+    findings: &mut Vec<Finding<'a>>,
+) -> Result<(), AllocError>
+    ensures { OnOk result
+        (found_all findings.new.items
+        ≡ found_all findings.old.items ++ if_so so (found_of finding.entry)) }
+{
+    if !so {
+        return Ok(());
+    }
+    findings.push(finding)?;
+    Ok(())
+}
+
+/// Adds a finding unless something is so.
+pub fn add_unless<'a>(
+    so: bool,
+    finding: Finding<'a>,
+    findings: &mut Vec<Finding<'a>>,
+) -> Result<(), AllocError>
+    ensures { OnOk result
+        (found_all findings.new.items
+        ≡ found_all findings.old.items ++ unless so (found_of finding.entry)) }
+{
+    if so {
+        return Ok(());
+    }
+    findings.push(finding)?;
+    Ok(())
+}

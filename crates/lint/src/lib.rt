@@ -1,0 +1,26 @@
+//! What of a module is accepted and probably not meant: findings in a source, each with its place.
+//!
+//! A finding says that a stated condition on the text holds. Nothing else is concluded.
+#![tactic(auto)]
+
+mod arrays;
+mod calls;
+mod finding;
+mod gathering;
+mod lives;
+mod names;
+mod port_rules;
+mod report;
+mod sentence;
+mod services;
+mod slow;
+mod unused;
+mod uses;
+mod wanted;
+mod writing;
+
+pub use finding::{Finding, FindingKind};
+pub use gathering::findings;
+pub use report::{PartitionFindings, have_findings, partition_findings, status};
+pub use slow::slow_processes;
+pub use writing::write_findings;

@@ -1,0 +1,58 @@
+//! Findings as sentences.
+
+ghost use Rattle.std.specs.Prelude.{◌≡◌};
+ghost use Rattle.lint.specs.Sentences.{advice, opening};
+
+use crate::finding::FindingKind;
+
+impl FindingKind {
+    /// What is said in front of the name that a finding is about.
+    pub fn opening(self) -> &'static str
+        ensures { result.now ≡ opening self }
+    {
+        match self {
+            FindingKind::UnknownPort => "the table has no port ",
+            FindingKind::FitsAnother => "the ports fit another partition better: ",
+            FindingKind::UndeclaredPort => "the table has a port that is not declared: ",
+            FindingKind::WrongKind => "the service is for ports of the other kind than ",
+            FindingKind::WrongDirection => "the service is for ports of the other direction than ",
+            FindingKind::SmallArray => "messages may be longer than the array ",
+            FindingKind::NeverCreated => "nothing creates ",
+            FindingKind::HandlerNeverCreated => "nothing creates the handler",
+            FindingKind::NeverStarted => "nothing starts ",
+            FindingKind::NeverNormal => "INIT does not enter NORMAL",
+            FindingKind::NoPeriodicWait => "nothing waits for the next release of ",
+            FindingKind::WaitInInit => "INIT calls a service that waits: ",
+            FindingKind::UnusedVariable => "no statement names the variable ",
+            FindingKind::UnusedProcedure => "no statement calls the procedure ",
+            FindingKind::UnusedParameter => "no statement names the parameter ",
+            FindingKind::AboveCapacity => "the time capacity is below the cost of ",
+        }
+    }
+
+    /// What to do about it.
+    pub fn advice(self) -> &'static str
+        ensures { result.now ≡ advice self }
+    {
+        match self {
+            FindingKind::UnknownPort => "add it to the partition, or take the declaration out",
+            FindingKind::FitsAnother => {
+                "give the sources in the order of the partitions in the table"
+            }
+            FindingKind::UndeclaredPort => "declare it, or take it out of the table",
+            FindingKind::WrongKind => "call the service for its kind",
+            FindingKind::WrongDirection => "send to a source port, receive from a destination port",
+            FindingKind::SmallArray => "give it as many words as the messages have",
+            FindingKind::NeverCreated => "create it in INIT, or take the declaration out",
+            FindingKind::HandlerNeverCreated => "call CREATE_ERROR_HANDLER in INIT",
+            FindingKind::NeverStarted => "start it in INIT, or take it out",
+            FindingKind::NeverNormal => "call SET_PARTITION_MODE(3) at the end of INIT",
+            FindingKind::NoPeriodicWait => "call PERIODIC_WAIT at the end of each round",
+            FindingKind::WaitInInit => "leave the wait to a process, or give the time-out 0",
+            FindingKind::UnusedVariable => "take it out",
+            FindingKind::UnusedProcedure => "take it out",
+            FindingKind::UnusedParameter => "take it out, and the arguments of its calls",
+            FindingKind::AboveCapacity => "raise the time capacity, or let the body do less",
+        }
+    }
+}

@@ -1,0 +1,535 @@
+//! Variables, procedures and parameters that no statement names.
+
+ghost use Rattle.std.specs.Prelude.{◌≡◌, ◌++◌, ◌∷◌, [], map, flat_map, option_map, OnOk, IfOk};
+ghost use Rattle.pal_base.specs.View.{texts, id_text, name_of, expr_of, exprs_of, links_of, kind_of, block_of, body_of, stack_body_of, process_of, declaration_of, declared_of};
+ghost use Rattle.pal_base.specs.WrittenView.{program_of};
+ghost use Rattle.lint.specs.Unused as meant;
+ghost use Rattle.lint.specs.Views.{found_all, names_seen};
+
+use crate::finding::{Finding, FindingKind, add_unless};
+use crate::names::{is_same_name, text_of};
+use indexmap::IndexSet;
+use pal_base::syntax::{
+    Body, Declaration, DeclarationKind, Expr, Identifier, Link, NameId, Process, Program,
+    StackBody, Stmt, StmtKind,
+};
+use std::alloc::{AllocError, Global};
+
+/// Adds a name.
+fn add_name(
+    names: &IndexSet<String>,
+    used: &mut Vec<NameId>,
+    name: Identifier,
+) -> Result<(), AllocError>
+    ensures { OnOk result
+        (names_seen (texts names.now.keys) used.new.items
+        ≡ names_seen (texts names.now.keys) used.old.items
+        ++ name_of (texts names.now.keys) name ∷ []) }
+{
+    used.push(name.name)?;
+    Ok(())
+}
+
+/// Adds the targets of a service.
+#[tactic(auto, using(std::proofs::lemmas::List::drop_more))]
+fn add_targets(
+    names: &IndexSet<String>,
+    used: &mut Vec<NameId>,
+    targets: &[Identifier],
+) -> Result<(), AllocError>
+    ensures { OnOk result
+        (names_seen (texts names.now.keys) used.new.items
+        ≡ names_seen (texts names.now.keys) used.old.items
+        ++ map (name_of (texts names.now.keys)) targets.now) }
+{
+    for target in targets {
+        add_name(names, used, *target)?;
+    }
+    Ok(())
+}
+
+/// Adds the names that stand in an expression.
+#[cycle(expression_names)]
+fn add_expression(
+    names: &IndexSet<String>,
+    used: &mut Vec<NameId>,
+    expression: &Expr,
+) -> Result<(), AllocError>
+    ensures { OnOk result
+        (names_seen (texts names.now.keys) used.new.items
+        ≡ names_seen (texts names.now.keys) used.old.items
+        ++ meant.names_in (expr_of (texts names.now.keys) expression.now)) }
+{
+    match expression {
+        Expr::Number(_) => Ok(()),
+        Expr::Name(name) => add_name(names, used, *name),
+        Expr::Element(array, index) => {
+            add_name(names, used, *array)?;
+            add_expression(names, used, index)
+        }
+        Expr::Apply(procedure, arguments) => {
+            add_name(names, used, *procedure)?;
+            add_expressions(names, used, arguments)
+        }
+        Expr::Parenthesis(inside) => add_expression(names, used, inside),
+        Expr::Unary(_, operand) => add_expression(names, used, operand),
+        Expr::Chain(first, rest) => {
+            add_expression(names, used, first)?;
+            add_links(names, used, rest)
+        }
+    }
+}
+
+/// Adds the names that stand in expressions.
+#[cycle(expression_names)]
+fn add_expressions(
+    names: &IndexSet<String>,
+    used: &mut Vec<NameId>,
+    expressions: &[Expr],
+) -> Result<(), AllocError>
+    ensures { OnOk result
+        (names_seen (texts names.now.keys) used.new.items
+        ≡ names_seen (texts names.now.keys) used.old.items
+        ++ meant.names_in_exprs (exprs_of (texts names.now.keys) expressions.now)) }
+{
+    for expression in expressions {
+        add_expression(names, used, expression)?;
+    }
+    Ok(())
+}
+
+/// Adds the names that stand in the operands of operators.
+#[cycle(expression_names)]
+fn add_links(
+    names: &IndexSet<String>,
+    used: &mut Vec<NameId>,
+    links: &[Link],
+) -> Result<(), AllocError>
+    ensures { OnOk result
+        (names_seen (texts names.now.keys) used.new.items
+        ≡ names_seen (texts names.now.keys) used.old.items
+        ++ meant.names_in_links (links_of (texts names.now.keys) links.now)) }
+{
+    for link in links {
+        add_expression(names, used, &link.operand)?;
+    }
+    Ok(())
+}
+
+/// Adds the names that stand in a statement.
+#[cycle(statement_names)]
+fn add_statement(
+    names: &IndexSet<String>,
+    used: &mut Vec<NameId>,
+    statement: &StmtKind,
+) -> Result<(), AllocError>
+    ensures { OnOk result
+        (names_seen (texts names.now.keys) used.new.items
+        ≡ names_seen (texts names.now.keys) used.old.items
+        ++ meant.names_in_stmt (kind_of (texts names.now.keys) statement.now)) }
+{
+    match statement {
+        StmtKind::Assign(target, value) => {
+            add_name(names, used, *target)?;
+            add_expression(names, used, value)
+        }
+        StmtKind::AssignElement(array, index, value) => {
+            add_name(names, used, *array)?;
+            add_expression(names, used, index)?;
+            add_expression(names, used, value)
+        }
+        StmtKind::If(test, block) => {
+            add_expression(names, used, test)?;
+            add_block(names, used, block)
+        }
+        StmtKind::IfElse(test, block, other) => {
+            add_expression(names, used, test)?;
+            add_block(names, used, block)?;
+            add_block(names, used, other)
+        }
+        StmtKind::While(test, block) => {
+            add_expression(names, used, test)?;
+            add_block(names, used, block)
+        }
+        StmtKind::Work(_) => Ok(()),
+        StmtKind::Return(value) => add_expression(names, used, value),
+        StmtKind::CallService(_, arguments, targets) => {
+            add_expressions(names, used, arguments)?;
+            add_targets(names, used, targets)
+        }
+    }
+}
+
+/// Adds the names that stand in a block.
+#[cycle(statement_names)]
+fn add_block(
+    names: &IndexSet<String>,
+    used: &mut Vec<NameId>,
+    block: &[Stmt],
+) -> Result<(), AllocError>
+    ensures { OnOk result
+        (names_seen (texts names.now.keys) used.new.items
+        ≡ names_seen (texts names.now.keys) used.old.items
+        ++ meant.names_in_block (block_of (texts names.now.keys) block.now)) }
+{
+    for statement in block {
+        add_statement(names, used, &statement.kind)?;
+    }
+    Ok(())
+}
+
+/// Adds the names that stand in the statements of a body.
+fn add_body(names: &IndexSet<String>, used: &mut Vec<NameId>, body: &Body) -> Result<(), AllocError>
+    ensures { OnOk result
+        (names_seen (texts names.now.keys) used.new.items
+        ≡ names_seen (texts names.now.keys) used.old.items
+        ++ meant.names_of (body_of (texts names.now.keys) body.now)) }
+{
+    add_block(names, used, &body.statements)
+}
+
+/// Adds the names that stand in the handler, if there is one.
+fn add_handler(
+    names: &IndexSet<String>,
+    used: &mut Vec<NameId>,
+    handler: &Option<StackBody>,
+) -> Result<(), AllocError>
+    ensures { OnOk result
+        (names_seen (texts names.now.keys) used.new.items
+        ≡ names_seen (texts names.now.keys) used.old.items
+        ++ meant.names_of_handler (option_map (stack_body_of (texts names.now.keys)) handler.now)) }
+{
+    match handler {
+        Some(handler) => add_body(names, used, &handler.body),
+        None => Ok(()),
+    }
+}
+
+/// Adds the names that stand in processes.
+#[tactic(auto, using(std::proofs::lemmas::List::drop_more))]
+fn add_processes(
+    names: &IndexSet<String>,
+    used: &mut Vec<NameId>,
+    processes: &[Process],
+) -> Result<(), AllocError>
+    ensures { OnOk result
+        (names_seen (texts names.now.keys) used.new.items
+        ≡ names_seen (texts names.now.keys) used.old.items
+        ++ meant.names_of_processes (map (process_of (texts names.now.keys)) processes.now)) }
+{
+    for process in processes {
+        add_body(names, used, &process.body)?;
+    }
+    Ok(())
+}
+
+/// Adds the names that stand in a procedure, if the declaration is one.
+fn add_procedure(
+    names: &IndexSet<String>,
+    used: &mut Vec<NameId>,
+    kind: &DeclarationKind,
+) -> Result<(), AllocError>
+    ensures { OnOk result
+        (names_seen (texts names.now.keys) used.new.items
+        ≡ names_seen (texts names.now.keys) used.old.items
+        ++ meant.names_of_kind (declared_of (texts names.now.keys) kind.now)) }
+{
+    match kind {
+        DeclarationKind::Procedure { body, .. } => add_body(names, used, body),
+        DeclarationKind::Variable(_) => Ok(()),
+        DeclarationKind::Array { .. } => Ok(()),
+        DeclarationKind::Semaphore { .. } => Ok(()),
+        DeclarationKind::Event => Ok(()),
+        DeclarationKind::Buffer { .. } => Ok(()),
+        DeclarationKind::Blackboard { .. } => Ok(()),
+        DeclarationKind::Port => Ok(()),
+    }
+}
+
+/// Adds the names that stand in the procedures among declarations.
+#[tactic(auto, using(std::proofs::lemmas::List::drop_more))]
+fn add_procedures(
+    names: &IndexSet<String>,
+    used: &mut Vec<NameId>,
+    declarations: &[Declaration],
+) -> Result<(), AllocError>
+    ensures { OnOk result
+        (names_seen (texts names.now.keys) used.new.items
+        ≡ names_seen (texts names.now.keys) used.old.items
+        ++ meant.names_of_procedures
+        (map (declaration_of (texts names.now.keys)) declarations.now)) }
+{
+    for declaration in declarations {
+        add_procedure(names, used, &declaration.kind)?;
+    }
+    Ok(())
+}
+
+/// The names that stand in the bodies of a program.
+fn all_names(alloc: Global, program: &Program) -> Result<Vec<NameId>, AllocError>
+    ensures { IfOk result
+        (λ used. names_seen (texts program.now.names.keys) used.items
+        ≡ meant.all_names (program_of program.now)) }
+{
+    let names = &program.names;
+    let mut used = Vec::new(alloc);
+    add_body(names, &mut used, &program.init.body)?;
+    add_handler(names, &mut used, &program.handler)?;
+    add_processes(names, &mut used, &program.processes)?;
+    add_procedures(names, &mut used, &program.declarations)?;
+    Ok(used)
+}
+
+/// Returns true if a name is among those that are used.
+#[tactic(auto, using(std::proofs::lemmas::List::drop_more))]
+fn is_used(names: &IndexSet<String>, used: &[NameId], name: NameId) -> bool
+    ensures { result
+        ≡ meant.is_used (names_seen (texts names.now.keys) used.now)
+        (id_text (texts names.now.keys) name) }
+{
+    for other in used {
+        if is_same_name(names, *other, name) {
+            return true;
+        }
+    }
+    false
+}
+
+/// Adds a finding if a name is not used.
+fn expect_use<'a>(
+    names: &'a IndexSet<String>,
+    used: &[NameId],
+    kind: FindingKind,
+    name: Identifier,
+    findings: &mut Vec<Finding<'a>>,
+) -> Result<(), AllocError>
+    ensures { OnOk result
+        (found_all findings.new.items
+        ≡ found_all findings.old.items
+        ++ meant.unused (names_seen (texts names.now.keys) used.now) kind
+        (name_of (texts names.now.keys) name)) }
+{
+    let finding = Finding {
+        line: name.line,
+        kind,
+        subject: text_of(names, name.name),
+    };
+    add_unless(is_used(names, used, name.name), finding, findings)
+}
+
+/// Adds a variable, an array or a procedure that is not used.
+fn add_declaration<'a>(
+    names: &'a IndexSet<String>,
+    used: &[NameId],
+    declaration: &Declaration,
+    findings: &mut Vec<Finding<'a>>,
+) -> Result<(), AllocError>
+    ensures { OnOk result
+        (found_all findings.new.items
+        ≡ found_all findings.old.items
+        ++ meant.unused_declaration (names_seen (texts names.now.keys) used.now)
+        (declared_of (texts names.now.keys) declaration.now.kind)
+        (name_of (texts names.now.keys) declaration.now.name)) }
+{
+    match &declaration.kind {
+        DeclarationKind::Variable(_) | DeclarationKind::Array { .. } => {
+            expect_use(
+                names,
+                used,
+                FindingKind::UnusedVariable,
+                declaration.name,
+                findings,
+            )
+        }
+        DeclarationKind::Procedure { .. } => {
+            expect_use(
+                names,
+                used,
+                FindingKind::UnusedProcedure,
+                declaration.name,
+                findings,
+            )
+        }
+        DeclarationKind::Semaphore { .. } => Ok(()),
+        DeclarationKind::Event => Ok(()),
+        DeclarationKind::Buffer { .. } => Ok(()),
+        DeclarationKind::Blackboard { .. } => Ok(()),
+        DeclarationKind::Port => Ok(()),
+    }
+}
+
+/// Adds the variables, arrays and procedures that are not used.
+#[tactic(auto, using(std::proofs::lemmas::List::drop_more))]
+fn add_declarations<'a>(
+    names: &'a IndexSet<String>,
+    used: &[NameId],
+    declarations: &[Declaration],
+    findings: &mut Vec<Finding<'a>>,
+) -> Result<(), AllocError>
+    ensures { OnOk result
+        (found_all findings.new.items
+        ≡ found_all findings.old.items
+        ++ meant.unused_declarations (names_seen (texts names.now.keys) used.now)
+        (map (declaration_of (texts names.now.keys)) declarations.now)) }
+{
+    for declaration in declarations {
+        add_declaration(names, used, declaration, findings)?;
+    }
+    Ok(())
+}
+
+/// Adds those of some parameters or locals that are not used.
+#[tactic(auto, using(std::proofs::lemmas::List::drop_more))]
+fn add_own<'a>(
+    names: &'a IndexSet<String>,
+    used: &[NameId],
+    kind: FindingKind,
+    own: &[Identifier],
+    findings: &mut Vec<Finding<'a>>,
+) -> Result<(), AllocError>
+    ensures { OnOk result
+        (found_all findings.new.items
+        ≡ found_all findings.old.items
+        ++ flat_map (meant.unused (names_seen (texts names.now.keys) used.now) kind)
+        (map (name_of (texts names.now.keys)) own.now)) }
+{
+    for name in own {
+        expect_use(names, used, kind, *name, findings)?;
+    }
+    Ok(())
+}
+
+/// Adds the parameters and the locals that no statement of their body names.
+fn add_in_body<'a>(
+    alloc: Global,
+    names: &'a IndexSet<String>,
+    parameters: &[Identifier],
+    body: &Body,
+    findings: &mut Vec<Finding<'a>>,
+) -> Result<(), AllocError>
+    ensures { OnOk result
+        (found_all findings.new.items
+        ≡ found_all findings.old.items
+        ++ meant.unused_in_body (map (name_of (texts names.now.keys)) parameters.now)
+        (body_of (texts names.now.keys) body.now)) }
+{
+    let mut used = Vec::new(alloc);
+    add_body(names, &mut used, body)?;
+    add_own(
+        names,
+        &used,
+        FindingKind::UnusedParameter,
+        parameters,
+        findings,
+    )?;
+    add_own(
+        names,
+        &used,
+        FindingKind::UnusedVariable,
+        &body.locals,
+        findings,
+    )
+}
+
+/// The same of the handler, if there is one.
+fn add_in_handler<'a>(
+    alloc: Global,
+    names: &'a IndexSet<String>,
+    handler: &Option<StackBody>,
+    findings: &mut Vec<Finding<'a>>,
+) -> Result<(), AllocError>
+    ensures { OnOk result
+        (found_all findings.new.items
+        ≡ found_all findings.old.items
+        ++ meant.unused_in_handler
+        (option_map (stack_body_of (texts names.now.keys)) handler.now)) }
+{
+    match handler {
+        Some(handler) => add_in_body(alloc, names, &[], &handler.body, findings),
+        None => Ok(()),
+    }
+}
+
+/// The same of processes.
+#[tactic(auto, using(std::proofs::lemmas::List::drop_more))]
+fn add_in_processes<'a>(
+    alloc: Global,
+    names: &'a IndexSet<String>,
+    processes: &[Process],
+    findings: &mut Vec<Finding<'a>>,
+) -> Result<(), AllocError>
+    ensures { OnOk result
+        (found_all findings.new.items
+        ≡ found_all findings.old.items
+        ++ meant.unused_in_processes (map (process_of (texts names.now.keys)) processes.now)) }
+{
+    for process in processes {
+        add_in_body(alloc, names, &[], &process.body, findings)?;
+    }
+    Ok(())
+}
+
+/// The same of a procedure, if the declaration is one.
+fn add_in_procedure<'a>(
+    alloc: Global,
+    names: &'a IndexSet<String>,
+    kind: &DeclarationKind,
+    findings: &mut Vec<Finding<'a>>,
+) -> Result<(), AllocError>
+    ensures { OnOk result
+        (found_all findings.new.items
+        ≡ found_all findings.old.items
+        ++ meant.unused_in_kind (declared_of (texts names.now.keys) kind.now)) }
+{
+    match kind {
+        DeclarationKind::Procedure { parameters, body } => {
+            add_in_body(alloc, names, parameters, body, findings)
+        }
+        DeclarationKind::Variable(_) => Ok(()),
+        DeclarationKind::Array { .. } => Ok(()),
+        DeclarationKind::Semaphore { .. } => Ok(()),
+        DeclarationKind::Event => Ok(()),
+        DeclarationKind::Buffer { .. } => Ok(()),
+        DeclarationKind::Blackboard { .. } => Ok(()),
+        DeclarationKind::Port => Ok(()),
+    }
+}
+
+/// The same of the procedures among declarations.
+#[tactic(auto, using(std::proofs::lemmas::List::drop_more))]
+fn add_in_procedures<'a>(
+    alloc: Global,
+    names: &'a IndexSet<String>,
+    declarations: &[Declaration],
+    findings: &mut Vec<Finding<'a>>,
+) -> Result<(), AllocError>
+    ensures { OnOk result
+        (found_all findings.new.items
+        ≡ found_all findings.old.items
+        ++ meant.unused_in_procedures
+        (map (declaration_of (texts names.now.keys)) declarations.now)) }
+{
+    for declaration in declarations {
+        add_in_procedure(alloc, names, &declaration.kind, findings)?;
+    }
+    Ok(())
+}
+
+/// Adds the variables, procedures and parameters of a program that no statement names.
+pub fn add_unused<'a>(
+    alloc: Global,
+    program: &'a Program,
+    findings: &mut Vec<Finding<'a>>,
+) -> Result<(), AllocError>
+    ensures { OnOk result
+        (found_all findings.new.items
+        ≡ found_all findings.old.items ++ meant.unused_names (program_of program.now)) }
+{
+    let names = &program.names;
+    let used = all_names(alloc, program)?;
+    add_declarations(names, &used, &program.declarations, findings)?;
+    add_in_body(alloc, names, &[], &program.init.body, findings)?;
+    add_in_handler(alloc, names, &program.handler, findings)?;
+    add_in_processes(alloc, names, &program.processes, findings)?;
+    add_in_procedures(alloc, names, &program.declarations, findings)
+}

@@ -1,0 +1,92 @@
+//! What is shown of a load.
+
+ghost use Rattle.std.specs.Prelude.{◌≡◌, ◌≤◌, IfOk, if◌then◌else◌, string_bytes};
+ghost use Rattle.load_views.specs.Report.{name_of, windows_of};
+ghost use Rattle.trace_picture.specs.Page.{IsPicture};
+
+use crate::{picture, sheet, tables};
+use apex_types::{Name, PartitionId, WindowRow};
+use schedule_load::{BodyLoad, FrameLoad};
+use std::alloc::{AllocError, Global};
+use std::io::Write;
+use trace_view::ReportFault;
+
+/// The bodies of a partition's source.
+#[derive(Drop)]
+pub struct PartitionBodies {
+    pub partition: Name,
+    pub bodies: Vec<BodyLoad>,
+}
+
+/// The load of a module table with its windows, and the bodies of its sources, if these are given.
+#[derive(Clone, Copy)]
+pub struct LoadReport<'a> {
+    pub load: &'a FrameLoad,
+    pub windows: &'a [WindowRow],
+    pub bodies: &'a [PartitionBodies],
+}
+
+impl<'a> LoadReport<'a> {
+    /// Writes the load as tables, each with a line that says what it shows, and a line of headings.
+    ///
+    /// # Errors
+    ///
+    /// Memory ran out, or the writer failed; then a beginning of the text is out.
+    pub fn write_table<W: Write>(&self, alloc: Global, out: &mut W) -> Result<(), ReportFault> {
+        tables::write_tables(alloc, self, out)
+    }
+
+    /// Writes the load as one table of comma-separated values, with a line of headings.
+    ///
+    /// # Errors
+    ///
+    /// Memory ran out, or the writer failed; then a beginning of the text is out.
+    pub fn write_csv<W: Write>(&self, alloc: Global, out: &mut W) -> Result<(), ReportFault> {
+        sheet::write_sheet(alloc, self, out)
+    }
+
+    /// The frame as a picture in SVG: a lane for each partition with its windows, and a mark at each
+    /// release point.
+    ///
+    /// # Errors
+    ///
+    /// Memory ran out.
+    pub fn picture(&self, alloc: Global) -> Result<String, AllocError>
+        ensures { IfOk result (λ text. ∥ IsPicture (string_bytes text) ∥₁) }
+    {
+        picture::draw(alloc, self)
+    }
+
+    /// The name of a partition; empty if there is none of this number.
+    pub fn name_of(&self, partition: PartitionId) -> &str
+        ensures { result.now ≡ name_of self.now.load.now.partitions.items partition.0 }
+    {
+        let Some(place) = partition.place() else {
+            return "";
+        };
+        match self.load.partitions.get(usize::from(place)) {
+            Some(load) => load.name.as_str(),
+            None => "",
+        }
+    }
+
+    /// How many windows a partition has.
+    #[tactic(auto, using(std::proofs::lemmas::List::drop_more))]
+    pub fn windows_of(&self, partition: PartitionId) -> u64
+        ensures { result ≡ windows_of partition.0 self.now.windows.now }
+    {
+        let mut count: usize = 0;
+        for window in self.windows {
+            count += one_if(window.partition.0 == partition.0);
+        }
+        count as u64
+    }
+}
+
+/// 1 if something is so, else 0.
+fn one_if(so: bool) -> usize
+    ensures exact { result ≡ (if so then 1 else 0) }
+    ensures small { result ≤ 1 }
+{
+    if so { 1 } else { 0 }
+}

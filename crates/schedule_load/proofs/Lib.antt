@@ -1,0 +1,4 @@
+pub mod Counts
+pub mod Offers
+pub mod Runs
+pub mod Sums

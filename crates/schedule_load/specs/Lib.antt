@@ -1,0 +1,5 @@
+pub mod Ownership
+pub mod Gaps
+pub mod Load
+pub mod Shares
+pub mod Bodies

@@ -1,0 +1,18 @@
+//! The load of a schedule, before any run: how many ticks of the frame each partition owns, what its
+//! windows offer in its periods, and which ticks nobody owns; and what the bodies of a source cost
+//! beside their time capacities.
+#![tactic(auto)]
+
+mod bodies;
+mod counting;
+pub mod laws;
+mod load;
+mod periods;
+mod share;
+mod unowned;
+
+pub use bodies::{BodyLoad, body_loads};
+pub use counting::ticks_of;
+pub use load::{FrameLoad, PartitionLoad, frame_load};
+pub use share::Share;
+pub use unowned::{Gap, gaps};
