@@ -3,8 +3,10 @@
 
 mod files;
 mod program;
+mod prompt;
 mod sources;
 
 pub use files::HostFiles;
 pub use program::{Program, run};
+pub use prompt::PromptStream;
 pub use sources::{HostSources, HostText};

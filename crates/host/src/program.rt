@@ -3,6 +3,7 @@
 ghost use Rattle.std.specs.Prelude.{◌≡◌, ◌≢◌, ◌≤◌, ◌-◌, ◌^◌, ◌<◌, ℕ, codes, max};
 ghost use Rattle.streams.specs.States.{TakesLine, seen};
 
+use crate::prompt::PromptStream;
 use std::alloc::AllocGlobal;
 use std::env;
 use std::io::{self, BufWriter, ErrorKind};
@@ -36,11 +37,11 @@ fn status<P: Program>(rt: &HostRuntime, program: &mut P, memory: &str) -> u8
         Ok(words) => words,
         Err(error) => return wordless(error.kind(), memory, &mut err),
     };
-    // Traces, tables and pictures go out by blocks.
+    // Traces, tables and pictures go out by blocks, and a trace soon.
     let Ok(mut writer) = BufWriter::new(rt.alloc(), rt.stdout()) else {
         return wordless(ErrorKind::OutOfMemory, memory, &mut err);
     };
-    let mut out = WriterStream::new(&mut writer);
+    let mut out = PromptStream::new(WriterStream::new(&mut writer), rt);
     let status = program.obey(words.as_slice(), &mut out, &mut err);
     // Bytes that were not flushed were not taken, and are not written again.
     let _ = writer.into_parts();

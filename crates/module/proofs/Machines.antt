@@ -1,7 +1,7 @@
 -- A tick of a machine within a run.
 use Rattle.std.proofs.Common.{◌≡◌, ◌<◌, ◌≤◌, ◌+◌, ◌^◌, ℕ, zero, suc, true, false, List, [], Option, Some, None, Result, Ok, Err, inl, inr, refl, sym, ap, subst, ◌∙◌, append-nil, arith}
-use Rattle.std.proofs.KnownBytes.{Appends-nil}
-use Rattle.std.specs.Io.KnownBytes.{Appends}
+use Rattle.std.proofs.KnownBytes.{Appends-kept, Appends-nil}
+use Rattle.std.specs.Io.KnownBytes.{Appends, Keeps}
 use Rattle.std.specs.Prelude.{is_none}
 use Rattle.apex_types.specs.declared.limits.TheConstants.{MOST_TICKS}
 use Rattle.apex_types.specs.Line.{text_of}
@@ -83,6 +83,15 @@ pub shut_down : {old new : Option (List ℕ)} {text : List ℕ} (image : Image) 
 shut_down {old = old} {new = new} {text = text} image lines n now ms None down way =
     under_way_end old new text (subst (IsUnderWay old new text) (ap text_of (none_down (machine_module image).plan lines n now ms None refl)) way)
 shut_down image lines n now ms (Some origin) down way = absurd cc
+
+-- ---- a sink that is offered nothing
+
+pub kept_under_way : {old mid new : Option (List ℕ)} {text rest : List ℕ} → IsUnderWay old mid text rest → Keeps mid new → IsUnderWay old new text rest
+kept_under_way {old = old} {mid = mid} {new = new} way kept = record { done = way.done; taken = Appends-kept old mid new way.done way.taken kept; left = way.left }
+
+pub kept_fails : (old mid new : Option (List ℕ)) (text rest : List ℕ) → IsUnderWay old mid text rest → Keeps mid new → TakesBeginning old new text
+kept_fails old mid new text rest way kept =
+    under_way_fails old mid new text [] rest way (0, omega arith, Appends-kept mid mid new [] (Appends-nil mid) kept)
 
 -- ---- calls of a machine's tick
 

@@ -29,6 +29,7 @@ mod step;
 mod telling;
 mod ticks;
 mod upgrading;
+mod watch;
 mod watching;
 
 pub use building::{accept_table, build};
@@ -38,7 +39,8 @@ pub use inputs_fault::InputsFault;
 pub use load_fault::LoadFault;
 pub use machine::{Machine, ticks_isolate_the_partitions, ticks_make_the_trace};
 pub use replaying::replay;
-pub use running::{build_and_run, run};
+pub use running::{build_and_run, run, run_watched};
 pub use telling::inputs;
 pub use ticks::split_tick;
 pub use upgrading::upgrade;
+pub use watch::{Unwatched, Watch};

@@ -1,6 +1,7 @@
 //! Running an image: its partitions in their windows, tick by tick, and the text of their trace.
 
 ghost use Rattle.std.specs.Prelude.{◌≡◌, ◌≢◌, ◌≤◌, ◌<◌, ◌+◌, ◌-◌, ◌^◌, Ok, map, IfOk, IfErr, OnOk, IsErrOf};
+ghost use Rattle.std.specs.Io.KnownBytes.{Keeps};
 ghost use Rattle.apex_types.specs.declared.limits.TheConstants.{MOST_TICKS};
 ghost use Rattle.machine_meaning.specs.MachineMeaning.{verdict_for};
 ghost use Rattle.machine_meaning.specs.ImageReading.{image_at};
@@ -18,6 +19,7 @@ use crate::building::build;
 use crate::fault::{BuildAndRunFault, RunFault};
 use crate::machine::Machine;
 use crate::ticks::split_tick;
+use crate::watch::{Unwatched, Watch};
 use apex_types::limits::MOST_TICKS;
 use apex_types::{DeviceLine, Sink};
 use image::load_image;
@@ -51,34 +53,76 @@ pub fn run<S: Sink>(
     ensures quiet { IfErr result
         (λ fault. fault ≢ RunFault.Write → S.failures sink.new ≡ S.failures sink.old) }
 {
+    run_watched(alloc, image, devices, ticks, sink, &mut Unwatched)
+}
+
+/// Runs the image as [`run`] does, and tells a watcher how far the run is: behind at most 2^20 ticks
+/// that are made, each time.
+///
+/// # Errors
+///
+/// Those of [`run`].
+pub fn run_watched<S: Sink, W: Watch>(
+    alloc: Global,
+    image: &[u8],
+    devices: &[u8],
+    ticks: u64,
+    sink: &mut S,
+    watch: &mut W,
+) -> Result<(), RunFault>
+    requires { S.failures sink.old < 2 ^ 64 - 1 }
+    ensures trace { Runs (image_at image.now) devices.now ticks (S.taken sink.old)
+        (S.taken sink.new) result }
+    ensures isolated { OnOk result
+        (IsIsolated (image_at image.now) devices.now ticks (S.taken sink.old) (S.taken sink.new)) }
+    ensures ok { OnOk result (S.failures sink.new ≡ S.failures sink.old) }
+    ensures write { IsErrOf result RunFault.Write → S.failures sink.new ≡ S.failures sink.old + 1 }
+    ensures quiet { IfErr result
+        (λ fault. fault ≢ RunFault.Write → S.failures sink.new ≡ S.failures sink.old) }
+{
     if ticks > MOST_TICKS {
         return Err(RunFault::Ticks);
     }
     let mut machine = Machine::load(alloc, load_image(alloc, image)?)?;
     let lines = machine.devices(alloc, devices)?;
-    run_ticks(&mut machine, &lines, ticks, sink)
+    run_ticks(&mut machine, &lines, ticks, sink, watch)
 }
 
-/// The most ticks that are made at once.
-const MOST_AT_ONCE: u32 = 4_000_000_000;
+/// The most ticks that are made between two offers of nothing.
+const MOST_UNTOLD: u32 = 1 << 20;
 
-/// `ticks`, or the most that are made at once.
+/// `ticks`, or the most that are made between two offers of nothing.
 fn at_once(ticks: u64) -> u32
     ensures { result ≤ ticks }
 {
-    if ticks < u64::from(MOST_AT_ONCE) {
+    if ticks < u64::from(MOST_UNTOLD) {
         ticks as u32
     } else {
-        MOST_AT_ONCE
+        MOST_UNTOLD
+    }
+}
+
+/// Offers nothing to a sink, which may use the time for what it has kept back.
+fn offer_nothing<S: Sink>(sink: &mut S) -> Result<(), RunFault>
+    requires { S.failures sink.old < 2 ^ 64 - 1 }
+    ensures kept { Keeps (S.taken sink.old) (S.taken sink.new) }
+    ensures quiet { OnOk result (S.failures sink.new ≡ S.failures sink.old) }
+    ensures write { IfErr result (λ fault.
+        (fault ≡ RunFault.Write) × (S.failures sink.new ≡ S.failures sink.old + 1)) }
+{
+    match sink.put(&[]) {
+        Ok(_) => Ok(()),
+        Err(_) => Err(RunFault::Write),
     }
 }
 
 /// So many ticks of a machine, with these lines of the devices; after a shutdown nothing happens.
-fn run_ticks<S: Sink>(
+fn run_ticks<S: Sink, W: Watch>(
     machine: &mut Machine,
     devices: &[DeviceLine],
     ticks: u64,
     sink: &mut S,
+    watch: &mut W,
 ) -> Result<(), RunFault>
     requires ticks { ticks ≤ MOST_TICKS }
     requires fresh { machine_of machine.old ≡ fresh_machine (machine_of machine.old).image }
@@ -92,15 +136,20 @@ fn run_ticks<S: Sink>(
     let mut left = ticks;
     let mut lines = devices;
     while left > 0 && !machine.is_shut_down() {
-        let count = machine.advance(lines, at_once(left), sink)?;
-        if count > 0 {
-            left -= u64::from(count);
-            continue;
+        let stop = left.saturating_sub(u64::from(MOST_UNTOLD));
+        while left > stop && !machine.is_shut_down() {
+            let count = machine.advance(lines, at_once(left - stop), sink)?;
+            if count > 0 {
+                left -= u64::from(count);
+                continue;
+            }
+            let (now, later) = split_tick(lines, machine.now());
+            machine.tick(now, sink)?;
+            lines = later;
+            left -= 1;
         }
-        let (now, later) = split_tick(lines, machine.now());
-        machine.tick(now, sink)?;
-        lines = later;
-        left -= 1;
+        offer_nothing(sink)?;
+        watch.reached(machine.now(), ticks);
     }
     Ok(())
 }

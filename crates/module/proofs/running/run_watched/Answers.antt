@@ -10,7 +10,7 @@ use Rattle.module.specs.Runs.{Runs}
 use Rattle.module.specs.declared.fault.RunFault.{RunFault}
 use Rattle.module.proofs.Isolated.{run_isolated}
 use Rattle.module.proofs.Runs.{device_refused}
-use Rattle.module.proofs.running.run.Goals as goal
+use Rattle.module.proofs.running.run_watched.Goals as goal
 
 pub returns-clause-isolated : goal.returns-clause-isolated
 returns-clause-isolated g c =

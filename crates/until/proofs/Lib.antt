@@ -1,0 +1,4 @@
+pub mod Following
+pub mod Kept
+pub mod Lines
+pub mod Needs

@@ -1,0 +1,139 @@
+-- A tick of a machine within a run.
+use Rattle.std.proofs.Common.{◌≡◌, ◌<◌, ◌≤◌, ◌+◌, ◌^◌, ℕ, zero, suc, true, false, List, [], Option, Some, None, Result, Ok, Err, inl, inr, refl, sym, ap, subst, ◌∙◌, append-nil, arith}
+use Rattle.std.proofs.KnownBytes.{Appends-kept, Appends-nil}
+use Rattle.std.specs.Io.KnownBytes.{Appends, Keeps}
+use Rattle.std.specs.Prelude.{is_none}
+use Rattle.apex_types.specs.declared.limits.TheConstants.{MOST_TICKS}
+use Rattle.apex_types.specs.Line.{text_of}
+use Rattle.apex_types.specs.Line.{TakesBeginning}
+use Rattle.apex_types.specs.declared.device.DeviceLine.{DeviceLine}
+use Rattle.apex_types.specs.declared.event.Event.{Event}
+use Rattle.apex_types.proofs.Writing.{IsUnderWay, under_way_more, under_way_end, under_way_fails, under_way_start}
+use Rattle.machine_meaning.specs.Image.{Image}
+use Rattle.module_meaning.specs.Module.{of_tick}
+use Rattle.machine_meaning.specs.MachineControl.{MachineControl}
+use Rattle.kernel_meaning.specs.Partition.{Member}
+use Rattle.machine_meaning.specs.MachineMeaning.{machine_module, machine_trace}
+use Rattle.module.specs.Machines.{Machine, HasGoneOn, HasFailed, HasTicked, HaveTicked, fresh_machine}
+use Rattle.module.specs.Running.{EndsRun, RunsImage}
+use Rattle.module.specs.Standing.{Standing, after, lines_of, ticks}
+use Rattle.module.specs.declared.running.End.{End}
+use Rattle.module.specs.declared.fault.RunFault.{RunFault}
+use Rattle.module.specs.declared.fault.RunFault.TheVariants as fault
+use Rattle.module.proofs.DeviceLines.{of_tick_again}
+use Rattle.module.proofs.Standing.{tick_text, none_down, is_traced}
+
+-- ---- the result of a tick that may be made
+
+-- it is made, or the sink fails
+pub only_write : {lines : List DeviceLine} {m next : Machine} {old new : Option (List ℕ)} {before now : ℕ} (f : RunFault) → m.failed ≡ false → m.standing.now < MOST_TICKS → HasTicked lines m next old new before now (Err f) → (f ≡ fault.Write) × HasFailed lines m next old new before now
+only_write fault.Write sound within h = (refl, h.2)
+only_write fault.Failed sound within h = let both : false ≡ true = sym sound ∙ h.0 in absurd cc
+only_write fault.Ticks sound within h = absurd (omega (arith, within, h.1))
+only_write (fault.Image f) sound within h = absurd h
+only_write fault.Partition sound within h = absurd h
+only_write (fault.Device f) sound within h = absurd h
+only_write fault.Memory sound within h = absurd h
+
+-- ---- the text of a run
+
+pub ticks_are_the_trace : (image : Image) (lines : List DeviceLine) (n : ℕ) → lines_of (machine_module image).plan lines n (fresh_machine image).standing ≡ machine_trace image lines n
+ticks_are_the_trace image lines n = sym (is_traced (machine_module image).plan lines n (machine_module image).members)
+
+-- nothing is out before the first tick
+pub begins_with : (image : Image) (m : Machine) (devices : List DeviceLine) (n : ℕ) (taken : Option (List ℕ)) → m ≡ fresh_machine image → IsUnderWay taken taken (text_of (machine_trace image devices n)) (text_of (lines_of (machine_module image).plan devices n m.standing))
+begins_with image m devices n taken fresh =
+    let same : text_of (machine_trace image devices n) ≡ text_of (lines_of (machine_module image).plan devices n m.standing) =
+    ap text_of (is_traced (machine_module image).plan devices n (machine_module image).members ∙ ap (λ (x : Machine). lines_of (machine_module image).plan devices n x.standing) (sym fresh)) in
+    subst (λ text. IsUnderWay taken taken (text_of (machine_trace image devices n)) text) same (under_way_start taken (text_of (machine_trace image devices n)))
+
+-- one more tick
+pub goes_on : {old mid new : Option (List ℕ)} {text : List ℕ} {before between : ℕ} (image : Image) (m next : Machine) (lines now later : List DeviceLine) (n k : ℕ) → n ≡ suc k → m.image ≡ image
+    → of_tick m.standing.now now ≡ of_tick m.standing.now lines → ((t : ℕ) → m.standing.now < t → of_tick t later ≡ of_tick t lines)
+    → IsUnderWay old mid text (text_of (lines_of (machine_module image).plan lines n m.standing)) → HasGoneOn now m next mid new before between
+    → IsUnderWay old new text (text_of (lines_of (machine_module image).plan later k next.standing))
+goes_on {old = old} {mid = mid} {new = new} {text = text} image m next lines now later n k count same of_now of_later way h =
+    let plan = (machine_module image).plan in
+    let course = ap (λ (i : Image). ticks (machine_module i).plan now m.standing) same in
+    let split = tick_text plan lines now later n k m.standing next.standing count of_now of_later (h.standing ∙ ap (λ c. after m.standing c) course) in
+    under_way_more old mid new text (text_of (ticks plan now m.standing).lines) _ (rw split at way) (rw (ap (λ c. text_of c.lines) course) at h.written)
+
+-- the sink fails in the next tick
+pub ends_early : {old mid new : Option (List ℕ)} {text : List ℕ} {before between : ℕ} (image : Image) (m next : Machine) (lines now later : List DeviceLine) (n k : ℕ) → n ≡ suc k → m.image ≡ image
+    → of_tick m.standing.now now ≡ of_tick m.standing.now lines → ((t : ℕ) → m.standing.now < t → of_tick t later ≡ of_tick t lines)
+    → IsUnderWay old mid text (text_of (lines_of (machine_module image).plan lines n m.standing)) → HasFailed now m next mid new before between
+    → TakesBeginning old new text
+ends_early {old = old} {mid = mid} {new = new} {text = text} image m next lines now later n k count same of_now of_later way h =
+    let plan = (machine_module image).plan in
+    let course = ap (λ (i : Image). ticks (machine_module i).plan now m.standing) same in
+    let split = tick_text plan lines now later n k m.standing (after m.standing (ticks plan now m.standing)) count of_now of_later refl in
+    under_way_fails old mid new text (text_of (ticks plan now m.standing).lines) _ (rw split at way) (rw (ap (λ c. text_of c.lines) course) at h.beginning)
+
+-- the run fails with it
+pub run_fails : (events : List Event) (old new : Option (List ℕ)) (f : RunFault) (r : Result (Unit {0}) RunFault) → r ≡ Err f → f ≡ fault.Write → TakesBeginning old new (text_of events) → RunsImage events old new r
+run_fails events old new f r e is h = subst (RunsImage events old new) (sym (e ∙ ap (λ (x : RunFault). Err x) is)) h
+
+pub run_ends : (image : Image) (lines : List DeviceLine) (n : ℕ) (old new : Option (List ℕ)) (f : RunFault) (r : Result End RunFault) → r ≡ Err f → f ≡ fault.Write → TakesBeginning old new (text_of (machine_trace image lines n)) → EndsRun image lines n old new r
+run_ends image lines n old new f r e is h = subst (EndsRun image lines n old new) (sym (e ∙ ap (λ (x : RunFault). Err x) is)) h
+
+-- nothing is left to run
+pub nothing_left : {old new : Option (List ℕ)} {text : List ℕ} (image : Image) (lines : List DeviceLine) (n : ℕ) (s : Standing MachineControl) → n ≡ 0 → IsUnderWay old new text (text_of (lines_of (machine_module image).plan lines n s)) → Appends old new text
+nothing_left {old = old} {new = new} {text = text} image lines n s none way =
+    under_way_end old new text (subst (IsUnderWay old new text) (ap (λ k. text_of (lines_of (machine_module image).plan lines k s)) none) way)
+
+-- the module is shut down
+pub shut_down : {old new : Option (List ℕ)} {text : List ℕ} (image : Image) (lines : List DeviceLine) (n now : ℕ) (ms : List (Member MachineControl)) (o : Option ℕ) → is_none o ≡ true
+    → IsUnderWay old new text (text_of (lines_of (machine_module image).plan lines n (record { members = ms; now = now; origin = o }))) → Appends old new text
+shut_down {old = old} {new = new} {text = text} image lines n now ms None down way =
+    under_way_end old new text (subst (IsUnderWay old new text) (ap text_of (none_down (machine_module image).plan lines n now ms None refl)) way)
+shut_down image lines n now ms (Some origin) down way = absurd cc
+
+-- ---- a sink that is offered nothing
+
+pub kept_under_way : {old mid new : Option (List ℕ)} {text rest : List ℕ} → IsUnderWay old mid text rest → Keeps mid new → IsUnderWay old new text rest
+kept_under_way {old = old} {mid = mid} {new = new} way kept = record { done = way.done; taken = Appends-kept old mid new way.done way.taken kept; left = way.left }
+
+pub kept_fails : (old mid new : Option (List ℕ)) (text rest : List ℕ) → IsUnderWay old mid text rest → Keeps mid new → TakesBeginning old new text
+kept_fails old mid new text rest way kept =
+    under_way_fails old mid new text [] rest way (0, omega arith, Appends-kept mid mid new [] (Appends-nil mid) kept)
+
+-- ---- calls of a machine's tick
+
+-- the rest of a run behind a part of its text
+run_on : (old mid new : Option (List ℕ)) (text : List ℕ) (events whole : List Event) (r : Result (Unit {0}) RunFault) → text ≡ text_of whole → IsUnderWay old mid text (text_of events) → RunsImage events mid new r → RunsImage whole old new r
+run_on old mid new text events whole (Ok x) is way h =
+    subst (Appends old new) is (under_way_end old new text (under_way_more old mid new text (text_of events) [] (rw (append-nil (text_of events)) way) h))
+run_on old mid new text events whole (Err fault.Write) is way h =
+    subst (TakesBeginning old new) is (under_way_fails old mid new text (text_of events) [] (rw (append-nil (text_of events)) way) h)
+run_on old mid new text events whole (Err fault.Failed) is way h = h
+run_on old mid new text events whole (Err fault.Ticks) is way h = h
+run_on old mid new text events whole (Err (fault.Image f)) is way h = h
+run_on old mid new text events whole (Err fault.Partition) is way h = h
+run_on old mid new text events whole (Err (fault.Device f)) is way h = h
+run_on old mid new text events whole (Err fault.Memory) is way h = h
+
+-- n calls write the lines of n ticks
+calls_run : (image : Image) (lines : List DeviceLine) (n : ℕ) (m last : Machine) (old new : Option (List ℕ)) (before now : ℕ) (answer : Result (Unit {0}) RunFault)
+    → m.image ≡ image → m.failed ≡ false → m.standing.now + n ≤ MOST_TICKS → HaveTicked lines n m last old new before now answer → RunsImage (lines_of (machine_module image).plan lines n m.standing) old new answer
+calls_run image lines zero m last old new before now answer same sound few h =
+    subst (RunsImage [] old new) (sym h.0) (subst (λ (o : Option (List ℕ)). Appends old o []) (sym h.1.taken) (Appends-nil old))
+calls_run image lines (suc n) m last old new before now answer same sound few (inl (f, is, h)) =
+    let plan = (machine_module image).plan in
+    let whole = lines_of plan lines (suc n) m.standing in
+    let failed = only_write f sound (omega (arith, few)) (subst (HasTicked (of_tick m.standing.now lines) m last old new before now) is h) in
+    run_fails whole old new f answer is failed.0
+    (ends_early image m last lines (of_tick m.standing.now lines) lines (suc n) n refl same (of_tick_again m.standing.now lines) (λ t k. refl) (under_way_start old (text_of whole)) failed.1)
+calls_run image lines (suc n) m last old new before now answer same sound few (inr (next, mid, between, h, rest)) =
+    let plan = (machine_module image).plan in
+    let whole = lines_of plan lines (suc n) m.standing in
+    let gone = h.2 in
+    let later : next.standing.now ≡ m.standing.now + 1 = ap (λ s. s.now) gone.standing in
+    run_on old mid new (text_of whole) (lines_of plan lines n next.standing) whole answer refl
+    (goes_on image m next lines (of_tick m.standing.now lines) lines (suc n) n refl same (of_tick_again m.standing.now lines) (λ t k. refl) (under_way_start old (text_of whole)) gone)
+    (calls_run image lines n next last mid new between now answer (gone.image ∙ same) gone.failed (omega (arith, later, few)) rest)
+
+pub calls_write_the_trace : (image : Image) (lines : List DeviceLine) (n : ℕ) (last : Machine) (old new : Option (List ℕ)) (before now : ℕ) (answer : Result (Unit {0}) RunFault)
+    → n ≤ MOST_TICKS → HaveTicked lines n (fresh_machine image) last old new before now answer → RunsImage (machine_trace image lines n) old new answer
+calls_write_the_trace image lines n last old new before now answer few h =
+    subst (λ (es : List Event). RunsImage es old new answer) (ticks_are_the_trace image lines n)
+    (calls_run image lines n (fresh_machine image) last old new before now answer refl refl (omega (arith, few)) h)

@@ -1,0 +1,5 @@
+pub mod Machines
+pub mod Pieces
+pub mod Running
+pub mod Standing
+pub mod Written
