@@ -1,13 +1,14 @@
 //! The files of the host, by name, as the commands read and write them.
 
-ghost use Rattle.std.specs.Prelude.{Some};
+ghost use Rattle.std.specs.Prelude.{◌≡◌, ◌++◌, ◌∷◌, [], Some, OnErr, OnOk};
+ghost use Rattle.streams.specs.Noted.{IsNoted};
 ghost use Rattle.streams.specs.Names.{names_of};
 ghost use Rattle.streams.specs.Reads.{reads_of};
 
 use std::alloc::{AllocGlobal, Global};
 use std::os::unix::fs::MetadataExt;
-use std::{fs, rt};
-use streams::{FailedNames, Files, NameFault, ReadNames, Reason};
+use std::{fs, io, rt};
+use streams::{FailedNames, Files, NameFault, ReadNames, Reading, Reason, read_beginning};
 
 /// The device and the number of a file, which tell it from all others.
 #[derive(Clone, Copy, PartialEq, Eq)]
@@ -55,15 +56,21 @@ impl<'a, R: rt::Files + AllocGlobal> HostFiles<'a, R> {
             None => false,
         }
     }
-}
 
-impl<'a, R: rt::Files + AllocGlobal> Files for HostFiles<'a, R> {
-    ghost failed = { λ files. names_of files.failed };
-
-    ghost reads = { λ files. Some (reads_of files.read) };
-
-    fn read(&mut self, alloc: Global, name: &str) -> Result<Vec<u8>, NameFault> {
-        let bytes = match fs::read(self.runtime, name) {
+    /// Remembers what was read, or notes that nothing was.
+    fn remembered(
+        &mut self,
+        alloc: Global,
+        name: &str,
+        read: io::Result<Vec<u8>>,
+    ) -> Result<Vec<u8>, NameFault>
+        ensures remembered { OnOk result
+            (reads_of self.new.read ≡ reads_of self.old.read ++ name.now ∷ []) }
+        ensures forgotten { OnErr result (reads_of self.new.read ≡ reads_of self.old.read) }
+        ensures noted { IsNoted name.now (names_of self.old.failed) (names_of self.new.failed)
+            result }
+    {
+        let bytes = match read {
             Ok(bytes) => bytes,
             Err(error) => return Err(self.failed.fault_of(alloc, name, error.kind())),
         };
@@ -76,6 +83,38 @@ impl<'a, R: rt::Files + AllocGlobal> Files for HostFiles<'a, R> {
             Ok(()) => Ok(bytes),
             Err(_) => Err(NameFault::Memory),
         }
+    }
+}
+
+/// The bytes of a file, or a beginning of them that is enough.
+fn beginning<R: rt::Files, T: Reading>(
+    runtime: &R,
+    alloc: Global,
+    name: &str,
+    reading: &T,
+) -> io::Result<Vec<u8>> {
+    let mut file = fs::open(runtime, name)?;
+    read_beginning(alloc, &mut file, reading)
+}
+
+impl<'a, R: rt::Files + AllocGlobal> Files for HostFiles<'a, R> {
+    ghost failed = { λ files. names_of files.failed };
+
+    ghost reads = { λ files. Some (reads_of files.read) };
+
+    fn read(&mut self, alloc: Global, name: &str) -> Result<Vec<u8>, NameFault> {
+        let read = fs::read(self.runtime, name);
+        self.remembered(alloc, name, read)
+    }
+
+    fn read_until<T: Reading>(
+        &mut self,
+        alloc: Global,
+        name: &str,
+        reading: &T,
+    ) -> Result<Vec<u8>, NameFault> {
+        let read = beginning(self.runtime, alloc, name, reading);
+        self.remembered(alloc, name, read)
     }
 
     fn write(&mut self, name: &str, bytes: &[u8]) -> Result<(), NameFault> {

@@ -1,3 +1,4 @@
+pub mod Beginnings
 pub mod Contents
 pub mod Names
 pub mod Noted

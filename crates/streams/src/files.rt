@@ -1,11 +1,13 @@
 //! Files by name.
 
 ghost use Rattle.std.specs.Prelude.{◌≡◌, ℕ, List, Option, None, IfOk, OnErr, OnOk};
+ghost use Rattle.streams.specs.Beginnings.{HoldsFrom};
 ghost use Rattle.streams.specs.Contents.{Holds, Spares};
 ghost use Rattle.streams.specs.Noted.{IsNoted};
 ghost use Rattle.streams.specs.Reads.{IsUnread, Remembers};
 
 use crate::names::NameFault;
+use crate::reading::Reading;
 use std::alloc::Global;
 
 /// The files that the commands read and write by name.
@@ -25,6 +27,21 @@ pub trait Files {
     /// The bytes of the file of that name. Nothing is changed.
     fn read(&mut self, alloc: Global, name: &str) -> Result<Vec<u8>, NameFault>
         ensures held { IfOk result (λ bytes. Holds (contents self.old) name.now bytes.items) }
+        ensures unchanged { contents self.new ≡ contents self.old }
+        ensures remembered { OnOk result (Remembers name.now (reads self.old) (reads self.new)) }
+        ensures forgotten { OnErr result (reads self.new ≡ reads self.old) }
+        ensures noted { IsNoted name.now (failed self.old) (failed self.new) result };
+
+    /// The bytes of the file of that name, or a beginning of them that is enough. Nothing is changed.
+    fn read_until<T: Reading>(
+        &mut self,
+        alloc: Global,
+        name: &str,
+        reading: &T,
+    ) -> Result<Vec<u8>, NameFault>
+        ensures held { IfOk result
+            (λ bytes.
+            HoldsFrom (T.suffices reading.now) (contents self.old) name.now bytes.items) }
         ensures unchanged { contents self.new ≡ contents self.old }
         ensures remembered { OnOk result (Remembers name.now (reads self.old) (reads self.new)) }
         ensures forgotten { OnErr result (reads self.new ≡ reads self.old) }

@@ -5,6 +5,7 @@
 mod files;
 mod names;
 mod read_names;
+mod reading;
 mod sources;
 mod stream;
 mod writer;
@@ -13,6 +14,7 @@ mod writing;
 pub use files::Files;
 pub use names::{FailedNames, NameFault, Reason, reason_of};
 pub use read_names::ReadNames;
+pub use reading::{Reading, read_beginning};
 pub use sources::Sources;
 pub use stream::Stream;
 pub use writer::WriterStream;
