@@ -239,7 +239,7 @@ fn upgrade<F: Files, O: Stream>(
 {
     let image = upgrade_named(alloc, old, files)?;
     let shown = String::from_str(alloc, new)?;
-    if let Err(fault) = files.write(new, image.as_slice()) {
+    if let Err(fault) = files.replace(new, image.as_slice()) {
         return Err(Refusal::of_file(shown, fault));
     }
     Ok(write_line(out, format_args!("upgraded {} bytes", image.len()))?)

@@ -124,6 +124,10 @@ impl<'a, R: rt::Files + AllocGlobal> Files for HostFiles<'a, R> {
                     .unavailable(self.runtime.alloc(), name, Reason::WasRead),
             );
         }
+        self.replace(name, bytes)
+    }
+
+    fn replace(&mut self, name: &str, bytes: &[u8]) -> Result<(), NameFault> {
         match fs::write(self.runtime, name, bytes) {
             Ok(()) => Ok(()),
             Err(error) => Err(

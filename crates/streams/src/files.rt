@@ -55,4 +55,12 @@ pub trait Files {
         ensures kept { reads self.new ≡ reads self.old }
         ensures others { Spares name.now (contents self.old) (contents self.new) }
         ensures noted { IsNoted name.now (failed self.old) (failed self.new) result };
+
+    /// Writes these bytes as the file of that name, and touches no other file, though the file may
+    /// be one that was read. After an error the bytes of another file of that name are unspecified.
+    fn replace(&mut self, name: &str, bytes: &[u8]) -> Result<(), NameFault>
+        ensures held { OnOk result (Holds (contents self.new) name.now bytes.now) }
+        ensures kept { reads self.new ≡ reads self.old }
+        ensures others { Spares name.now (contents self.old) (contents self.new) }
+        ensures noted { IsNoted name.now (failed self.old) (failed self.new) result };
 }
