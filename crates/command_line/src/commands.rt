@@ -1,11 +1,11 @@
 //! The action of each command.
 
-ghost use Rattle.std.specs.Prelude.{◌≡◌, ◌-◌, ◌^◌, ◌<◌, [], map, false, IfErr, OnOk};
+ghost use Rattle.std.specs.Prelude.{◌≡◌, ◌-◌, ◌^◌, ◌<◌, [], map, false, IfOk, IfErr, OnOk};
 ghost use Rattle.clap.specs.Faults.{fault_of};
 ghost use Rattle.clap.specs.Matches.{found_of};
 ghost use Rattle.clap.specs.Simple.{subcommand_of, subcommand_rows_of};
 ghost use Rattle.clap.specs.Walk.{rows_of};
-ghost use Rattle.command_line.specs.Done.{IsDone};
+ghost use Rattle.command_line.specs.Done.{IsDone, IsDoneWith};
 ghost use Rattle.command_line.specs.Orders.{Build, Check, Upgrade, asks, form_of, order_of};
 ghost use Rattle.command_line.specs.Refusals.{IsBuildRefused, IsCheckRefused, IsFailure, IsFailureOfWords, IsUpgradeRefused};
 ghost use Rattle.command_line.specs.States.{state};
@@ -16,7 +16,9 @@ ghost use Rattle.command_line.specs.Words.{mb_app};
 use crate::explaining::Note;
 use crate::form::Form;
 use crate::grammar::grammar;
+use crate::linting::lint;
 use crate::loading::load;
+use crate::outcome::Outcome;
 use crate::reading::{build_named, upgrade_named};
 use crate::refusal::Refusal;
 use crate::replaying::{inputs, replay};
@@ -37,13 +39,14 @@ pub fn perform<S: AsStr, F: Files, O: Stream>(
     out: &mut O,
     asked: &mut bool,
     note: &mut Note,
-) -> Result<(), Failure<Refusal>>
+) -> Result<Outcome, Failure<Refusal>>
     requires { O.failures out.old < 2 ^ 64 - 1 }
     ensures asked { asked.old ≡ false → asks (subcommand_of mb_app (map S.text words.now)) ≡ false
         → asked.new ≡ false }
     ensures command { OnOk result (fault_of mb_app (map S.text words.now) ≡ []) }
-    ensures done { OnOk result
-        (IsDone (order_of (subcommand_of mb_app (map S.text words.now)))
+    ensures done { IfOk result
+        (λ outcome.
+        IsDoneWith outcome (order_of (subcommand_of mb_app (map S.text words.now)))
         (state (F.contents files.old) (seen O.taken O.failures O.is_flushed out.old))
         (state (F.contents files.new) (seen O.taken O.failures O.is_flushed out.new))) }
     ensures flushed { OnOk result
@@ -80,10 +83,11 @@ fn obey<F: Files, O: Stream>(
     files: &mut F,
     out: &mut O,
     note: &mut Note,
-) -> Result<(), Failure<Refusal>>
+) -> Result<Outcome, Failure<Refusal>>
     requires { O.failures out.old < 2 ^ 64 - 1 }
-    ensures done { OnOk result
-        (IsDone (order_of (subcommand_rows_of matches.now))
+    ensures done { IfOk result
+        (λ outcome.
+        IsDoneWith outcome (order_of (subcommand_rows_of matches.now))
         (state (F.contents files.old) (seen O.taken O.failures O.is_flushed out.old))
         (state (F.contents files.new) (seen O.taken O.failures O.is_flushed out.new))) }
     ensures flushed { OnOk result
@@ -100,12 +104,14 @@ fn obey<F: Files, O: Stream>(
         Some(("check", found)) => {
             let table = word(found, "TABLE");
             let sources = found.get_strs("SOURCE").unwrap_or(&[]);
-            Ok(check(alloc, table, sources, files, out, note)?)
+            check(alloc, table, sources, files, out, note)?;
+            Ok(Outcome::Usual)
         }
         Some(("build", found)) => {
             let (table, image) = (word(found, "TABLE"), word(found, "IMAGE"));
             let sources = found.get_strs("SOURCE").unwrap_or(&[]);
-            Ok(build(alloc, table, image, sources, files, out, note)?)
+            build(alloc, table, image, sources, files, out, note)?;
+            Ok(Outcome::Usual)
         }
         Some(("run", found)) => {
             let (image, devices) = (word(found, "IMAGE"), word(found, "DEVICES"));
@@ -124,19 +130,33 @@ fn obey<F: Files, O: Stream>(
         Some(("cost", found)) => {
             let table = word(found, "TABLE");
             let sources = found.get_strs("SOURCE").unwrap_or(&[]);
-            Ok(cost(alloc, table, sources, files, out, note)?)
+            cost(alloc, table, sources, files, out, note)?;
+            Ok(Outcome::Usual)
         }
-        Some(("dis", found)) => Ok(dis(alloc, word(found, "IMAGE"), files, out)?),
+        Some(("dis", found)) => {
+            dis(alloc, word(found, "IMAGE"), files, out)?;
+            Ok(Outcome::Usual)
+        }
         Some(("upgrade", found)) => {
             let (old, new) = (word(found, "OLD"), word(found, "NEW"));
-            Ok(upgrade(alloc, old, new, files, out)?)
+            upgrade(alloc, old, new, files, out)?;
+            Ok(Outcome::Usual)
         }
         Some(("load", found)) => {
             let table = word(found, "TABLE");
             let sources = found.get_strs("SOURCE").unwrap_or(&[]);
-            Ok(load(alloc, form_of(found), table, sources, files, out, note)?)
+            load(alloc, form_of(found), table, sources, files, out, note)?;
+            Ok(Outcome::Usual)
         }
-        _ => Ok(run_stored(alloc, out)?),
+        Some(("lint", found)) => {
+            let table = word(found, "TABLE");
+            let sources = found.get_strs("SOURCE").unwrap_or(&[]);
+            Ok(lint(alloc, table, sources, files, out, note)?)
+        }
+        _ => {
+            run_stored(alloc, out)?;
+            Ok(Outcome::Usual)
+        }
     }
 }
 

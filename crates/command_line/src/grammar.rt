@@ -6,7 +6,7 @@ ghost use Rattle.clap.specs.Values.{kind_of};
 ghost use Rattle.clap.specs.Walk.{rule_of};
 ghost use Rattle.clap.specs.declared.error.kind.ErrorKind.TheVariants.{ValueValidation};
 ghost use Rattle.command_words.specs.Grammar.{IsCommand};
-ghost use Rattle.command_line.specs.Words.{sources_rule, explained_app, check_app, build_app, run_app, partition_app, replay_app, inputs_app, cost_app, dis_app, upgrade_app, load_app, any_sources_rule, mb_app};
+ghost use Rattle.command_line.specs.Words.{sources_rule, explained_app, check_app, build_app, run_app, partition_app, replay_app, inputs_app, cost_app, dis_app, upgrade_app, load_app, lint_app, any_sources_rule, mb_app};
 
 use clap::error::ErrorKind;
 use clap::{Arg, ArgAction, Command, Error};
@@ -26,7 +26,8 @@ pub fn grammar<'a>(alloc: Global) -> Result<Command<'a>, AllocError>
         .subcommand(cost(alloc)?)?
         .subcommand(dis(alloc)?)?
         .subcommand(upgrade(alloc)?)?
-        .subcommand(load(alloc)?)
+        .subcommand(load(alloc)?)?
+        .subcommand(lint(alloc)?)
 }
 
 /// The program without its commands.
@@ -159,6 +160,16 @@ fn load<'a>(alloc: Global) -> Result<Command<'a>, AllocError>
         .arg(flag(alloc, "svg", "Writes a picture of the frame"))?
         .arg(required_word(alloc, "TABLE", "The file of the module table"))?
         .arg(any_sources(alloc))
+}
+
+fn lint<'a>(alloc: Global) -> Result<Command<'a>, AllocError>
+    ensures { IfOk result (λ command. IsCommand command lint_app) }
+{
+    explained(alloc, "lint")?
+        .about("Writes what of a module is accepted and probably not meant, a line each")
+        .after_help("Example: mb lint table.toml a.pal b.pal")
+        .arg(required_word(alloc, "TABLE", "The file of the module table"))?
+        .arg(sources(alloc))
 }
 
 /// A command on one partition of an image.

@@ -18,7 +18,9 @@ mod explaining;
 mod first_run;
 mod form;
 mod grammar;
+mod linting;
 mod loading;
+mod outcome;
 mod reading;
 mod refusal;
 mod replaying;
@@ -36,8 +38,8 @@ use telling::tell;
 
 /// Does what the words of a command line say, the program's name first, and returns the exit
 /// status: 0; 1 for a refused command, with its line on `err`, and an explanation behind it if the
-/// words ask for one; 2 for words that are no command, with the usage on `err`. Help goes to `out`,
-/// with status 0.
+/// words ask for one; 2 for words that are no command, with the usage on `err`; 3 for a command that
+/// is done and has found something. Help goes to `out`, with status 0.
 ///
 /// Faults are met in this order: the words, the files read in the order of the words, the build,
 /// the run or what is listed, the file written, the lines printed. An image is written only if it

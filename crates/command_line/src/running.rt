@@ -1,9 +1,9 @@
 //! Runs, of an image and of the stored module.
 
-ghost use Rattle.std.specs.Prelude.{◌≡◌, ◌-◌, ◌^◌, ◌<◌, IfErr, OnOk};
+ghost use Rattle.std.specs.Prelude.{◌≡◌, ◌-◌, ◌^◌, ◌<◌, IfOk, IfErr, OnOk};
 ghost use Rattle.machine_meaning.specs.ImageReading.{image_at};
 ghost use Rattle.module.specs.Runs.{Runs};
-ghost use Rattle.command_line.specs.Done.{IsDone, IsFirstRun, IsRunDone, is_ok};
+ghost use Rattle.command_line.specs.Done.{IsDoneWith, IsFirstRun, IsRunDone, is_ok};
 ghost use Rattle.command_line.specs.Orders.{Run};
 ghost use Rattle.command_line.specs.Refusals.{HasFailedBy, HasFailedByBoth, IsFailure, IsRunRefused, IsStoredRefused};
 ghost use Rattle.command_line.specs.States.{state};
@@ -12,6 +12,7 @@ ghost use Rattle.streams.specs.States.{IsFlushed, seen};
 
 use crate::first_run::{SOURCE, TABLE, TICKS};
 use crate::grammar::bad_ticks;
+use crate::outcome::Outcome;
 use crate::reading::read;
 use crate::refusal::Refusal;
 use command_words::{Failure, number_of};
@@ -27,10 +28,11 @@ pub fn run<F: Files, O: Stream>(
     ticks: &str,
     files: &mut F,
     out: &mut O,
-) -> Result<(), Failure<Refusal>>
+) -> Result<Outcome, Failure<Refusal>>
     requires { O.failures out.old < 2 ^ 64 - 1 }
-    ensures done { OnOk result
-        (IsDone (Run image.now devices.now ticks.now)
+    ensures done { IfOk result
+        (λ outcome.
+        IsDoneWith outcome (Run image.now devices.now ticks.now)
         (state (F.contents files.old) (seen O.taken O.failures O.is_flushed out.old))
         (state (F.contents files.new) (seen O.taken O.failures O.is_flushed out.new))) }
     ensures flushed { OnOk result
@@ -46,7 +48,8 @@ pub fn run<F: Files, O: Stream>(
     let Some(number) = number_of(ticks) else {
         return Err(Failure::Usage(bad_ticks(alloc, ticks)?));
     };
-    Ok(run_named(alloc, image, devices, number, files, out)?)
+    run_named(alloc, image, devices, number, files, out)?;
+    Ok(Outcome::Usual)
 }
 
 /// Runs an image for `ticks` ticks.
