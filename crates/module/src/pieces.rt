@@ -233,10 +233,10 @@ impl<E: Executor<Mem = PartitionMem>> Module<E> {
             return 0;
         }
         let quiet = until_line(lines, self.now, most);
-        let still = self.members.still_ticks(moment, quiet);
-        if still > 0 {
-            self.skip(still);
-            return still;
+        let idle = self.members.still_ticks(moment, quiet);
+        if idle > 0 {
+            self.skip(idle);
+            return idle;
         }
         0
     }

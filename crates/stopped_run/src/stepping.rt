@@ -44,6 +44,7 @@ pub fn tick_held(
 }
 
 /// Reads these bytes.
+#[tactic(auto, using(std::proofs::lemmas::List::drop_more))]
 pub fn read_all(scan: &mut Scan<'_>, bytes: &[u8])
     ensures asked { scan.new.asked ≡ scan.old.asked }
     ensures read { scan_of scan.new
