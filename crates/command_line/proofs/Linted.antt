@@ -38,6 +38,11 @@ pub more_found : (costs : Costs) (all : List PartitionRow) (row : PartitionRow) 
 more_found costs all row rows p trees given accepted f old mid new pushed own (found, rest, are) =
     (f ∷ found, rest ∙ subst (λ (m : List PartitionFindings). m ++ found ≡ old ++ f ∷ found) (sym pushed) (append_assoc old (f ∷ []) found), own, are)
 
+pub all_trees : (texts : List (List ℕ)) (old new : List tree.Program) → old ≡ [] → AddsTrees texts old new → AreTrees texts (map program_of new)
+all_trees texts old new none (trees, same, are) =
+    let whole : new ≡ trees = subst (λ (o : List tree.Program). new ≡ o ++ trees) none same in
+    subst (λ (ps : List tree.Program). AreTrees texts (map program_of ps)) (sym whole) are
+
 -- what is found of accepted sources is what is found of their texts
 all_found : (costs : Costs) (all rows : List Partition) (texts : List (List ℕ)) (trees : List written.Program) (givens : List Checked) (found : List PartitionFindings)
     → AreSources rows texts givens → AreTrees texts trees → AreFoundOf costs all rows trees givens found → AreAllFound costs all rows texts found
