@@ -29,7 +29,7 @@ abbrev pub build_app : App
 build_app = with_rule (with_rule (with_rule (explained_app (codes "build")) (word_rule (codes "TABLE"))) (word_rule (codes "IMAGE"))) sources_rule
 
 abbrev pub run_app : App
-run_app = with_rule (with_rule (with_rule (explained_app (codes "run")) (word_rule (codes "IMAGE"))) (word_rule (codes "DEVICES"))) (word_rule (codes "TICKS"))
+run_app = with_rule (with_rule (with_rule (with_rule (explained_app (codes "run")) (flag_rule (codes "progress"))) (word_rule (codes "IMAGE"))) (word_rule (codes "DEVICES"))) (word_rule (codes "TICKS"))
 
 -- a command on one partition of an image
 abbrev pub partition_app : List ℕ → App

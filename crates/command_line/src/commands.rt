@@ -26,17 +26,20 @@ use crate::running::{run, run_stored};
 use crate::showing::{cost, dis};
 use clap::ArgMatches;
 use command_words::{Failure, word};
+use module::Watch;
 use std::alloc::Global;
 use std::convert::AsStr;
 use streams::{Files, Stream, write_line};
 
 /// Does what the words say. Sets `asked` to true if they ask for an explanation of a refusal;
-/// `note` then gets the explanation of a refused source.
-pub fn perform<S: AsStr, F: Files, O: Stream>(
+/// `note` then gets the explanation of a refused source. A run is told to `watch`, if they ask for
+/// that.
+pub fn perform<S: AsStr, F: Files, O: Stream, W: Watch>(
     alloc: Global,
     words: &[S],
     files: &mut F,
     out: &mut O,
+    watch: &mut W,
     asked: &mut bool,
     note: &mut Note,
 ) -> Result<Outcome, Failure<Refusal>>
@@ -63,7 +66,7 @@ pub fn perform<S: AsStr, F: Files, O: Stream>(
     let matches = grammar(alloc)?.try_get_matches_from(words)?;
     *asked = asks(&matches);
     *note = Note::new(*asked);
-    obey(alloc, &matches, files, out, note)
+    obey(alloc, &matches, files, out, watch, note)
 }
 
 /// Returns true if the words ask for an explanation of a refusal.
@@ -77,11 +80,12 @@ fn asks(matches: &ArgMatches<'_>) -> bool
 }
 
 /// Does the command that was found in the words.
-fn obey<F: Files, O: Stream>(
+fn obey<F: Files, O: Stream, W: Watch>(
     alloc: Global,
     matches: &ArgMatches<'_>,
     files: &mut F,
     out: &mut O,
+    watch: &mut W,
     note: &mut Note,
 ) -> Result<Outcome, Failure<Refusal>>
     requires { O.failures out.old < 2 ^ 64 - 1 }
@@ -115,7 +119,8 @@ fn obey<F: Files, O: Stream>(
         }
         Some(("run", found)) => {
             let (image, devices) = (word(found, "IMAGE"), word(found, "DEVICES"));
-            run(alloc, image, devices, word(found, "TICKS"), files, out)
+            begin_if_asked(found, watch);
+            run(alloc, image, devices, word(found, "TICKS"), files, out, watch)
         }
         Some(("replay", found)) => {
             let (image, partition) = (word(found, "IMAGE"), word(found, "PARTITION"));
@@ -157,6 +162,13 @@ fn obey<F: Files, O: Stream>(
             run_stored(alloc, out)?;
             Ok(Outcome::Usual)
         }
+    }
+}
+
+/// Begins to watch if the words of a run ask for that.
+fn begin_if_asked<W: Watch>(found: &ArgMatches<'_>, watch: &mut W) {
+    if word(found, "progress").as_bytes() == b"true".as_slice() {
+        watch.begin();
     }
 }
 

@@ -68,6 +68,11 @@ fn run<'a>(alloc: Global) -> Result<Command<'a>, AllocError>
     explained(alloc, "run")?
         .about("Runs an image for so many ticks and writes its trace")
         .after_help("Example: mb run module.image devices.txt 1000")
+        .arg(flag(
+            alloc,
+            "progress",
+            "Tells once a second on standard error how far the run is",
+        ))?
         .arg(required_word(alloc, "IMAGE", "The file of an image"))?
         .arg(required_word(
             alloc,

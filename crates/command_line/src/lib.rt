@@ -30,6 +30,7 @@ mod telling;
 
 use commands::perform;
 use explaining::Note;
+pub use module::{Unwatched, Watch};
 pub use refusal::Refusal;
 use std::alloc::Global;
 use std::convert::AsStr;
@@ -43,13 +44,14 @@ use telling::tell;
 ///
 /// Faults are met in this order: the words, the files read in the order of the words, the build,
 /// the run or what is listed, the file written, the lines printed. An image is written only if it
-/// was built.
-pub fn command<S: AsStr, F: Files, O: Stream, E: Stream>(
+/// was built. A run is told to `watch`, if the words ask for that.
+pub fn command<S: AsStr, F: Files, O: Stream, E: Stream, W: Watch>(
     alloc: Global,
     words: &[S],
     files: &mut F,
     out: &mut O,
     err: &mut E,
+    watch: &mut W,
 ) -> u8
     requires out { O.failures out.old < 2 ^ 64 - 1 }
     requires err { E.failures err.old < 2 ^ 64 - 1 }
@@ -63,6 +65,6 @@ pub fn command<S: AsStr, F: Files, O: Stream, E: Stream>(
 {
     let mut asked = false;
     let mut note = Note::new(false);
-    let outcome = perform(alloc, words, files, out, &mut asked, &mut note);
+    let outcome = perform(alloc, words, files, out, watch, &mut asked, &mut note);
     tell(outcome, asked, note, out, err)
 }

@@ -1,8 +1,0 @@
-//! Runs that end behind a line: with the first tick that has a line with the words that are asked
-//! for.
-#![tactic(auto)]
-
-mod running;
-mod stepping;
-
-pub use running::run_until;
