@@ -120,7 +120,15 @@ fn obey<F: Files, O: Stream, W: Watch>(
         Some(("run", found)) => {
             let (image, devices) = (word(found, "IMAGE"), word(found, "DEVICES"));
             begin_if_asked(found, watch);
-            run(alloc, image, devices, word(found, "TICKS"), files, out, watch)
+            run(
+                alloc,
+                image,
+                devices,
+                word(found, "TICKS"),
+                files,
+                out,
+                watch,
+            )
         }
         Some(("replay", found)) => {
             let (image, partition) = (word(found, "IMAGE"), word(found, "PARTITION"));

@@ -117,11 +117,7 @@ fn read_texts(
 }
 
 /// Adds accepted sources as they are written.
-fn add_trees(
-    alloc: Global,
-    sources: &[Vec<u8>],
-    trees: &mut Vec<Program>,
-) -> Result<(), AllocError>
+fn add_trees(alloc: Global, sources: &[Vec<u8>], trees: &mut Vec<Program>) -> Result<(), AllocError>
     ensures { OnOk result (AddsTrees (texts_of sources.now) trees.old.items trees.new.items) }
 {
     let Some((source, sources)) = sources.split_first() else {
@@ -165,10 +161,7 @@ fn add_found<'a>(
 }
 
 /// Writes the lines of findings, to their end.
-fn show_findings<O: Stream>(
-    found: &[PartitionFindings<'_>],
-    out: &mut O,
-) -> Result<(), SinkFault>
+fn show_findings<O: Stream>(found: &[PartitionFindings<'_>], out: &mut O) -> Result<(), SinkFault>
     requires { O.failures out.old < 2 ^ 64 - 1 }
     ensures written { OnOk result
         (Appends (O.taken out.old) (O.taken out.new) (findings_text found.now)) }

@@ -93,12 +93,7 @@ fn loaded_named<F: Files>(
 }
 
 /// The load of a table.
-fn load_of_text(
-    alloc: Global,
-    name: &str,
-    table: &[u8],
-    note: &mut Note,
-) -> Result<Loaded, Refusal>
+fn load_of_text(alloc: Global, name: &str, table: &[u8], note: &mut Note) -> Result<Loaded, Refusal>
     ensures loaded { IfOk result (λ loaded. IsLoadOfText table.now loaded.load) }
     ensures refused { IfErr result (λ r. IsRefusedTable table.now r) }
 {

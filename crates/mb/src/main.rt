@@ -22,14 +22,7 @@ impl<'a> Program for Commands<'a> {
     fn obey<O: Stream, E: Stream>(&mut self, words: &[String], out: &mut O, err: &mut E) -> u8 {
         let mut files = HostFiles::new(self.0);
         let mut progress = Progress::new(self.0);
-        command(
-            self.0.alloc(),
-            words,
-            &mut files,
-            out,
-            err,
-            &mut progress,
-        )
+        command(self.0.alloc(), words, &mut files, out, err, &mut progress)
     }
 }
 
