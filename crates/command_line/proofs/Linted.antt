@@ -57,9 +57,9 @@ all_found costs all (row ∷ rows) (text ∷ texts) (p ∷ trees) (g ∷ givens)
     (record { given = g; accepted = s.0; tree = p; written = t.0; found = f.0 }, all_found costs all rows texts trees givens found s.1 t.1 f.1)
 
 pub found_in : (files : Option Contents) (table : List ℕ) (sources : List (List ℕ)) (m : ReadModule) (old new : List PartitionFindings) → old ≡ [] → IsModuleIn files table sources m
-    → AddsFound m.module.table.costs m.module.table.partitions.items m.module.table.partitions.items m.trees.items m.module.sources.items old new → AreFoundIn files table sources new
+    → AddsFound m.accepted.table.costs m.accepted.table.partitions.items m.accepted.table.partitions.items m.trees.items m.accepted.sources.items old new → AreFoundIn files table sources new
 found_in files table sources m old new none is (found, same, are) =
-    let rows = table_of m.module.table in
+    let rows = table_of m.accepted.table in
     let whole : new ≡ found = subst (λ (o : List PartitionFindings). new ≡ o ++ found) none same in
     record {
       texts = is.texts;
@@ -67,7 +67,7 @@ found_in files table sources m old new none is (found, same, are) =
         rows = rows;
         accepted = is.read.accepted.accepted;
         found = subst (AreAllFound rows.costs rows.partitions rows.partitions is.texts.source_texts) (sym whole)
-            (all_found rows.costs rows.partitions rows.partitions is.texts.source_texts (map program_of m.trees.items) m.module.sources.items found is.read.accepted.programs is.read.trees are);
+            (all_found rows.costs rows.partitions rows.partitions is.texts.source_texts (map program_of m.trees.items) m.accepted.sources.items found is.read.accepted.programs is.read.trees are);
       };
     }
 

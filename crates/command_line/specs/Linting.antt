@@ -47,7 +47,7 @@ AddsTrees texts old new = (trees : List tree.Program) × (new ≡ old ++ trees) 
 
 -- The table and the sources are accepted, and this is what the code holds of them.
 pub record IsReadModule (table : List ℕ) (sources : List (List ℕ)) (m : ReadModule) : Type 0 where
-  pub accepted : IsAcceptedModule table sources m.module
+  pub accepted : IsAcceptedModule table sources m.accepted
   pub trees : AreTrees sources (map program_of m.trees.items)
 
 -- ---- of texts

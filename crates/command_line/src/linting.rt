@@ -30,7 +30,7 @@ use window_table::PartitionRow;
 /// An accepted module, and its sources as they are written.
 #[derive(Drop)]
 pub struct ReadModule {
-    module: AcceptedModule,
+    accepted: AcceptedModule,
     /// One for each partition, in the order of the table.
     trees: Vec<Program>,
 }
@@ -61,15 +61,15 @@ pub fn lint<F: Files, O: Stream>(
     ensures named { IfErr result (λ r. IsOfFailed (F.failed files.old) (F.failed files.new) r) }
 {
     let read = module_named(alloc, table, sources, files, note)?;
-    let rows = read.module.table.partitions.as_slice();
+    let rows = read.accepted.table.partitions.as_slice();
     let mut found = Vec::with_capacity(alloc, rows.len())?;
     add_found(
         alloc,
-        &read.module.table.costs,
+        &read.accepted.table.costs,
         rows,
         rows,
         read.trees.as_slice(),
-        read.module.sources.as_slice(),
+        read.accepted.sources.as_slice(),
         &mut found,
     )?;
     show_findings(&found, out)?;
@@ -110,10 +110,10 @@ fn read_texts(
     ensures read { IfOk result (λ m. IsReadModule table.now (texts_of sources.now) m) }
     ensures refused { IfErr result (λ r. IsUncostedText table.now (texts_of sources.now) r) }
 {
-    let module = module_of_texts(alloc, name, table, sources, note)?;
+    let accepted = module_of_texts(alloc, name, table, sources, note)?;
     let mut trees = Vec::new(alloc);
     add_trees(alloc, sources, &mut trees)?;
-    Ok(ReadModule { module, trees })
+    Ok(ReadModule { accepted, trees })
 }
 
 /// Adds accepted sources as they are written.
