@@ -35,12 +35,12 @@ read_named files now table sources table_text texts (Err e) same in_table in_sou
 -- one more tree, and one more partition with what is found of it
 pub more_trees : (text : List ℕ) (texts : List (List ℕ)) (p : tree.Program) (old mid new : List tree.Program) → mid ≡ old ++ p ∷ [] → AreTrees (text ∷ []) (program_of p ∷ []) → AddsTrees texts mid new → AddsTrees (text ∷ texts) old new
 more_trees text texts p old mid new pushed own (trees, rest, are) =
-    (p ∷ trees, rest ∙ subst (λ (m : List tree.Program). m ++ trees ≡ old ++ p ∷ trees) (sym pushed) (append_assoc old (p ∷ []) trees), own.0, are)
+    (p ∷ trees, rest ∙ subst (λ (m : List tree.Program). m ++ trees ≡ old ++ p ∷ trees) (sym pushed) (append_assoc old (p ∷ []) trees), (own.0, are))
 
 pub more_found : (costs : Costs) (all : List PartitionRow) (row : PartitionRow) (rows : List PartitionRow) (p : tree.Program) (trees : List tree.Program) (given : Checked) (accepted : List Checked) (f : PartitionFindings) (old mid new : List PartitionFindings)
     → mid ≡ old ++ f ∷ [] → IsFoundOf costs (map partition_view all) (partition_view row) (program_of p) given f → AddsFound costs all rows trees accepted mid new → AddsFound costs all (row ∷ rows) (p ∷ trees) (given ∷ accepted) old new
 more_found costs all row rows p trees given accepted f old mid new pushed own (found, rest, are) =
-    (f ∷ found, rest ∙ subst (λ (m : List PartitionFindings). m ++ found ≡ old ++ f ∷ found) (sym pushed) (append_assoc old (f ∷ []) found), own, are)
+    (f ∷ found, rest ∙ subst (λ (m : List PartitionFindings). m ++ found ≡ old ++ f ∷ found) (sym pushed) (append_assoc old (f ∷ []) found), (own, are))
 
 pub all_trees : (texts : List (List ℕ)) (old new : List tree.Program) → old ≡ [] → AddsTrees texts old new → AreTrees texts (map program_of new)
 all_trees texts old new none (trees, same, are) =
