@@ -11,6 +11,7 @@ ghost use Rattle.command_line.specs.Told.{IsOfFailed};
 ghost use Rattle.streams.specs.States.{IsFlushed, seen};
 ghost use Rattle.window_table.specs.Views.{table_of};
 ghost use Rattle.schedule_load.specs.Load.{IsLoadOf};
+ghost use Rattle.trace_picture.specs.Page.{IsPicture};
 
 use crate::explaining::Note;
 use crate::form::Form;
@@ -98,7 +99,7 @@ fn load_of_text(alloc: Global, name: &str, table: &[u8], note: &mut Note) -> Res
     ensures refused { IfErr result (λ r. IsRefusedTable table.now r) }
 {
     match accept_table(alloc, table) {
-        Ok(accepted) => Ok(loaded(alloc, accepted, Vec::new(alloc))?),
+        Ok(accepted) => Ok(load_of_accepted(alloc, accepted, Vec::new(alloc))?),
         Err(fault) => {
             note.explain(alloc, name, table, &[], &fault);
             Err(Refusal::Build(fault))
@@ -118,11 +119,15 @@ fn load_of_texts(
     ensures refused { IfErr result (λ r. IsUncostedText table.now (texts_of sources.now) r) }
 {
     let AcceptedModule { table, sources } = module_of_texts(alloc, name, table, sources, note)?;
-    Ok(loaded(alloc, table, sources)?)
+    Ok(load_of_accepted(alloc, table, sources)?)
 }
 
 /// The load of an accepted table and accepted sources.
-fn loaded(alloc: Global, table: ModuleTable, sources: Vec<Checked>) -> Result<Loaded, AllocError>
+fn load_of_accepted(
+    alloc: Global,
+    table: ModuleTable,
+    sources: Vec<Checked>,
+) -> Result<Loaded, AllocError>
     ensures { IfOk result (λ loaded. IsLoadOf (table_of table) loaded.load) }
 {
     let load = frame_load(alloc, &table)?;
@@ -164,12 +169,34 @@ fn shown(alloc: Global, form: Form, loaded: &Loaded) -> Result<Vec<u8>, AllocErr
         windows: loaded.table.schedule.windows.as_slice(),
         bodies: loaded.bodies.as_slice(),
     };
-    let mut text = Vec::new(alloc);
     match form {
-        Form::Tables => report.write_table(alloc, &mut text).map_err(no_memory)?,
-        Form::Rows => report.write_csv(alloc, &mut text).map_err(no_memory)?,
-        Form::Picture => text.extend_from_slice(report.picture(alloc)?.as_bytes())?,
+        Form::Tables => tables(alloc, &report),
+        Form::Rows => rows(alloc, &report),
+        Form::Picture => picture(alloc, &report),
     }
+}
+
+/// The tables of a load.
+fn tables(alloc: Global, report: &LoadReport<'_>) -> Result<Vec<u8>, AllocError> {
+    let mut text = Vec::new(alloc);
+    report.write_table(alloc, &mut text).map_err(no_memory)?;
+    Ok(text)
+}
+
+/// The comma-separated values of a load.
+fn rows(alloc: Global, report: &LoadReport<'_>) -> Result<Vec<u8>, AllocError> {
+    let mut text = Vec::new(alloc);
+    report.write_csv(alloc, &mut text).map_err(no_memory)?;
+    Ok(text)
+}
+
+/// The picture of a frame.
+fn picture(alloc: Global, report: &LoadReport<'_>) -> Result<Vec<u8>, AllocError>
+    ensures { IfOk result (λ text. ∥ IsPicture text.items ∥₁) }
+{
+    let drawn = report.picture(alloc)?;
+    let mut text = Vec::new(alloc);
+    text.extend_from_slice(drawn.as_bytes())?;
     Ok(text)
 }
 
