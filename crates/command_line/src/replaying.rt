@@ -45,7 +45,7 @@ pub fn replay<F: Files, O: Stream>(
     ensures named { IfErr result (λ f. IsOfFailedFile (F.failed files.old) (F.failed files.new) f) }
 {
     let Some(number) = number_of(ticks) else {
-        return Err(Failure::Usage(bad_ticks(alloc, ticks)?));
+        return Err(Failure::Usage(bad_ticks(alloc, "replay", ticks)?));
     };
     Ok(replay_named(alloc, image, partition, inputs, number, files, out)?)
 }
@@ -136,7 +136,7 @@ pub fn inputs<F: Files, O: Stream>(
     ensures named { IfErr result (λ f. IsOfFailedFile (F.failed files.old) (F.failed files.new) f) }
 {
     let Some(number) = number_of(ticks) else {
-        return Err(Failure::Usage(bad_ticks(alloc, ticks)?));
+        return Err(Failure::Usage(bad_ticks(alloc, "inputs", ticks)?));
     };
     Ok(inputs_named(alloc, image, partition, devices, number, files, out)?)
 }

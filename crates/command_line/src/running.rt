@@ -44,7 +44,7 @@ pub fn run<F: Files, O: Stream>(
     ensures named { IfErr result (λ f. IsOfFailedFile (F.failed files.old) (F.failed files.new) f) }
 {
     let Some(number) = number_of(ticks) else {
-        return Err(Failure::Usage(bad_ticks(alloc, ticks)?));
+        return Err(Failure::Usage(bad_ticks(alloc, "run", ticks)?));
     };
     Ok(run_named(alloc, image, devices, number, files, out)?)
 }
