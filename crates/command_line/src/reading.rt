@@ -7,7 +7,7 @@ ghost use Rattle.streams.specs.Contents.{HoldAll, Holds};
 ghost use Rattle.command_line.specs.Done.{AreCosted, IsBuilt, IsImageIn, IsUpgradedIn};
 ghost use Rattle.command_line.specs.Reading.{IsRefusedText, IsUncostedText, IsUnread, IsUnreadAmong, texts_of};
 ghost use Rattle.module.specs.Building.{IsImageOf};
-ghost use Rattle.module.specs.Costs.{AreCosts};
+ghost use Rattle.module.specs.Costs.{AreCosts, IsAcceptedModule};
 ghost use Rattle.module.specs.Running.{IsRefused};
 ghost use Rattle.module.specs.Upgrades.{IsUpgraded};
 ghost use Rattle.command_line.specs.Refusals.{IsNotBuilt, IsNotCosted, IsNotLoaded};
@@ -16,7 +16,7 @@ ghost use Rattle.command_line.specs.Told.{IsOfFailed};
 use crate::explaining::Note;
 use crate::refusal::Refusal;
 use image::{Image, load_image};
-use module::{PartitionCosts, RunFault, upgrade};
+use module::{AcceptedModule, PartitionCosts, RunFault, upgrade};
 use std::alloc::{AllocError, Global};
 use streams::Files;
 
@@ -140,6 +140,29 @@ fn costs_of_texts(
     let texts = slices(alloc, sources)?;
     match module::costs(alloc, table, texts.as_slice()) {
         Ok(costs) => Ok(costs),
+        Err(fault) => {
+            note.explain(alloc, name, table, texts.as_slice(), &fault);
+            Err(Refusal::Build(fault))
+        }
+    }
+}
+
+/// An accepted table and its sources. A refusal is explained in `note`; `name` is that of the
+/// table's file.
+pub fn module_of_texts(
+    alloc: Global,
+    name: &str,
+    table: &[u8],
+    sources: &[Vec<u8>],
+    note: &mut Note,
+) -> Result<AcceptedModule, Refusal>
+    ensures accepted { IfOk result
+        (λ module. IsAcceptedModule table.now (texts_of sources.now) module) }
+    ensures refused { IfErr result (λ r. IsUncostedText table.now (texts_of sources.now) r) }
+{
+    let texts = slices(alloc, sources)?;
+    match module::accept_module(alloc, table, texts.as_slice()) {
+        Ok(module) => Ok(module),
         Err(fault) => {
             note.explain(alloc, name, table, texts.as_slice(), &fault);
             Err(Refusal::Build(fault))

@@ -1,10 +1,10 @@
 //! One partition of an image: its replay, and the inputs that a run brings it.
 
-ghost use Rattle.std.specs.Prelude.{◌≡◌, ◌-◌, ◌^◌, ◌<◌, IfErr, OnOk};
+ghost use Rattle.std.specs.Prelude.{◌≡◌, ◌-◌, ◌^◌, ◌<◌, IfOk, IfErr, OnOk};
 ghost use Rattle.machine_meaning.specs.ImageReading.{image_at};
 ghost use Rattle.module.specs.Replays.{Replays};
 ghost use Rattle.module.specs.Telling.{Tells};
-ghost use Rattle.command_line.specs.Done.{AreInputsDone, IsDone, IsReplayDone};
+ghost use Rattle.command_line.specs.Done.{AreInputsDone, IsDoneWith, IsReplayDone};
 ghost use Rattle.command_line.specs.Orders.{Inputs, Replay};
 ghost use Rattle.command_line.specs.Refusals.{AreInputsRefused, HasFailedBy, HasFailedByInputs, IsFailure, IsReplayRefused};
 ghost use Rattle.command_line.specs.States.{state};
@@ -12,6 +12,7 @@ ghost use Rattle.command_line.specs.Told.{IsOfFailed, IsOfFailedFile};
 ghost use Rattle.streams.specs.States.{IsFlushed, seen};
 
 use crate::grammar::bad_ticks;
+use crate::outcome::Outcome;
 use crate::reading::read;
 use crate::refusal::Refusal;
 use command_words::{Failure, number_of};
@@ -28,10 +29,11 @@ pub fn replay<F: Files, O: Stream>(
     ticks: &str,
     files: &mut F,
     out: &mut O,
-) -> Result<(), Failure<Refusal>>
+) -> Result<Outcome, Failure<Refusal>>
     requires { O.failures out.old < 2 ^ 64 - 1 }
-    ensures done { OnOk result
-        (IsDone (Replay image.now partition.now inputs.now ticks.now)
+    ensures done { IfOk result
+        (λ outcome.
+        IsDoneWith outcome (Replay image.now partition.now inputs.now ticks.now)
         (state (F.contents files.old) (seen O.taken O.failures O.is_flushed out.old))
         (state (F.contents files.new) (seen O.taken O.failures O.is_flushed out.new))) }
     ensures flushed { OnOk result
@@ -47,7 +49,8 @@ pub fn replay<F: Files, O: Stream>(
     let Some(number) = number_of(ticks) else {
         return Err(Failure::Usage(bad_ticks(alloc, "replay", ticks)?));
     };
-    Ok(replay_named(alloc, image, partition, inputs, number, files, out)?)
+    replay_named(alloc, image, partition, inputs, number, files, out)?;
+    Ok(Outcome::Usual)
 }
 
 /// Replays a partition of an image for `ticks` ticks.
@@ -119,10 +122,11 @@ pub fn inputs<F: Files, O: Stream>(
     ticks: &str,
     files: &mut F,
     out: &mut O,
-) -> Result<(), Failure<Refusal>>
+) -> Result<Outcome, Failure<Refusal>>
     requires { O.failures out.old < 2 ^ 64 - 1 }
-    ensures done { OnOk result
-        (IsDone (Inputs image.now partition.now devices.now ticks.now)
+    ensures done { IfOk result
+        (λ outcome.
+        IsDoneWith outcome (Inputs image.now partition.now devices.now ticks.now)
         (state (F.contents files.old) (seen O.taken O.failures O.is_flushed out.old))
         (state (F.contents files.new) (seen O.taken O.failures O.is_flushed out.new))) }
     ensures flushed { OnOk result
@@ -138,7 +142,8 @@ pub fn inputs<F: Files, O: Stream>(
     let Some(number) = number_of(ticks) else {
         return Err(Failure::Usage(bad_ticks(alloc, "inputs", ticks)?));
     };
-    Ok(inputs_named(alloc, image, partition, devices, number, files, out)?)
+    inputs_named(alloc, image, partition, devices, number, files, out)?;
+    Ok(Outcome::Usual)
 }
 
 /// Writes the inputs that `ticks` ticks of an image bring a partition.

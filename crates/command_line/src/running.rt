@@ -1,9 +1,9 @@
 //! Runs, of an image and of the stored module.
 
-ghost use Rattle.std.specs.Prelude.{◌≡◌, ◌-◌, ◌^◌, ◌<◌, IfErr, OnOk};
+ghost use Rattle.std.specs.Prelude.{◌≡◌, ◌-◌, ◌^◌, ◌<◌, IfOk, IfErr, OnOk};
 ghost use Rattle.machine_meaning.specs.ImageReading.{image_at};
 ghost use Rattle.module.specs.Runs.{Runs};
-ghost use Rattle.command_line.specs.Done.{IsDone, IsFirstRun, IsRunDone, is_ok};
+ghost use Rattle.command_line.specs.Done.{IsDoneWith, IsFirstRun, IsRunDone, is_ok};
 ghost use Rattle.command_line.specs.Orders.{Run};
 ghost use Rattle.command_line.specs.Refusals.{HasFailedBy, HasFailedByBoth, IsFailure, IsRunRefused, IsStoredRefused};
 ghost use Rattle.command_line.specs.States.{state};
@@ -12,25 +12,28 @@ ghost use Rattle.streams.specs.States.{IsFlushed, seen};
 
 use crate::first_run::{SOURCE, TABLE, TICKS};
 use crate::grammar::bad_ticks;
+use crate::outcome::Outcome;
 use crate::reading::read;
 use crate::refusal::Refusal;
 use command_words::{Failure, number_of};
-use module::{BuildAndRunFault, RunFault};
+use module::{BuildAndRunFault, RunFault, Watch};
 use std::alloc::Global;
 use streams::{Files, Stream};
 
-/// Runs an image for the ticks of a word.
-pub fn run<F: Files, O: Stream>(
+/// Runs an image for the ticks of a word, and tells a watcher how far it is.
+pub fn run<F: Files, O: Stream, W: Watch>(
     alloc: Global,
     image: &str,
     devices: &str,
     ticks: &str,
     files: &mut F,
     out: &mut O,
-) -> Result<(), Failure<Refusal>>
+    watch: &mut W,
+) -> Result<Outcome, Failure<Refusal>>
     requires { O.failures out.old < 2 ^ 64 - 1 }
-    ensures done { OnOk result
-        (IsDone (Run image.now devices.now ticks.now)
+    ensures done { IfOk result
+        (λ outcome.
+        IsDoneWith outcome (Run image.now devices.now ticks.now)
         (state (F.contents files.old) (seen O.taken O.failures O.is_flushed out.old))
         (state (F.contents files.new) (seen O.taken O.failures O.is_flushed out.new))) }
     ensures flushed { OnOk result
@@ -46,17 +49,19 @@ pub fn run<F: Files, O: Stream>(
     let Some(number) = number_of(ticks) else {
         return Err(Failure::Usage(bad_ticks(alloc, "run", ticks)?));
     };
-    Ok(run_named(alloc, image, devices, number, files, out)?)
+    run_named(alloc, image, devices, number, files, out, watch)?;
+    Ok(Outcome::Usual)
 }
 
 /// Runs an image for `ticks` ticks.
-fn run_named<F: Files, O: Stream>(
+fn run_named<F: Files, O: Stream, W: Watch>(
     alloc: Global,
     image: &str,
     devices: &str,
     ticks: u64,
     files: &mut F,
     out: &mut O,
+    watch: &mut W,
 ) -> Result<(), Refusal>
     requires { O.failures out.old < 2 ^ 64 - 1 }
     ensures done { OnOk result
@@ -75,17 +80,19 @@ fn run_named<F: Files, O: Stream>(
 {
     let image = read(alloc, image, files)?;
     let devices = read(alloc, devices, files)?;
-    trace(alloc, image.as_slice(), devices.as_slice(), ticks, out)?;
+    let (image, devices) = (image.as_slice(), devices.as_slice());
+    trace(alloc, image, devices, ticks, out, watch)?;
     Ok(out.flush()?)
 }
 
 /// Writes the trace of an image.
-fn trace<O: Stream>(
+fn trace<O: Stream, W: Watch>(
     alloc: Global,
     image: &[u8],
     devices: &[u8],
     ticks: u64,
     out: &mut O,
+    watch: &mut W,
 ) -> Result<(), RunFault>
     requires { O.failures out.old < 2 ^ 64 - 1 }
     ensures trace { Runs (image_at image.now) devices.now ticks (O.taken out.old) (O.taken out.new)
@@ -95,7 +102,7 @@ fn trace<O: Stream>(
         (λ f. HasFailedBy f (seen O.taken O.failures O.is_flushed out.old)
         (seen O.taken O.failures O.is_flushed out.new)) }
 {
-    module::run(alloc, image, devices, ticks, out)
+    module::run_watched(alloc, image, devices, ticks, out, watch)
 }
 
 /// Runs the stored module.
