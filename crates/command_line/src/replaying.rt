@@ -13,12 +13,13 @@ ghost use Rattle.streams.specs.States.{IsFlushed, seen};
 
 use crate::grammar::bad_ticks;
 use crate::outcome::Outcome;
-use crate::reading::read;
+use crate::reading::read_as;
 use crate::refusal::Refusal;
 use command_words::{Failure, number_of};
 use module::{InputsFault, RunFault};
 use std::alloc::Global;
 use streams::{Files, Stream};
+use text_beginnings::TextKind;
 
 /// Replays a partition of an image for the ticks of a word.
 pub fn replay<F: Files, O: Stream>(
@@ -78,8 +79,8 @@ fn replay_named<F: Files, O: Stream>(
     ensures noted { OnOk result (F.failed files.new ≡ F.failed files.old) }
     ensures named { IfErr result (λ r. IsOfFailed (F.failed files.old) (F.failed files.new) r) }
 {
-    let image = read(alloc, image, files)?;
-    let inputs = read(alloc, inputs, files)?;
+    let image = read_as(alloc, TextKind::Image, image, files)?;
+    let inputs = read_as(alloc, TextKind::Inputs, inputs, files)?;
     match trace_alone(
         alloc,
         image.as_slice(),
@@ -171,8 +172,8 @@ fn inputs_named<F: Files, O: Stream>(
     ensures noted { OnOk result (F.failed files.new ≡ F.failed files.old) }
     ensures named { IfErr result (λ r. IsOfFailed (F.failed files.old) (F.failed files.new) r) }
 {
-    let image = read(alloc, image, files)?;
-    let devices = read(alloc, devices, files)?;
+    let image = read_as(alloc, TextKind::Image, image, files)?;
+    let devices = read_as(alloc, TextKind::Inputs, devices, files)?;
     tell_inputs(
         alloc,
         image.as_slice(),
