@@ -58,7 +58,7 @@ pub record IsModuleIn (files : Option Contents) (table : List ℕ) (sources : Li
 -- They are accepted, and this is found of them.
 pub record AreFoundIn (files : Option Contents) (table : List ℕ) (sources : List (List ℕ)) (found : List PartitionFindings) : Type 0 where
   pub texts : Texts files table sources
-  pub found : AreFound texts.table_text texts.source_texts found
+  pub of_texts : AreFound texts.table_text texts.source_texts found
 
 -- The load of a table; of a table with its sources, all of them accepted.
 abbrev pub IsLoadIn : Option Contents → List ℕ → List (List ℕ) → FrameLoad → Type 0

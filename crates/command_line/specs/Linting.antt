@@ -1,5 +1,7 @@
 -- What of a module is accepted and probably not meant.
-use Rattle.std.specs.Prelude.{◌≡◌, ℕ, List, [], ◌∷◌, ◌++◌, map}
+use Rattle.std.specs.Prelude.{◌≡◌, ℕ, Bool, List, [], ◌∷◌, ◌++◌, map, Option}
+use Rattle.std.specs.Io.KnownBytes.{Appends}
+use Rattle.apex_types.specs.Line.{TakesBeginning}
 use Rattle.apex_types.specs.declared.cost.Costs.{Costs}
 use Rattle.module_meaning.specs.Accepted.{IsTable}
 use Rattle.module_meaning.specs.Table.{Partition, Table}
@@ -9,6 +11,7 @@ use Rattle.pal_base.specs.WrittenView.{program_of}
 use Rattle.pal_base.specs.declared.checked.Checked.{Checked}
 use Rattle.pal_base.specs.declared.syntax.Program as tree
 use Rattle.lint.specs.Findings.{findings}
+use Rattle.lint.specs.Sentences.{findings_text, have_findings}
 use Rattle.lint.specs.Slow.{slow_processes}
 use Rattle.lint.specs.Views.{found_all}
 use Rattle.lint.specs.declared.report.PartitionFindings.{PartitionFindings}
@@ -16,7 +19,11 @@ use Rattle.window_table.specs.Views.{partition_view}
 use Rattle.window_table.specs.declared.table.PartitionRow.{PartitionRow}
 use Rattle.module.specs.Costs.{IsAcceptedModule}
 use Rattle.module.specs.Sources.{IsSource}
+use Rattle.streams.specs.States.{HasFailed, Seen}
+use Rattle.command_line.specs.States.{IsSilent}
 use Rattle.command_line.specs.declared.linting.ReadModule.{ReadModule}
+use Rattle.command_line.specs.declared.refusal.Refusal.{Refusal}
+use Rattle.command_line.specs.declared.refusal.Refusal.TheVariants.{Memory, Write}
 
 -- ---- of accepted sources
 
@@ -47,8 +54,22 @@ AddsTrees texts old new = (trees : List tree.Program) × (new ≡ old ++ trees) 
 
 -- The table and the sources are accepted, and this is what the code holds of them.
 pub record IsReadModule (table : List ℕ) (sources : List (List ℕ)) (m : ReadModule) : Type 0 where
-  pub accepted : IsAcceptedModule table sources m.module
+  pub accepted : IsAcceptedModule table sources m.accepted
   pub trees : AreTrees sources (map program_of m.trees.items)
+
+-- this is found of a module
+abbrev pub AreFoundOfModule : ReadModule → List PartitionFindings → Type 0
+AreFoundOfModule m found = AddsFound m.accepted.table.costs m.accepted.table.partitions.items m.accepted.table.partitions.items m.trees.items m.accepted.sources.items [] found
+
+-- the findings of a module were written, if there are any
+abbrev pub AreShown : Bool → ReadModule → Option (List ℕ) → Option (List ℕ) → Type 0
+AreShown any m old new = (found : List PartitionFindings) × AreFoundOfModule m found × (have_findings found ≡ any) × Appends old new (findings_text found)
+
+-- why they are not written; if the stream took no more, it has a beginning of them
+abbrev pub AreNotShown : ReadModule → Seen → Seen → Refusal → Type 0
+AreNotShown m old new Write = HasFailed old new × (found : List PartitionFindings) × AreFoundOfModule m found × TakesBeginning old.taken new.taken (findings_text found)
+AreNotShown m old new Memory = IsSilent old new
+AreNotShown m old new _ = ⊥
 
 -- ---- of texts
 
@@ -58,7 +79,7 @@ pub record IsFound (costs : Costs) (all : List Partition) (row : Partition) (sou
   pub accepted : IsSource row source given
   pub tree : written.Program
   pub written : IsProgramOf source tree
-  pub found : IsFoundOf costs all row tree given found
+  pub of_tree : IsFoundOf costs all row tree given found
 
 abbrev pub AreAllFound : Costs → List Partition → List Partition → List (List ℕ) → List PartitionFindings → Type 0
 AreAllFound costs all [] [] [] = Unit {0}
@@ -69,4 +90,4 @@ AreAllFound costs all _ _ _ = ⊥
 pub record AreFound (table : List ℕ) (sources : List (List ℕ)) (found : List PartitionFindings) : Type 0 where
   pub rows : Table
   pub accepted : IsTable table rows
-  pub found : AreAllFound rows.costs rows.partitions rows.partitions sources found
+  pub of_rows : AreAllFound rows.costs rows.partitions rows.partitions sources found

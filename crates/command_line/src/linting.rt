@@ -5,8 +5,9 @@ ghost use Rattle.std.specs.Io.KnownBytes.{Appends};
 ghost use Rattle.apex_types.specs.Line.{TakesBeginning};
 ghost use Rattle.lint.specs.Sentences.{findings_text};
 ghost use Rattle.command_line.specs.Done.{IsDoneWith, IsModuleIn};
-ghost use Rattle.command_line.specs.Linting.{AddsFound, AddsTrees, IsReadModule};
+ghost use Rattle.command_line.specs.Linting.{AddsFound, AddsTrees, AreNotShown, AreShown, IsReadModule};
 ghost use Rattle.command_line.specs.Orders.{Lint};
+ghost use Rattle.command_line.specs.Outcomes.{is_remarkable};
 ghost use Rattle.command_line.specs.Reading.{IsUncostedText, texts_of};
 ghost use Rattle.command_line.specs.Refusals.{IsLintRefused, IsNotCosted};
 ghost use Rattle.command_line.specs.States.{state};
@@ -30,7 +31,7 @@ use window_table::PartitionRow;
 /// An accepted module, and its sources as they are written.
 #[derive(Drop)]
 pub struct ReadModule {
-    module: AcceptedModule,
+    accepted: AcceptedModule,
     /// One for each partition, in the order of the table.
     trees: Vec<Program>,
 }
@@ -61,19 +62,36 @@ pub fn lint<F: Files, O: Stream>(
     ensures named { IfErr result (λ r. IsOfFailed (F.failed files.old) (F.failed files.new) r) }
 {
     let read = module_named(alloc, table, sources, files, note)?;
-    let rows = read.module.table.partitions.as_slice();
-    let mut found = Vec::with_capacity(alloc, rows.len())?;
+    show_module(alloc, &read, out)
+}
+
+/// Writes what is found in the sources of a module.
+fn show_module<O: Stream>(alloc: Global, read: &ReadModule, out: &mut O) -> Result<Outcome, Refusal>
+    requires { O.failures out.old < 2 ^ 64 - 1 }
+    ensures shown { IfOk result
+        (λ outcome. AreShown (is_remarkable outcome) read.now (O.taken out.old) (O.taken out.new)) }
+    ensures flushed { OnOk result
+        (IsFlushed (seen O.taken O.failures O.is_flushed out.old)
+        (seen O.taken O.failures O.is_flushed out.new)) }
+    ensures refused { IfErr result
+        (λ r. AreNotShown read.now (seen O.taken O.failures O.is_flushed out.old)
+        (seen O.taken O.failures O.is_flushed out.new) r) }
+{
+    let accepted = &read.accepted;
+    let rows = accepted.table.partitions.as_slice();
+    let sources = accepted.sources.as_slice();
+    let mut found = Vec::new(alloc);
     add_found(
         alloc,
-        &read.module.table.costs,
+        &accepted.table.costs,
         rows,
         rows,
         read.trees.as_slice(),
-        read.module.sources.as_slice(),
+        sources,
         &mut found,
     )?;
-    show_findings(&found, out)?;
-    Ok(Outcome::of_findings(&found))
+    show_findings(found.as_slice(), out)?;
+    Ok(Outcome::of_findings(found.as_slice()))
 }
 
 /// The module of the table and the sources in the files of these names. A refusal is explained in
@@ -110,10 +128,10 @@ fn read_texts(
     ensures read { IfOk result (λ m. IsReadModule table.now (texts_of sources.now) m) }
     ensures refused { IfErr result (λ r. IsUncostedText table.now (texts_of sources.now) r) }
 {
-    let module = module_of_texts(alloc, name, table, sources, note)?;
+    let accepted = module_of_texts(alloc, name, table, sources, note)?;
     let mut trees = Vec::new(alloc);
     add_trees(alloc, sources, &mut trees)?;
-    Ok(ReadModule { module, trees })
+    Ok(ReadModule { accepted, trees })
 }
 
 /// Adds accepted sources as they are written.

@@ -98,7 +98,7 @@ fn load_of_text(alloc: Global, name: &str, table: &[u8], note: &mut Note) -> Res
     ensures refused { IfErr result (λ r. IsRefusedTable table.now r) }
 {
     match accept_table(alloc, table) {
-        Ok(accepted) => Ok(loaded(alloc, accepted, Vec::new(alloc))?),
+        Ok(accepted) => Ok(load_of_accepted(alloc, accepted, Vec::new(alloc))?),
         Err(fault) => {
             note.explain(alloc, name, table, &[], &fault);
             Err(Refusal::Build(fault))
@@ -118,11 +118,15 @@ fn load_of_texts(
     ensures refused { IfErr result (λ r. IsUncostedText table.now (texts_of sources.now) r) }
 {
     let AcceptedModule { table, sources } = module_of_texts(alloc, name, table, sources, note)?;
-    Ok(loaded(alloc, table, sources)?)
+    Ok(load_of_accepted(alloc, table, sources)?)
 }
 
 /// The load of an accepted table and accepted sources.
-fn loaded(alloc: Global, table: ModuleTable, sources: Vec<Checked>) -> Result<Loaded, AllocError>
+fn load_of_accepted(
+    alloc: Global,
+    table: ModuleTable,
+    sources: Vec<Checked>,
+) -> Result<Loaded, AllocError>
     ensures { IfOk result (λ loaded. IsLoadOf (table_of table) loaded.load) }
 {
     let load = frame_load(alloc, &table)?;

@@ -223,7 +223,7 @@ pub fn module_of_texts(
     note: &mut Note,
 ) -> Result<AcceptedModule, Refusal>
     ensures accepted { IfOk result
-        (λ module. IsAcceptedModule table.now (texts_of sources.now) module) }
+        (λ m. IsAcceptedModule table.now (texts_of sources.now) m) }
     ensures refused { IfErr result (λ r. IsUncostedText table.now (texts_of sources.now) r) }
 {
     let texts = slices(alloc, sources)?;

@@ -4,8 +4,8 @@ use command_line::Watch;
 use std::io::Write;
 use std::time::{Duration, Instant};
 
-/// The time between two lines.
-const APART: Duration = Duration::from_secs(1);
+/// So many seconds lie between two lines.
+const APART: u64 = 1;
 
 /// Tells how far a run is, if that is wanted.
 #[derive(Drop)]
@@ -42,7 +42,7 @@ impl<'a> Watch for Progress<'a> {
         let (Some(told), Ok(now)) = (self.told, Instant::now(self.runtime)) else {
             return;
         };
-        if now.duration_since(told) < APART {
+        if now.duration_since(told) < Duration::from_secs(APART) {
             return;
         }
         self.told = Some(now);
