@@ -1,6 +1,10 @@
 -- Tables and sources of which a beginning was read: these are accepted or refused as the whole files.
-use Rattle.std.proofs.Common.{◌≡◌, ◌⊎◌, inl, inr, ℕ, ◌+◌, Bool, true, List, [], ◌∷◌, ◌++◌, length, map, drop, suc, Bor, Option, Some, None, Result, Ok, Err, IfOk, IfErr, refl, sym, ap, subst, ◌∙◌, append-nil}
+use Rattle.std.proofs.Common.{◌≡◌, ◌⊎◌, inl, inr, ℕ, ◌+◌, Bool, true, List, [], ◌∷◌, ◌++◌, length, map, take, drop, suc, Bor, false, ◌≤◌, ◌<◌, append_assoc, arith, Option, Some, None, Result, Ok, Err, IfOk, IfErr, refl, sym, ap, subst, ◌∙◌, append-nil}
 use Rattle.apex_types.specs.declared.cost.Costs.{Costs}
+use Rattle.apex_types.specs.declared.limits.TheConstants.{MOST_SOURCE_BYTES}
+use Rattle.std.specs.Prelude.{nat_lt}
+use Rattle.std.proofs.lemmas.Bool.{lt-ltb, ltb-false, ltb-true}
+use Rattle.std.proofs.lemmas.List.{length-take-le, take-append-drop, take_all}
 use Rattle.toml.specs.Data.{Members}
 use Rattle.module_meaning.specs.Accepted.{AreAccepted, IsAccepted, IsDocument, IsTable}
 use Rattle.module_meaning.specs.Table.{Partition, Table}
@@ -191,44 +195,44 @@ wholes_of files (name ∷ names) [] held = absurd held
 module _ (files now : Option Contents) (table : List ℕ) (names : List (List ℕ)) (bytes given : List ℕ) (texts : List (List ℕ))
     (same : now ≡ files) (is : given ≡ bytes) (in_table : HoldsFrom settles_table files table bytes) (in_sources : HoldAllFrom settles_source now names texts)
   where
-  own_table : (table_text : List ℕ) × Holds files table table_text × IsBeginningOf settles_table table_text given
-  own_table =
-      let whole = whole_of settles_table files table bytes in_table in
-      (whole.0, whole.1, subst (λ b. IsBeginningOf settles_table whole.0 b) (sym is) whole.2)
+    own_table : (table_text : List ℕ) × Holds files table table_text × IsBeginningOf settles_table table_text given
+    own_table =
+        let whole = whole_of settles_table files table bytes in_table in
+        (whole.0, whole.1, subst (λ b. IsBeginningOf settles_table whole.0 b) (sym is) whole.2)
 
-  own_sources : (wholes : List (List ℕ)) × HoldAll files names wholes × AllBegun wholes texts
-  own_sources = wholes_of files names texts (subst (λ f. HoldAllFrom settles_source f names texts) same in_sources)
+    own_sources : (wholes : List (List ℕ)) × HoldAll files names wholes × AllBegun wholes texts
+    own_sources = wholes_of files names texts (subst (λ f. HoldAllFrom settles_source f names texts) same in_sources)
 
-  texts_of_files : Texts files table names
-  texts_of_files = record { table_text = own_table.0; source_texts = own_sources.0; in_table = own_table.1; in_sources = own_sources.1 }
+    texts_of_files : Texts files table names
+    texts_of_files = record { table_text = own_table.0; source_texts = own_sources.0; in_table = own_table.1; in_sources = own_sources.1 }
 
-  pub built_of_files : {A E : Type 0} (view : A → List ℕ) (answer : Result A E) → IfOk answer (λ image. IsImageOf given texts (view image)) → IfOk answer (λ image. IsBuilt files table names (view image))
-  built_of_files view (Ok image) h = record { texts = texts_of_files; built = image_whole own_table.0 given own_sources.0 texts own_table.2 own_sources.2 (view image) h }
-  built_of_files view (Err e) h = tt
+    pub built_of_files : {A E : Type 0} (view : A → List ℕ) (answer : Result A E) → IfOk answer (λ image. IsImageOf given texts (view image)) → IfOk answer (λ image. IsBuilt files table names (view image))
+    built_of_files view (Ok image) h = record { texts = texts_of_files; built = image_whole own_table.0 given own_sources.0 texts own_table.2 own_sources.2 (view image) h }
+    built_of_files view (Err e) h = tt
 
-  pub costed_of_files : {A E : Type 0} (view : A → List PartitionCosts) (answer : Result A E) → IfOk answer (λ costs. AreCosts given texts (view costs)) → IfOk answer (λ costs. done.AreCosted files table names (view costs))
-  costed_of_files view (Ok costs) h = record { texts = texts_of_files; costed = costs_whole own_table.0 given own_sources.0 texts own_table.2 own_sources.2 (view costs) h }
-  costed_of_files view (Err e) h = tt
+    pub costed_of_files : {A E : Type 0} (view : A → List PartitionCosts) (answer : Result A E) → IfOk answer (λ costs. AreCosts given texts (view costs)) → IfOk answer (λ costs. done.AreCosted files table names (view costs))
+    costed_of_files view (Ok costs) h = record { texts = texts_of_files; costed = costs_whole own_table.0 given own_sources.0 texts own_table.2 own_sources.2 (view costs) h }
+    costed_of_files view (Err e) h = tt
 
-  pub refused_of_files : {A : Type 0} (answer : Result A refusal.Refusal) → IfErr answer (λ r. IsRefusedText given texts r) → IfErr answer (λ r. IsNotBuilt files table names r)
-  refused_of_files (Ok image) h = tt
-  refused_of_files (Err (refusals.Build fault)) h = (texts_of_files, refusal_whole own_table.0 given own_sources.0 texts own_table.2 own_sources.2 fault h)
-  refused_of_files (Err (refusals.Run fault)) h = absurd h
-  refused_of_files (Err (refusals.Replay fault)) h = absurd h
-  refused_of_files (Err (refusals.Inputs fault)) h = absurd h
-  refused_of_files (Err (refusals.File name reason)) h = absurd h
-  refused_of_files (Err refusals.Memory) h = tt
-  refused_of_files (Err refusals.Write) h = absurd h
+    pub refused_of_files : {A : Type 0} (answer : Result A refusal.Refusal) → IfErr answer (λ r. IsRefusedText given texts r) → IfErr answer (λ r. IsNotBuilt files table names r)
+    refused_of_files (Ok image) h = tt
+    refused_of_files (Err (refusals.Build fault)) h = (texts_of_files, refusal_whole own_table.0 given own_sources.0 texts own_table.2 own_sources.2 fault h)
+    refused_of_files (Err (refusals.Run fault)) h = absurd h
+    refused_of_files (Err (refusals.Replay fault)) h = absurd h
+    refused_of_files (Err (refusals.Inputs fault)) h = absurd h
+    refused_of_files (Err (refusals.File name reason)) h = absurd h
+    refused_of_files (Err refusals.Memory) h = tt
+    refused_of_files (Err refusals.Write) h = absurd h
 
-  pub uncosted_of_files : {A : Type 0} (answer : Result A refusal.Refusal) → IfErr answer (λ r. IsUncostedText given texts r) → IfErr answer (λ r. IsNotCosted files table names r)
-  uncosted_of_files (Ok image) h = tt
-  uncosted_of_files (Err (refusals.Build fault)) h = (texts_of_files, cost_refusal_whole own_table.0 given own_sources.0 texts own_table.2 own_sources.2 fault h)
-  uncosted_of_files (Err (refusals.Run fault)) h = absurd h
-  uncosted_of_files (Err (refusals.Replay fault)) h = absurd h
-  uncosted_of_files (Err (refusals.Inputs fault)) h = absurd h
-  uncosted_of_files (Err (refusals.File name reason)) h = absurd h
-  uncosted_of_files (Err refusals.Memory) h = tt
-  uncosted_of_files (Err refusals.Write) h = absurd h
+    pub uncosted_of_files : {A : Type 0} (answer : Result A refusal.Refusal) → IfErr answer (λ r. IsUncostedText given texts r) → IfErr answer (λ r. IsNotCosted files table names r)
+    uncosted_of_files (Ok image) h = tt
+    uncosted_of_files (Err (refusals.Build fault)) h = (texts_of_files, cost_refusal_whole own_table.0 given own_sources.0 texts own_table.2 own_sources.2 fault h)
+    uncosted_of_files (Err (refusals.Run fault)) h = absurd h
+    uncosted_of_files (Err (refusals.Replay fault)) h = absurd h
+    uncosted_of_files (Err (refusals.Inputs fault)) h = absurd h
+    uncosted_of_files (Err (refusals.File name reason)) h = absurd h
+    uncosted_of_files (Err refusals.Memory) h = tt
+    uncosted_of_files (Err refusals.Write) h = absurd h
 
 -- all files are begun
 pub all_begun : (files : Option Contents) (names : List (Bor (List ℕ))) (i : ℕ) (texts : List (List ℕ)) → i ≡ length names
@@ -242,3 +246,19 @@ all_begun files names i texts at before =
     drop-all : {X : Type 0} (xs : List X) → drop (length xs) xs ≡ []
     drop-all [] = refl
     drop-all (x ∷ xs) = drop-all xs
+
+-- a source that is cut behind the first byte that it may not have
+pub cut : (files : Option Contents) (name bytes : List ℕ) → HoldsFrom settles_source files name bytes → HoldsFrom settles_source files name (take (MOST_SOURCE_BYTES + 1) bytes)
+cut None name bytes held = tt
+cut (Some files) name bytes (text, is, (rest, begun, why)) = go (nat_lt MOST_SOURCE_BYTES (length bytes)) refl
+  where
+    go : (t : Bool) → nat_lt MOST_SOURCE_BYTES (length bytes) ≡ t → HoldsFrom settles_source (Some files) name (take (MOST_SOURCE_BYTES + 1) bytes)
+    go false short =
+        let all : take (MOST_SOURCE_BYTES + 1) bytes ≡ bytes = take_all (MOST_SOURCE_BYTES + 1) bytes (omega (arith, ltb-false MOST_SOURCE_BYTES (length bytes) short)) in
+        subst (HoldsFrom settles_source (Some files) name) (sym all) (text, is, (rest, begun, why))
+    go true long =
+        let many : MOST_SOURCE_BYTES < length bytes = ltb-true MOST_SOURCE_BYTES (length bytes) long in
+        let split : text ≡ take (MOST_SOURCE_BYTES + 1) bytes ++ (drop (MOST_SOURCE_BYTES + 1) bytes ++ rest) =
+        begun ∙ ap (λ b. b ++ rest) (sym (take-append-drop (MOST_SOURCE_BYTES + 1) bytes)) ∙ append_assoc (take (MOST_SOURCE_BYTES + 1) bytes) (drop (MOST_SOURCE_BYTES + 1) bytes) rest in
+        let size : length (take (MOST_SOURCE_BYTES + 1) bytes) ≡ MOST_SOURCE_BYTES + 1 = length-take-le (MOST_SOURCE_BYTES + 1) bytes (omega (arith, many)) in
+        (text, is, (drop (MOST_SOURCE_BYTES + 1) bytes ++ rest, split, inr (lt-ltb MOST_SOURCE_BYTES (length (take (MOST_SOURCE_BYTES + 1) bytes)) (omega (arith, size)))))

@@ -55,10 +55,10 @@ pub fn read_as<F: Files>(
     ensures noted { OnOk result (F.failed files.new ≡ F.failed files.old) }
     ensures named { IfErr result (λ r. IsOfFailed (F.failed files.old) (F.failed files.new) r) }
 {
-    let shown = String::from_str(alloc, name)?;
+    let told = String::from_str(alloc, name)?;
     match files.read_until(alloc, name, &kind) {
-        Ok(bytes) => Ok(bytes),
-        Err(fault) => Err(Refusal::of_file(shown, fault)),
+        Ok(text) => Ok(text),
+        Err(fault) => Err(Refusal::of_file(told, fault)),
     }
 }
 
@@ -266,8 +266,8 @@ pub fn upgrade_named<F: Files>(alloc: Global, name: &str, files: &mut F) -> Resu
     ensures noted { OnOk result (F.failed files.new ≡ F.failed files.old) }
     ensures named { IfErr result (λ r. IsOfFailed (F.failed files.old) (F.failed files.new) r) }
 {
-    let bytes = read_as(alloc, TextKind::Image, name, files)?;
-    Ok(upgraded(alloc, bytes.as_slice())?)
+    let old = read_as(alloc, TextKind::Image, name, files)?;
+    Ok(upgraded(alloc, old.as_slice())?)
 }
 
 /// The image in the bytes, upgraded.
