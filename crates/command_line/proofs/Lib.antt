@@ -1,4 +1,6 @@
 pub mod Answered
+pub mod Begun
+pub mod BegunModules
 pub mod Found
 pub mod Linted
 pub mod Loaded

@@ -4,7 +4,7 @@ use Rattle.clap.specs.Lexer.{usize_max}
 use Rattle.clap.specs.Simple.{App, new_app, new_rule, with_rule, with_subcommand}
 use Rattle.clap.specs.Walk.{Rule}
 use Rattle.clap.specs.declared.builder.action.ArgAction.TheVariants.{Append}
-use Rattle.command_words.specs.Grammar.{flag_rule, word_rule}
+use Rattle.command_words.specs.Grammar.{flag_rule, versioned, word_rule}
 
 -- one word or more
 abbrev pub sources_rule : Rule
@@ -62,7 +62,11 @@ load_app = with_rule (with_rule load_flags_app (word_rule (codes "TABLE"))) any_
 abbrev pub lint_app : App
 lint_app = with_rule (with_rule (explained_app (codes "lint")) (word_rule (codes "TABLE"))) sources_rule
 
+-- the program without its commands
+abbrev pub top_app : App
+top_app = versioned (new_app (codes "mb"))
+
 abbrev pub mb_app : App
 mb_app =
     with_subcommand (with_subcommand (with_subcommand (with_subcommand (with_subcommand (with_subcommand (with_subcommand (with_subcommand (with_subcommand (with_subcommand
-    (new_app (codes "mb")) check_app.top) build_app.top) run_app.top) replay_app.top) inputs_app.top) cost_app.top) dis_app.top) upgrade_app.top) load_app.top) lint_app.top
+    top_app check_app.top) build_app.top) run_app.top) replay_app.top) inputs_app.top) cost_app.top) dis_app.top) upgrade_app.top) load_app.top) lint_app.top

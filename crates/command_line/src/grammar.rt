@@ -1,16 +1,15 @@
 //! The words that the program takes.
 
-ghost use Rattle.std.specs.Prelude.{◌≡◌, IfOk, codes, false};
-ghost use Rattle.clap.specs.Simple.{new_app};
+ghost use Rattle.std.specs.Prelude.{◌≡◌, IfOk, false};
 ghost use Rattle.clap.specs.Values.{kind_of};
 ghost use Rattle.clap.specs.Walk.{rule_of};
 ghost use Rattle.clap.specs.declared.error.kind.ErrorKind.TheVariants.{ValueValidation};
 ghost use Rattle.command_words.specs.Grammar.{IsCommand};
-ghost use Rattle.command_line.specs.Words.{sources_rule, explained_app, check_app, build_app, run_app, partition_app, replay_app, inputs_app, cost_app, dis_app, upgrade_app, load_app, load_flags_app, lint_app, run_flags_app, any_sources_rule, mb_app};
+ghost use Rattle.command_line.specs.Words.{sources_rule, explained_app, check_app, build_app, run_app, partition_app, replay_app, inputs_app, cost_app, dis_app, upgrade_app, load_app, load_flags_app, lint_app, run_flags_app, any_sources_rule, mb_app, top_app};
 
 use clap::error::ErrorKind;
 use clap::{Arg, ArgAction, Command, Error};
-use command_words::{flag, required_word};
+use command_words::{VERSION, flag, required_word};
 use std::alloc::{AllocError, Global};
 
 /// The commands and their arguments.
@@ -32,9 +31,10 @@ pub fn grammar<'a>(alloc: Global) -> Result<Command<'a>, AllocError>
 
 /// The program without its commands.
 fn program<'a>(alloc: Global) -> Command<'a>
-    ensures { IsCommand result (new_app (codes "mb")) }
+    ensures { IsCommand result top_app }
 {
     Command::new(alloc, "mb")
+        .version(VERSION)
         .about(
             "Builds ARINC 653 modules and runs them; without a command, runs a stored first module",
         )
@@ -227,10 +227,24 @@ fn any_sources<'a>(alloc: Global) -> Arg<'a>
         .help("The file of each partition's source, in the order of the table")
 }
 
-/// The usage error of a word that is no number of ticks.
-pub fn bad_ticks(alloc: Global, word: &str) -> Result<Error, AllocError>
+/// The usage error of a word that is no number of ticks, of the command of that name.
+pub fn bad_ticks(alloc: Global, name: &str, word: &str) -> Result<Error, AllocError>
     ensures { IfOk result (λ error. kind_of error ≡ ValueValidation) }
 {
-    let message = format!(in alloc; "invalid value '{word}' for '<TICKS>'")?;
-    grammar(alloc)?.error(ErrorKind::ValueValidation, message.as_str())
+    let message = format!(in alloc;
+        "invalid value '{word}' for '<TICKS>': one or more digits, at most 1099511627776"
+    )?;
+    let shown = format!(in alloc; "mb {name}")?;
+    of_ticks(alloc, name)?
+        .bin_name(shown.as_str())?
+        .error(ErrorKind::ValueValidation, message.as_str())
+}
+
+/// The command of that name, which takes ticks.
+fn of_ticks<'a>(alloc: Global, name: &str) -> Result<Command<'a>, AllocError> {
+    match name {
+        "replay" => replay(alloc),
+        "inputs" => inputs(alloc),
+        _ => run(alloc),
+    }
 }

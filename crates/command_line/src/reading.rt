@@ -3,9 +3,12 @@
 ghost use Rattle.std.specs.Prelude.{◌≡◌, map, Ok, IfOk, IfErr, OnOk};
 ghost use Rattle.machine_meaning.specs.ImageReading.{image_at};
 ghost use Rattle.image.specs.Views.{image_of};
+ghost use Rattle.streams.specs.Beginnings.{HoldsFrom};
 ghost use Rattle.streams.specs.Contents.{HoldAll, Holds};
+ghost use Rattle.text_beginnings.specs.Kinds.{settles};
+ghost use Rattle.text_beginnings.specs.Settled.{settles_source};
 ghost use Rattle.command_line.specs.Done.{AreCosted, IsBuilt, IsImageIn, IsUpgradedIn};
-ghost use Rattle.command_line.specs.Reading.{IsRefusedText, IsUncostedText, IsUnread, IsUnreadAmong, texts_of};
+ghost use Rattle.command_line.specs.Reading.{IsRefusedText, HoldAllFrom, IsHeld, IsUncostedText, IsUnread, IsUnreadAmong, texts_of};
 ghost use Rattle.module.specs.Building.{IsImageOf};
 ghost use Rattle.module.specs.Costs.{AreCosts, IsAcceptedModule};
 ghost use Rattle.module.specs.Running.{IsRefused};
@@ -15,10 +18,12 @@ ghost use Rattle.command_line.specs.Told.{IsOfFailed};
 
 use crate::explaining::Note;
 use crate::refusal::Refusal;
+use apex_types::limits::MOST_SOURCE_BYTES;
 use image::{Image, load_image};
 use module::{AcceptedModule, PartitionCosts, RunFault, upgrade};
 use std::alloc::{AllocError, Global};
 use streams::Files;
+use text_beginnings::TextKind;
 
 /// The bytes of the file of that name.
 pub fn read<F: Files>(alloc: Global, name: &str, files: &mut F) -> Result<Vec<u8>, Refusal>
@@ -32,6 +37,28 @@ pub fn read<F: Files>(alloc: Global, name: &str, files: &mut F) -> Result<Vec<u8
     match files.read(alloc, name) {
         Ok(bytes) => Ok(bytes),
         Err(fault) => Err(Refusal::of_file(shown, fault)),
+    }
+}
+
+/// The bytes of the file of that name, as far as a text of this kind needs them.
+pub fn read_as<F: Files>(
+    alloc: Global,
+    kind: TextKind,
+    name: &str,
+    files: &mut F,
+) -> Result<Vec<u8>, Refusal>
+    ensures held { IfOk result
+        (λ bytes. HoldsFrom (settles kind) (F.contents files.old) name.now bytes.items) }
+    ensures known { OnOk result (IsHeld (F.contents files.old) name.now) }
+    ensures refused { IfErr result (λ r. IsUnread name.now r) }
+    ensures unchanged { F.contents files.new ≡ F.contents files.old }
+    ensures noted { OnOk result (F.failed files.new ≡ F.failed files.old) }
+    ensures named { IfErr result (λ r. IsOfFailed (F.failed files.old) (F.failed files.new) r) }
+{
+    let told = String::from_str(alloc, name)?;
+    match files.read_until(alloc, name, &kind) {
+        Ok(text) => Ok(text),
+        Err(fault) => Err(Refusal::of_file(told, fault)),
     }
 }
 
@@ -57,6 +84,45 @@ pub fn read_all<F: Files>(
     Ok(texts)
 }
 
+/// The bytes of the files of these names, in their order, as far as sources need them: a source that
+/// is too long has one byte more than it may.
+pub fn read_sources<F: Files>(
+    alloc: Global,
+    names: &[&str],
+    files: &mut F,
+) -> Result<Vec<Vec<u8>>, Refusal>
+    ensures held { IfOk result
+        (λ texts.
+        HoldAllFrom settles_source (F.contents files.old) (map (λ s. s.now) names.now)
+        (texts_of texts.items)) }
+    ensures refused { IfErr result
+        (λ r. IsUnreadAmong (F.contents files.old) (map (λ s. s.now) names.now) r) }
+    ensures unchanged { F.contents files.new ≡ F.contents files.old }
+    ensures noted { OnOk result (F.failed files.new ≡ F.failed files.old) }
+    ensures named { IfErr result (λ r. IsOfFailed (F.failed files.old) (F.failed files.new) r) }
+{
+    let mut texts = Vec::new(alloc);
+    for name in names {
+        texts.push(read_source(alloc, name, files)?)?;
+    }
+    Ok(texts)
+}
+
+/// The bytes of the source of that name: all of them, or one more than a source may have.
+fn read_source<F: Files>(alloc: Global, name: &str, files: &mut F) -> Result<Vec<u8>, Refusal>
+    ensures held { IfOk result
+        (λ bytes. HoldsFrom settles_source (F.contents files.old) name.now bytes.items) }
+    ensures known { OnOk result (IsHeld (F.contents files.old) name.now) }
+    ensures refused { IfErr result (λ r. IsUnread name.now r) }
+    ensures unchanged { F.contents files.new ≡ F.contents files.old }
+    ensures noted { OnOk result (F.failed files.new ≡ F.failed files.old) }
+    ensures named { IfErr result (λ r. IsOfFailed (F.failed files.old) (F.failed files.new) r) }
+{
+    let mut bytes = read_as(alloc, TextKind::Source, name, files)?;
+    bytes.truncate(MOST_SOURCE_BYTES as usize + 1);
+    Ok(bytes)
+}
+
 /// The image of the table and the sources in the files of these names. The refusal of a source is
 /// explained in `note`.
 pub fn build_named<F: Files>(
@@ -76,8 +142,8 @@ pub fn build_named<F: Files>(
     ensures named { IfErr result (λ r. IsOfFailed (F.failed files.old) (F.failed files.new) r) }
 {
     let name = table;
-    let table = read(alloc, name, files)?;
-    let sources = read_all(alloc, sources, files)?;
+    let table = read_as(alloc, TextKind::Table, name, files)?;
+    let sources = read_sources(alloc, sources, files)?;
     build_texts(alloc, name, table.as_slice(), sources.as_slice(), note)
 }
 
@@ -121,8 +187,8 @@ pub fn costs_named<F: Files>(
     ensures named { IfErr result (λ r. IsOfFailed (F.failed files.old) (F.failed files.new) r) }
 {
     let name = table;
-    let table = read(alloc, name, files)?;
-    let sources = read_all(alloc, sources, files)?;
+    let table = read_as(alloc, TextKind::Table, name, files)?;
+    let sources = read_sources(alloc, sources, files)?;
     costs_of_texts(alloc, name, table.as_slice(), sources.as_slice(), note)
 }
 
@@ -179,7 +245,7 @@ pub fn load_named<F: Files>(alloc: Global, name: &str, files: &mut F) -> Result<
     ensures noted { OnOk result (F.failed files.new ≡ F.failed files.old) }
     ensures named { IfErr result (λ r. IsOfFailed (F.failed files.old) (F.failed files.new) r) }
 {
-    let bytes = read(alloc, name, files)?;
+    let bytes = read_as(alloc, TextKind::Image, name, files)?;
     Ok(load(alloc, bytes.as_slice())?)
 }
 
@@ -200,8 +266,8 @@ pub fn upgrade_named<F: Files>(alloc: Global, name: &str, files: &mut F) -> Resu
     ensures noted { OnOk result (F.failed files.new ≡ F.failed files.old) }
     ensures named { IfErr result (λ r. IsOfFailed (F.failed files.old) (F.failed files.new) r) }
 {
-    let bytes = read(alloc, name, files)?;
-    Ok(upgraded(alloc, bytes.as_slice())?)
+    let old = read_as(alloc, TextKind::Image, name, files)?;
+    Ok(upgraded(alloc, old.as_slice())?)
 }
 
 /// The image in the bytes, upgraded.

@@ -13,12 +13,13 @@ ghost use Rattle.streams.specs.States.{IsFlushed, seen};
 
 use crate::grammar::bad_ticks;
 use crate::outcome::Outcome;
-use crate::reading::read;
+use crate::reading::read_as;
 use crate::refusal::Refusal;
 use command_words::{Failure, number_of};
 use module::{InputsFault, RunFault};
 use std::alloc::Global;
 use streams::{Files, Stream};
+use text_beginnings::TextKind;
 
 /// Replays a partition of an image for the ticks of a word.
 pub fn replay<F: Files, O: Stream>(
@@ -47,7 +48,7 @@ pub fn replay<F: Files, O: Stream>(
     ensures named { IfErr result (λ f. IsOfFailedFile (F.failed files.old) (F.failed files.new) f) }
 {
     let Some(number) = number_of(ticks) else {
-        return Err(Failure::Usage(bad_ticks(alloc, ticks)?));
+        return Err(Failure::Usage(bad_ticks(alloc, "replay", ticks)?));
     };
     replay_named(alloc, image, partition, inputs, number, files, out)?;
     Ok(Outcome::Usual)
@@ -78,8 +79,8 @@ fn replay_named<F: Files, O: Stream>(
     ensures noted { OnOk result (F.failed files.new ≡ F.failed files.old) }
     ensures named { IfErr result (λ r. IsOfFailed (F.failed files.old) (F.failed files.new) r) }
 {
-    let image = read(alloc, image, files)?;
-    let inputs = read(alloc, inputs, files)?;
+    let image = read_as(alloc, TextKind::Image, image, files)?;
+    let inputs = read_as(alloc, TextKind::Inputs, inputs, files)?;
     match trace_alone(
         alloc,
         image.as_slice(),
@@ -140,7 +141,7 @@ pub fn inputs<F: Files, O: Stream>(
     ensures named { IfErr result (λ f. IsOfFailedFile (F.failed files.old) (F.failed files.new) f) }
 {
     let Some(number) = number_of(ticks) else {
-        return Err(Failure::Usage(bad_ticks(alloc, ticks)?));
+        return Err(Failure::Usage(bad_ticks(alloc, "inputs", ticks)?));
     };
     inputs_named(alloc, image, partition, devices, number, files, out)?;
     Ok(Outcome::Usual)
@@ -171,8 +172,8 @@ fn inputs_named<F: Files, O: Stream>(
     ensures noted { OnOk result (F.failed files.new ≡ F.failed files.old) }
     ensures named { IfErr result (λ r. IsOfFailed (F.failed files.old) (F.failed files.new) r) }
 {
-    let image = read(alloc, image, files)?;
-    let devices = read(alloc, devices, files)?;
+    let image = read_as(alloc, TextKind::Image, image, files)?;
+    let devices = read_as(alloc, TextKind::Inputs, devices, files)?;
     tell_inputs(
         alloc,
         image.as_slice(),

@@ -13,12 +13,13 @@ ghost use Rattle.streams.specs.States.{IsFlushed, seen};
 use crate::first_run::{SOURCE, TABLE, TICKS};
 use crate::grammar::bad_ticks;
 use crate::outcome::Outcome;
-use crate::reading::read;
+use crate::reading::read_as;
 use crate::refusal::Refusal;
 use command_words::{Failure, number_of};
 use module::{BuildAndRunFault, RunFault, Watch};
 use std::alloc::Global;
 use streams::{Files, Stream};
+use text_beginnings::TextKind;
 
 /// Runs an image for the ticks of a word, and tells a watcher how far it is.
 pub fn run<F: Files, O: Stream, W: Watch>(
@@ -47,7 +48,7 @@ pub fn run<F: Files, O: Stream, W: Watch>(
     ensures named { IfErr result (λ f. IsOfFailedFile (F.failed files.old) (F.failed files.new) f) }
 {
     let Some(number) = number_of(ticks) else {
-        return Err(Failure::Usage(bad_ticks(alloc, ticks)?));
+        return Err(Failure::Usage(bad_ticks(alloc, "run", ticks)?));
     };
     run_named(alloc, image, devices, number, files, out, watch)?;
     Ok(Outcome::Usual)
@@ -78,8 +79,8 @@ fn run_named<F: Files, O: Stream, W: Watch>(
     ensures noted { OnOk result (F.failed files.new ≡ F.failed files.old) }
     ensures named { IfErr result (λ r. IsOfFailed (F.failed files.old) (F.failed files.new) r) }
 {
-    let image = read(alloc, image, files)?;
-    let devices = read(alloc, devices, files)?;
+    let image = read_as(alloc, TextKind::Image, image, files)?;
+    let devices = read_as(alloc, TextKind::Inputs, devices, files)?;
     let (image, devices) = (image.as_slice(), devices.as_slice());
     trace(alloc, image, devices, ticks, out, watch)?;
     Ok(out.flush()?)

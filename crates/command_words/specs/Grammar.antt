@@ -1,6 +1,6 @@
 -- Commands and their arguments, as the library of command lines reads them.
 use Rattle.std.specs.Prelude.{◌≡◌, ℕ, List, Some, true, false}
-use Rattle.clap.specs.Simple.{App, app_of, new_rule}
+use Rattle.clap.specs.Simple.{App, app_of, new_rule, on_top}
 use Rattle.clap.specs.Walk.{Rule}
 use Rattle.clap.specs.declared.builder.action.ArgAction.TheVariants.{Set, SetTrue}
 use Rattle.clap.specs.declared.builder.command.Command.{Command}
@@ -13,6 +13,10 @@ word_rule name = record (new_rule name) { required = true; action = Some Set }
 -- an optional word with two dashes
 abbrev pub flag_rule : List ℕ → Rule
 flag_rule name = record (new_rule name) { long = Some name; action = Some SetTrue }
+
+-- a program that tells its version
+abbrev pub versioned : App → App
+versioned app = on_top (λ s. record s { has_version = true }) app
 
 -- a command with these arguments and no other, none of them for its own commands
 pub record IsCommand (command : Command) (app : App) : Type 0 where

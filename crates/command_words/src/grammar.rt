@@ -7,6 +7,9 @@ ghost use Rattle.command_words.specs.Grammar.{flag_rule, word_rule};
 use clap::{Arg, ArgAction};
 use std::alloc::Global;
 
+/// The version of the programs.
+pub const VERSION: &str = "0.9.0";
+
 /// A required word.
 pub fn required_word<'a>(alloc: Global, name: &'a str, help: &'a str) -> Arg<'a>
     ensures rule { rule_of result ≡ word_rule name.entry.now }

@@ -9,7 +9,7 @@ mod usage;
 mod words;
 
 pub use failure::{Failure, WantOfMemory};
-pub use grammar::{flag, required_word};
+pub use grammar::{VERSION, flag, required_word};
 pub use number::number_of;
 pub use usage::tell_usage;
 pub use words::word;

@@ -3,7 +3,7 @@ use Rattle.std.specs.Prelude.{ℕ, List, Some, true, codes}
 use Rattle.clap.specs.Simple.{App, new_app, new_rule, on_top, with_rule, with_subcommand}
 use Rattle.clap.specs.Walk.{Rule}
 use Rattle.clap.specs.declared.builder.action.ArgAction.TheVariants.{Set}
-use Rattle.command_words.specs.Grammar.{flag_rule, word_rule}
+use Rattle.command_words.specs.Grammar.{flag_rule, versioned, word_rule}
 
 -- the required name of the trace
 abbrev pub trace_rule : Rule
@@ -46,7 +46,7 @@ abbrev pub diff_app : App
 diff_app = with_rule (with_rule (with_rule (new_app (codes "diff")) trace_rule) (word_rule (codes "OTHER"))) (option_rule (codes "partition"))
 
 abbrev pub top_app : App
-top_app = on_top (λ s. record s { subcommand_required = true }) (new_app (codes "mbview"))
+top_app = on_top (λ s. record s { subcommand_required = true }) (versioned (new_app (codes "mbview")))
 
 -- the program, with the commands that sum up or draw a trace
 abbrev pub pictures_app : App

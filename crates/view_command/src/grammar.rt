@@ -9,7 +9,7 @@ ghost use Rattle.view_command.specs.Words.{check_app, diff_app, html_app, list_a
 
 use clap::error::ErrorKind;
 use clap::{Arg, ArgAction, Command, Error};
-use command_words::{flag, required_word};
+use command_words::{VERSION, flag, required_word};
 use std::alloc::{AllocError, Global};
 
 /// What a limit is written of.
@@ -33,6 +33,7 @@ fn pictures<'a>(alloc: Global) -> Result<Command<'a>, AllocError>
     Command::new(alloc, "mbview")
         .about("Shows the trace of a run: what the partitions and their processes did, and when")
         .after_help("Example: mbview summary trace.txt")
+        .version(VERSION)
         .subcommand_required(true)
         .subcommand(summary(alloc)?)?
         .subcommand(svg(alloc)?)?

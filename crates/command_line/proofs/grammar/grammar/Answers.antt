@@ -1,13 +1,11 @@
-use Rattle.std.proofs.Common.{codes}
-use Rattle.clap.specs.Simple.{new_app, with_subcommand}
-use Rattle.command_line.specs.Words.{check_app, build_app, run_app, replay_app, inputs_app, cost_app, dis_app, upgrade_app, load_app, lint_app}
+use Rattle.clap.specs.Simple.{with_subcommand}
+use Rattle.command_line.specs.Words.{check_app, build_app, run_app, replay_app, inputs_app, cost_app, dis_app, upgrade_app, load_app, lint_app, top_app}
 use Rattle.command_words.proofs.Subcommands.{one_more, last_one}
 use Rattle.command_line.proofs.grammar.grammar.Goals as goal
 
 pub returns : goal.returns
 returns c =
-    let none = new_app (codes "mb") in
-    let one = with_subcommand none check_app.top in
+    let one = with_subcommand top_app check_app.top in
     let two = with_subcommand one build_app.top in
     let three = with_subcommand two run_app.top in
     let four = with_subcommand three replay_app.top in
@@ -16,7 +14,7 @@ returns c =
     let seven = with_subcommand six dis_app.top in
     let eight = with_subcommand seven upgrade_app.top in
     let nine = with_subcommand eight load_app.top in
-    let checks = one_more c.program.result c.in_ok-check.field-0 c.in_ok-subcommand.field-0 none check_app c.program.ensures c.in_ok-check.ensures c.in_ok-subcommand.ensures in
+    let checks = one_more c.program.result c.in_ok-check.field-0 c.in_ok-subcommand.field-0 top_app check_app c.program.ensures c.in_ok-check.ensures c.in_ok-subcommand.ensures in
     let builds = one_more c.in_ok-subcommand.field-0 c.in_ok-build.field-0 c.in_ok-subcommand-2.field-0 one build_app checks c.in_ok-build.ensures c.in_ok-subcommand-2.ensures in
     let runs = one_more c.in_ok-subcommand-2.field-0 c.in_ok-run.field-0 c.in_ok-subcommand-3.field-0 two run_app builds c.in_ok-run.ensures c.in_ok-subcommand-3.ensures in
     let replays = one_more c.in_ok-subcommand-3.field-0 c.in_ok-replay.field-0 c.in_ok-subcommand-4.field-0 three replay_app runs c.in_ok-replay.ensures c.in_ok-subcommand-4.ensures in

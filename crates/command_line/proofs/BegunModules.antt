@@ -1,0 +1,264 @@
+-- Tables and sources of which a beginning was read: these are accepted or refused as the whole files.
+use Rattle.std.proofs.Common.{◌≡◌, ◌⊎◌, inl, inr, ℕ, ◌+◌, Bool, true, List, [], ◌∷◌, ◌++◌, length, map, take, drop, suc, Bor, false, ◌≤◌, ◌<◌, append_assoc, arith, Option, Some, None, Result, Ok, Err, IfOk, IfErr, refl, sym, ap, subst, ◌∙◌, append-nil}
+use Rattle.apex_types.specs.declared.cost.Costs.{Costs}
+use Rattle.apex_types.specs.declared.limits.TheConstants.{MOST_SOURCE_BYTES}
+use Rattle.std.specs.Prelude.{nat_lt}
+use Rattle.std.proofs.lemmas.Bool.{lt-ltb, ltb-false, ltb-true}
+use Rattle.std.proofs.lemmas.List.{length-take-le, take-append-drop, take_all}
+use Rattle.toml.specs.Data.{Members}
+use Rattle.module_meaning.specs.Accepted.{AreAccepted, IsAccepted, IsDocument, IsTable}
+use Rattle.module_meaning.specs.Table.{Partition, Table}
+use Rattle.pal_base.specs.Answers.{IsRefused}
+use Rattle.pal_base.specs.declared.fault.Refusal.{Refusal}
+use Rattle.pal_base.specs.declared.fault.Refusal.TheVariants as source
+use Rattle.pal_meaning.specs.Grammar.{IsProgramOf, IsText}
+use Rattle.pal_meaning.specs.Program.{Program}
+use Rattle.window_table.specs.Refusals as table_refusals
+use Rattle.window_table.specs.declared.fault.TableFault.{TableFault}
+use Rattle.window_table.specs.declared.fault.TableFault.TheVariants as table
+use Rattle.module.specs.Building.{IsImageOf}
+use Rattle.module.specs.Costs.{AreCosted, AreCosts, IsCosted, IsCostRefusal}
+use Rattle.module.specs.Refusals.{IsFirstRefused, IsRefusal, IsRefusedWith, IsSourceRefused}
+use Rattle.module.specs.declared.costing.PartitionCosts.{PartitionCosts}
+use Rattle.module.specs.declared.fault.BuildFault.{BuildFault}
+use Rattle.module.specs.declared.fault.BuildFault.TheVariants as fault
+use Rattle.streams.specs.Beginnings.{HoldsFrom, IsBeginningOf}
+use Rattle.streams.specs.Contents.{Contents, HoldAll, Holds}
+use Rattle.text_beginnings.specs.Settled.{settles_source, settles_table}
+use Rattle.text_beginnings.proofs.Tables.{no_document, no_source}
+use Rattle.command_line.proofs.Begun.{all_of, whole_of}
+use Rattle.command_line.specs.Done.{IsBuilt, Texts}
+use Rattle.command_line.specs.Done as done
+use Rattle.command_line.specs.Reading.{HoldAllFrom, IsRefusedText, IsUncostedText}
+use Rattle.command_line.specs.Refusals.{IsNotBuilt, IsNotCosted}
+use Rattle.command_line.specs.declared.refusal.Refusal as refusal
+use Rattle.command_line.specs.declared.refusal.Refusal.TheVariants as refusals
+
+-- ---- a table
+
+module _ (whole bytes : List ℕ) (begun : IsBeginningOf settles_table whole bytes) where
+  exact_table : (ms : Members) → IsDocument bytes ms → whole ≡ bytes
+  exact_table ms d = go begun
+    where
+      go : IsBeginningOf settles_table whole bytes → whole ≡ bytes
+      go (rest, is, inl none) = all_of whole bytes rest is none
+      go (rest, is, inr enough) = absurd (no_document bytes [] ms enough (subst (λ t. IsDocument t ms) (sym (append-nil bytes)) d))
+
+  no_whole : ((ms : Members) → IsDocument bytes ms → ⊥) → (ms : Members) → IsDocument whole ms → ⊥
+  no_whole no ms d = go begun
+    where
+      go : IsBeginningOf settles_table whole bytes → ⊥
+      go (rest, is, inl none) = no ms (subst (λ t. IsDocument t ms) (all_of whole bytes rest is none) d)
+      go (rest, is, inr enough) = no_document bytes rest ms enough (subst (λ t. IsDocument t ms) is d)
+
+  document_whole : (ms : Members) → IsDocument bytes ms → IsDocument whole ms
+  document_whole ms d = subst (λ t. IsDocument t ms) (sym (exact_table ms d)) d
+
+  pub table_whole : (t : Table) → IsTable bytes t → IsTable whole t
+  table_whole t (ms, d, judged) = (ms, document_whole ms d, judged)
+
+  table_refused : (f : TableFault) → table_refusals.IsRefused bytes f → table_refusals.IsRefused whole f
+  table_refused table.Memory h = h
+  table_refused table.Document h = no_whole h
+  table_refused f (ms, d, of) = (ms, document_whole ms d, of)
+
+-- ---- a source
+
+module _ (whole bytes : List ℕ) (begun : IsBeginningOf settles_source whole bytes) where
+  exact_source : IsText bytes → whole ≡ bytes
+  exact_source d = go begun
+    where
+      go : IsBeginningOf settles_source whole bytes → whole ≡ bytes
+      go (rest, is, inl none) = all_of whole bytes rest is none
+      go (rest, is, inr enough) = absurd (no_source bytes [] enough (subst IsText (sym (append-nil bytes)) d))
+
+  no_whole_source : (IsText bytes → ⊥) → IsText whole → ⊥
+  no_whole_source no d = go begun
+    where
+      go : IsBeginningOf settles_source whole bytes → ⊥
+      go (rest, is, inl none) = no (subst IsText (all_of whole bytes rest is none) d)
+      go (rest, is, inr enough) = no_source bytes rest enough (subst IsText is d)
+
+  text_refused : (r : Refusal) → IsRefused r bytes → IsRefused r whole
+  text_refused source.Text h = no_whole_source h
+  text_refused source.Grammar h = subst (IsRefused source.Grammar) (sym (exact_source h.0)) h
+  text_refused source.Memory h = subst IsText (sym (exact_source h)) h
+  text_refused source.Name h = absurd h
+  text_refused source.Kind h = absurd h
+  text_refused source.Limit h = absurd h
+  text_refused source.Period h = absurd h
+
+  source_refused : (row : Partition) (r : Refusal) → IsSourceRefused row bytes r → IsSourceRefused row whole r
+  source_refused row r (m, inl refused) = (m, inl (text_refused r refused))
+  source_refused row r (m, inr (tree, of, refuses)) = (m, inr (tree, subst (λ w. IsProgramOf w tree) (sym (exact_source of.0)) of, refuses))
+
+  source_accepted : (row : Partition) (p : Program) → IsAccepted row bytes p → IsAccepted row whole p
+  source_accepted row p a = subst (λ w. IsAccepted row w p) (sym (exact_source a.written.0)) a
+
+  source_costed : (costs : Costs) (row : Partition) (c : PartitionCosts) → IsCosted costs row bytes c → IsCosted costs row whole c
+  source_costed costs row c a = subst (λ w. IsCosted costs row w c) (sym (exact_source a.written.0)) a
+
+-- ---- sources
+
+AllBegun : List (List ℕ) → List (List ℕ) → Type 0
+AllBegun [] [] = Unit {0}
+AllBegun (whole ∷ wholes) (bytes ∷ texts) = IsBeginningOf settles_source whole bytes × AllBegun wholes texts
+AllBegun _ _ = ⊥
+
+same_length : (wholes texts : List (List ℕ)) → AllBegun wholes texts → length wholes ≡ length texts
+same_length [] [] begun = refl
+same_length (w ∷ ws) (b ∷ bs) begun = ap (λ n. suc n) (same_length ws bs begun.1)
+same_length [] (b ∷ bs) begun = absurd begun
+same_length (w ∷ ws) [] begun = absurd begun
+
+first_refused : (rows : List Partition) (wholes texts : List (List ℕ)) (name : List ℕ) (r : Refusal) → AllBegun wholes texts → IsFirstRefused rows texts name r → IsFirstRefused rows wholes name r
+first_refused (row ∷ rows) (w ∷ ws) (b ∷ bs) name r begun (inl (is, refused)) = inl (is, source_refused w b begun.0 row r refused)
+first_refused (row ∷ rows) (w ∷ ws) (b ∷ bs) name r begun (inr (p, accepted, more)) = inr (p, source_accepted w b begun.0 row p accepted, first_refused rows ws bs name r begun.1 more)
+first_refused (row ∷ rows) [] [] name r begun h = absurd h
+first_refused (row ∷ rows) [] (b ∷ bs) name r begun h = absurd begun
+first_refused (row ∷ rows) (w ∷ ws) [] name r begun h = absurd begun
+first_refused [] wholes texts name r begun h = absurd h
+
+all_accepted : (rows : List Partition) (wholes texts : List (List ℕ)) (ps : List Program) → AllBegun wholes texts → AreAccepted rows texts ps → AreAccepted rows wholes ps
+all_accepted [] [] [] [] begun h = tt
+all_accepted [] [] [] (p ∷ ps) begun h = absurd h
+all_accepted (row ∷ rows) (w ∷ ws) (b ∷ bs) (p ∷ ps) begun h = (source_accepted w b begun.0 row p h.0, all_accepted rows ws bs ps begun.1 h.1)
+all_accepted (row ∷ rows) (w ∷ ws) (b ∷ bs) [] begun h = absurd h
+all_accepted [] (w ∷ ws) (b ∷ bs) ps begun h = absurd h
+all_accepted (row ∷ rows) [] [] ps begun h = absurd h
+all_accepted rows [] (b ∷ bs) ps begun h = absurd begun
+all_accepted rows (w ∷ ws) [] ps begun h = absurd begun
+
+all_costed : (costs : Costs) (rows : List Partition) (wholes texts : List (List ℕ)) (cs : List PartitionCosts) → AllBegun wholes texts → AreCosted costs rows texts cs → AreCosted costs rows wholes cs
+all_costed costs [] [] [] [] begun h = tt
+all_costed costs [] [] [] (p ∷ ps) begun h = absurd h
+all_costed costs (row ∷ rows) (w ∷ ws) (b ∷ bs) (p ∷ ps) begun h = (source_costed w b begun.0 costs row p h.0, all_costed costs rows ws bs ps begun.1 h.1)
+all_costed costs (row ∷ rows) (w ∷ ws) (b ∷ bs) [] begun h = absurd h
+all_costed costs [] (w ∷ ws) (b ∷ bs) ps begun h = absurd h
+all_costed costs (row ∷ rows) [] [] ps begun h = absurd h
+all_costed costs rows [] (b ∷ bs) ps begun h = absurd begun
+all_costed costs rows (w ∷ ws) [] ps begun h = absurd begun
+
+-- ---- a module
+
+module _ (table bytes : List ℕ) (wholes texts : List (List ℕ)) (begun : IsBeginningOf settles_table table bytes) (all : AllBegun wholes texts) where
+  refused_with : (t : Table) (f : BuildFault) → IsRefusedWith t texts f → IsRefusedWith t wholes f
+  refused_with t (fault.Table f) h = absurd h
+  refused_with t fault.Sources h = λ e. h (sym (same_length wholes texts all) ∙ e)
+  refused_with t (fault.Pal name f) h = (same_length wholes texts all ∙ h.0, first_refused t.partitions wholes texts name f.refusal all h.1)
+  refused_with t (fault.Compile name f) h =
+      (h.0, record { programs = h.1.programs; accepted = all_accepted t.partitions wholes texts h.1.programs all h.1.accepted; first = h.1.first })
+  refused_with t fault.Memory h = h
+
+  refusal_whole : (f : BuildFault) → IsRefusal bytes texts f → IsRefusal table wholes f
+  refusal_whole (fault.Table f) h = (h.0, table_refused table bytes begun f h.1)
+  refusal_whole fault.Memory h = h
+  refusal_whole fault.Sources (t, is, with) = (t, table_whole table bytes begun t is, refused_with t fault.Sources with)
+  refusal_whole (fault.Pal name f) (t, is, with) = (t, table_whole table bytes begun t is, refused_with t (fault.Pal name f) with)
+  refusal_whole (fault.Compile name f) (t, is, with) = (t, table_whole table bytes begun t is, refused_with t (fault.Compile name f) with)
+
+  cost_refusal_whole : (f : BuildFault) → IsCostRefusal bytes texts f → IsCostRefusal table wholes f
+  cost_refusal_whole (fault.Compile name f) h = absurd h
+  cost_refusal_whole (fault.Table f) h = refusal_whole (fault.Table f) h
+  cost_refusal_whole fault.Sources h = refusal_whole fault.Sources h
+  cost_refusal_whole (fault.Pal name f) h = refusal_whole (fault.Pal name f) h
+  cost_refusal_whole fault.Memory h = h
+
+  image_whole : (image : List ℕ) → IsImageOf bytes texts image → IsImageOf table wholes image
+  image_whole image h = record {
+    rows = h.rows;
+    programs = h.programs;
+    accepted = record { rows = table_whole table bytes begun h.rows h.accepted.rows; accepted = all_accepted h.rows.partitions wholes texts h.programs all h.accepted.accepted };
+    short = h.short;
+    image = h.image;
+    loaded = h.loaded;
+    items = h.items;
+    channels = h.channels;
+    meaning = h.meaning;
+  }
+
+  costs_whole : (costs : List PartitionCosts) → AreCosts bytes texts costs → AreCosts table wholes costs
+  costs_whole costs h = record { rows = h.rows; accepted = table_whole table bytes begun h.rows h.accepted; costed = all_costed h.rows.costs h.rows.partitions wholes texts costs all h.costed }
+
+-- the whole files
+pub wholes_of : (files : Option Contents) (names texts : List (List ℕ)) → HoldAllFrom settles_source files names texts → (wholes : List (List ℕ)) × HoldAll files names wholes × AllBegun wholes texts
+wholes_of files [] [] held = ([], tt, tt)
+wholes_of files (name ∷ names) (text ∷ texts) held =
+    let whole = whole_of settles_source files name text held.0 in
+    let more = wholes_of files names texts held.1 in
+    (whole.0 ∷ more.0, (whole.1, more.1), (whole.2, more.2))
+wholes_of files [] (text ∷ texts) held = absurd held
+wholes_of files (name ∷ names) [] held = absurd held
+
+-- ---- builds and costs of the files
+
+module _ (files now : Option Contents) (table : List ℕ) (names : List (List ℕ)) (bytes given : List ℕ) (texts : List (List ℕ))
+    (same : now ≡ files) (is : given ≡ bytes) (in_table : HoldsFrom settles_table files table bytes) (in_sources : HoldAllFrom settles_source now names texts)
+  where
+    own_table : (table_text : List ℕ) × Holds files table table_text × IsBeginningOf settles_table table_text given
+    own_table =
+        let whole = whole_of settles_table files table bytes in_table in
+        (whole.0, whole.1, subst (λ b. IsBeginningOf settles_table whole.0 b) (sym is) whole.2)
+
+    own_sources : (wholes : List (List ℕ)) × HoldAll files names wholes × AllBegun wholes texts
+    own_sources = wholes_of files names texts (subst (λ f. HoldAllFrom settles_source f names texts) same in_sources)
+
+    texts_of_files : Texts files table names
+    texts_of_files = record { table_text = own_table.0; source_texts = own_sources.0; in_table = own_table.1; in_sources = own_sources.1 }
+
+    pub built_of_files : {A E : Type 0} (view : A → List ℕ) (answer : Result A E) → IfOk answer (λ image. IsImageOf given texts (view image)) → IfOk answer (λ image. IsBuilt files table names (view image))
+    built_of_files view (Ok image) h = record { texts = texts_of_files; built = image_whole own_table.0 given own_sources.0 texts own_table.2 own_sources.2 (view image) h }
+    built_of_files view (Err e) h = tt
+
+    pub costed_of_files : {A E : Type 0} (view : A → List PartitionCosts) (answer : Result A E) → IfOk answer (λ costs. AreCosts given texts (view costs)) → IfOk answer (λ costs. done.AreCosted files table names (view costs))
+    costed_of_files view (Ok costs) h = record { texts = texts_of_files; costed = costs_whole own_table.0 given own_sources.0 texts own_table.2 own_sources.2 (view costs) h }
+    costed_of_files view (Err e) h = tt
+
+    pub refused_of_files : {A : Type 0} (answer : Result A refusal.Refusal) → IfErr answer (λ r. IsRefusedText given texts r) → IfErr answer (λ r. IsNotBuilt files table names r)
+    refused_of_files (Ok image) h = tt
+    refused_of_files (Err (refusals.Build fault)) h = (texts_of_files, refusal_whole own_table.0 given own_sources.0 texts own_table.2 own_sources.2 fault h)
+    refused_of_files (Err (refusals.Run fault)) h = absurd h
+    refused_of_files (Err (refusals.Replay fault)) h = absurd h
+    refused_of_files (Err (refusals.Inputs fault)) h = absurd h
+    refused_of_files (Err (refusals.File name reason)) h = absurd h
+    refused_of_files (Err refusals.Memory) h = tt
+    refused_of_files (Err refusals.Write) h = absurd h
+
+    pub uncosted_of_files : {A : Type 0} (answer : Result A refusal.Refusal) → IfErr answer (λ r. IsUncostedText given texts r) → IfErr answer (λ r. IsNotCosted files table names r)
+    uncosted_of_files (Ok image) h = tt
+    uncosted_of_files (Err (refusals.Build fault)) h = (texts_of_files, cost_refusal_whole own_table.0 given own_sources.0 texts own_table.2 own_sources.2 fault h)
+    uncosted_of_files (Err (refusals.Run fault)) h = absurd h
+    uncosted_of_files (Err (refusals.Replay fault)) h = absurd h
+    uncosted_of_files (Err (refusals.Inputs fault)) h = absurd h
+    uncosted_of_files (Err (refusals.File name reason)) h = absurd h
+    uncosted_of_files (Err refusals.Memory) h = tt
+    uncosted_of_files (Err refusals.Write) h = absurd h
+
+-- all files are begun
+pub all_begun : (files : Option Contents) (names : List (Bor (List ℕ))) (i : ℕ) (texts : List (List ℕ)) → i ≡ length names
+    → ((more : List (List ℕ)) → HoldAllFrom settles_source files (map (λ s. s.now) (drop i names)) more → HoldAllFrom settles_source files (map (λ s. s.now) names) (texts ++ more))
+    → HoldAllFrom settles_source files (map (λ s. s.now) names) texts
+all_begun files names i texts at before =
+    let none : drop i names ≡ [] = ap (λ k. drop k names) at ∙ drop-all names in
+    subst (HoldAllFrom settles_source files (map (λ s. s.now) names)) (append-nil texts)
+    (before [] (subst (λ (ns : List (Bor (List ℕ))). HoldAllFrom settles_source files (map (λ s. s.now) ns) []) (sym none) tt))
+  where
+    drop-all : {X : Type 0} (xs : List X) → drop (length xs) xs ≡ []
+    drop-all [] = refl
+    drop-all (x ∷ xs) = drop-all xs
+
+-- a source that is cut behind the first byte that it may not have
+pub cut : (files : Option Contents) (name bytes : List ℕ) → HoldsFrom settles_source files name bytes → HoldsFrom settles_source files name (take (MOST_SOURCE_BYTES + 1) bytes)
+cut None name bytes held = tt
+cut (Some files) name bytes (text, is, (rest, begun, why)) = go (nat_lt MOST_SOURCE_BYTES (length bytes)) refl
+  where
+    go : (t : Bool) → nat_lt MOST_SOURCE_BYTES (length bytes) ≡ t → HoldsFrom settles_source (Some files) name (take (MOST_SOURCE_BYTES + 1) bytes)
+    go false short =
+        let all : take (MOST_SOURCE_BYTES + 1) bytes ≡ bytes = take_all (MOST_SOURCE_BYTES + 1) bytes (omega (arith, ltb-false MOST_SOURCE_BYTES (length bytes) short)) in
+        subst (HoldsFrom settles_source (Some files) name) (sym all) (text, is, (rest, begun, why))
+    go true long =
+        let many : MOST_SOURCE_BYTES < length bytes = ltb-true MOST_SOURCE_BYTES (length bytes) long in
+        let split : text ≡ take (MOST_SOURCE_BYTES + 1) bytes ++ (drop (MOST_SOURCE_BYTES + 1) bytes ++ rest) =
+        begun ∙ ap (λ b. b ++ rest) (sym (take-append-drop (MOST_SOURCE_BYTES + 1) bytes)) ∙ append_assoc (take (MOST_SOURCE_BYTES + 1) bytes) (drop (MOST_SOURCE_BYTES + 1) bytes) rest in
+        let size : length (take (MOST_SOURCE_BYTES + 1) bytes) ≡ MOST_SOURCE_BYTES + 1 = length-take-le (MOST_SOURCE_BYTES + 1) bytes (omega (arith, many)) in
+        (text, is, (drop (MOST_SOURCE_BYTES + 1) bytes ++ rest, split, inr (lt-ltb MOST_SOURCE_BYTES (length (take (MOST_SOURCE_BYTES + 1) bytes)) (omega (arith, size)))))

@@ -1,0 +1,4 @@
+pub mod Stained
+pub mod Images
+pub mod Inputs
+pub mod Tables

@@ -1,0 +1,29 @@
+//! The kinds of texts that are judged.
+
+ghost use Rattle.text_beginnings.specs.Kinds.{settles};
+
+use crate::beginning::{has_control, is_longer_than_a_source, is_other_magic, is_zero_first};
+use streams::Reading;
+
+/// What a text is judged as.
+#[derive(Clone, Copy, Debug, PartialEq, Eq)]
+pub enum TextKind {
+    Table,
+    Source,
+    Image,
+    /// A device or replay text.
+    Inputs,
+}
+
+impl Reading for TextKind {
+    ghost suffices = { λ kind bytes. settles kind bytes };
+
+    fn is_enough(&self, bytes: &[u8]) -> bool {
+        match self {
+            TextKind::Table => is_zero_first(bytes),
+            TextKind::Source => is_longer_than_a_source(bytes),
+            TextKind::Image => is_other_magic(bytes),
+            TextKind::Inputs => has_control(bytes),
+        }
+    }
+}

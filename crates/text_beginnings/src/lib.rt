@@ -1,0 +1,10 @@
+//! Texts whose beginning settles how they are judged, whatever follows: the tests on beginnings, and
+//! the laws that they keep.
+#![tactic(auto)]
+
+mod beginning;
+mod kind;
+mod laws;
+
+pub use kind::TextKind;
+pub use laws::{image_is_settled, inputs_are_settled, source_is_settled, table_is_settled};
