@@ -5,7 +5,10 @@ use Rattle.std.specs.List.{prefix_len}
 use Rattle.apex_types.specs.Line.{space}
 use Rattle.module_meaning.specs.DeviceText.{piece, pieces, pieces_behind_marks}
 use Rattle.text_lines.specs.Pieces.{pieces_of}
+use Rattle.std.proofs.lemmas.List.{map-append}
 use Rattle.text_findings.specs.Parts.{Part, behind, parts, total}
+use Rattle.text_findings.specs.Views.{part_of, parts_of}
+use Rattle.text_findings.specs.declared.parts.Part as code
 
 one_more : (n b : ℕ) (bs : List ℕ) → length (take (1 + n) (b ∷ bs)) ≡ 1 + length (take n bs)
 one_more n b bs = search rules
@@ -41,3 +44,7 @@ next_part found new rest text front more p r f b is left n =
 
 pub all_parts : (found whole : List Part) (rest : Option (List ℕ)) → whole ≡ found_and_rest found rest → rest ≡ None → found ≡ whole
 all_parts found whole rest w none = sym (w ∙ ap (found_and_rest found) none ∙ append-nil found)
+
+-- one part more
+pub pushed : (found new : List code.Part) (p : code.Part) → new ≡ found ++ p ∷ [] → parts_of new ≡ parts_of found ++ part_of p ∷ []
+pushed found new p n = ap parts_of n ∙ map-append part_of found (p ∷ [])
