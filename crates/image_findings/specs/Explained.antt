@@ -1,10 +1,10 @@
 -- What is said of the bytes of an image that is refused.
-use Rattle.std.specs.Prelude.{◌≡◌, ◌⊎◌, ℕ, ◌+◌, ◌*◌, ◌^◌, ◌-◌, ◌==◌, min, true, false, if◌then◌else◌, List, [], ◌∷◌, ◌++◌, codes, drop, length, Option, Some, None, Result, Ok, Err}
+use Rattle.std.specs.Prelude.{◌≡◌, ℕ, ◌+◌, ◌*◌, ◌^◌, ◌-◌, ◌==◌, min, Bool, true, false, if◌then◌else◌, List, [], ◌∷◌, ◌++◌, codes, drop, length, Option, Some, None, Err}
 use Rattle.std.specs.Fmt.{decimal}
 use Rattle.finding_lines.specs.Lines.{byte_lines, file_lines}
-use Rattle.machine_meaning.specs.Image.{Image, magic}
+use Rattle.machine_meaning.specs.Image.{magic}
 use Rattle.machine_meaning.specs.ImageReading.{Fault, Truncated, Foreign, Limit, Order, Trailing, image_at}
-use Rattle.image_findings.specs.Seen.{IsSeenAt, breaks_rules}
+use Rattle.image_findings.specs.Seen.{IsSeenAt, has_all_fields}
 
 -- ---- another file, or another version
 
@@ -47,10 +47,13 @@ abbrev pub trailing_lines_at : List ℕ → ℕ → ℕ → List ℕ
 trailing_lines_at file image length =
     byte_lines file image (codes "the image has " ++ (decimal image ++ (codes " bytes, and the file " ++ decimal length))) (codes "Leave out what follows the image, or build it anew.")
 
--- all fields are there and break a rule together, or one of them does where it was seen
+-- all fields are there, and break a rule together; or one of them does, where it was seen
+abbrev pub IsOfLimitIf : Bool → List ℕ → List ℕ → List ℕ → Type 0
+IsOfLimitIf true file bytes lines = lines ≡ rule_lines file
+IsOfLimitIf false file bytes lines = (place : ℕ) × IsSeenAt place bytes × (lines ≡ limit_lines_at file place)
+
 abbrev pub IsOfLimit : List ℕ → List ℕ → List ℕ → Type 0
-IsOfLimit file bytes lines =
-    ((breaks_rules bytes ≡ true) × (lines ≡ rule_lines file)) ⊎ ((breaks_rules bytes ≡ false) × ((place : ℕ) × IsSeenAt place bytes × (lines ≡ limit_lines_at file place)))
+IsOfLimit file bytes lines = (all : Bool) × (all ≡ has_all_fields bytes) × IsOfLimitIf all file bytes lines
 
 abbrev pub IsOfOrder : List ℕ → List ℕ → List ℕ → Type 0
 IsOfOrder file bytes lines = (place : ℕ) × IsSeenAt place bytes × (lines ≡ order_lines_at file place)
@@ -59,14 +62,14 @@ IsOfOrder file bytes lines = (place : ℕ) × IsSeenAt place bytes × (lines ≡
 abbrev pub IsOfTrailing : List ℕ → List ℕ → List ℕ → Type 0
 IsOfTrailing file bytes lines = (place : ℕ) × IsSeenAt place bytes × (lines ≡ trailing_lines_at file (min (place + 1) (2 ^ 64 - 1)) (length bytes))
 
--- the lines explain why these bytes are read with this result
-abbrev pub IsOf : List ℕ → List ℕ → List ℕ → Result Image Fault → Type 0
-IsOf file bytes lines (Ok image) = ⊥
-IsOf file bytes lines (Err Truncated) = lines ≡ cut_lines file (length bytes)
-IsOf file bytes lines (Err Foreign) = lines ≡ foreign_lines file bytes
-IsOf file bytes lines (Err Limit) = IsOfLimit file bytes lines
-IsOf file bytes lines (Err Order) = IsOfOrder file bytes lines
-IsOf file bytes lines (Err Trailing) = IsOfTrailing file bytes lines
+-- the lines tell this fault of these bytes
+abbrev pub IsOf : List ℕ → List ℕ → List ℕ → Fault → Type 0
+IsOf file bytes lines Truncated = lines ≡ cut_lines file (length bytes)
+IsOf file bytes lines Foreign = lines ≡ foreign_lines file bytes
+IsOf file bytes lines Limit = IsOfLimit file bytes lines
+IsOf file bytes lines Order = IsOfOrder file bytes lines
+IsOf file bytes lines Trailing = IsOfTrailing file bytes lines
 
+-- the lines tell the fault of these bytes
 abbrev pub IsExplanation : List ℕ → List ℕ → List ℕ → Type 0
-IsExplanation file bytes lines = IsOf file bytes lines (image_at bytes)
+IsExplanation file bytes lines = (fault : Fault) × (image_at bytes ≡ Err fault) × IsOf file bytes lines fault

@@ -29,5 +29,5 @@ abbrev pub IsSeenAt : ℕ → List ℕ → Type 0
 IsSeenAt place bytes = (is_cut place bytes ≡ true) × (is_cut (place + 1) bytes ≡ false)
 
 -- a byte more would be one too many: all fields are there, each within its limit
-abbrev pub breaks_rules : List ℕ → Bool
-breaks_rules bytes = is_trailing (image_at (bytes ++ 0 ∷ []))
+abbrev pub has_all_fields : List ℕ → Bool
+has_all_fields bytes = is_trailing (image_at (bytes ++ 0 ∷ []))

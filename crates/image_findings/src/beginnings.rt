@@ -1,24 +1,25 @@
 //! The verdicts on beginnings of an image, and on the image with a byte more.
 
-ghost use Rattle.std.specs.Prelude.{◌≡◌, ◌++◌, ◌∷◌, [], IfOk};
-ghost use Rattle.image_findings.specs.Seen.{breaks_rules, is_cut};
+ghost use Rattle.std.specs.Prelude.{◌≡◌, Err, IfOk, IfSome, take};
+ghost use Rattle.image.specs.Named.{named};
+ghost use Rattle.machine_meaning.specs.ImageReading.{image_at};
+ghost use Rattle.image_findings.specs.Seen as spec;
 
 use image::{ImageFault, load_image};
 use std::alloc::{AllocError, Global};
 
 /// Returns true if the first `count` bytes end within a field of an image.
 pub fn is_cut(alloc: Global, bytes: &[u8], count: usize) -> Result<bool, AllocError>
-    ensures { IfOk result (λ cut. cut ≡ is_cut count bytes.now) }
+    ensures { IfOk result (λ cut. cut ≡ spec.is_cut count bytes.now) }
 {
     match load_image(alloc, first_bytes(bytes, count)) {
-        Err(ImageFault::Truncated) => Ok(true),
-        Err(ImageFault::Memory) => Err(AllocError),
-        _ => Ok(false),
+        Ok(_) => Ok(false),
+        Err(fault) => is_truncated(fault),
     }
 }
 
-#[tactic(auto, using(std::proofs::lemmas::List::take_min))]
 /// The first `count` bytes, or all.
+#[tactic(auto, using(std::proofs::lemmas::List::take_min))]
 fn first_bytes(bytes: &[u8], count: usize) -> &[u8]
     ensures { result.now ≡ take count bytes.now }
 {
@@ -26,17 +27,51 @@ fn first_bytes(bytes: &[u8], count: usize) -> &[u8]
     first
 }
 
+fn is_truncated(fault: ImageFault) -> Result<bool, AllocError>
+    ensures { IfOk result
+        (λ answer. IfSome (named fault) (λ f. answer ≡ spec.is_truncated (Err f))) }
+{
+    match fault {
+        ImageFault::Truncated => Ok(true),
+        ImageFault::Foreign => Ok(false),
+        ImageFault::Limit => Ok(false),
+        ImageFault::Order => Ok(false),
+        ImageFault::Trailing => Ok(false),
+        ImageFault::Memory => Err(AllocError),
+    }
+}
+
+fn is_trailing(fault: ImageFault) -> Result<bool, AllocError>
+    ensures { IfOk result
+        (λ answer. IfSome (named fault) (λ f. answer ≡ spec.is_trailing (Err f))) }
+{
+    match fault {
+        ImageFault::Truncated => Ok(false),
+        ImageFault::Foreign => Ok(false),
+        ImageFault::Limit => Ok(false),
+        ImageFault::Order => Ok(false),
+        ImageFault::Trailing => Ok(true),
+        ImageFault::Memory => Err(AllocError),
+    }
+}
+
 /// Returns true if a byte more would be one too many: then all fields are there, each within its
 /// limit.
 pub fn has_all_fields(alloc: Global, bytes: &[u8]) -> Result<bool, AllocError>
-    ensures { IfOk result (λ all. all ≡ breaks_rules bytes.now) }
+    ensures { IfOk result (λ all. all ≡ spec.has_all_fields bytes.now) }
 {
     let mut longer = Vec::with_capacity(alloc, bytes.len())?;
     longer.extend_from_slice(bytes)?;
     longer.push(0)?;
-    match load_image(alloc, longer.as_slice()) {
-        Err(ImageFault::Trailing) => Ok(true),
-        Err(ImageFault::Memory) => Err(AllocError),
-        _ => Ok(false),
+    has_trailing_byte(alloc, longer.as_slice())
+}
+
+/// Returns true if bytes stand behind an image.
+fn has_trailing_byte(alloc: Global, bytes: &[u8]) -> Result<bool, AllocError>
+    ensures { IfOk result (λ answer. answer ≡ spec.is_trailing (image_at bytes.now)) }
+{
+    match load_image(alloc, bytes) {
+        Ok(_) => Ok(false),
+        Err(fault) => is_trailing(fault),
     }
 }

@@ -1,8 +1,10 @@
 //! The lines of what is wrong with an image.
 
-ghost use Rattle.std.specs.Prelude.{◌≡◌, ◌×◌, false, IfOk, IfSome, length, string_bytes};
+ghost use Rattle.std.specs.Prelude.{◌≡◌, false, Err, IfOk, IfSome, string_bytes};
 ghost use Rattle.image_findings.specs.Explained as spec;
-ghost use Rattle.image_findings.specs.Seen.{IsSeenAt, is_cut};
+ghost use Rattle.image.specs.Named.{named};
+ghost use Rattle.image_findings.specs.Seen.{is_truncated};
+ghost use Rattle.machine_meaning.specs.ImageReading.{image_at};
 
 use crate::beginnings::has_all_fields;
 use crate::foreign::foreign_lines;
@@ -18,12 +20,24 @@ pub fn explain_image(alloc: Global, file: &str, bytes: &[u8]) -> Option<String>
     ensures { IfSome result (λ lines. spec.IsExplanation file.now bytes.now (string_bytes lines)) }
 {
     match load_image(alloc, bytes) {
-        Ok(_) | Err(ImageFault::Memory) => None,
-        Err(ImageFault::Truncated) => cut_lines(alloc, file, bytes.len()).ok(),
-        Err(ImageFault::Foreign) => foreign_lines(alloc, file, bytes).ok(),
-        Err(ImageFault::Limit) => limit_lines(alloc, file, bytes).ok(),
-        Err(ImageFault::Order) => order_lines(alloc, file, bytes).ok(),
-        Err(ImageFault::Trailing) => trailing_lines(alloc, file, bytes).ok(),
+        Ok(_) => None,
+        Err(fault) => fault_lines(alloc, file, bytes, fault),
+    }
+}
+
+/// The lines that tell a fault of these bytes.
+#[tactic(auto, using(crate::proofs::Told::of_fault))]
+fn fault_lines(alloc: Global, file: &str, bytes: &[u8], fault: ImageFault) -> Option<String>
+    requires { IfSome (named fault) (λ f. image_at bytes.now ≡ Err f) }
+    ensures { IfSome result (λ lines. spec.IsExplanation file.now bytes.now (string_bytes lines)) }
+{
+    match fault {
+        ImageFault::Truncated => cut_lines(alloc, file, bytes.len()).ok(),
+        ImageFault::Foreign => foreign_lines(alloc, file, bytes).ok(),
+        ImageFault::Limit => limit_lines(alloc, file, bytes).ok(),
+        ImageFault::Order => order_lines(alloc, file, bytes).ok(),
+        ImageFault::Trailing => trailing_lines(alloc, file, bytes).ok(),
+        ImageFault::Memory => None,
     }
 }
 
@@ -41,16 +55,32 @@ fn cut_lines(alloc: Global, file: &str, length: usize) -> Result<String, AllocEr
 }
 
 /// That a value is outside its limit, or that all of them break a rule together.
+#[tactic(auto, using(crate::proofs::Told::of_limit))]
 fn limit_lines(alloc: Global, file: &str, bytes: &[u8]) -> Result<String, AllocError>
-    requires { is_cut (length bytes.now) bytes.now ≡ false }
-    ensures { IfOk result
-        (λ lines. spec.IsOfLimit file.now bytes.now (string_bytes lines)) }
+    requires { is_truncated (image_at bytes.now) ≡ false }
+    ensures { IfOk result (λ lines. spec.IsOfLimit file.now bytes.now (string_bytes lines)) }
 {
-    if has_all_fields(alloc, bytes)? {
-        return rule_lines(alloc, file);
+    let all = has_all_fields(alloc, bytes)?;
+    limit_lines_if(alloc, file, bytes, all)
+}
+
+/// The same, by whether all fields are there.
+#[tactic(auto, using(crate::proofs::Told::of_value))]
+fn limit_lines_if(
+    alloc: Global,
+    file: &str,
+    bytes: &[u8],
+    all: bool,
+) -> Result<String, AllocError>
+    requires { is_truncated (image_at bytes.now) ≡ false }
+    ensures { IfOk result (λ lines. spec.IsOfLimitIf all file.now bytes.now (string_bytes lines)) }
+{
+    if all {
+        rule_lines(alloc, file)
+    } else {
+        let place = seen_at(alloc, bytes)?;
+        limit_lines_at(alloc, file, place)
     }
-    let place = seen_at(alloc, bytes)?;
-    limit_lines_at(alloc, file, place)
 }
 
 fn rule_lines(alloc: Global, file: &str) -> Result<String, AllocError>
@@ -77,8 +107,9 @@ fn limit_lines_at(alloc: Global, file: &str, place: usize) -> Result<String, All
 }
 
 /// That a name is repeated, or a window begins too early.
+#[tactic(auto, using(crate::proofs::Told::of_order))]
 fn order_lines(alloc: Global, file: &str, bytes: &[u8]) -> Result<String, AllocError>
-    requires { is_cut (length bytes.now) bytes.now ≡ false }
+    requires { is_truncated (image_at bytes.now) ≡ false }
     ensures { IfOk result
         (λ lines. spec.IsOfOrder file.now bytes.now (string_bytes lines)) }
 {
@@ -99,8 +130,9 @@ fn order_lines_at(alloc: Global, file: &str, place: usize) -> Result<String, All
 }
 
 /// How many bytes the image has, and how many the file.
+#[tactic(auto, using(crate::proofs::Told::of_trailing))]
 fn trailing_lines(alloc: Global, file: &str, bytes: &[u8]) -> Result<String, AllocError>
-    requires { is_cut (length bytes.now) bytes.now ≡ false }
+    requires { is_truncated (image_at bytes.now) ≡ false }
     ensures { IfOk result
         (λ lines. spec.IsOfTrailing file.now bytes.now (string_bytes lines)) }
 {

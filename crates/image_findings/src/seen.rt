@@ -1,7 +1,8 @@
 //! Where a fault of an image was seen.
 
-ghost use Rattle.std.specs.Prelude.{◌≡◌, false, IfOk, length};
-ghost use Rattle.image_findings.specs.Seen.{IsSeenAt, is_cut};
+ghost use Rattle.std.specs.Prelude.{◌≡◌, false, IfOk};
+ghost use Rattle.image_findings.specs.Seen.{IsSeenAt, is_cut, is_truncated};
+ghost use Rattle.machine_meaning.specs.ImageReading.{image_at};
 
 use crate::beginnings::is_cut;
 use std::alloc::{AllocError, Global};
@@ -12,9 +13,9 @@ use std::alloc::{AllocError, Global};
 /// # Errors
 ///
 /// Only if memory runs out.
-#[tactic(auto, using(crate::proofs::Cuts::nothing_is_cut, crate::proofs::Cuts::whole_is_longer))]
+#[tactic(auto, using(crate::proofs::Cuts::nothing_is_cut, crate::proofs::Cuts::whole_is_longer, crate::proofs::Cuts::whole_is_not_cut))]
 pub fn seen_at(alloc: Global, bytes: &[u8]) -> Result<usize, AllocError>
-    requires { is_cut (length bytes.now) bytes.now ≡ false }
+    requires { is_truncated (image_at bytes.now) ≡ false }
     ensures { IfOk result (λ place. IsSeenAt place bytes.now) }
 {
     let mut cut = 0;
