@@ -1,5 +1,5 @@
 -- Nothing ends within a field, and all bytes are their own beginning.
-use Rattle.std.proofs.Common.{◌≡◌, ℕ, ◌<◌, true, false, List, [], ◌∷◌, length, take, refl, sym, ap, ◌∙◌, arith, absurd}
+use Rattle.std.proofs.Common.{◌≡◌, ℕ, ◌<◌, true, false, List, [], ◌∷◌, length, take, refl, sym, ap, ◌∙◌, arith}
 use Rattle.std.proofs.lemmas.Bool.{false≢true}
 use Rattle.machine_meaning.specs.ImageReading.{image_at, fields_at, version_at, magic_at, bytes_at}
 use Rattle.image_findings.specs.Seen.{is_cut, is_truncated}

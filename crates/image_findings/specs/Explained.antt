@@ -18,9 +18,12 @@ abbrev pub version_number : List ℕ → ℕ
 version_number (low ∷ high ∷ rest) = low + high * 256
 version_number _ = 0
 
+abbrev pub version_text : ℕ → List ℕ
+version_text number = codes "the version is " ++ (decimal number ++ codes ", and 1, 2 and 3 are known")
+
 abbrev pub version_lines : List ℕ → ℕ → List ℕ
 version_lines file number =
-    byte_lines file 8 (codes "the version is " ++ (decimal number ++ codes ", and 1, 2 and 3 are known")) (codes "Use the `mb` that wrote it, or build the image anew.")
+    byte_lines file 8 (version_text number) (codes "Use the `mb` that wrote it, or build the image anew.")
 
 abbrev pub magic_lines : List ℕ → ℕ → List ℕ
 magic_lines file place = byte_lines file place (codes "an image begins with the eight bytes `AP653IMG`") (codes "Name a file that `mb build` wrote.")
@@ -43,9 +46,12 @@ abbrev pub order_lines_at : List ℕ → ℕ → List ℕ
 order_lines_at file place =
     byte_lines file place (codes "the name that ends with this byte was used before, or the window begins too early") (codes "Bytes of the image were changed: build it anew.")
 
+abbrev pub trailing_text : ℕ → ℕ → List ℕ
+trailing_text image length = codes "the image has " ++ (decimal image ++ (codes " bytes, and the file " ++ decimal length))
+
 abbrev pub trailing_lines_at : List ℕ → ℕ → ℕ → List ℕ
 trailing_lines_at file image length =
-    byte_lines file image (codes "the image has " ++ (decimal image ++ (codes " bytes, and the file " ++ decimal length))) (codes "Leave out what follows the image, or build it anew.")
+    byte_lines file image (trailing_text image length) (codes "Leave out what follows the image, or build it anew.")
 
 -- all fields are there, and break a rule together; or one of them does, where it was seen
 abbrev pub IsOfLimitIf : Bool → List ℕ → List ℕ → List ℕ → Type 0

@@ -1,5 +1,5 @@
 -- Where a fault of an image was seen, by the verdicts on the beginnings of its bytes.
-use Rattle.std.specs.Prelude.{◌≡◌, ℕ, ◌+◌, Bool, true, false, List, [], ◌∷◌, ◌++◌, Result, Ok, Err, take}
+use Rattle.std.specs.Prelude.{◌≡◌, ℕ, ◌+◌, Bool, true, false, List, [], ◌∷◌, ◌++◌, Option, Some, None, Result, Ok, Err, take}
 use Rattle.machine_meaning.specs.Image.{Image}
 use Rattle.machine_meaning.specs.ImageReading.{Fault, Truncated, Foreign, Limit, Order, Trailing, image_at}
 
@@ -18,6 +18,11 @@ is_trailing (Err Foreign) = false
 is_trailing (Err Limit) = false
 is_trailing (Err Order) = false
 is_trailing (Err Trailing) = true
+
+-- the answer of a test of how bytes are read, by their fault; without one, since memory ran out, there is no answer
+abbrev pub IsAnswer : (Result Image Fault → Bool) → Option Fault → Bool → Type 0
+IsAnswer test None answer = ⊥
+IsAnswer test (Some fault) answer = answer ≡ test (Err fault)
 
 -- the first n bytes end within a field
 abbrev pub is_cut : ℕ → List ℕ → Bool

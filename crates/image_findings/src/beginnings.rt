@@ -1,6 +1,6 @@
 //! The verdicts on beginnings of an image, and on the image with a byte more.
 
-ghost use Rattle.std.specs.Prelude.{◌≡◌, Err, IfOk, IfSome, take};
+ghost use Rattle.std.specs.Prelude.{◌≡◌, IfOk, take};
 ghost use Rattle.image.specs.Named.{named};
 ghost use Rattle.machine_meaning.specs.ImageReading.{image_at};
 ghost use Rattle.image_findings.specs.Seen as spec;
@@ -9,6 +9,7 @@ use image::{ImageFault, load_image};
 use std::alloc::{AllocError, Global};
 
 /// Returns true if the first `count` bytes end within a field of an image.
+#[tactic(auto, using(crate::proofs::Judged::by_fault))]
 pub fn is_cut(alloc: Global, bytes: &[u8], count: usize) -> Result<bool, AllocError>
     ensures { IfOk result (λ cut. cut ≡ spec.is_cut count bytes.now) }
 {
@@ -28,8 +29,7 @@ fn first_bytes(bytes: &[u8], count: usize) -> &[u8]
 }
 
 fn is_truncated(fault: ImageFault) -> Result<bool, AllocError>
-    ensures { IfOk result
-        (λ answer. IfSome (named fault) (λ f. answer ≡ spec.is_truncated (Err f))) }
+    ensures { IfOk result (λ answer. spec.IsAnswer spec.is_truncated (named fault) answer) }
 {
     match fault {
         ImageFault::Truncated => Ok(true),
@@ -42,8 +42,7 @@ fn is_truncated(fault: ImageFault) -> Result<bool, AllocError>
 }
 
 fn is_trailing(fault: ImageFault) -> Result<bool, AllocError>
-    ensures { IfOk result
-        (λ answer. IfSome (named fault) (λ f. answer ≡ spec.is_trailing (Err f))) }
+    ensures { IfOk result (λ answer. spec.IsAnswer spec.is_trailing (named fault) answer) }
 {
     match fault {
         ImageFault::Truncated => Ok(false),
@@ -67,6 +66,7 @@ pub fn has_all_fields(alloc: Global, bytes: &[u8]) -> Result<bool, AllocError>
 }
 
 /// Returns true if bytes stand behind an image.
+#[tactic(auto, using(crate::proofs::Judged::by_fault))]
 fn has_trailing_byte(alloc: Global, bytes: &[u8]) -> Result<bool, AllocError>
     ensures { IfOk result (λ answer. answer ≡ spec.is_trailing (image_at bytes.now)) }
 {

@@ -149,7 +149,7 @@ fn trailing_lines_at(
     ensures { IfOk result
         (λ lines. string_bytes lines ≡ spec.trailing_lines_at file.now image length) }
 {
-    let said = format!(in alloc; "the image has {image} bytes, and the file {length}")?;
+    let said = trailing_text(alloc, image, length)?;
     byte_lines(
         alloc,
         file,
@@ -157,4 +157,10 @@ fn trailing_lines_at(
         said.as_str(),
         "Leave out what follows the image, or build it anew.",
     )
+}
+
+fn trailing_text(alloc: Global, image: usize, length: usize) -> Result<String, AllocError>
+    ensures { IfOk result (λ text. string_bytes text ≡ spec.trailing_text image length) }
+{
+    format!(in alloc; "the image has {image} bytes, and the file {length}")
 }

@@ -1,7 +1,7 @@
 //! Bytes that are no image of a known version.
 
 ghost use Rattle.std.specs.Prelude.{◌≡◌, ◌+◌, ◌≤◌, IfOk, drop, length, string_bytes};
-ghost use Rattle.image_findings.specs.Explained.{foreign_lines, first_other, version_lines, version_number};
+ghost use Rattle.image_findings.specs.Explained.{foreign_lines, first_other, version_lines, version_number, version_text};
 
 use apex_types::MAGIC;
 use finding_lines::byte_lines;
@@ -66,7 +66,7 @@ fn version_number(bytes: &[u8]) -> u32
 fn version_lines(alloc: Global, file: &str, number: u32) -> Result<String, AllocError>
     ensures { IfOk result (λ lines. string_bytes lines ≡ version_lines file.now number) }
 {
-    let said = format!(in alloc; "the version is {number}, and 1, 2 and 3 are known")?;
+    let said = version_text(alloc, number)?;
     byte_lines(
         alloc,
         file,
@@ -74,4 +74,10 @@ fn version_lines(alloc: Global, file: &str, number: u32) -> Result<String, Alloc
         said.as_str(),
         "Use the `mb` that wrote it, or build the image anew.",
     )
+}
+
+fn version_text(alloc: Global, number: u32) -> Result<String, AllocError>
+    ensures { IfOk result (λ text. string_bytes text ≡ version_text number) }
+{
+    format!(in alloc; "the version is {number}, and 1, 2 and 3 are known")
 }

@@ -13,7 +13,6 @@ use std::alloc::{AllocError, Global};
 /// # Errors
 ///
 /// Only if memory runs out.
-#[tactic(auto, using(crate::proofs::Cuts::nothing_is_cut, crate::proofs::Cuts::whole_is_longer, crate::proofs::Cuts::whole_is_not_cut))]
 pub fn seen_at(alloc: Global, bytes: &[u8]) -> Result<usize, AllocError>
     requires { is_truncated (image_at bytes.now) ≡ false }
     ensures { IfOk result (λ place. IsSeenAt place bytes.now) }

@@ -52,7 +52,7 @@ words_length (t ∷ ts) ws h = put_length (word t) (words ts) ws (length ts) h (
 
 few_found : (ps : List Part) (n most : ℕ) → rule_in (naming.words_wrong n most (slice_get ps most)) ≡ cond (nat_le (length ps) most) None (Some fault.Size)
 few_found ps n most = elim (slice_get_cases ps most).1 [
-  | inl w ↦ rw (w.2.0, lt-leb (length ps) most w.1) refl
+  | inl w ↦ rw (w.2, lt-leb (length ps) most w.1) refl
   | inr past ↦ rw (past.1, le-leb (length ps) most past.0) refl
 ]
 
