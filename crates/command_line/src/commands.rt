@@ -109,27 +109,27 @@ fn obey<F: Files, O: Stream>(
         }
         Some(("run", found)) => {
             let (image, devices) = (word(found, "IMAGE"), word(found, "DEVICES"));
-            run(alloc, image, devices, word(found, "TICKS"), files, out, note)
+            run(alloc, image, devices, word(found, "TICKS"), files, out)
         }
         Some(("replay", found)) => {
             let (image, partition) = (word(found, "IMAGE"), word(found, "PARTITION"));
             let (inputs, ticks) = (word(found, "INPUTS"), word(found, "TICKS"));
-            replay(alloc, image, partition, inputs, ticks, files, out, note)
+            replay(alloc, image, partition, inputs, ticks, files, out)
         }
         Some(("inputs", found)) => {
             let (image, partition) = (word(found, "IMAGE"), word(found, "PARTITION"));
             let (devices, ticks) = (word(found, "DEVICES"), word(found, "TICKS"));
-            inputs(alloc, image, partition, devices, ticks, files, out, note)
+            inputs(alloc, image, partition, devices, ticks, files, out)
         }
         Some(("cost", found)) => {
             let table = word(found, "TABLE");
             let sources = found.get_strs("SOURCE").unwrap_or(&[]);
             Ok(cost(alloc, table, sources, files, out, note)?)
         }
-        Some(("dis", found)) => Ok(dis(alloc, word(found, "IMAGE"), files, out, note)?),
+        Some(("dis", found)) => Ok(dis(alloc, word(found, "IMAGE"), files, out)?),
         Some(("upgrade", found)) => {
             let (old, new) = (word(found, "OLD"), word(found, "NEW"));
-            Ok(upgrade(alloc, old, new, files, out, note)?)
+            Ok(upgrade(alloc, old, new, files, out)?)
         }
         Some(("load", found)) => {
             let table = word(found, "TABLE");
@@ -221,7 +221,6 @@ fn upgrade<F: Files, O: Stream>(
     new: &str,
     files: &mut F,
     out: &mut O,
-    note: &mut Note,
 ) -> Result<(), Refusal>
     requires { O.failures out.old < 2 ^ 64 - 1 }
     ensures done { OnOk result
@@ -238,7 +237,7 @@ fn upgrade<F: Files, O: Stream>(
     ensures noted { OnOk result (F.failed files.new ≡ F.failed files.old) }
     ensures named { IfErr result (λ r. IsOfFailed (F.failed files.old) (F.failed files.new) r) }
 {
-    let image = upgrade_named(alloc, old, files, note)?;
+    let image = upgrade_named(alloc, old, files)?;
     let shown = String::from_str(alloc, new)?;
     if let Err(fault) = files.write(new, image.as_slice()) {
         return Err(Refusal::of_file(shown, fault));

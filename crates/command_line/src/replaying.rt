@@ -11,7 +11,6 @@ ghost use Rattle.command_line.specs.States.{state};
 ghost use Rattle.command_line.specs.Told.{IsOfFailed, IsOfFailedFile};
 ghost use Rattle.streams.specs.States.{IsFlushed, seen};
 
-use crate::explaining::{Note, RunFiles};
 use crate::grammar::bad_ticks;
 use crate::reading::read;
 use crate::refusal::Refusal;
@@ -29,7 +28,6 @@ pub fn replay<F: Files, O: Stream>(
     ticks: &str,
     files: &mut F,
     out: &mut O,
-    note: &mut Note,
 ) -> Result<(), Failure<Refusal>>
     requires { O.failures out.old < 2 ^ 64 - 1 }
     ensures done { OnOk result
@@ -49,7 +47,7 @@ pub fn replay<F: Files, O: Stream>(
     let Some(number) = number_of(ticks) else {
         return Err(Failure::Usage(bad_ticks(alloc, ticks)?));
     };
-    Ok(replay_named(alloc, image, partition, inputs, number, files, out, note)?)
+    Ok(replay_named(alloc, image, partition, inputs, number, files, out)?)
 }
 
 /// Replays a partition of an image for `ticks` ticks.
@@ -61,7 +59,6 @@ fn replay_named<F: Files, O: Stream>(
     ticks: u64,
     files: &mut F,
     out: &mut O,
-    note: &mut Note,
 ) -> Result<(), Refusal>
     requires { O.failures out.old < 2 ^ 64 - 1 }
     ensures done { OnOk result
@@ -78,44 +75,39 @@ fn replay_named<F: Files, O: Stream>(
     ensures noted { OnOk result (F.failed files.new ≡ F.failed files.old) }
     ensures named { IfErr result (λ r. IsOfFailed (F.failed files.old) (F.failed files.new) r) }
 {
-    let (image_name, text_name) = (image, inputs);
     let image = read(alloc, image, files)?;
     let inputs = read(alloc, inputs, files)?;
-    let run_files = RunFiles {
-        image_name,
-        image: image.as_slice(),
-        text_name,
-        text: inputs.as_slice(),
-    };
-    match trace_alone(alloc, run_files, partition, ticks, out, note) {
+    match trace_alone(
+        alloc,
+        image.as_slice(),
+        partition,
+        inputs.as_slice(),
+        ticks,
+        out,
+    ) {
         Ok(()) => Ok(out.flush()?),
         Err(fault) => Err(Refusal::Replay(fault)),
     }
 }
 
-/// Writes the trace of a partition alone. A refusal of the image or of the replay text is explained in
-/// `note`.
+/// Writes the trace of a partition alone.
 fn trace_alone<O: Stream>(
     alloc: Global,
-    files: RunFiles<'_>,
+    image: &[u8],
     partition: &str,
+    inputs: &[u8],
     ticks: u64,
     out: &mut O,
-    note: &mut Note,
 ) -> Result<(), RunFault>
     requires { O.failures out.old < 2 ^ 64 - 1 }
-    ensures trace { Replays (image_at files.entry.image.now) partition.now files.entry.text.now
-        ticks (O.taken out.old) (O.taken out.new) result }
+    ensures trace { Replays (image_at image.now) partition.now inputs.now ticks (O.taken out.old)
+        (O.taken out.new) result }
     ensures quiet { OnOk result (O.failures out.new ≡ O.failures out.old) }
     ensures failed { IfErr result
         (λ f. HasFailedBy f (seen O.taken O.failures O.is_flushed out.old)
         (seen O.taken O.failures O.is_flushed out.new)) }
 {
-    let traced = module::replay(alloc, files.image, partition, files.text, ticks, out);
-    if let Err(fault) = &traced {
-        note.explain_replay(alloc, files, partition, fault);
-    }
-    traced
+    module::replay(alloc, image, partition, inputs, ticks, out)
 }
 
 /// Writes the inputs that a run of an image brings a partition in the ticks of a word.
@@ -127,7 +119,6 @@ pub fn inputs<F: Files, O: Stream>(
     ticks: &str,
     files: &mut F,
     out: &mut O,
-    note: &mut Note,
 ) -> Result<(), Failure<Refusal>>
     requires { O.failures out.old < 2 ^ 64 - 1 }
     ensures done { OnOk result
@@ -147,7 +138,7 @@ pub fn inputs<F: Files, O: Stream>(
     let Some(number) = number_of(ticks) else {
         return Err(Failure::Usage(bad_ticks(alloc, ticks)?));
     };
-    Ok(inputs_named(alloc, image, partition, devices, number, files, out, note)?)
+    Ok(inputs_named(alloc, image, partition, devices, number, files, out)?)
 }
 
 /// Writes the inputs that `ticks` ticks of an image bring a partition.
@@ -159,7 +150,6 @@ fn inputs_named<F: Files, O: Stream>(
     ticks: u64,
     files: &mut F,
     out: &mut O,
-    note: &mut Note,
 ) -> Result<(), Refusal>
     requires { O.failures out.old < 2 ^ 64 - 1 }
     ensures done { OnOk result
@@ -176,40 +166,35 @@ fn inputs_named<F: Files, O: Stream>(
     ensures noted { OnOk result (F.failed files.new ≡ F.failed files.old) }
     ensures named { IfErr result (λ r. IsOfFailed (F.failed files.old) (F.failed files.new) r) }
 {
-    let (image_name, text_name) = (image, devices);
     let image = read(alloc, image, files)?;
     let devices = read(alloc, devices, files)?;
-    let run_files = RunFiles {
-        image_name,
-        image: image.as_slice(),
-        text_name,
-        text: devices.as_slice(),
-    };
-    tell_inputs(alloc, run_files, partition, ticks, out, note)?;
+    tell_inputs(
+        alloc,
+        image.as_slice(),
+        partition,
+        devices.as_slice(),
+        ticks,
+        out,
+    )?;
     Ok(out.flush()?)
 }
 
-/// Writes the inputs that a run of an image brings a partition, as a replay text. A refusal of the
-/// image or of the device text is explained in `note`.
+/// Writes the inputs that a run of an image brings a partition, as a replay text.
 fn tell_inputs<O: Stream>(
     alloc: Global,
-    files: RunFiles<'_>,
+    image: &[u8],
     partition: &str,
+    devices: &[u8],
     ticks: u64,
     out: &mut O,
-    note: &mut Note,
 ) -> Result<(), InputsFault>
     requires { O.failures out.old < 2 ^ 64 - 1 }
-    ensures told { Tells (image_at files.entry.image.now) partition.now files.entry.text.now ticks
-        (O.taken out.old) (O.taken out.new) result }
+    ensures told { Tells (image_at image.now) partition.now devices.now ticks (O.taken out.old)
+        (O.taken out.new) result }
     ensures quiet { OnOk result (O.failures out.new ≡ O.failures out.old) }
     ensures failed { IfErr result
         (λ f. HasFailedByInputs f (seen O.taken O.failures O.is_flushed out.old)
         (seen O.taken O.failures O.is_flushed out.new)) }
 {
-    let told = module::inputs(alloc, files.image, partition, files.text, ticks, out);
-    if let Err(fault) = &told {
-        note.explain_inputs(alloc, files, fault);
-    }
-    told
+    module::inputs(alloc, image, partition, devices, ticks, out)
 }

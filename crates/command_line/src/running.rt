@@ -10,7 +10,6 @@ ghost use Rattle.command_line.specs.States.{state};
 ghost use Rattle.command_line.specs.Told.{IsOfFailed, IsOfFailedFile};
 ghost use Rattle.streams.specs.States.{IsFlushed, seen};
 
-use crate::explaining::{Note, RunFiles};
 use crate::first_run::{SOURCE, TABLE, TICKS};
 use crate::grammar::bad_ticks;
 use crate::reading::read;
@@ -28,7 +27,6 @@ pub fn run<F: Files, O: Stream>(
     ticks: &str,
     files: &mut F,
     out: &mut O,
-    note: &mut Note,
 ) -> Result<(), Failure<Refusal>>
     requires { O.failures out.old < 2 ^ 64 - 1 }
     ensures done { OnOk result
@@ -48,7 +46,7 @@ pub fn run<F: Files, O: Stream>(
     let Some(number) = number_of(ticks) else {
         return Err(Failure::Usage(bad_ticks(alloc, ticks)?));
     };
-    Ok(run_named(alloc, image, devices, number, files, out, note)?)
+    Ok(run_named(alloc, image, devices, number, files, out)?)
 }
 
 /// Runs an image for `ticks` ticks.
@@ -59,7 +57,6 @@ fn run_named<F: Files, O: Stream>(
     ticks: u64,
     files: &mut F,
     out: &mut O,
-    note: &mut Note,
 ) -> Result<(), Refusal>
     requires { O.failures out.old < 2 ^ 64 - 1 }
     ensures done { OnOk result
@@ -76,40 +73,29 @@ fn run_named<F: Files, O: Stream>(
     ensures noted { OnOk result (F.failed files.new ≡ F.failed files.old) }
     ensures named { IfErr result (λ r. IsOfFailed (F.failed files.old) (F.failed files.new) r) }
 {
-    let (image_name, text_name) = (image, devices);
     let image = read(alloc, image, files)?;
     let devices = read(alloc, devices, files)?;
-    let run_files = RunFiles {
-        image_name,
-        image: image.as_slice(),
-        text_name,
-        text: devices.as_slice(),
-    };
-    trace(alloc, run_files, ticks, out, note)?;
+    trace(alloc, image.as_slice(), devices.as_slice(), ticks, out)?;
     Ok(out.flush()?)
 }
 
-/// Writes the trace of an image. A refusal of the image or of the device text is explained in `note`.
+/// Writes the trace of an image.
 fn trace<O: Stream>(
     alloc: Global,
-    files: RunFiles<'_>,
+    image: &[u8],
+    devices: &[u8],
     ticks: u64,
     out: &mut O,
-    note: &mut Note,
 ) -> Result<(), RunFault>
     requires { O.failures out.old < 2 ^ 64 - 1 }
-    ensures trace { Runs (image_at files.entry.image.now) files.entry.text.now ticks
-        (O.taken out.old) (O.taken out.new) result }
+    ensures trace { Runs (image_at image.now) devices.now ticks (O.taken out.old) (O.taken out.new)
+        result }
     ensures quiet { OnOk result (O.failures out.new ≡ O.failures out.old) }
     ensures failed { IfErr result
         (λ f. HasFailedBy f (seen O.taken O.failures O.is_flushed out.old)
         (seen O.taken O.failures O.is_flushed out.new)) }
 {
-    let traced = module::run(alloc, files.image, files.text, ticks, out);
-    if let Err(fault) = &traced {
-        note.explain_run(alloc, files, fault);
-    }
-    traced
+    module::run(alloc, image, devices, ticks, out)
 }
 
 /// Runs the stored module.
