@@ -3,9 +3,15 @@
 
     explanations.py MB
 
-MB is the program `mb`. `rows` has the mistakes, with a line `====` between two of them: what it is, behind `#`; the lines of a file that
+MB is the program `mb`. `rows` has the mistakes in tables, with a line `====` between two of them: what it is, behind `#`; the lines of a file that
 are written in place of those with these numbers; and all that standard error says of it. The first line changed names the file, which
-stands beside this one. The last line printed is how many mistakes were tried, and the exit status is 1 if anything was not as written.
+stands beside this one.
+
+`text_rows` has those in texts and images for the module of `table.toml`: what it is; `devices` or `inputs` and the lines of the text, or how
+the image is changed; behind a line `--`, all that standard error says. `\\r` at the end of a line is a carriage return, and `\\` leaves its line feed
+out. LENGTH is how many bytes the image has, and LONGER one more. The replay is that of `display`.
+
+The last line printed is how many mistakes were tried, and the exit status is 1 if anything was not as written.
 """
 
 import re
@@ -45,16 +51,65 @@ def explain(program, name, changes, folder):
     return done.returncode, done.stdout, done.stderr
 
 
+def read_text_rows():
+    """The mistakes in texts and images: what each is, the text or the change of the image, and what is said of it."""
+    for block in (HERE / "text_rows").read_text().split("\n====\n"):
+        title, rest = block.rstrip("\n").split("\n", 1)
+        given, said = rest.split("\n--\n")
+        kind, *lines = given.split("\n")
+        text = "".join(line + "\n" for line in lines).replace("\\r\n", "\r\n").replace("\\\n", "")
+        yield title.removeprefix("# "), kind.split(), text, said + "\n"
+
+
+def build(program, folder):
+    """The bytes of the image of the module."""
+    (folder / "table.toml").write_text((HERE / "table.toml").read_text())
+    (folder / "source.pal").write_text(SOURCE)
+    subprocess.run([program, "build", "table.toml", "image", "source.pal", "source.pal"], cwd=folder, check=True, capture_output=True, timeout=60)
+    return (folder / "image").read_bytes()
+
+
+def changed(image, how, *numbers):
+    """An image that is cut, longer, or has another byte."""
+    place, *byte = map(int, numbers)
+    if how == "cut":
+        return image[:place]
+    if how == "add":
+        return image + bytes(place)
+    return image[:place] + bytes(byte) + image[place + 1 :]
+
+
+def explain_text(program, image, kind, text, folder):
+    """What the program says of a text or of an image."""
+    name, *change = kind
+    (folder / "image").write_bytes(changed(image, *change) if change else image)
+    (folder / name if not change else folder / "devices").write_bytes(text.encode())
+    words = {"devices": ["run", "image", "devices", "20"], "inputs": ["replay", "image", "display", "inputs", "20"], "image": ["dis", "image"]}[name]
+    words = [program, words[0], "--explain", *words[1:]]
+    done = subprocess.run(words, cwd=folder, stdin=subprocess.DEVNULL, capture_output=True, text=True, timeout=60)
+    return done.returncode, done.stdout, done.stderr
+
+
 def main(program):
     program = Path(program).resolve()
     tried, wrong = 0, 0
+
+    def compare(title, wanted, found):
+        nonlocal tried, wrong
+        tried += 1
+        status, printed, said = found
+        if found != (1, "", wanted):
+            wrong += 1
+            print(f"{title}: wanted\n{wanted}had status {status} and\n{printed}{said}")
+
     with tempfile.TemporaryDirectory() as folder:
+        folder = Path(folder)
         for title, name, changes, wanted in read_rows():
-            status, printed, said = explain(program, name, changes, Path(folder))
-            tried += 1
-            if (status, printed, said) != (1, "", wanted):
-                wrong += 1
-                print(f"{title}: wanted\n{wanted}had status {status} and\n{printed}{said}")
+            compare(title, wanted, explain(program, name, changes, folder))
+        image = build(program, folder)
+        for title, kind, text, wanted in read_text_rows():
+            wanted = wanted.replace("LENGTH", str(len(image))).replace("LONGER", str(len(image) + 1))
+            compare(title, wanted, explain_text(program, image, kind, text, folder))
     print(f"{tried} mistakes")
     return 1 if wrong else 0
 

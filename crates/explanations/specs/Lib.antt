@@ -1,4 +1,5 @@
 pub mod Explanation
+pub mod Files
 pub mod Looking
 pub mod Phrases
 pub mod Places

@@ -4,6 +4,7 @@
 
 mod choices;
 mod explanation;
+mod files;
 mod lines;
 mod looking;
 mod sentences;
@@ -11,6 +12,7 @@ mod sought;
 mod words;
 
 pub use explanation::{explain_source, explain_table};
+pub use files::{explain_devices, explain_image, explain_inputs};
 pub use lines::{refused_line, shown};
 pub use looking::looked_for;
 pub use sentences::{

@@ -1,0 +1,110 @@
+//! The explanations of a refused image, device text and replay text.
+
+ghost use Rattle.std.specs.Prelude.{◌≡◌, IfSome, option_map, string_bytes};
+ghost use Rattle.engine_meaning.specs.Digits.{same};
+ghost use Rattle.image.specs.Items.{items_of, partition_of};
+ghost use Rattle.image.specs.Views.{image_of};
+ghost use Rattle.machine_meaning.specs.ImageReading.{image_at};
+ghost use Rattle.explanations.specs.Files as spec;
+ghost use Rattle.text_findings.specs.Views.{names_of};
+
+use crate::sentences::{device_sentence, image_sentence, replay_sentence};
+use apex_types::DeviceFault;
+use image::{Image, ImageFault, PartitionItem, load_image};
+use std::alloc::Global;
+use text_findings::Names;
+use text_names::{device_names, input_names};
+use window_table::PartitionRow;
+
+/// The explanation of a refused image: a line with the sentence of its fault, and the lines of what is
+/// wrong with it. `file` is its name. There is none if memory runs out.
+pub fn explain_image(alloc: Global, file: &str, bytes: &[u8], fault: ImageFault) -> Option<String>
+    ensures { IfSome result
+        (λ text. spec.IsImageExplanation file.now bytes.now fault (string_bytes text)) }
+{
+    let lines = image_findings::explain_image(alloc, file, bytes)?;
+    explanation(alloc, image_sentence(fault), lines.as_str())
+}
+
+/// A sentence on a line of its own, and the lines behind it.
+fn explanation(alloc: Global, sentence: &str, lines: &str) -> Option<String>
+    ensures { IfSome result
+        (λ text. string_bytes text ≡ spec.explanation sentence.now lines.now) }
+{
+    format!(in alloc; "{sentence}\n{lines}").ok()
+}
+
+/// The explanation of a device text that is refused for the image of these bytes. `file` is its name.
+/// There is none if memory runs out.
+pub fn explain_devices(
+    alloc: Global,
+    file: &str,
+    image: &[u8],
+    text: &[u8],
+    fault: DeviceFault,
+) -> Option<String>
+    ensures { IfSome result
+        (λ lines.
+        spec.IsDeviceExplanation file.now image.now text.now fault (string_bytes lines)) }
+{
+    let image = loaded(alloc, image)?;
+    let names = device_names(alloc, &image).ok()?;
+    let lines = text_lines(alloc, file, &names, text)?;
+    explanation(alloc, device_sentence(fault), lines.as_str())
+}
+
+/// The image of these bytes, if they are one and there is memory for it.
+fn loaded(alloc: Global, bytes: &[u8]) -> Option<Image>
+    ensures { IfSome result (λ image. spec.IsImage bytes.now (image_of image)) }
+{
+    match load_image(alloc, bytes) {
+        Ok(image) => Some(image),
+        Err(_) => None,
+    }
+}
+
+/// The lines of what is wrong with a text of these names.
+fn text_lines(alloc: Global, file: &str, names: &Names<'_>, text: &[u8]) -> Option<String>
+    ensures { IfSome result
+        (λ lines. spec.AreOfText file.now (names_of names.now) text.now (string_bytes lines)) }
+{
+    match text_findings::explain_text(alloc, file, names, text) {
+        Ok(lines) => lines,
+        Err(_) => None,
+    }
+}
+
+/// The explanation of a replay text that is refused for the partition of that name of the image of
+/// these bytes. `file` is the name of the text. There is none if memory runs out.
+pub fn explain_inputs(
+    alloc: Global,
+    file: &str,
+    image: &[u8],
+    partition: &str,
+    text: &[u8],
+    fault: DeviceFault,
+) -> Option<String>
+    ensures { IfSome result
+        (λ lines.
+        spec.IsReplayExplanation file.now image.now partition.now text.now fault
+        (string_bytes lines)) }
+{
+    let image = loaded(alloc, image)?;
+    let row = row_named(image.partitions.as_slice(), partition)?;
+    let names = input_names(alloc, row).ok()?;
+    let lines = text_lines(alloc, file, &names, text)?;
+    explanation(alloc, replay_sentence(fault), lines.as_str())
+}
+
+/// The row of the partition of that name.
+fn row_named<'a>(items: &'a [PartitionItem], name: &str) -> Option<&'a PartitionRow>
+    ensures { option_map (λ row. partition_of row.now) result
+        ≡ spec.row_named name.now (items_of items.now) }
+{
+    let (item, others) = items.split_first()?;
+    if item.row.name.as_bytes() == name.as_bytes() {
+        Some(&item.row)
+    } else {
+        row_named(others, name)
+    }
+}

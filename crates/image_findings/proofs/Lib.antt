@@ -1,0 +1,3 @@
+pub mod Cuts
+pub mod Judged
+pub mod Told
