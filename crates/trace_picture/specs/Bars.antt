@@ -80,9 +80,13 @@ word_text axis top word stay =
     if nat_lt (before (tenths (place axis stay.until.0)) (left_of axis stay)).0 (times_of (tenths 75) (length word)).0 then [] else
     text_element (codes "mode") (behind (left_of axis stay) (tenths 50)) (behind top (tenths 145)) word
 
+abbrev pub mode_bar : Span → Length → ModeStay → List ℕ → List ℕ
+mode_bar axis top stay title =
+    titled tag.Rect (rect_start (class_of_mode stay.mode) (left_of axis stay.span) (behind top (tenths 40)) (width_of axis stay.span) (tenths 140)) title
+    ++ word_text axis top (mode_word stay.mode) stay.span
+
 -- A stay in a mode is a bar in the row of its partition.
 abbrev pub mode_text : Span → Lanes → Rows → ℕ → ModeStay → List ℕ
 mode_text axis l rows partition stay =
     in_row (row_of_partition rows partition)
-    (λ top. bar_text axis (class_of_mode stay.mode) top (tenths 40) (tenths 140) (partition_name l partition) (mode_word stay.mode) stay.span
-        ++ word_text axis top (mode_word stay.mode) stay.span)
+    (λ top. mode_bar axis top stay (bar_title (partition_name l partition) (mode_word stay.mode) stay.span))

@@ -9,6 +9,7 @@ use Rattle.trace_picture.specs.Rows.{in_row, row_of_owner, row_of_process, row_o
 use Rattle.trace_picture.specs.Titles.{flag_title, message_title, process_name, report_title}
 use Rattle.trace_picture.specs.declared.element.Tag.TheVariants as tag
 use Rattle.trace_picture.specs.declared.length.Length.{Length}
+use Rattle.trace_picture.specs.declared.marks.TheConstants.{FLAG, REPORT}
 use Rattle.trace_picture.specs.declared.rows.Rows.{Rows}
 use Rattle.trace_picture.specs.declared.shape.Flag.{Flag}
 use Rattle.trace_picture.specs.declared.shape.Message.{Message}
@@ -77,11 +78,11 @@ flag_down (owner.Process place) = tenths 200
 abbrev pub flag_text : Span → Rows → Flag → List ℕ
 flag_text axis rows f =
     in_row (row_of_owner rows f.owner)
-    (λ top. titled tag.Path (path_start (codes "flag") (codes "M0 0V-19L10 -14.5L0 -10") (tenths (place axis f.tick.0)) (behind top (flag_down f.owner))) (flag_title f))
+    (λ top. titled tag.Path (path_start (codes "flag") FLAG.now (tenths (place axis f.tick.0)) (behind top (flag_down f.owner))) (flag_title f))
 
 -- An application message is a mark at its tick, in the row of its process.
 abbrev pub report_text : Span → Lanes → Rows → Report → List ℕ
 report_text axis l rows r =
     in_row (row_of_process rows r.process)
-    (λ top. titled tag.Path (path_start (codes "report") (codes "M0 -4.5L4.5 0L0 4.5L-4.5 0Z") (tenths (place axis r.tick.0)) (behind top (tenths 110)))
+    (λ top. titled tag.Path (path_start (codes "report") REPORT.now (tenths (place axis r.tick.0)) (behind top (tenths 110)))
         (report_title (process_name l r.process) r))

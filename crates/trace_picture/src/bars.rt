@@ -1,7 +1,7 @@
 //! The bars of modes and states.
 
 ghost use Rattle.std.specs.Prelude.{◌≡◌, ◌++◌, OnOk, string_bytes};
-ghost use Rattle.trace_picture.specs.Bars.{bar_tag, class_of_mode, class_of_state, down_of_state, high_of_state, left_of, mode_text, state_text, width_of, word_text};
+ghost use Rattle.trace_picture.specs.Bars.{bar_tag, class_of_mode, class_of_state, down_of_state, high_of_state, left_of, mode_bar, mode_text, state_text, width_of, word_text};
 ghost use Rattle.trace_picture.specs.Element.{rect_start, text_element, titled};
 ghost use Rattle.trace_picture.specs.Lengths.{behind, tenths};
 
@@ -119,10 +119,25 @@ pub fn draw_mode(
     let Some(top) = rows.partition(partition) else {
         return Ok(());
     };
-    let word = stay.mode.word();
-    let title = bar_title(alloc, partition_name(lanes, partition), word, stay.span)?;
-    draw_bar(page, axis, top, bar_of_mode(stay.mode), stay.span, title.as_str())?;
-    draw_word(page, axis, top, word, stay.span)
+    let name = partition_name(lanes, partition);
+    let title = bar_title(alloc, name, stay.mode.word(), stay.span)?;
+    draw_mode_bar(page, axis, top, stay, title.as_str())
+}
+
+/// Draws the bar of a mode in the row with this top, with the mode's word if it fits.
+fn draw_mode_bar(
+    page: &mut Page,
+    axis: Axis,
+    top: Length,
+    stay: ModeStay,
+    title: &str,
+) -> Result<(), AllocError>
+    ensures { OnOk result
+        (string_bytes page.new.text
+        ≡ string_bytes page.old.text ++ mode_bar axis.span top stay title.now) }
+{
+    draw_bar(page, axis, top, bar_of_mode(stay.mode), stay.span, title)?;
+    draw_word(page, axis, top, stay.mode.word(), stay.span)
 }
 
 /// Draws the word of a mode on its bar, if the bar is wide enough.

@@ -1,7 +1,7 @@
 //! Arrows, flags and marks.
 
 ghost use Rattle.std.specs.Prelude.{◌≡◌, ◌++◌, OnOk, string_bytes};
-ghost use Rattle.trace_picture.specs.Element.{titled};
+ghost use Rattle.trace_picture.specs.Element.{path_start, titled};
 ghost use Rattle.trace_picture.specs.Marks.{arrow_start, end_of, fan_of, flag_down, flag_text, message_class, message_text, report_text, start_of};
 
 use crate::axis::Axis;
@@ -153,15 +153,8 @@ pub fn draw_flag(
         return Ok(());
     };
     let title = flag_title(alloc, flag)?;
-    page.titled(
-        Tag::Path,
-        &[
-            set(Key::Class, "flag"),
-            set(Key::Path, FLAG),
-            moved(axis.place(flag.tick), top + flag_down(flag.owner)),
-        ],
-        title.as_str(),
-    )
+    let down = flag_down(flag.owner);
+    draw_outline(page, "flag", FLAG, axis.place(flag.tick), top + down, title.as_str())
 }
 
 /// Draws an application message as a mark, in the row of its process.
@@ -181,13 +174,31 @@ pub fn draw_report(
         return Ok(());
     };
     let title = report_title(alloc, process_name(lanes, report.process), report)?;
+    let left = axis.place(report.tick);
+    draw_outline(page, "report", REPORT, left, top + REPORT_DOWN, title.as_str())
+}
+
+/// Draws an outline of this class, moved to a place, with a title.
+fn draw_outline(
+    page: &mut Page,
+    class: &str,
+    outline: &str,
+    left: Length,
+    height: Length,
+    title: &str,
+) -> Result<(), AllocError>
+    ensures { OnOk result
+        (string_bytes page.new.text
+        ≡ string_bytes page.old.text
+        ++ titled Tag.Path (path_start class.now outline.now left height) title.now) }
+{
     page.titled(
         Tag::Path,
         &[
-            set(Key::Class, "report"),
-            set(Key::Path, REPORT),
-            moved(axis.place(report.tick), top + REPORT_DOWN),
+            set(Key::Class, class),
+            set(Key::Path, outline),
+            moved(left, height),
         ],
-        title.as_str(),
+        title,
     )
 }

@@ -66,7 +66,8 @@ impl Picture {
         if event.tick.0 < self.shown.open().from.0 {
             return Ok(());
         }
-        self.mark(event)
+        self.mark(event)?;
+        Ok(())
     }
 
     /// The picture as it is drawn. No event follows.

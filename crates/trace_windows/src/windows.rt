@@ -37,7 +37,7 @@ pub struct Windows {
 
 impl Windows {
     ghost use Rattle.std.specs.Prelude.{false, true, None, is_some, IfErr};
-    ghost use Rattle.trace_windows.specs.Frames.{at_first, is_release_at, owner_by, with_line, with_module};
+    ghost use Rattle.trace_windows.specs.Frames.{acted, at_first, is_release_at, owner_by, with_line, with_module};
     ghost use Rattle.trace_windows.specs.Names.{place_in};
     ghost use Rattle.trace_windows.specs.Read.{HasPassed, frames_of, now_behind};
 
@@ -79,21 +79,17 @@ impl Windows {
     ///
     /// The module table has no partition of this name, there are too many stretches, or memory ran
     /// out.
+    #[tactic(auto, using(crate::proofs::Passed::stays))]
     pub fn read(&mut self, event: &Event) -> Result<(), WindowsFault>
         ensures frames { OnOk result
             (frames_of self.new ≡ with_line event.now (frames_of self.old)) }
         ensures schedule { OnOk result (self.new.schedule ≡ self.old.schedule) }
         ensures to { OnOk result (self.new.to ≡ self.old.to) }
-        ensures now { OnOk result (self.new.now.0 ≡ now_behind self.old event.now.tick.0) }
         ensures passed { OnOk result (HasPassed self.old self.new) }
     {
-        self.pass_to(event.tick)?;
         match &event.partition {
             Some(name) => self.know(name),
-            None => {
-                self.read_module(&event.kind, event.tick);
-                Ok(())
-            }
+            None => self.read_module(&event.kind, event.tick),
         }
     }
 
@@ -222,19 +218,45 @@ impl Windows {
         }
     }
 
-    /// Reads a line of the module: frames begin with the tick of a reset, and end with a shutdown.
-    fn read_module(&mut self, kind: &EventKind, tick: Ticks)
-        requires passed { min tick.0 self.old.to.0 ≤ self.old.now.0 }
-        ensures frames { frames_of self.new ≡ with_module kind.now tick.0 (frames_of self.old) }
-        ensures others { self.new
-            ≡ record self.old { origin = self.new.origin; is_down = self.new.is_down } }
+    /// Reads a line of the module.
+    #[tactic(auto, using(crate::proofs::Passed::stays))]
+    fn read_module(&mut self, kind: &EventKind, tick: Ticks) -> Result<(), WindowsFault>
+        ensures frames { OnOk result
+            (frames_of self.new ≡ with_module kind.now tick.0 (frames_of self.old)) }
+        ensures schedule { OnOk result (self.new.schedule ≡ self.old.schedule) }
+        ensures to { OnOk result (self.new.to ≡ self.old.to) }
+        ensures passed { OnOk result (HasPassed self.old self.new) }
     {
-        if let EventKind::Error(_, _, Response::Module(action)) = kind {
-            match action {
-                ModuleAction::Ignore => {}
-                ModuleAction::Shutdown => self.is_down = true,
-                ModuleAction::Reset => self.origin = tick,
+        match kind {
+            EventKind::Error(_, _, response) => self.act(*response, tick),
+            _ => Ok(()),
+        }
+    }
+
+    /// Frames begin with the tick of a reset of the module, and end with a shutdown. The ticks before
+    /// are those of the frames so far.
+    #[tactic(auto, using(crate::proofs::Passed::stays))]
+    fn act(&mut self, response: Response, tick: Ticks) -> Result<(), WindowsFault>
+        ensures frames { OnOk result
+            (frames_of self.new ≡ acted response tick.0 (frames_of self.old)) }
+        ensures schedule { OnOk result (self.new.schedule ≡ self.old.schedule) }
+        ensures to { OnOk result (self.new.to ≡ self.old.to) }
+        ensures passed { OnOk result (HasPassed self.old self.new) }
+    {
+        match response {
+            Response::Module(ModuleAction::Reset) => {
+                self.pass_to(tick)?;
+                self.origin = tick;
+                Ok(())
             }
+            Response::Module(ModuleAction::Shutdown) => {
+                self.pass_to(tick)?;
+                self.is_down = true;
+                Ok(())
+            }
+            Response::Module(ModuleAction::Ignore)
+            | Response::Partition(_)
+            | Response::Handler => Ok(()),
         }
     }
 
