@@ -100,7 +100,7 @@ def declare(dump, scopes, fields):
     """Reads a variable: its type, its size, its code and its name. Its code and its path are its own."""
     kind, size, code, name = (*fields.split(" "), *[""] * 4)[:4]
     require(len(fields.split(" ")) == 4 and SIZES.get(kind) == size, f"no variable: '{fields}'")
-    require(CODE.fullmatch(code) and IDENTIFIER.fullmatch(name) and len(scopes) == 2, f"no variable: '{fields}'")
+    require(CODE.fullmatch(code) and IDENTIFIER.fullmatch(name) and len(scopes) in (1, 2), f"no variable: '{fields}'")
     variable = Variable(".".join([*scopes, name]), kind)
     require(code not in dump.variables and variable.path not in dump.paths(), f"'{fields}' is declared twice")
     dump.variables[code] = variable

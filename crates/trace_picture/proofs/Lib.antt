@@ -1,4 +1,6 @@
+pub mod Added
 pub mod Multiples
+pub mod Outlines
 pub mod Pages
 pub mod Pieces
 pub mod Places

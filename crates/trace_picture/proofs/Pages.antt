@@ -4,11 +4,11 @@ use Rattle.std.specs.Prelude.{option_to_list}
 use Rattle.std.proofs.Math.Logic.{∥∥₁_map}
 use Rattle.std.proofs.lemmas.List.{reverse-append}
 use Rattle.trace_picture.specs.Escaped.{escaped}
-use Rattle.trace_picture.specs.Element.{start_text, empty_text, end_text}
+use Rattle.trace_picture.specs.Element.{start_text, empty_text, end_text, titled}
 use Rattle.trace_picture.specs.Page.{Inside, nothing, then_text, then_empty, then_element, inside_text, begun_text, IsPicture, IsBegun}
 use Rattle.trace_picture.specs.declared.element.Attribute.{Attribute}
 use Rattle.trace_picture.specs.declared.element.Tag.{Tag}
-use Rattle.trace_picture.specs.declared.element.Tag.TheVariants.{Svg}
+use Rattle.trace_picture.specs.declared.element.Tag.TheVariants.{Svg, Title}
 
 seam : (xs ys zs : List ℕ) → (xs ++ ys) ++ zs ≡ xs ++ (ys ++ zs)
 seam xs ys zs = rw append_assoc
@@ -56,6 +56,12 @@ pub empties : (tags : List Tag) (text longer : List ℕ) (tag : Tag) (attributes
     → longer ≡ text ++ empty_text tag attributes → IsKept tags text → IsKept tags longer
 empties tags text longer tag attributes is h =
     subst (IsKept tags) (sym is) (∥∥₁_map h (grown (reverse tags) text (empty_text tag attributes) (λ i. then_empty i tag attributes) (λ i. refl)))
+
+pub titles : (tags : List Tag) (text longer title : List ℕ) (tag : Tag) (attributes : List Attribute)
+    → longer ≡ text ++ titled tag (start_text tag attributes) title → IsKept tags text → IsKept tags longer
+titles tags text longer title tag attributes is h =
+    subst (IsKept tags) (sym is)
+    (∥∥₁_map h (grown (reverse tags) text (titled tag (start_text tag attributes) title) (λ i. then_element i tag attributes (then_element nothing Title [] (then_text nothing title))) (λ i. refl)))
 
 pub closes : (tags outer : List Tag) (text longer : List ℕ) (popped : Option Tag) (tag : Tag)
     → tags ≡ outer ++ option_to_list popped → popped ≡ Some tag → longer ≡ text ++ end_text tag → IsKept tags text → IsKept outer longer

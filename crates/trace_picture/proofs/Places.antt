@@ -2,8 +2,6 @@
 use Rattle.std.proofs.Common.{◌≡◌, ℕ, ◌-◌, ◌*◌, ◌/◌, ◌<◌, ◌≤◌, max, min, arith}
 use Rattle.std.proofs.Math.Nat.{div-le_of_le-mul, le-div_iff_mul-le, div-mul-le_self, div-le_self, mul-div_cancel_left}
 use Rattle.trace_picture.specs.Axis.{place}
-use Rattle.trace_picture.specs.Marks.{message_place}
-use Rattle.trace_picture.specs.declared.shape.Message.{Message}
 use Rattle.trace_stays.specs.declared.span.Span.{Span}
 
 part : (a n : ℕ) → a ≤ n → a * 10200 / max 1 n ≤ 10200
@@ -29,6 +27,3 @@ right s h =
     let all : min s.until.0 s.until.0 - s.from.0 ≡ n = omega arith in
     let same : max 1 n ≡ n = omega arith in
     rw (all, same, mul-div_cancel_left 10200 {n = n} (omega arith))
-
-pub in_picture : (axis : Span) (m : Message) → (place axis m.tick.0 ≤ (message_place axis m).0) × ((message_place axis m).0 < 12000)
-in_picture axis m = let on = within axis m.tick.0 in (omega (arith, on.1), omega arith)

@@ -97,3 +97,21 @@ text_start class x y = codes "<" ++ tag_name tag.Text ++ (class_text class ++ (p
 
 abbrev pub text_element : List ℕ → Length → Length → List ℕ → List ℕ
 text_element class x y text = text_start class x y ++ escaped text ++ end_text tag.Text
+
+-- a rectangle of this class, which begins at this place
+abbrev pub rect_start : List ℕ → Length → Length → Length → Length → List ℕ
+rect_start class x y wide high =
+    codes "<" ++ tag_name tag.Rect ++ (class_text class ++ (place_text key.X x ++ (place_text key.Y y ++ (place_text key.Width wide ++ (place_text key.Height high ++ []))))) ++ codes ">"
+
+-- an outline of this class, moved to a place
+abbrev pub path_start : List ℕ → List ℕ → Length → Length → List ℕ
+path_start class path x y =
+    codes "<" ++ tag_name tag.Path
+    ++ (class_text class
+    ++ ((codes " " ++ key_name key.Path ++ codes "=\"" ++ escaped path ++ codes "\"")
+    ++ ((codes " " ++ key_name key.Transform ++ codes "=\"" ++ value_text (value.Move x y) ++ codes "\"") ++ [])))
+    ++ codes ">"
+
+-- an element that has begun with this text, with a title and nothing else
+abbrev pub titled : Tag → List ℕ → List ℕ → List ℕ
+titled t start title = start ++ (start_text tag.Title [] ++ escaped title ++ end_text tag.Title) ++ end_text t

@@ -3,5 +3,10 @@ pub mod Bars
 pub mod Escaped
 pub mod Element
 pub mod Lengths
+pub mod Marked
 pub mod Marks
 pub mod Page
+pub mod Rows
+pub mod Titles
+pub mod Shapes
+pub mod Added

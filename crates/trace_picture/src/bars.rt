@@ -1,17 +1,19 @@
 //! The bars of modes and states.
 
 ghost use Rattle.std.specs.Prelude.{◌≡◌, ◌++◌, OnOk, string_bytes};
-ghost use Rattle.trace_picture.specs.Bars.{bar_tag, left_of, width_of};
-ghost use Rattle.trace_picture.specs.Element.{start_text, text_element};
+ghost use Rattle.trace_picture.specs.Bars.{bar_tag, class_of_mode, class_of_state, down_of_state, high_of_state, left_of, mode_bar, mode_text, state_text, width_of, word_text};
+ghost use Rattle.trace_picture.specs.Element.{rect_start, text_element, titled};
+ghost use Rattle.trace_picture.specs.Lengths.{behind, tenths};
 
 use crate::axis::Axis;
 use crate::element::{Attribute, Key, Tag, at, set};
 use crate::length::Length;
 use crate::page::Page;
 use crate::rows::Rows;
+use crate::titles::{bar_title, partition_name, process_name};
 use apex_types::{Mode, ProcessState};
-use std::alloc::AllocError;
-use trace_stays::{Lanes, ModeStay, Span, Stay, subject_word};
+use std::alloc::{AllocError, Global};
+use trace_stays::{Lanes, ModeStay, Span, Stay};
 
 /// The least width of a bar.
 const LEAST: Length = Length(10);
@@ -25,7 +27,11 @@ pub struct Bar {
 }
 
 /// The bar of a state. The nearer a process is to run, the higher its bar.
-pub fn bar_of_state(state: ProcessState) -> Bar {
+pub fn bar_of_state(state: ProcessState) -> Bar
+    ensures class { result.class.now ≡ class_of_state state }
+    ensures down { result.down ≡ down_of_state state }
+    ensures high { result.high ≡ high_of_state state }
+{
     match state {
         ProcessState::Running => Bar {
             class: "running",
@@ -50,16 +56,26 @@ pub fn bar_of_state(state: ProcessState) -> Bar {
     }
 }
 
-/// The bar of a mode.
-pub fn bar_of_mode(mode: Mode) -> Bar {
-    let class = match mode {
+/// The class of the bar of a mode.
+fn class_of_mode(mode: Mode) -> &'static str
+    ensures { result.now ≡ class_of_mode mode }
+{
+    match mode {
         Mode::Idle => "idle",
         Mode::ColdStart => "cold",
         Mode::WarmStart => "warm",
         Mode::Normal => "normal",
-    };
+    }
+}
+
+/// The bar of a mode.
+pub fn bar_of_mode(mode: Mode) -> Bar
+    ensures class { result.class.now ≡ class_of_mode mode }
+    ensures down { result.down ≡ tenths 40 }
+    ensures high { result.high ≡ tenths 140 }
+{
     Bar {
-        class,
+        class: class_of_mode(mode),
         down: Length(40),
         high: Length(140),
     }
@@ -68,68 +84,104 @@ pub fn bar_of_mode(mode: Mode) -> Bar {
 /// Draws the stay of a process in a state.
 pub fn draw_state(
     page: &mut Page,
+    alloc: Global,
     axis: Axis,
     lanes: &Lanes,
     rows: &Rows,
     process: usize,
     stay: Stay,
-) -> Result<(), AllocError> {
+) -> Result<(), AllocError>
+    ensures { OnOk result
+        (string_bytes page.new.text
+        ≡ string_bytes page.old.text ++ state_text axis.span lanes.now rows.now process stay) }
+{
     let Some(top) = rows.process(process) else {
         return Ok(());
     };
-    let Some(lane) = lanes.processes().get(process) else {
-        return Ok(());
-    };
-    let name = subject_word(&lane.who);
-    draw_bar(page, axis, top, bar_of_state(stay.state), stay.span)?;
-    title_bar(page, name, stay.state.word(), stay.span)
+    let title = bar_title(alloc, process_name(lanes, process), stay.state.word(), stay.span)?;
+    draw_bar(page, axis, top, bar_of_state(stay.state), stay.span, title.as_str())
 }
 
 /// Draws the stay of a partition in a mode, with the mode's word if it fits.
 pub fn draw_mode(
     page: &mut Page,
+    alloc: Global,
     axis: Axis,
     lanes: &Lanes,
     rows: &Rows,
     partition: usize,
     stay: ModeStay,
-) -> Result<(), AllocError> {
+) -> Result<(), AllocError>
+    ensures { OnOk result
+        (string_bytes page.new.text
+        ≡ string_bytes page.old.text ++ mode_text axis.span lanes.now rows.now partition stay) }
+{
     let Some(top) = rows.partition(partition) else {
         return Ok(());
     };
-    let Some(lane) = lanes.partitions().get(partition) else {
-        return Ok(());
-    };
-    let word = stay.mode.word();
-    draw_bar(page, axis, top, bar_of_mode(stay.mode), stay.span)?;
-    title_bar(page, lane.name.as_str(), word, stay.span)?;
-    let left = axis.place(stay.span.from);
-    let wide = axis.place(stay.span.until) - left;
-    if wide < Length(75).times(word.len() as u64) {
+    let name = partition_name(lanes, partition);
+    let title = bar_title(alloc, name, stay.mode.word(), stay.span)?;
+    draw_mode_bar(page, axis, top, stay, title.as_str())
+}
+
+/// Draws the bar of a mode in the row with this top, with the mode's word if it fits.
+fn draw_mode_bar(
+    page: &mut Page,
+    axis: Axis,
+    top: Length,
+    stay: ModeStay,
+    title: &str,
+) -> Result<(), AllocError>
+    ensures { OnOk result
+        (string_bytes page.new.text
+        ≡ string_bytes page.old.text ++ mode_bar axis.span top stay title.now) }
+{
+    draw_bar(page, axis, top, bar_of_mode(stay.mode), stay.span, title)?;
+    draw_word(page, axis, top, stay.mode.word(), stay.span)
+}
+
+/// Draws the word of a mode on its bar, if the bar is wide enough.
+fn draw_word(
+    page: &mut Page,
+    axis: Axis,
+    top: Length,
+    word: &str,
+    span: Span,
+) -> Result<(), AllocError>
+    ensures { OnOk result
+        (string_bytes page.new.text
+        ≡ string_bytes page.old.text ++ word_text axis.span top word.now span) }
+{
+    let left = axis.place(span.from);
+    let wide = axis.place(span.until) - left;
+    if wide.0 < Length(75).times(word.len() as u64).0 {
         return Ok(());
     }
     draw_text(page, "mode", left + Length(50), top + Length(145), word)
 }
 
-/// Begins a bar; its title and its end follow.
+/// Draws a bar with a title.
 fn draw_bar(
     page: &mut Page,
     axis: Axis,
     top: Length,
     bar: Bar,
     span: Span,
+    title: &str,
 ) -> Result<(), AllocError>
     ensures { OnOk result
         (string_bytes page.new.text
         ≡ string_bytes page.old.text
-        ++ start_text Tag.Rect
-        (bar_tag bar (left_of axis.span span) top (width_of axis.span span))) }
+        ++ titled Tag.Rect
+        (rect_start bar.class.now (left_of axis.span span) (behind top bar.down)
+        (width_of axis.span span) bar.high) title.now) }
 {
     let left = axis.place(span.from);
     let wide = axis.place(span.until) - left;
-    page.open(
+    page.titled(
         Tag::Rect,
         &bar_attributes(bar, left, top, wide.at_least(LEAST)),
+        title,
     )
 }
 
@@ -144,28 +196,6 @@ pub fn bar_attributes(bar: Bar, left: Length, top: Length, wide: Length) -> [Att
         at(Key::Width, wide),
         at(Key::Height, bar.high),
     ]
-}
-
-/// Writes the title of a bar, and ends the bar.
-fn title_bar(page: &mut Page, name: &str, word: &str, span: Span) -> Result<(), AllocError> {
-    page.open(Tag::Title, &[])?;
-    page.text(name)?;
-    page.text(" ")?;
-    page.text(word)?;
-    title_ticks(page, span)?;
-    page.close()?;
-    page.close()
-}
-
-/// Writes the ticks of a bar.
-fn title_ticks(page: &mut Page, span: Span) -> Result<(), AllocError> {
-    page.text(", ticks ")?;
-    page.number(span.from.0)?;
-    page.text(" to ")?;
-    page.number(span.until.0.saturating_sub(1))?;
-    page.text(" (")?;
-    page.number(span.ticks())?;
-    page.text(")")
 }
 
 /// Draws a text, whose line stands at this height.

@@ -38,6 +38,9 @@ pub struct Drawing {
 }
 
 impl Drawing {
+    ghost use Rattle.std.specs.Prelude.{◌++◌};
+    ghost use Rattle.trace_picture.specs.Shapes.{bar_of, bars_text, mark_of, marks_text, shapes_text};
+
     /// The number of bars, arrows, flags and marks of the picture.
     pub fn shapes(&self) -> usize
         ensures value { result ≡ vec_len self.now.shapes }
@@ -91,8 +94,7 @@ impl Drawing {
         )?;
         draw_names(&mut page, &self.lanes, &self.rows)?;
         draw_axis(&mut page, self.axis, self.rows.bottom)?;
-        self.draw_bars(&mut page)?;
-        self.draw_marks(&mut page)?;
+        self.draw_shapes(&mut page)?;
         draw_legend(&mut page, self.rows.bottom)?;
         page.finish()
     }
@@ -106,34 +108,84 @@ impl Drawing {
         page.close()
     }
 
-    fn draw_bars(&self, page: &mut Page) -> Result<(), AllocError> {
+    /// Draws the shapes: first the bars, then what stands on them.
+    fn draw_shapes(&self, page: &mut Page) -> Result<(), AllocError>
+        ensures { OnOk result
+            (string_bytes page.new.text
+            ≡ string_bytes page.old.text ++ shapes_text self.now) }
+    {
+        self.draw_bars(page)?;
+        self.draw_marks(page)
+    }
+
+    #[tactic(auto, using(std::proofs::lemmas::List::drop_more))]
+    fn draw_bars(&self, page: &mut Page) -> Result<(), AllocError>
+        ensures { OnOk result
+            (string_bytes page.new.text
+            ≡ string_bytes page.old.text
+            ++ bars_text self.now.axis.span self.now.lanes self.now.rows self.now.shapes.items) }
+    {
         for shape in &self.shapes {
-            match shape {
-                Shape::Mode(partition, stay) => {
-                    draw_mode(page, self.axis, &self.lanes, &self.rows, *partition, *stay)?
-                }
-                Shape::State(process, stay) => {
-                    draw_state(page, self.axis, &self.lanes, &self.rows, *process, *stay)?
-                }
-                _ => (),
-            }
+            self.draw_bar(page, shape)?;
         }
         Ok(())
     }
 
-    fn draw_marks(&self, page: &mut Page) -> Result<(), AllocError> {
+    #[tactic(auto, using(std::proofs::lemmas::List::drop_more))]
+    fn draw_marks(&self, page: &mut Page) -> Result<(), AllocError>
+        ensures { OnOk result
+            (string_bytes page.new.text
+            ≡ string_bytes page.old.text
+            ++ marks_text self.now.axis.span self.now.lanes self.now.rows self.now.shapes.items) }
+    {
         for shape in &self.shapes {
-            match shape {
-                Shape::Message(message) => {
-                    draw_message(page, self.axis, &self.lanes, &self.rows, message)?
-                }
-                Shape::Flag(flag) => draw_flag(page, self.axis, &self.rows, flag)?,
-                Shape::Report(report) => {
-                    draw_report(page, self.axis, &self.lanes, &self.rows, report)?
-                }
-                _ => (),
-            }
+            self.draw_mark(page, shape)?;
         }
         Ok(())
+    }
+
+    fn draw_bar(&self, page: &mut Page, shape: &Shape) -> Result<(), AllocError>
+        ensures { OnOk result
+            (string_bytes page.new.text
+            ≡ string_bytes page.old.text
+            ++ bar_of self.now.axis.span self.now.lanes self.now.rows shape.now) }
+    {
+        let Drawing {
+            alloc,
+            axis,
+            lanes,
+            rows,
+            ..
+        } = self;
+        match shape {
+            Shape::Mode(partition, stay) => {
+                draw_mode(page, *alloc, *axis, lanes, rows, *partition, *stay)
+            }
+            Shape::State(process, stay) => {
+                draw_state(page, *alloc, *axis, lanes, rows, *process, *stay)
+            }
+            _ => Ok(()),
+        }
+    }
+
+    fn draw_mark(&self, page: &mut Page, shape: &Shape) -> Result<(), AllocError>
+        ensures { OnOk result
+            (string_bytes page.new.text
+            ≡ string_bytes page.old.text
+            ++ mark_of self.now.axis.span self.now.lanes self.now.rows shape.now) }
+    {
+        let Drawing {
+            alloc,
+            axis,
+            lanes,
+            rows,
+            ..
+        } = self;
+        match shape {
+            Shape::Message(message) => draw_message(page, *alloc, *axis, lanes, rows, message),
+            Shape::Flag(flag) => draw_flag(page, *alloc, *axis, rows, flag),
+            Shape::Report(report) => draw_report(page, *alloc, *axis, lanes, rows, report),
+            _ => Ok(()),
+        }
     }
 }

@@ -4,8 +4,6 @@ ghost use Rattle.std.specs.Prelude.{◌≡◌, ℕ, ◌*◌, ◌<◌, ◌≤◌,
 ghost use Rattle.std.specs.List.{list_any};
 ghost use Rattle.trace_picture.specs.Axis.{multiples_in, place};
 ghost use Rattle.trace_picture.specs.Escaped.{escaped, is_plain};
-ghost use Rattle.trace_picture.specs.Marks.{message_place};
-ghost use Rattle.trace_picture.specs.declared.shape.Message.{Message};
 ghost use Rattle.trace_stays.specs.declared.span.Span.{Span};
 
 /// An escaped text has no `<`, `>`, `"` or `'`, and each `&` in it begins an entity.
@@ -20,13 +18,6 @@ pub fn ticks_stand_on_the_axis()
     ensures in_order { (s : Span) (t u : ℕ) → t ≤ u → place s t ≤ place s u }
     ensures left { (s : Span) → place s s.from.0 ≡ 1500 }
     ensures right { (s : Span) → s.from.0 < s.until.0 → place s s.until.0 ≡ 11700 }
-{}
-
-/// Each arrow of a message stands in the picture, however many fall on its tick: at its tick or further
-/// right, and left of the right edge, which is at 12000.
-pub fn messages_stand_in_the_picture()
-    ensures { (axis : Span) (m : Message)
-        → (place axis m.tick.0 ≤ (message_place axis m).0) × ((message_place axis m).0 < 12000) }
 {}
 
 /// Each multiple of a step among the ticks of an axis, or at its end, is among those that get a mark.

@@ -1,6 +1,6 @@
 //! Lengths and places in the picture.
 
-ghost use Rattle.std.specs.Prelude.{◌≡◌, max, min};
+ghost use Rattle.std.specs.Prelude.{◌≡◌, max};
 ghost use Rattle.trace_picture.specs.Lengths.{behind, before, half_of, times_of};
 
 use std::ops::{Add, Sub};
@@ -30,13 +30,6 @@ impl Length {
         ensures { result.0 ≡ max self.0 least.0 }
     {
         Length(self.0.max(least.0))
-    }
-
-    /// This length, or the other one if that is less.
-    pub fn at_most(self, most: Length) -> Length
-        ensures { result.0 ≡ min self.0 most.0 }
-    {
-        Length(self.0.min(most.0))
     }
 }
 

@@ -17,6 +17,7 @@ mod picture;
 mod rows;
 mod shape;
 mod style;
+mod titles;
 
 pub use axis::{Axis, LEFT, LONG};
 pub use bars::{Bar, bar_attributes, draw_text};

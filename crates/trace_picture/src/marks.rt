@@ -1,21 +1,24 @@
 //! Arrows, flags and marks.
 
 ghost use Rattle.std.specs.Prelude.{◌≡◌, ◌++◌, OnOk, string_bytes};
-ghost use Rattle.trace_picture.specs.Marks.{arrow_text, end_of, message_class, message_place, start_of};
+ghost use Rattle.trace_picture.specs.Element.{path_start, titled};
+ghost use Rattle.trace_picture.specs.Marks.{arrow_start, end_of, fan_of, flag_down, flag_text, message_class, message_text, report_text, start_of};
 
 use crate::axis::Axis;
-use crate::drawing::WIDE;
 use crate::element::{Key, Tag, at, moved, set};
 use crate::length::Length;
 use crate::page::Page;
 use crate::rows::{ROW, Rows};
-use crate::shape::{Flag, Message, Owner, Report, Stop};
-use apex_types::{Subject, Ticks, Words};
-use std::alloc::AllocError;
-use trace_stays::{Lanes, subject_word};
+use crate::shape::{Flag, Message, Owner, Report};
+use crate::titles::{flag_title, message_title, process_name, report_title};
+use std::alloc::{AllocError, Global};
+use trace_stays::Lanes;
 
-/// The distance between messages of one tick.
-const ASIDE: Length = Length(60);
+/// The distance between the ends of arrows of one tick.
+const FAN: Length = Length(30);
+
+/// The number of places where these ends stand.
+const FAN_PLACES: u64 = 4;
 
 /// The length of an arrow within the row where it ends, and within the row where it begins.
 const INTO: Length = Length(45);
@@ -36,38 +39,34 @@ pub const FLAG: &str = "M0 0V-19L10 -14.5L0 -10";
 /// The outline of a report's mark, around 0, 0.
 pub const REPORT: &str = "M0 -4.5L4.5 0L0 4.5L-4.5 0Z";
 
-/// Draws a message as an arrow.
+/// Draws a message as an arrow, from the row where it begins to the row where it ends.
 pub fn draw_message(
     page: &mut Page,
+    alloc: Global,
     axis: Axis,
     lanes: &Lanes,
     rows: &Rows,
     message: &Message,
-) -> Result<(), AllocError> {
+) -> Result<(), AllocError>
+    ensures { OnOk result
+        (string_bytes page.new.text
+        ≡ string_bytes page.old.text ++ message_text axis.span lanes.now rows.now message.now) }
+{
     let Some(from) = rows.stop(message.from) else {
         return Ok(());
     };
     let Some(to) = rows.stop(message.to) else {
         return Ok(());
     };
-    draw_arrow(page, axis, message, from, to)?;
-    page.open(Tag::Title, &[])?;
-    title_stop(page, lanes, message.from)?;
-    page.text(" to ")?;
-    title_stop(page, lanes, message.to)?;
-    page.text(if message.lost { ", lost:" } else { ":" })?;
-    title_words(page, &message.words)?;
-    title_tick(page, message.tick)?;
-    page.close()?;
-    page.close()
+    let title = message_title(alloc, lanes, message)?;
+    draw_arrow(page, axis, message, from, to, title.as_str())
 }
 
-/// The place of the arrow of a message: beside the others of its tick, as far as the picture goes.
-fn message_place(axis: Axis, message: &Message) -> Length
-    ensures { result ≡ message_place axis.span message.now }
+/// The distance of the end of an arrow from those of the first message of its tick.
+fn fan_of(message: &Message) -> Length
+    ensures { result ≡ fan_of message.now }
 {
-    let x = axis.place(message.tick) + ASIDE.times(message.beside);
-    x.at_most(WIDE - ASIDE)
+    FAN.times(message.beside % FAN_PLACES)
 }
 
 /// The class of the arrow of a message.
@@ -89,139 +88,117 @@ fn start_of(from: Length, to: Length) -> Length
 }
 
 /// The place where it ends in the row with the second top.
-fn end_of(from: Length, to: Length) -> Length
-    ensures { result ≡ end_of from to }
+fn end_of(from: Length, to: Length, fan: Length) -> Length
+    ensures { result ≡ end_of from to fan }
 {
     if to.0 < from.0 {
-        to + ROW - INTO
+        to + ROW - INTO - fan
     } else {
-        to + INTO
+        to + INTO + fan
     }
 }
 
-/// Begins the arrow of a message from a row to a row; its title and its end follow.
+/// Draws the arrow of a message from a row to a row.
 fn draw_arrow(
     page: &mut Page,
     axis: Axis,
     message: &Message,
     from: Length,
     to: Length,
+    title: &str,
 ) -> Result<(), AllocError>
     ensures { OnOk result
         (string_bytes page.new.text
-        ≡ string_bytes page.old.text ++ arrow_text axis.span message.now from to) }
+        ≡ string_bytes page.old.text
+        ++ titled Tag.Line (arrow_start axis.span message.now from to) title.now) }
 {
-    let x = message_place(axis, message);
-    page.open(
+    let x = axis.place(message.tick);
+    page.titled(
         Tag::Line,
         &[
             set(Key::Class, message_class(message.lost)),
             at(Key::X1, x),
             at(Key::Y1, start_of(from, to)),
             at(Key::X2, x),
-            at(Key::Y2, end_of(from, to)),
+            at(Key::Y2, end_of(from, to, fan_of(message))),
         ],
+        title,
     )
 }
 
-fn title_stop(page: &mut Page, lanes: &Lanes, stop: Stop) -> Result<(), AllocError> {
-    match stop {
-        Stop::Device => page.text("outside"),
-        Stop::Channel(name) => {
-            page.text("outside by ")?;
-            page.text(name.as_str())
-        }
-        Stop::Port(partition, port) => {
-            if let Some(lane) = lanes.partitions().get(partition) {
-                page.text(lane.name.as_str())?;
-                page.text(".")?;
-            }
-            page.text(port.as_str())
-        }
-    }
-}
-
-fn title_words(page: &mut Page, words: &Words) -> Result<(), AllocError> {
-    for word in words.as_slice() {
-        let mut buffer = itoa::Buffer::new();
-        page.text(" ")?;
-        page.text(buffer.format(*word))?;
-    }
-    Ok(())
-}
-
-fn title_tick(page: &mut Page, tick: Ticks) -> Result<(), AllocError> {
-    page.text(", tick ")?;
-    page.number(tick.0)
-}
-
-/// Draws an error as a flag.
-pub fn draw_flag(page: &mut Page, axis: Axis, rows: &Rows, flag: &Flag) -> Result<(), AllocError> {
-    let Some(top) = rows.owner(flag.owner) else {
-        return Ok(());
-    };
-    let down = match flag.owner {
+/// The distance of the foot of a flag from the top of its row.
+fn flag_down(owner: Owner) -> Length
+    ensures { result ≡ flag_down owner }
+{
+    match owner {
         Owner::Process(_) => FLAG_DOWN,
         Owner::Partition(_) => FLAG_ON_BAR,
         Owner::Module => ROW.half(),
-    };
-    page.open(
-        Tag::Path,
-        &[
-            set(Key::Class, "flag"),
-            set(Key::Path, FLAG),
-            moved(axis.place(flag.tick), top + down),
-        ],
-    )?;
-    page.open(Tag::Title, &[])?;
-    page.text("HM ")?;
-    page.text(flag.error.word())?;
-    page.text(" ")?;
-    page.text(culprit_name(&flag.who))?;
-    page.text(" ")?;
-    page.text(flag.response.level().word())?;
-    page.text(" ")?;
-    page.text(flag.response.action_word())?;
-    title_tick(page, flag.tick)?;
-    page.close()?;
-    page.close()
-}
-
-/// The name of the process that an error belongs to, or `-`.
-fn culprit_name(who: &Option<Subject>) -> &str {
-    match who {
-        Some(who) => subject_word(who),
-        None => "-",
     }
 }
 
-/// Draws an application message as a mark.
+/// Draws an error as a flag, in the row of its owner.
+pub fn draw_flag(
+    page: &mut Page,
+    alloc: Global,
+    axis: Axis,
+    rows: &Rows,
+    flag: &Flag,
+) -> Result<(), AllocError>
+    ensures { OnOk result
+        (string_bytes page.new.text
+        ≡ string_bytes page.old.text ++ flag_text axis.span rows.now flag.now) }
+{
+    let Some(top) = rows.owner(flag.owner) else {
+        return Ok(());
+    };
+    let title = flag_title(alloc, flag)?;
+    let down = flag_down(flag.owner);
+    draw_outline(page, "flag", FLAG, axis.place(flag.tick), top + down, title.as_str())
+}
+
+/// Draws an application message as a mark, in the row of its process.
 pub fn draw_report(
     page: &mut Page,
+    alloc: Global,
     axis: Axis,
     lanes: &Lanes,
     rows: &Rows,
     report: &Report,
-) -> Result<(), AllocError> {
+) -> Result<(), AllocError>
+    ensures { OnOk result
+        (string_bytes page.new.text
+        ≡ string_bytes page.old.text ++ report_text axis.span lanes.now rows.now report.now) }
+{
     let Some(top) = rows.process(report.process) else {
         return Ok(());
     };
-    let Some(lane) = lanes.processes().get(report.process) else {
-        return Ok(());
-    };
-    page.open(
+    let title = report_title(alloc, process_name(lanes, report.process), report)?;
+    let left = axis.place(report.tick);
+    draw_outline(page, "report", REPORT, left, top + REPORT_DOWN, title.as_str())
+}
+
+/// Draws an outline of this class, moved to a place, with a title.
+fn draw_outline(
+    page: &mut Page,
+    class: &str,
+    outline: &str,
+    left: Length,
+    height: Length,
+    title: &str,
+) -> Result<(), AllocError>
+    ensures { OnOk result
+        (string_bytes page.new.text
+        ≡ string_bytes page.old.text
+        ++ titled Tag.Path (path_start class.now outline.now left height) title.now) }
+{
+    page.titled(
         Tag::Path,
         &[
-            set(Key::Class, "report"),
-            set(Key::Path, REPORT),
-            moved(axis.place(report.tick), top + REPORT_DOWN),
+            set(Key::Class, class),
+            set(Key::Path, outline),
+            moved(left, height),
         ],
-    )?;
-    page.open(Tag::Title, &[])?;
-    page.text("REPORT ")?;
-    page.text(subject_word(&lane.who))?;
-    title_words(page, &report.words)?;
-    title_tick(page, report.tick)?;
-    page.close()?;
-    page.close()
+        title,
+    )
 }

@@ -2,7 +2,7 @@
 
 ghost use Rattle.std.specs.Prelude.{◌≡◌, ◌-◌, ◌++◌, ◌∷◌, [], List, reverse, string_bytes, vec_len, IfOk, OnErr, OnOk};
 ghost use Rattle.std.specs.Fmt.{decimal};
-ghost use Rattle.trace_picture.specs.Element.{empty_text, end_text, start_text};
+ghost use Rattle.trace_picture.specs.Element.{empty_text, end_text, start_text, titled};
 ghost use Rattle.trace_picture.specs.Escaped.{escaped};
 ghost use Rattle.trace_picture.specs.Page.{IsBegun, IsPicture};
 ghost use Rattle.trace_picture.specs.declared.element.Tag.{Tag};
@@ -82,6 +82,28 @@ impl Page {
         Ok(())
     }
 
+    /// Writes an element that has a title and nothing else.
+    ///
+    /// # Errors
+    ///
+    /// Memory ran out. Then the page is as it was.
+    pub fn titled(
+        &mut self,
+        tag: Tag,
+        attributes: &[Attribute<'_>],
+        title: &str,
+    ) -> Result<(), AllocError>
+        ensures text { OnOk result
+            (string_bytes self.new.text
+            ≡ string_bytes self.old.text ++ titled tag (start_text tag attributes.now) title.now) }
+        ensures unended { self.new.unended ≡ self.old.unended }
+        ensures kept { OnErr result (string_bytes self.new.text ≡ string_bytes self.old.text) }
+    {
+        let whole = titled_element(self.alloc, tag, attributes, title)?;
+        self.text.push_str(whole.as_str())?;
+        Ok(())
+    }
+
     /// Writes a text into the innermost element.
     ///
     /// # Errors
@@ -153,4 +175,23 @@ impl Page {
         push_end(&mut text, Tag::Svg)?;
         Ok(text)
     }
+}
+
+/// An element with a title.
+fn titled_element(
+    alloc: Global,
+    tag: Tag,
+    attributes: &[Attribute<'_>],
+    title: &str,
+) -> Result<String, AllocError>
+    ensures { IfOk result
+        (λ whole. string_bytes whole ≡ titled tag (start_text tag attributes.now) title.now) }
+{
+    let mut whole = String::new(alloc);
+    push_start(&mut whole, tag, attributes, ">")?;
+    push_start(&mut whole, Tag::Title, &[], ">")?;
+    push_escaped(&mut whole, title)?;
+    push_end(&mut whole, Tag::Title)?;
+    push_end(&mut whole, tag)?;
+    Ok(whole)
 }

@@ -1,29 +1,19 @@
 //! The events in the ticks of a picture.
 
-ghost use Rattle.std.specs.Prelude.{◌≡◌, ◌+◌, ◌<◌, ◌≤◌, ◌↔◌, ◌++◌, ◌∷◌, [], vec_len, IfOk, IsErrOf, OnErr, OnOk};
+ghost use Rattle.std.specs.Prelude.{◌≡◌, ◌+◌, ◌<◌, ◌≤◌, ◌↔◌, ◌++◌, ◌∷◌, [], vec_len, IfOk, IsErrOf, OnErr, OnOk, Some};
+ghost use Rattle.apex_types.specs.Line.{subject_text};
+ghost use Rattle.trace_picture.specs.Marked.{bar_of_stay, bars_of_stays, beside, flag_at, is_port, is_under_way, marks_in, marks_of_module, message_at, one_of, owner_in, report_at, way_from, way_in, way_to};
+ghost use Rattle.trace_stays.specs.Following.{AreKept, modes_left, process_at, states_left};
+ghost use Rattle.trace_stays.specs.Shown.{open_ticks};
 
 use crate::axis::Axis;
 use crate::drawing::Drawing;
 use crate::fault::PictureFault;
 use crate::rows::Rows;
-use crate::shape::{Flag, MOST_SHAPES, Message, Owner, Report, Shape, Stop};
-use apex_types::{ErrorKind, Event, EventKind, Name, Response, Subject, Ticks, Words};
+use crate::shape::{Flag, MOST_SHAPES, Message, Owner, Report, Shape, Stop, Way};
+use apex_types::{ErrorKind, Event, EventKind, Name, Response, Subject, Ticks, Words, copied};
 use std::alloc::Global;
 use trace_stays::{Ended, Lanes, ModeStay, ShownTicks, Stay};
-
-/// The message that left a port last, until the next tick.
-#[derive(Clone, Copy, Debug, PartialEq, Eq)]
-struct Sending {
-    tick: Ticks,
-    from: Stop,
-}
-
-/// The place of a message beside the others of its tick, from 0.
-#[derive(Clone, Copy, Debug, PartialEq, Eq)]
-struct Beside {
-    tick: Ticks,
-    place: u64,
-}
 
 /// A picture of some ticks of a trace. It keeps what these ticks show, and nothing else.
 #[derive(Drop)]
@@ -33,13 +23,13 @@ pub struct Picture {
     shown: ShownTicks,
     lanes: Lanes,
     shapes: Vec<Shape>,
-    sending: Option<Sending>,
-    /// The place of the last message beside the others of its tick.
-    beside: Option<Beside>,
+    /// The way of the message that moved last.
+    way: Option<Way>,
     ghost few: { vec_len shapes ≤ 5000 },
 }
 
 impl Picture {
+    ghost use Rattle.trace_picture.specs.Added.{IsAdded, IsLike, IsLikeButLanes, IsMarked};
     ghost use Rattle.trace_stays.specs.Shown.{shown_from, shown_ticks, with_read};
 
     /// A picture of the ticks from the first one on and before the second; with none, up to the tick
@@ -53,8 +43,7 @@ impl Picture {
             shown: ShownTicks::new(from, to),
             lanes: Lanes::new(alloc),
             shapes: Vec::new(alloc),
-            sending: None,
-            beside: None,
+            way: None,
         }
     }
 
@@ -66,17 +55,19 @@ impl Picture {
     pub fn add(&mut self, event: &Event) -> Result<(), PictureFault>
         ensures many { IsErrOf result PictureFault.TooMany → vec_len self.new.shapes ≡ 5000 }
         ensures shown { self.new.shown ≡ with_read event.now.tick.0 self.old.shown }
+        ensures added { OnOk result (IsAdded event.now self.old self.new) }
     {
         if !self.shown.read(event.tick) {
             return Ok(());
         }
         let mut ended = Vec::new(self.alloc);
         self.lanes.follow(event, &mut ended)?;
-        self.keep_stays(ended)?;
+        self.keep_stays(ended.as_slice())?;
         if event.tick.0 < self.shown.open().from.0 {
             return Ok(());
         }
-        self.mark(event)
+        self.mark(event)?;
+        Ok(())
     }
 
     /// The picture as it is drawn. No event follows.
@@ -85,12 +76,19 @@ impl Picture {
     ///
     /// Memory ran out, or the picture would have too many shapes.
     pub fn finish(mut self) -> Result<Drawing, PictureFault>
-        ensures { IfOk result (λ drawing. drawing.axis.span ≡ shown_ticks self.shown) }
+        ensures span { IfOk result (λ drawing. drawing.axis.span ≡ shown_ticks self.shown) }
+        ensures lanes { IfOk result (λ drawing. drawing.lanes ≡ self.lanes) }
+        ensures shapes { IfOk result
+            (λ drawing. drawing.shapes.items
+            ≡ self.shapes.items
+            ++ bars_of_stays (open_ticks self.shown)
+            (modes_left 0 (shown_ticks self.shown).until.0 self.lanes.partitions.items
+            ++ states_left 0 (shown_ticks self.shown).until.0 self.lanes.processes.items)) }
     {
         let span = self.shown.span();
         let mut ended = Vec::new(self.alloc);
         self.lanes.finish(span.until, &mut ended)?;
-        self.keep_stays(ended)?;
+        self.keep_stays(ended.as_slice())?;
         let axis = Axis { span };
         let rows = Rows::new(self.alloc, &self.lanes, &self.shapes)?;
         Ok(Drawing {
@@ -107,7 +105,7 @@ impl Picture {
         ensures many { IsErrOf result PictureFault.TooMany ↔ (5000 ≤ vec_len self.old.shapes) }
         ensures kept { OnOk result (self.new.shapes.items ≡ self.old.shapes.items ++ shape ∷ []) }
         ensures refused { OnErr result (self.new.shapes.items ≡ self.old.shapes.items) }
-        ensures shown { self.new.shown ≡ self.old.shown }
+        ensures others { IsLike self.old self.new }
     {
         if self.shapes.len() >= MOST_SHAPES {
             return Err(PictureFault::TooMany);
@@ -116,68 +114,81 @@ impl Picture {
         Ok(())
     }
 
-    fn keep_stays(&mut self, ended: Vec<Ended>) -> Result<(), PictureFault>
+    /// Keeps the bars of stays that are over.
+    #[tactic(auto, using(std::proofs::lemmas::List::drop_more))]
+    fn keep_stays(&mut self, ended: &[Ended]) -> Result<(), PictureFault>
         ensures many { IsErrOf result PictureFault.TooMany → vec_len self.new.shapes ≡ 5000 }
-        ensures shown { self.new.shown ≡ self.old.shown }
+        ensures kept { OnOk result
+            (self.new.shapes.items
+            ≡ self.old.shapes.items ++ bars_of_stays (open_ticks self.old.shown) ended.now) }
+        ensures others { IsLike self.old self.new }
     {
         for one in ended {
-            match one {
-                Ended::State(process, stay) => self.keep_state(process, stay)?,
-                Ended::Mode(partition, stay) => self.keep_mode(partition, stay)?,
-            }
+            self.keep_stay(*one)?;
         }
         Ok(())
     }
 
-    fn keep_state(&mut self, process: usize, stay: Stay) -> Result<(), PictureFault>
+    /// Keeps the bar of a stay, if some of its ticks are shown.
+    fn keep_stay(&mut self, ended: Ended) -> Result<(), PictureFault>
         ensures many { IsErrOf result PictureFault.TooMany → vec_len self.new.shapes ≡ 5000 }
-        ensures shown { self.new.shown ≡ self.old.shown }
+        ensures kept { OnOk result
+            (self.new.shapes.items
+            ≡ self.old.shapes.items ++ bar_of_stay (open_ticks self.old.shown) ended) }
+        ensures others { IsLike self.old self.new }
     {
-        let span = stay.span.within(self.shown.open());
+        let open = self.shown.open();
+        let (span, shape) = match ended {
+            Ended::State(process, stay) => {
+                let span = stay.span.within(open);
+                (span, Shape::State(process, Stay { span, ..stay }))
+            }
+            Ended::Mode(partition, stay) => {
+                let span = stay.span.within(open);
+                (span, Shape::Mode(partition, ModeStay { span, ..stay }))
+            }
+        };
         if span.ticks() == 0 {
             return Ok(());
         }
-        self.keep(Shape::State(process, Stay { span, ..stay }))
-    }
-
-    fn keep_mode(&mut self, partition: usize, stay: ModeStay) -> Result<(), PictureFault>
-        ensures many { IsErrOf result PictureFault.TooMany → vec_len self.new.shapes ≡ 5000 }
-        ensures shown { self.new.shown ≡ self.old.shown }
-    {
-        let span = stay.span.within(self.shown.open());
-        if span.ticks() == 0 {
-            return Ok(());
-        }
-        self.keep(Shape::Mode(partition, ModeStay { span, ..stay }))
+        self.keep(shape)
     }
 
     /// Keeps what an event of these ticks shows beside states and modes.
     fn mark(&mut self, event: &Event) -> Result<(), PictureFault>
         ensures many { IsErrOf result PictureFault.TooMany → vec_len self.new.shapes ≡ 5000 }
         ensures shown { self.new.shown ≡ self.old.shown }
+        ensures marked { OnOk result (IsMarked event.now self.old self.new) }
     {
-        let tick = event.tick;
-        let Some(name) = &event.partition else {
-            return self.mark_module(event);
-        };
+        match &event.partition {
+            Some(name) => self.mark_in(name, &event.kind, event.tick),
+            None => self.mark_module(&event.kind, event.tick),
+        }
+    }
+
+    /// Keeps what an event of the partition with this name shows.
+    fn mark_in(&mut self, name: &Name, kind: &EventKind, tick: Ticks) -> Result<(), PictureFault>
+        ensures many { IsErrOf result PictureFault.TooMany → vec_len self.new.shapes ≡ 5000 }
+        ensures shown { self.new.shown ≡ self.old.shown }
+        ensures kept { OnOk result (AreKept self.old.lanes self.new.lanes) }
+        ensures marks { OnOk result
+            (self.new.shapes.items
+            ≡ self.old.shapes.items
+            ++ marks_in tick.0 name.now kind.now self.old.way self.new.lanes) }
+        ensures way { OnOk result
+            (self.new.way ≡ way_in tick.0 name.now kind.now self.old.way self.new.lanes) }
+    {
         let partition = self.lanes.partition_place(name)?;
-        match &event.kind {
+        match kind {
             EventKind::State(_, _) | EventKind::Return(_, _, _) | EventKind::Mode(_) => Ok(()),
             EventKind::Error(error, who, response) => {
                 let owner = self.owner(name, who)?;
                 self.flag(tick, owner, *error, who, *response)
             }
-            EventKind::Report(who, words) => {
-                let process = self.lanes.process_place(name, who)?;
-                let words = words.clone()?;
-                self.keep(Shape::Report(Report {
-                    tick,
-                    process,
-                    words,
-                }))
-            }
+            EventKind::Report(who, words) => self.report(name, who, words, tick),
             EventKind::Move(port, _) => {
-                self.depart(tick, Stop::Port(partition, *port));
+                let before = self.way;
+                self.way = Some(way_from(tick, Stop::Port(partition, *port), &before));
                 Ok(())
             }
             EventKind::Arrive(port, words) => {
@@ -193,21 +204,27 @@ impl Picture {
     }
 
     /// Keeps what an event of the module itself shows.
-    fn mark_module(&mut self, event: &Event) -> Result<(), PictureFault>
+    fn mark_module(&mut self, kind: &EventKind, tick: Ticks) -> Result<(), PictureFault>
         ensures many { IsErrOf result PictureFault.TooMany → vec_len self.new.shapes ≡ 5000 }
-        ensures shown { self.new.shown ≡ self.old.shown }
+        ensures marks { OnOk result
+            (self.new.shapes.items ≡ self.old.shapes.items ++ marks_of_module tick.0 kind.now) }
+        ensures others { IsLike self.old self.new }
     {
-        match &event.kind {
+        match kind {
             EventKind::Error(error, who, response) => {
-                self.flag(event.tick, Owner::Module, *error, who, *response)
+                self.flag(tick, Owner::Module, *error, who, *response)
             }
             _ => Ok(()),
         }
     }
 
+    /// The owner of an error in the partition with this name.
     fn owner(&mut self, partition: &Name, who: &Option<Subject>) -> Result<Owner, PictureFault>
         ensures many { IsErrOf result PictureFault.TooMany → ⊥ }
-        ensures shown { self.new.shown ≡ self.old.shown }
+        ensures owner { IfOk result
+            (λ o. owner_in partition.now who.now self.new.lanes ≡ Some o) }
+        ensures kept { OnOk result (AreKept self.old.lanes self.new.lanes) }
+        ensures others { IsLikeButLanes self.old self.new }
     {
         match who {
             Some(who) => Ok(Owner::Process(self.lanes.process_place(partition, who)?)),
@@ -224,7 +241,10 @@ impl Picture {
         response: Response,
     ) -> Result<(), PictureFault>
         ensures many { IsErrOf result PictureFault.TooMany → vec_len self.new.shapes ≡ 5000 }
-        ensures shown { self.new.shown ≡ self.old.shown }
+        ensures kept { OnOk result
+            (self.new.shapes.items
+            ≡ self.old.shapes.items ++ flag_at tick.0 error who.now response owner ∷ []) }
+        ensures others { IsLike self.old self.new }
     {
         self.keep(Shape::Flag(Flag {
             tick,
@@ -235,42 +255,33 @@ impl Picture {
         }))
     }
 
-    /// A message leaves a port. Arrivals behind this line in the same tick are of this message,
-    /// until another message leaves.
-    fn depart(&mut self, tick: Ticks, from: Stop)
-        ensures { self.new.shown ≡ self.old.shown }
+    /// Keeps the mark of an application message of a process.
+    fn report(
+        &mut self,
+        partition: &Name,
+        who: &Subject,
+        words: &Words,
+        tick: Ticks,
+    ) -> Result<(), PictureFault>
+        ensures many { IsErrOf result PictureFault.TooMany → vec_len self.new.shapes ≡ 5000 }
+        ensures lanes { OnOk result (AreKept self.old.lanes self.new.lanes) }
+        ensures kept { OnOk result
+            (self.new.shapes.items
+            ≡ self.old.shapes.items
+            ++ one_of (process_at partition.now (subject_text who.now) self.new.lanes)
+            (report_at tick.0 words.now)) }
+        ensures way { self.new.way ≡ self.old.way }
+        ensures shown { self.new.shown ≡ self.old.shown }
     {
-        self.step_aside(tick);
-        self.sending = Some(Sending { tick, from });
+        let process = self.lanes.process_place(partition, who)?;
+        self.keep(Shape::Report(Report {
+            tick,
+            process,
+            words: copied(words),
+        }))
     }
 
-    /// The next message of this tick stands beside the others.
-    fn step_aside(&mut self, tick: Ticks)
-        ensures { self.new.shown ≡ self.old.shown }
-    {
-        let before = self.beside;
-        let place = match before {
-            Some(beside) if beside.tick == tick => beside.place.saturating_add(1),
-            _ => 0,
-        };
-        self.beside = Some(Beside { tick, place });
-    }
-
-    /// The start of the message of a line of this tick: the port that a message left last in this
-    /// tick, or outside.
-    fn source(&mut self, tick: Ticks) -> Stop
-        ensures { self.new.shown ≡ self.old.shown }
-    {
-        let sending = self.sending;
-        match sending {
-            Some(sending) if sending.tick == tick => sending.from,
-            _ => {
-                self.step_aside(tick);
-                Stop::Device
-            }
-        }
-    }
-
+    /// Keeps the arrow of a message that arrives, is lost or leaves the module.
     fn message(
         &mut self,
         tick: Ticks,
@@ -279,21 +290,94 @@ impl Picture {
         words: &Words,
     ) -> Result<(), PictureFault>
         ensures many { IsErrOf result PictureFault.TooMany → vec_len self.new.shapes ≡ 5000 }
+        ensures kept { OnOk result
+            (self.new.shapes.items
+            ≡ self.old.shapes.items ++ message_at tick.0 self.old.way to lost words.now ∷ []) }
+        ensures way { self.new.way ≡ Some (way_to tick.0 self.old.way) }
+        ensures lanes { self.new.lanes ≡ self.old.lanes }
         ensures shown { self.new.shown ≡ self.old.shown }
     {
-        let words = words.clone()?;
-        let from = self.source(tick);
-        let beside = match self.beside {
-            Some(beside) => beside.place,
-            None => 0,
-        };
+        let Way { from, beside, .. } = self.take_way(tick);
         self.keep(Shape::Message(Message {
             tick,
             beside,
             from,
             to,
             lost,
-            words,
+            words: copied(words),
         }))
     }
+
+    /// The way of a message that arrives in this tick.
+    fn take_way(&mut self, tick: Ticks) -> Way
+        ensures value { result ≡ way_to tick.0 self.old.way }
+        ensures way { self.new.way ≡ Some (way_to tick.0 self.old.way) }
+        ensures shapes { self.new.shapes ≡ self.old.shapes }
+        ensures lanes { self.new.lanes ≡ self.old.lanes }
+        ensures shown { self.new.shown ≡ self.old.shown }
+    {
+        let before = self.way;
+        self.way = Some(way_to(tick, &before));
+        way_to(tick, &before)
+    }
+}
+
+/// The place of the next message of this tick beside the others.
+fn beside(tick: Ticks, way: &Option<Way>) -> u64
+    ensures { result ≡ beside tick.0 way.now }
+{
+    match way {
+        Some(way) => {
+            if way.tick.0 == tick.0 {
+                way.beside.saturating_add(1)
+            } else {
+                0
+            }
+        }
+        None => 0,
+    }
+}
+
+/// The way of a message that leaves this place now.
+fn way_from(tick: Ticks, from: Stop, way: &Option<Way>) -> Way
+    ensures { result ≡ way_from tick.0 from way.now }
+{
+    Way {
+        tick,
+        from,
+        beside: beside(tick, way),
+    }
+}
+
+/// Returns true for the port of a partition.
+fn is_port(stop: &Stop) -> bool
+    ensures { result ≡ is_port stop.now }
+{
+    match stop {
+        Stop::Device | Stop::Channel(_) => false,
+        Stop::Port(_, _) => true,
+    }
+}
+
+/// Returns true if a message left a port in this tick, and was the last one to move.
+fn is_under_way(tick: Ticks, way: &Option<Way>) -> bool
+    ensures { result ≡ is_under_way tick.0 way.now }
+{
+    match way {
+        Some(way) => way.tick.0 == tick.0 && is_port(&way.from),
+        None => false,
+    }
+}
+
+/// The way of a message that arrives in this tick: of the one that left a port last in it or, without
+/// one, from outside.
+fn way_to(tick: Ticks, way: &Option<Way>) -> Way
+    ensures { result ≡ way_to tick.0 way.now }
+{
+    if is_under_way(tick, way) {
+        if let Some(way) = way {
+            return *way;
+        }
+    }
+    way_from(tick, Stop::Device, way)
 }

@@ -1,5 +1,8 @@
 //! The places of the rows of a picture.
 
+ghost use Rattle.std.specs.Prelude.{◌≡◌};
+ghost use Rattle.trace_picture.specs.Rows.{row_of_owner, row_of_partition, row_of_process, row_of_stop};
+
 use crate::length::Length;
 use crate::shape::{Owner, Shape, Stop};
 use std::alloc::{AllocError, Global};
@@ -162,7 +165,9 @@ impl Rows {
     }
 
     /// The top of a partition's row of modes.
-    pub fn partition(&self, partition: usize) -> Option<Length> {
+    pub fn partition(&self, partition: usize) -> Option<Length>
+        ensures { result ≡ row_of_partition self.now partition }
+    {
         match self.partitions.get(partition) {
             Some(top) => *top,
             None => None,
@@ -186,7 +191,9 @@ impl Rows {
     }
 
     /// The top of a process's row.
-    pub fn process(&self, process: usize) -> Option<Length> {
+    pub fn process(&self, process: usize) -> Option<Length>
+        ensures { result ≡ row_of_process self.now process }
+    {
         match self.processes.get(process) {
             Some(top) => *top,
             None => None,
@@ -194,7 +201,9 @@ impl Rows {
     }
 
     /// The top of the row of a flag.
-    pub fn owner(&self, owner: Owner) -> Option<Length> {
+    pub fn owner(&self, owner: Owner) -> Option<Length>
+        ensures { result ≡ row_of_owner self.now owner }
+    {
         match owner {
             Owner::Module => self.module,
             Owner::Partition(partition) => self.partition(partition),
@@ -203,7 +212,9 @@ impl Rows {
     }
 
     /// The top of the row where a message begins or ends its way.
-    pub fn stop(&self, stop: Stop) -> Option<Length> {
+    pub fn stop(&self, stop: Stop) -> Option<Length>
+        ensures { result ≡ row_of_stop self.now stop }
+    {
         match stop {
             Stop::Device | Stop::Channel(_) => self.outside,
             Stop::Port(partition, _) => self.partition(partition),

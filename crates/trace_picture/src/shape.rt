@@ -17,11 +17,20 @@ pub enum Stop {
     Port(usize, Name),
 }
 
+/// The beginning of the way of the message that moved last.
+#[derive(Clone, Copy, Debug, PartialEq, Eq)]
+pub struct Way {
+    pub tick: Ticks,
+    pub from: Stop,
+    /// The number of messages of this tick before it.
+    pub beside: u64,
+}
+
 /// A message that moved.
 #[derive(Drop)]
 pub struct Message {
     pub tick: Ticks,
-    /// The number of messages of this tick to the left of it.
+    /// The number of messages of this tick before it.
     pub beside: u64,
     pub from: Stop,
     pub to: Stop,

@@ -14,7 +14,7 @@ abbrev pub line_of : Refusal → List ℕ
 line_of (Open trace) = codes "mbview: " ++ string_bytes trace ++ codes " cannot be opened"
 line_of (Read trace) = codes "mbview: " ++ string_bytes trace ++ codes " cannot be read to its end"
 line_of (Line number trace) = codes "mbview: line " ++ decimal number ++ codes " of " ++ string_bytes trace ++ codes " is no line of a trace"
-line_of TooMany = codes "mbview: the picture would have too many elements; choose fewer ticks with --from and --to"
+line_of TooMany = codes "mbview: the view would have too many elements; choose fewer ticks with --from and --to"
 line_of (Table fault table) = codes "mbview: " ++ (string_bytes table ++ (codes " breaks rule " ++ (decimal (number_of fault) ++ codes " of a module table")))
 line_of (Foreign partition) = codes "mbview: the trace has a partition that the module table has not: " ++ partition
 line_of Memory = codes "mbview: there is too little memory"

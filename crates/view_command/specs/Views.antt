@@ -4,6 +4,8 @@ use Rattle.trace_picture.specs.declared.fault.PictureFault.{PictureFault}
 use Rattle.trace_picture.specs.declared.fault.PictureFault.TheVariants as picture
 use Rattle.trace_shares.specs.declared.fault.SharesFault.{SharesFault}
 use Rattle.trace_shares.specs.declared.fault.SharesFault.TheVariants as shares
+use Rattle.trace_windows.specs.declared.fault.WindowsFault.{WindowsFault}
+use Rattle.trace_windows.specs.declared.fault.WindowsFault.TheVariants as windows
 use Rattle.view_command.specs.declared.views.Shown.{Shown}
 use Rattle.view_command.specs.declared.views.Shown.TheVariants as shown
 use Rattle.view_command.specs.declared.views.Outcome.{Outcome}
@@ -20,12 +22,17 @@ abbrev pub shares_fault : SharesFault → ViewFault
 shares_fault shares.Memory = fault.Memory
 shares_fault (shares.Unknown name) = fault.Foreign name
 
--- a picture is shown
+abbrev pub windows_fault : WindowsFault → ViewFault
+windows_fault windows.Memory = fault.Memory
+windows_fault windows.TooMany = fault.TooMany
+windows_fault (windows.Unknown name) = fault.Foreign name
+
+-- a picture or a dump is shown
 abbrev pub IsOfPicture : Shown → Type 0
 IsOfPicture (shown.Table summary) = ⊥
 IsOfPicture (shown.Rows summary) = ⊥
 IsOfPicture (shown.Picture picture) = Unit {0}
-IsOfPicture (shown.Waves dump) = ⊥
+IsOfPicture (shown.Waves dump windows) = Unit {0}
 IsOfPicture (shown.Page page windows) = ⊥
 IsOfPicture (shown.Lines listing) = ⊥
 IsOfPicture (shown.Check check) = ⊥

@@ -1,8 +1,10 @@
--- Why a text is not taken as a module table.
-use Rattle.std.specs.Prelude.{◌≡◌, ℕ, List, Option, string_bytes}
+-- Why a text is not taken as a module table, and what a page has of it.
+use Rattle.std.specs.Prelude.{◌≡◌, ℕ, List, map, Option, Some, None, codes, string_bytes}
+use Rattle.trace_page.specs.Windows.{windows_text}
 use Rattle.view_command.specs.Texts.{IsRefusedTable}
 use Rattle.view_command.specs.declared.refusal.Refusal.{Refusal}
 use Rattle.view_command.specs.declared.refusal.Refusal.TheVariants.{Read, Table, Memory}
+use Rattle.window_table.specs.declared.table.ModuleTable.{ModuleTable}
 
 -- the text of the reader, which has this name, is not read to its end, or breaks a rule; memory may run out
 abbrev pub IsBadTable : Option (List ℕ) → List ℕ → Refusal → Type 0
@@ -10,3 +12,12 @@ IsBadTable text name (Read shown) = string_bytes shown ≡ name
 IsBadTable text name (Table fault shown) = (string_bytes shown ≡ name) × IsRefusedTable text fault
 IsBadTable text name Memory = Unit {0}
 IsBadTable text name _ = ⊥
+
+-- the names of its partitions, in their order
+abbrev pub names_of : ModuleTable → List (List ℕ)
+names_of table = map (λ p. p.name) table.partitions.items
+
+-- what the script of a page has of the windows; without a table they are not known
+abbrev pub page_windows : Option ModuleTable → List ℕ
+page_windows None = codes "null"
+page_windows (Some table) = windows_text table.schedule.frame table.schedule.windows.items (names_of table)

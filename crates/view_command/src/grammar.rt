@@ -5,7 +5,7 @@ ghost use Rattle.clap.specs.Values.{kind_of};
 ghost use Rattle.clap.specs.Walk.{rule_of};
 ghost use Rattle.clap.specs.declared.error.kind.ErrorKind.TheVariants.{MissingSubcommand, ValueValidation};
 ghost use Rattle.command_words.specs.Grammar.{IsCommand};
-ghost use Rattle.view_command.specs.Words.{check_app, diff_app, html_app, list_app, of_partition_app, option_rule, pair_rule, pictures_app, shown_app, summary_app, view_app};
+ghost use Rattle.view_command.specs.Words.{check_app, diff_app, html_app, list_app, of_partition_app, option_rule, pair_rule, pictures_app, shown_app, summary_app, vcd_app, view_app};
 
 use clap::error::ErrorKind;
 use clap::{Arg, ArgAction, Command, Error};
@@ -66,13 +66,17 @@ fn svg<'a>(alloc: Global) -> Result<Command<'a>, AllocError>
 }
 
 fn vcd<'a>(alloc: Global) -> Result<Command<'a>, AllocError>
-    ensures { IfOk result (λ command. IsCommand command (shown_app (codes "vcd"))) }
+    ensures { IfOk result (λ command. IsCommand command vcd_app) }
 {
-    Ok(
-        shown(alloc, "vcd")?
-            .about("Writes a value change dump of the trace, for a viewer of waves")
-            .after_help("Example: mb run module.image devices.txt 1000 | mbview vcd -"),
-    )
+    shown(alloc, "vcd")?
+        .about("Writes a value change dump of the trace, for a viewer of waves")
+        .after_help("Example: mb run module.image devices.txt 1000 | mbview vcd - --table table.toml")
+        .arg(option(
+            alloc,
+            "table",
+            "TABLE",
+            "The module table: adds a wire for the windows of each partition",
+        ))
 }
 
 fn list<'a>(alloc: Global) -> Result<Command<'a>, AllocError>

@@ -20,7 +20,7 @@ pub enum Refusal {
     Read(String),
     /// The line of that number in the text of that name is no line of a trace.
     Line { number: u64, trace: String },
-    /// The picture would have too many elements.
+    /// The picture or the dump would have too many elements.
     TooMany,
     /// The text of that name breaks a rule of a module table.
     Table { fault: TableFault, table: String },
@@ -46,7 +46,7 @@ impl fmt::Display for Refusal {
             ),
             Refusal::TooMany => write!(
                 f,
-                "mbview: the picture would have too many elements; choose fewer ticks with --from and --to"
+                "mbview: the view would have too many elements; choose fewer ticks with --from and --to"
             ),
             Refusal::Table { fault, table } => write!(
                 f,

@@ -1,10 +1,10 @@
 //! The views of a trace: the one file that names the crates which make them.
 
 ghost use Rattle.std.specs.Prelude.{◌≡◌, IsErrOf};
-ghost use Rattle.view_command.specs.Views.{IsOfPicture, outcome_of, shares_fault, view_fault};
+ghost use Rattle.view_command.specs.Views.{IsOfPicture, outcome_of, shares_fault, view_fault, windows_fault};
 ghost use Rattle.view_command.specs.declared.views.ViewFault.TheVariants as fault;
 
-use crate::windows::{page_windows, shares_of};
+use crate::windows::{page_windows, shares_of, windows_of};
 use apex_types::{Event, Name, Ticks};
 use std::alloc::Global;
 use std::io;
@@ -13,8 +13,12 @@ use trace_page::Page;
 use trace_picture::{Picture, PictureFault};
 use trace_shares::SharesFault;
 use trace_view::{ReportFault, Summary};
+use trace_windows::{Windows, WindowsFault};
 use wave_dump::{Dump, MemoryFull};
 use window_table::ModuleTable;
+
+/// The most windows, and ticks between them, of a dump.
+const MOST_WINDOWS: usize = 1_000_000;
 
 /// How a trace is shown.
 #[derive(Drop)]
@@ -46,7 +50,7 @@ pub enum Outcome {
 #[derive(Clone, Copy, Debug, PartialEq, Eq)]
 pub enum ViewFault {
     Memory,
-    /// The picture would have too many elements.
+    /// The picture or the dump would have too many elements.
     TooMany,
     /// The module table has no partition of this name.
     Foreign(Name),
@@ -58,7 +62,8 @@ pub enum Shown {
     Table(Summary),
     Rows(Summary),
     Picture(Picture),
-    Waves(Dump),
+    /// The dump, and the windows of the module table, if one is given.
+    Waves(Dump, Option<Windows>),
     /// The page, and its windows.
     Page(Page, Vec<u8>),
     Lines(Listing),
@@ -90,7 +95,10 @@ impl Shown {
                 shares_of(alloc, table, from)?,
             )),
             View::Picture => Shown::Picture(Picture::new(alloc, from, to)),
-            View::Waves => Shown::Waves(Dump::new(alloc, from, to)),
+            View::Waves => {
+                let windows = windows_of(alloc, table, (from, to), MOST_WINDOWS)?;
+                Shown::Waves(Dump::new(alloc, from, to), windows)
+            }
             View::Page => Shown::Page(Page::new(alloc), page_windows(alloc, &table)?),
             View::Lines(filter) => Shown::Lines(Listing::new(alloc, filter)),
             View::Check(filter, limits) => Shown::Check(Check::new(alloc, filter, limits)),
@@ -98,14 +106,17 @@ impl Shown {
         Ok(shown)
     }
 
-    /// Takes the next event. Only a picture may have too many elements.
+    /// Takes the next event. Only a picture or a dump may have too many elements.
     pub fn add(&mut self, event: &Event) -> Result<(), ViewFault>
         ensures { IsErrOf result ViewFault.TooMany → IsOfPicture self.old }
     {
         match self {
             Shown::Table(summary) | Shown::Rows(summary) => summary.count(event)?,
             Shown::Picture(picture) => picture.add(event)?,
-            Shown::Waves(dump) => dump.add(event)?,
+            Shown::Waves(dump, windows) => {
+                read_windows(windows, event)?;
+                dump.add(event)?
+            }
             Shown::Page(page, _) => page.add(event)?,
             Shown::Lines(listing) => listing.add(event)?,
             Shown::Check(check) => check.add(event)?,
@@ -132,7 +143,7 @@ impl Shown {
             Shown::Table(summary) => summary.finish()?.write_table(alloc, &mut bytes)?,
             Shown::Rows(summary) => summary.finish()?.write_csv(alloc, &mut bytes)?,
             Shown::Picture(picture) => picture.finish()?.write(&mut bytes)?,
-            Shown::Waves(dump) => write_waves(dump, &mut bytes)?,
+            Shown::Waves(dump, windows) => write_waves(dump, windows, &mut bytes)?,
             Shown::Page(page, windows) => bytes = page.into_text(windows.as_slice())?,
             Shown::Lines(listing) => bytes = listing.into_text(),
             Shown::Check(check) => bytes = check.into_text(alloc),
@@ -141,10 +152,24 @@ impl Shown {
     }
 }
 
-/// Writes the waves that were gathered.
-fn write_waves(mut dump: Dump, bytes: &mut Vec<u8>) -> Result<(), ViewFault>
-    ensures { IsErrOf result ViewFault.TooMany → ⊥ }
-{
+/// Reads a line for the windows of the module table, if one is given.
+fn read_windows(windows: &mut Option<Windows>, event: &Event) -> Result<(), WindowsFault> {
+    match windows {
+        Some(windows) => windows.read(event),
+        None => Ok(()),
+    }
+}
+
+/// Writes the waves that were gathered, with the windows of the module table, if one is given.
+fn write_waves(
+    mut dump: Dump,
+    windows: Option<Windows>,
+    bytes: &mut Vec<u8>,
+) -> Result<(), ViewFault> {
+    if let Some(mut windows) = windows {
+        windows.pass_to(dump.until())?;
+        dump.add_windows(windows.names(), windows.stretches())?;
+    }
     dump.finish()?;
     dump.write(bytes)?;
     Ok(())
@@ -182,6 +207,18 @@ impl From<SharesFault> for ViewFault {
         match fault {
             SharesFault::Memory => ViewFault::Memory,
             SharesFault::Unknown(partition) => ViewFault::Foreign(partition),
+        }
+    }
+}
+
+impl From<WindowsFault> for ViewFault {
+    ghost from_gives = { λ why f. f ≡ windows_fault why };
+
+    fn from(fault: WindowsFault) -> Self {
+        match fault {
+            WindowsFault::Memory => ViewFault::Memory,
+            WindowsFault::TooMany => ViewFault::TooMany,
+            WindowsFault::Unknown(partition) => ViewFault::Foreign(partition),
         }
     }
 }

@@ -6,7 +6,7 @@ ghost use Rattle.view_command.specs.Answers.{IsRefusedByTable, IsTableRefused};
 ghost use Rattle.view_command.specs.Orders.{asked_text};
 ghost use Rattle.view_command.specs.States.{state};
 ghost use Rattle.view_command.specs.Texts.{IsRefusedTable, IsTable, IsTableAsked, IsTableIn};
-ghost use Rattle.view_command.specs.Windows.{IsBadTable};
+ghost use Rattle.view_command.specs.Windows.{IsBadTable, names_of, page_windows};
 ghost use Rattle.window_table.specs.Answers.{AnswersText};
 
 use crate::refusal::Refusal;
@@ -18,6 +18,7 @@ use streams::Sources;
 use trace_page::{NOT_KNOWN, windows_text};
 use trace_shares::{Shares, SharesFault};
 use trace_stays::MemoryFull;
+use trace_windows::Windows;
 use window_table::{ModuleTable, TableFault, read_table};
 
 /// The module table of this name, if one is asked for.
@@ -86,7 +87,10 @@ fn of_reading(name: String, kind: ErrorKind) -> Refusal
 }
 
 /// The names of the partitions, in their order.
-fn names(alloc: Global, table: &ModuleTable) -> Result<Vec<Name>, AllocError> {
+#[tactic(auto, using(std::proofs::lemmas::List::drop_more))]
+fn names(alloc: Global, table: &ModuleTable) -> Result<Vec<Name>, AllocError>
+    ensures { IfOk result (λ names. names.items ≡ names_of table.now) }
+{
     let mut names = Vec::with_capacity(alloc, table.partitions.len())?;
     for partition in &table.partitions {
         names.push(partition.name)?;
@@ -107,8 +111,25 @@ pub fn shares_of(
     Ok(Some(Shares::new(alloc, table.schedule, names.as_slice(), from)?))
 }
 
+/// The windows of a table in the ticks from the first on and before the second, if there is one.
+/// There may be so many windows, and ticks between them.
+pub fn windows_of(
+    alloc: Global,
+    table: Option<ModuleTable>,
+    shown: (Ticks, Option<Ticks>),
+    most: usize,
+) -> Result<Option<Windows>, MemoryFull> {
+    let Some(table) = table else {
+        return Ok(None);
+    };
+    let names = names(alloc, &table)?;
+    Ok(Some(Windows::new(alloc, table.schedule, names, shown, most)))
+}
+
 /// The windows of a table as a page has them.
-pub fn page_windows(alloc: Global, table: &Option<ModuleTable>) -> Result<Vec<u8>, MemoryFull> {
+pub fn page_windows(alloc: Global, table: &Option<ModuleTable>) -> Result<Vec<u8>, MemoryFull>
+    ensures { IfOk result (λ text. text.items ≡ page_windows table.now) }
+{
     match table {
         Some(table) => {
             let names = names(alloc, table)?;

@@ -78,6 +78,7 @@ code_of (variable.StateName place) = codes "t" ++ decimal place
 code_of (variable.ModeName place) = codes "n" ++ decimal place
 code_of (variable.Pulse place) = codes "e" ++ decimal place
 code_of (variable.Word place) = codes "v" ++ decimal place
+code_of (variable.Window number) = codes "w" ++ decimal number
 
 -- a value before the code of its variable; of a word the 64 bits, without those in front of the first 1
 abbrev pub value_text : Value → Option (List ℕ)

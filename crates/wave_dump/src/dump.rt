@@ -2,16 +2,17 @@
 
 ghost use Rattle.std.specs.Prelude.{◌≡◌, ◌++◌, [], OnOk};
 ghost use Rattle.std.specs.List.Sorted.{IsNonDecreasingBy};
-ghost use Rattle.wave_dump.specs.Dumps.{changes_of, names_of, pulse_at, word_at};
+ghost use Rattle.wave_dump.specs.Dumps.{changes_in, changes_of, names_of, pulse_at, window_changes, word_at};
 
 use crate::change::{Change, Value};
-use crate::header::write_header;
+use crate::header::{Header, write_header};
 use crate::pulse::{Pulse, PulseLane};
 use crate::variable::Variable;
-use apex_types::{Event, Ticks};
+use apex_types::{Event, Name, Ticks};
 use std::alloc::Global;
 use std::io::{self, Write};
 use trace_stays::{Ended, Lanes, MemoryFull, ShownTicks, Span};
+use trace_windows::Stretch;
 
 /// Brings changes into the order of their ticks. Those of one tick stay in their order.
 fn in_order(changes: &mut Vec<Change>) -> Result<(), MemoryFull>
@@ -104,6 +105,30 @@ fn push_pulse(changes: &mut Vec<Change>, variable: Variable, tick: Ticks) -> Res
     Ok(())
 }
 
+/// Adds the changes of the wire of a window; none for ticks in no window.
+fn push_window(changes: &mut Vec<Change>, stretch: &Stretch) -> Result<(), MemoryFull>
+    ensures { OnOk result
+        (changes.new.items
+        ≡ changes.old.items ++ changes_in stretch.now.owner stretch.now.span) }
+{
+    match stretch.owner {
+        Some(owner) => push_stay(changes, Variable::Window(owner.0), stretch.span),
+        None => Ok(()),
+    }
+}
+
+/// Adds the changes of the wires of windows.
+#[tactic(auto, using(std::proofs::lemmas::List::drop_more))]
+fn push_windows(changes: &mut Vec<Change>, stretches: &[Stretch]) -> Result<(), MemoryFull>
+    ensures { OnOk result
+        (changes.new.items ≡ changes.old.items ++ window_changes stretches.now) }
+{
+    for stretch in stretches {
+        push_window(changes, stretch)?;
+    }
+    Ok(())
+}
+
 /// A value change dump of some ticks of a trace. It takes the events in their order, is finished
 /// behind the last one, and can be written then.
 #[derive(Drop)]
@@ -113,12 +138,14 @@ pub struct Dump {
     lanes: Lanes,
     pulses: Vec<PulseLane>,
     changes: Vec<Change>,
+    /// The partitions of the module table, whose windows are known.
+    names: Vec<Name>,
     /// Room for the stays that one event ends.
     ended: Vec<Ended>,
 }
 
 impl Dump {
-    ghost use Rattle.trace_stays.specs.Shown.{shown_from, with_read};
+    ghost use Rattle.trace_stays.specs.Shown.{shown_from, shown_ticks, with_read};
 
     /// A dump of the ticks from `from` on and before `to`; without it, all to the end of the trace.
     pub fn new(alloc: Global, from: Ticks, to: Option<Ticks>) -> Dump
@@ -130,6 +157,7 @@ impl Dump {
             lanes: Lanes::new(alloc),
             pulses: Vec::new(alloc),
             changes: Vec::new(alloc),
+            names: Vec::new(alloc),
             ended: Vec::new(alloc),
         }
     }
@@ -148,6 +176,30 @@ impl Dump {
         self.lanes.follow(event, &mut self.ended)?;
         self.take_ended()?;
         self.add_pulse(event)
+    }
+
+    /// The tick before which the dump ends, if no line follows.
+    pub fn until(&self) -> Ticks
+        ensures { result ≡ (shown_ticks self.now.shown).until }
+    {
+        self.shown.span().until
+    }
+
+    /// Adds a wire for each partition of the module table, with these names: it is 1 in its windows,
+    /// which are those of the stretches.
+    ///
+    /// # Errors
+    ///
+    /// Memory ran out.
+    pub fn add_windows(&mut self, names: &[Name], stretches: &[Stretch]) -> Result<(), MemoryFull>
+        ensures changes { OnOk result
+            (self.new.changes.items ≡ self.old.changes.items ++ window_changes stretches.now) }
+        ensures names { OnOk result
+            (self.new.names.items ≡ self.old.names.items ++ names.now) }
+        ensures shown { self.new.shown ≡ self.old.shown }
+    {
+        self.names.extend_from_slice(names)?;
+        push_windows(&mut self.changes, stretches)
     }
 
     /// Ends the stays that are not over, and brings the changes into the order of their ticks.
@@ -173,7 +225,15 @@ impl Dump {
     /// The writer failed; then a beginning of the dump is out.
     pub fn write<W: Write>(&self, out: &mut W) -> io::Result<()> {
         let span = self.shown.span();
-        write_header(span, &self.lanes, &self.pulses, out)?;
+        write_header(
+            span,
+            Header {
+                lanes: &self.lanes,
+                pulses: self.pulses.as_slice(),
+                names: self.names.as_slice(),
+            },
+            out,
+        )?;
         let mut now = span.from;
         for change in &self.changes {
             if change.tick != now {

@@ -2,16 +2,26 @@
 
 use crate::pulse::{GROUPS, Group, PulseLane};
 use crate::variable::{MODES, STATES, Variable};
+use apex_types::Name;
 use std::io::{self, Write};
 use trace_stays::{Lanes, Span, subject_word};
 
+/// What has variables in a dump.
+#[derive(Clone, Copy)]
+pub struct Header<'a> {
+    pub lanes: &'a Lanes,
+    pub pulses: &'a [PulseLane],
+    /// The partitions of the module table; none without one.
+    pub names: &'a [Name],
+}
+
 /// Writes the part before the changes.
-pub fn write_header<W: Write>(
-    span: Span,
-    lanes: &Lanes,
-    pulses: &[PulseLane],
-    out: &mut W,
-) -> io::Result<()> {
+pub fn write_header<W: Write>(span: Span, header: Header<'_>, out: &mut W) -> io::Result<()> {
+    let Header {
+        lanes,
+        pulses,
+        names,
+    } = header;
     writeln!(out, "$version mbview $end")?;
     writeln!(
         out,
@@ -19,25 +29,29 @@ pub fn write_header<W: Write>(
     )?;
     writeln!(out, "$timescale 1 ns $end")?;
     for place in 0..lanes.partitions().len() {
-        write_partition(place, lanes, pulses, out)?;
+        write_partition(place, header, out)?;
     }
+    write_others(lanes, names, out)?;
     write_module(pulses, out)?;
     writeln!(out, "$enddefinitions $end")?;
     writeln!(out, "#{}", span.from.0)?;
-    write_first_values(lanes, out)
+    write_first_values(lanes, names, out)
 }
 
-/// The scope of a partition: its modes, its processes, its pulses.
-fn write_partition<W: Write>(
-    place: usize,
-    lanes: &Lanes,
-    pulses: &[PulseLane],
-    out: &mut W,
-) -> io::Result<()> {
+/// The scope of a partition: its windows, its modes, its processes, its pulses.
+fn write_partition<W: Write>(place: usize, header: Header<'_>, out: &mut W) -> io::Result<()> {
+    let Header {
+        lanes,
+        pulses,
+        names,
+    } = header;
     let Some(partition) = lanes.partitions().get(place) else {
         return Ok(());
     };
     begin_scope(partition.name.as_str(), out)?;
+    if let Some(number) = number_of(names, &partition.name) {
+        write_wire(Variable::Window(number), "WINDOW", out)?;
+    }
     begin_scope("MODE", out)?;
     for mode in MODES {
         write_wire(Variable::Mode(place, mode), mode.word(), out)?;
@@ -58,6 +72,42 @@ fn write_partition<W: Write>(
         write_group(group, Some(place), pulses, out)?;
     }
     end_scope(out)
+}
+
+/// The scopes of the partitions that have windows and no line.
+fn write_others<W: Write>(lanes: &Lanes, names: &[Name], out: &mut W) -> io::Result<()> {
+    let mut number: u8 = 0;
+    for name in names {
+        number = number.saturating_add(1);
+        if !has_lane(lanes, name) {
+            begin_scope(name.as_str(), out)?;
+            write_wire(Variable::Window(number), "WINDOW", out)?;
+            end_scope(out)?;
+        }
+    }
+    Ok(())
+}
+
+/// Returns true if the partition with this name has a line.
+fn has_lane(lanes: &Lanes, name: &Name) -> bool {
+    for lane in lanes.partitions() {
+        if lane.name.as_bytes() == name.as_bytes() {
+            return true;
+        }
+    }
+    false
+}
+
+/// The number of a partition in the module table, from 1; `None` without a table.
+fn number_of(names: &[Name], name: &Name) -> Option<u8> {
+    let mut number: u8 = 0;
+    for known in names {
+        number = number.saturating_add(1);
+        if known.as_bytes() == name.as_bytes() {
+            return Some(number);
+        }
+    }
+    None
 }
 
 /// The scope of the module's own errors, if it has any.
@@ -121,8 +171,13 @@ fn write_name<W: Write>(variable: Variable, name: &str, out: &mut W) -> io::Resu
 }
 
 /// All wires are 0 before the first changes, and no name is shown.
-fn write_first_values<W: Write>(lanes: &Lanes, out: &mut W) -> io::Result<()> {
+fn write_first_values<W: Write>(lanes: &Lanes, names: &[Name], out: &mut W) -> io::Result<()> {
     writeln!(out, "$dumpvars")?;
+    let mut number: u8 = 0;
+    for _ in names {
+        number = number.saturating_add(1);
+        writeln!(out, "0{}", Variable::Window(number))?;
+    }
     for place in 0..lanes.partitions().len() {
         for mode in MODES {
             writeln!(out, "0{}", Variable::Mode(place, mode))?;

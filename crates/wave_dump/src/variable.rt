@@ -18,6 +18,8 @@ pub enum Variable {
     Pulse(usize),
     /// The first word of the messages of the pulse at this place.
     Word(usize),
+    /// True in the windows of the partition with this number in the module table.
+    Window(u8),
 }
 
 /// The states of a process, in the order of their numbers.
@@ -45,6 +47,7 @@ impl Display for Variable {
             Variable::ModeName(place) => write!(f, "n{}", place),
             Variable::Pulse(place) => write!(f, "e{}", place),
             Variable::Word(place) => write!(f, "v{}", place),
+            Variable::Window(number) => write!(f, "w{}", number),
         }
     }
 }

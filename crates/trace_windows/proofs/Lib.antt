@@ -1,0 +1,2 @@
+pub mod Stretched
+pub mod Passed

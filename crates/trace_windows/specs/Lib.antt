@@ -1,0 +1,4 @@
+pub mod Frames
+pub mod Names
+pub mod Stretches
+pub mod Read
