@@ -1,9 +1,13 @@
 //! Whether two lines are the same.
 
 ghost use Rattle.std.specs.Prelude.{◌≡◌, ◌↔◌, IsTrue};
+ghost use Rattle.apex_types.specs.declared.event.EventKind.TheVariants as event;
 ghost use Rattle.trace_difference.specs.Parts.{is_same_partition};
 
-use apex_types::{Event, EventKind, Name, Service, Subject, Words};
+use apex_types::{
+    ErrorKind, Event, EventKind, Mode, Name, ProcessState, Response, ReturnCode, Service, Subject,
+    Words,
+};
 
 /// Returns true if both are the same line.
 pub fn is_same(one: &Event, other: &Event) -> bool
@@ -26,66 +30,119 @@ pub fn is_same_partition(one: &Option<Name>, other: &Option<Name>) -> bool
     }
 }
 
+/// Returns true if both tell the same.
 fn is_same_kind(one: &EventKind, other: &EventKind) -> bool
     ensures { IsTrue result ↔ (one.now ≡ other.now) }
 {
     match one {
-        EventKind::State(who, state) => match other {
-            EventKind::State(other_who, other_state) => {
-                is_same_subject(who, other_who) && *state == *other_state
-            }
-            _ => false,
-        },
-        EventKind::Return(who, service, code) => match other {
-            EventKind::Return(other_who, other_service, other_code) => {
-                is_same_subject(who, other_who)
-                    && is_same_service(*service, *other_service)
-                    && *code == *other_code
-            }
-            _ => false,
-        },
-        EventKind::Mode(mode) => match other {
-            EventKind::Mode(other_mode) => *mode == *other_mode,
-            _ => false,
-        },
-        EventKind::Error(error, who, response) => match other {
-            EventKind::Error(other_error, other_who, other_response) => {
-                *error == *other_error
-                    && is_same_culprit(who, other_who)
-                    && *response == *other_response
-            }
-            _ => false,
-        },
-        EventKind::Report(who, words) => match other {
-            EventKind::Report(other_who, other_words) => {
-                is_same_subject(who, other_who) && are_same_words(words, other_words)
-            }
-            _ => false,
-        },
-        EventKind::Move(port, words) => match other {
-            EventKind::Move(other_port, other_words) => {
-                is_same_name(port, other_port) && are_same_words(words, other_words)
-            }
-            _ => false,
-        },
-        EventKind::Arrive(port, words) => match other {
-            EventKind::Arrive(other_port, other_words) => {
-                is_same_name(port, other_port) && are_same_words(words, other_words)
-            }
-            _ => false,
-        },
-        EventKind::Lost(port, words) => match other {
-            EventKind::Lost(other_port, other_words) => {
-                is_same_name(port, other_port) && are_same_words(words, other_words)
-            }
-            _ => false,
-        },
-        EventKind::Out(channel, words) => match other {
-            EventKind::Out(other_channel, other_words) => {
-                is_same_name(channel, other_channel) && are_same_words(words, other_words)
-            }
-            _ => false,
-        },
+        EventKind::State(who, state) => is_state(other, who, *state),
+        EventKind::Return(who, service, code) => is_return(other, who, *service, *code),
+        EventKind::Mode(mode) => is_mode(other, *mode),
+        EventKind::Error(error, who, response) => is_error(other, *error, who, *response),
+        EventKind::Report(who, words) => is_report(other, who, words),
+        EventKind::Move(port, words) => is_move(other, port, words),
+        EventKind::Arrive(port, words) => is_arrival(other, port, words),
+        EventKind::Lost(port, words) => is_loss(other, port, words),
+        EventKind::Out(channel, words) => is_out(other, channel, words),
+    }
+}
+
+fn is_state(kind: &EventKind, who: &Subject, state: ProcessState) -> bool
+    ensures { IsTrue result ↔ (event.State who.now state ≡ kind.now) }
+{
+    match kind {
+        EventKind::State(other, other_state) => {
+            is_same_subject(who, other) && state == *other_state
+        }
+        _ => false,
+    }
+}
+
+fn is_return(kind: &EventKind, who: &Subject, service: Service, code: ReturnCode) -> bool
+    ensures { IsTrue result ↔ (event.Return who.now service code ≡ kind.now) }
+{
+    match kind {
+        EventKind::Return(other, other_service, other_code) => {
+            is_same_subject(who, other)
+                && is_same_service(service, *other_service)
+                && code == *other_code
+        }
+        _ => false,
+    }
+}
+
+fn is_mode(kind: &EventKind, mode: Mode) -> bool
+    ensures { IsTrue result ↔ (event.Mode mode ≡ kind.now) }
+{
+    match kind {
+        EventKind::Mode(other) => mode == *other,
+        _ => false,
+    }
+}
+
+fn is_error(kind: &EventKind, error: ErrorKind, who: &Option<Subject>, response: Response) -> bool
+    ensures { IsTrue result ↔ (event.Error error who.now response ≡ kind.now) }
+{
+    match kind {
+        EventKind::Error(other_error, other, other_response) => {
+            error == *other_error && is_same_culprit(who, other) && response == *other_response
+        }
+        _ => false,
+    }
+}
+
+fn is_report(kind: &EventKind, who: &Subject, words: &Words) -> bool
+    ensures { IsTrue result ↔ (event.Report who.now words.now ≡ kind.now) }
+{
+    match kind {
+        EventKind::Report(other, other_words) => {
+            is_same_subject(who, other) && are_same_words(words, other_words)
+        }
+        _ => false,
+    }
+}
+
+fn is_move(kind: &EventKind, port: &Name, words: &Words) -> bool
+    ensures { IsTrue result ↔ (event.Move port.now words.now ≡ kind.now) }
+{
+    match kind {
+        EventKind::Move(other, other_words) => {
+            is_same_name(port, other) && are_same_words(words, other_words)
+        }
+        _ => false,
+    }
+}
+
+fn is_arrival(kind: &EventKind, port: &Name, words: &Words) -> bool
+    ensures { IsTrue result ↔ (event.Arrive port.now words.now ≡ kind.now) }
+{
+    match kind {
+        EventKind::Arrive(other, other_words) => {
+            is_same_name(port, other) && are_same_words(words, other_words)
+        }
+        _ => false,
+    }
+}
+
+fn is_loss(kind: &EventKind, port: &Name, words: &Words) -> bool
+    ensures { IsTrue result ↔ (event.Lost port.now words.now ≡ kind.now) }
+{
+    match kind {
+        EventKind::Lost(other, other_words) => {
+            is_same_name(port, other) && are_same_words(words, other_words)
+        }
+        _ => false,
+    }
+}
+
+fn is_out(kind: &EventKind, channel: &Name, words: &Words) -> bool
+    ensures { IsTrue result ↔ (event.Out channel.now words.now ≡ kind.now) }
+{
+    match kind {
+        EventKind::Out(other, other_words) => {
+            is_same_name(channel, other) && are_same_words(words, other_words)
+        }
+        _ => false,
     }
 }
 

@@ -1,5 +1,5 @@
 -- Which lines of a trace are chosen.
-use Rattle.std.specs.Prelude.{ℕ, Bool, true, false, ◌&&◌, List, [], Option, Some, None, filter, nat_le, nat_lt, if◌then◌else◌, string_bytes}
+use Rattle.std.specs.Prelude.{ℕ, Bool, true, false, ◌&&◌, ◌||◌, List, [], Option, Some, None, filter, nat_le, nat_lt, if◌then◌else◌, string_bytes}
 use Rattle.std.specs.declared.alloc.Global.{Global}
 use Rattle.std.specs.declared.string.String.{String}
 use Rattle.apex_types.specs.Line.{culprit_text, line_of, partition_text, subject_text, text_of}
@@ -62,6 +62,20 @@ is_chosen f e =
     nat_le f.from.0 e.tick.0 && is_before f.to e.tick.0 && is_of_kind f.kinds e.kind
     && is_word f.partition (partition_text e.partition) && names_subject f.process (subject_in e.kind)
     && names_route f.port (route_in e.kind)
+
+-- ---- what a view with a filter reads
+
+-- the line says that a partition enters a mode
+abbrev pub is_mode : EventKind → Bool
+is_mode (event.Mode mode) = true
+is_mode _ = false
+
+-- A view reads the lines that are chosen, and the modes of the partitions that are asked for: a mode ends the stays of
+-- all processes of its partition, so without it a process that is gone would stay as it was.
+abbrev pub is_viewed : Filter → Event → Bool
+is_viewed f e = is_chosen f e || (is_mode e.kind && is_word f.partition (partition_text e.partition))
+
+-- ---- what is listed
 
 -- the text of a line, if it is chosen
 abbrev pub chosen_text : Filter → Event → List ℕ

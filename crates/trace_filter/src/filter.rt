@@ -37,6 +37,22 @@ impl Filter {
             && names_subject(&self.process, subject_in(&event.kind))
             && names_route(&self.port, route_in(&event.kind))
     }
+
+    /// Returns true if a view with this filter reads the line of this event: if it is chosen, or if a
+    /// partition that is asked for enters a mode. With a mode the stays of its processes are over,
+    /// whatever else is asked for.
+    pub fn shows(&self, event: &Event) -> bool
+        ensures { result ≡ meant.is_viewed self.now event.now }
+    {
+        self.has(event)
+            || (is_mode(&event.kind) && is_of_partition(&self.partition, &event.partition))
+    }
+}
+
+fn is_mode(kind: &EventKind) -> bool
+    ensures { result ≡ meant.is_mode kind.now }
+{
+    matches!(kind, EventKind::Mode(_))
 }
 
 /// Returns true if the partition is the one that is asked for, if one is. The text `-` asks for the
