@@ -3,7 +3,7 @@ use Rattle.command_line.proofs.Linted.{more_found_by}
 use Rattle.command_line.proofs.linting.+add_found.Goals as goal
 
 pub returns : goal.returns
-returns c =
+returns t c =
     let f = c.in_ok-partition_findings.field-0 in
     let pushed : c.push.new.self.items ≡ c.args.found.now.items ++ f ∷ [] = search rules in
     more_found_by c.add_found.result c.args.costs.now c.args.all.now c.args.rows.now c.in-Some.rows.now c.in-Some.row.now c.args.trees.now c.in-Some-split_first.trees.now c.in-Some-split_first.tree.now

@@ -13,4 +13,4 @@ returns-clause-done g c =
 pub returns-in_err-write_bytes-clause-refused : goal.returns-in_err-write_bytes-clause-refused
 returns-in_err-write_bytes-clause-refused g c =
     told_as _ Write c.from_residual-in_err-write_bytes.result c.from_residual-in_err-write_bytes.ensures
-    (c.in_err-write_bytes.ensures.failed, c.in_ok-loaded.ensures.unchanged, c.in_ok-loaded.loaded.load, c.in_ok-loaded.ensures.loaded)
+    (c.in_err-write_bytes.ensures.failed, c.in_ok-loaded.ensures.unchanged, (c.in_ok-loaded.loaded.load, c.in_ok-loaded.ensures.loaded))
