@@ -149,12 +149,11 @@ inputs_of_whole {text_read = text_read} g name n old new answer h =
 
 -- ---- an image alone
 
-pub loaded_whole : {A E : Type 0} (view : A → Image) (files : Option Contents) (name bytes given : List ℕ) (answer : Result A E)
-    → given ≡ bytes → HoldsFrom settles_image files name bytes → IfOk answer (λ x. image_at given ≡ Ok (view x)) → IfOk answer (λ x. IsImageIn files name (view x))
-loaded_whole view files name bytes given (Ok x) same held h =
+pub loaded_whole : (files : Option Contents) (name bytes given : List ℕ) (image : Image)
+    → given ≡ bytes → HoldsFrom settles_image files name bytes → image_at given ≡ Ok image → IsImageIn files name image
+loaded_whole files name bytes given image same held h =
     let whole = whole_of settles_image files name bytes held in
     record { image_bytes = whole.0; in_image = whole.1; loaded = image_settled whole.0 bytes whole.2 ∙ ap image_at (sym same) ∙ h }
-loaded_whole view files name bytes given (Err e) same held h = tt
 
 pub unloaded_whole : (files : Option Contents) (name bytes given : List ℕ) (fault : RunFault)
     → given ≡ bytes → HoldsFrom settles_image files name bytes → IsRefused (image_at given) fault → IsNotLoaded files name (refusal.Run fault)
@@ -162,16 +161,15 @@ unloaded_whole files name bytes given fault same held h =
     let whole = whole_of settles_image files name bytes held in
     (whole.0, whole.1, subst (λ read. IsRefused read fault) (ap image_at same ∙ sym (image_settled whole.0 bytes whole.2)) h)
 
-pub upgraded_whole : {A E : Type 0} (view : A → List ℕ) (files : Option Contents) (name bytes given : List ℕ) (answer : Result A E)
-    → given ≡ bytes → HoldsFrom settles_image files name bytes → IfOk answer (λ x. IsUpgraded given (view x)) → IfOk answer (λ x. IsUpgradedIn files name (view x))
-upgraded_whole view files name bytes given (Ok x) same held h =
+pub upgraded_whole : (files : Option Contents) (name bytes given new : List ℕ)
+    → given ≡ bytes → HoldsFrom settles_image files name bytes → IsUpgraded given new → IsUpgradedIn files name new
+upgraded_whole files name bytes given new same held h =
     let whole = whole_of settles_image files name bytes held in
     record {
       image_bytes = whole.0;
       in_image = whole.1;
       upgraded = record { image = h.image; loaded = image_settled whole.0 bytes whole.2 ∙ ap image_at (sym same) ∙ h.loaded; read = h.read; taken = h.taken; same = h.same };
     }
-upgraded_whole view files name bytes given (Err e) same held h = tt
 
 pub held_on : (suffices : List ℕ → Bool) (files : Option Contents) (name bytes : List ℕ) → HoldsFrom suffices files name bytes → IsHeld files name
 held_on suffices files name bytes held = let whole = whole_of suffices files name bytes held in (whole.0, whole.1)

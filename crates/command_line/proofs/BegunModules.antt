@@ -247,18 +247,22 @@ all_begun files names i texts at before =
     drop-all [] = refl
     drop-all (x ∷ xs) = drop-all xs
 
+-- a text that is cut behind so many bytes and one more
+cut_by : (most : ℕ) (text bytes : List ℕ) → IsBeginningOf (λ b. nat_lt most (length b)) text bytes → IsBeginningOf (λ b. nat_lt most (length b)) text (take (most + 1) bytes)
+cut_by most text bytes (rest, begun, why) = go (nat_lt most (length bytes)) refl
+  where
+    go : (t : Bool) → nat_lt most (length bytes) ≡ t → IsBeginningOf (λ b. nat_lt most (length b)) text (take (most + 1) bytes)
+    go false short =
+        let all : take (most + 1) bytes ≡ bytes = take_all (most + 1) bytes (omega (arith, ltb-false most (length bytes) short)) in
+        subst (IsBeginningOf (λ b. nat_lt most (length b)) text) (sym all) (rest, begun, why)
+    go true long =
+        let many : most < length bytes = ltb-true most (length bytes) long in
+        let split : text ≡ take (most + 1) bytes ++ (drop (most + 1) bytes ++ rest) =
+            begun ∙ ap (λ b. b ++ rest) (sym (take-append-drop (most + 1) bytes)) ∙ append_assoc (take (most + 1) bytes) (drop (most + 1) bytes) rest in
+        let size : length (take (most + 1) bytes) ≡ most + 1 = length-take-le (most + 1) bytes (omega (arith, many)) in
+        (drop (most + 1) bytes ++ rest, split, inr (lt-ltb most (length (take (most + 1) bytes)) (omega (arith, size))))
+
 -- a source that is cut behind the first byte that it may not have
 pub cut : (files : Option Contents) (name bytes : List ℕ) → HoldsFrom settles_source files name bytes → HoldsFrom settles_source files name (take (MOST_SOURCE_BYTES + 1) bytes)
 cut None name bytes held = tt
-cut (Some files) name bytes (text, is, (rest, begun, why)) = go (nat_lt MOST_SOURCE_BYTES (length bytes)) refl
-  where
-    go : (t : Bool) → nat_lt MOST_SOURCE_BYTES (length bytes) ≡ t → HoldsFrom settles_source (Some files) name (take (MOST_SOURCE_BYTES + 1) bytes)
-    go false short =
-        let all : take (MOST_SOURCE_BYTES + 1) bytes ≡ bytes = take_all (MOST_SOURCE_BYTES + 1) bytes (omega (arith, ltb-false MOST_SOURCE_BYTES (length bytes) short)) in
-        subst (HoldsFrom settles_source (Some files) name) (sym all) (text, is, (rest, begun, why))
-    go true long =
-        let many : MOST_SOURCE_BYTES < length bytes = ltb-true MOST_SOURCE_BYTES (length bytes) long in
-        let split : text ≡ take (MOST_SOURCE_BYTES + 1) bytes ++ (drop (MOST_SOURCE_BYTES + 1) bytes ++ rest) =
-        begun ∙ ap (λ b. b ++ rest) (sym (take-append-drop (MOST_SOURCE_BYTES + 1) bytes)) ∙ append_assoc (take (MOST_SOURCE_BYTES + 1) bytes) (drop (MOST_SOURCE_BYTES + 1) bytes) rest in
-        let size : length (take (MOST_SOURCE_BYTES + 1) bytes) ≡ MOST_SOURCE_BYTES + 1 = length-take-le (MOST_SOURCE_BYTES + 1) bytes (omega (arith, many)) in
-        (text, is, (drop (MOST_SOURCE_BYTES + 1) bytes ++ rest, split, inr (lt-ltb MOST_SOURCE_BYTES (length (take (MOST_SOURCE_BYTES + 1) bytes)) (omega (arith, size)))))
+cut (Some files) name bytes (text, is, begun) = (text, is, cut_by MOST_SOURCE_BYTES text bytes begun)

@@ -11,7 +11,7 @@ use Rattle.command_line.proofs.replaying.replay_named.Goals as goal
 pub returns-clause-refused : goal.returns-clause-refused
 returns-clause-refused g c =
     let files = g.F.Files.contents c.args.files.now in
-    let given = given_from files (g.F.Files.contents c.read.new.files) c.args.image.now c.args.inputs.now c.in_ok-image.image.items c.in_ok-inputs.inputs.items c.as_slice.result.now c.as_slice-2.result.now
+    let given = given_from files (g.F.Files.contents c.read_as.new.files) c.args.image.now c.args.inputs.now c.in_ok-image.image.items c.in_ok-inputs.inputs.items c.as_slice.result.now c.as_slice-2.result.now
     c.in_ok-image.ensures.unchanged c.as_slice.ensures.value c.as_slice-2.ensures.value c.in_ok-image.ensures.held c.in_ok-inputs.ensures.held in
     let same = c.in_ok-inputs.ensures.unchanged ∙ c.in_ok-image.ensures.unchanged in
     (c.in-Err.ensures.failed, same, given.given, replay_of_whole given c.args.partition.now c.args.ticks (g.O.Sink.taken c.args.out.now) (g.O.Sink.taken c.trace_alone.new.out) (Err c.in-Err.fault) c.in-Err.ensures.trace)
@@ -20,7 +20,7 @@ pub returns-in_err-flush-in-Ok-clause-refused : goal.returns-in_err-flush-in-Ok-
 returns-in_err-flush-in-Ok-clause-refused g c =
     let taken = g.O.Sink.taken in
     let files = g.F.Files.contents c.args.files.now in
-    let given = given_from files (g.F.Files.contents c.read.new.files) c.args.image.now c.args.inputs.now c.in_ok-image.image.items c.in_ok-inputs.inputs.items c.as_slice.result.now c.as_slice-2.result.now
+    let given = given_from files (g.F.Files.contents c.read_as.new.files) c.args.image.now c.args.inputs.now c.in_ok-image.image.items c.in_ok-inputs.inputs.items c.as_slice.result.now c.as_slice-2.result.now
     c.in_ok-image.ensures.unchanged c.as_slice.ensures.value c.as_slice-2.ensures.value c.in_ok-image.ensures.held c.in_ok-inputs.ensures.held in
     let same = c.in_ok-inputs.ensures.unchanged ∙ c.in_ok-image.ensures.unchanged in
     told_as _ Write c.from_residual-in_err-flush-in-Ok.result c.from_residual-in_err-flush-in-Ok.ensures (
@@ -36,7 +36,7 @@ pub returns-in-Ok-clause-done : goal.returns-in-Ok-clause-done
 returns-in-Ok-clause-done g c =
     let taken = g.O.Sink.taken in
     let files = g.F.Files.contents c.args.files.now in
-    let given = given_from files (g.F.Files.contents c.read.new.files) c.args.image.now c.args.inputs.now c.in_ok-image.image.items c.in_ok-inputs.inputs.items c.as_slice.result.now c.as_slice-2.result.now
+    let given = given_from files (g.F.Files.contents c.read_as.new.files) c.args.image.now c.args.inputs.now c.in_ok-image.image.items c.in_ok-inputs.inputs.items c.as_slice.result.now c.as_slice-2.result.now
     c.in_ok-image.ensures.unchanged c.as_slice.ensures.value c.as_slice-2.ensures.value c.in_ok-image.ensures.held c.in_ok-inputs.ensures.held in
     let same = c.in_ok-inputs.ensures.unchanged ∙ c.in_ok-image.ensures.unchanged in (
       same,

@@ -10,7 +10,7 @@ use Rattle.command_line.proofs.running.run_named.Goals as goal
 pub returns-in_err-trace-clause-refused : goal.returns-in_err-trace-clause-refused
 returns-in_err-trace-clause-refused g c =
     let files = g.F.Files.contents c.args.files.now in
-    let given = given_from files (g.F.Files.contents c.read.new.files) c.args.image.now c.args.devices.now c.in_ok-image.image.items c.in_ok-devices.devices.items c.as_slice-image.result.now c.as_slice-devices.result.now
+    let given = given_from files (g.F.Files.contents c.read_as.new.files) c.args.image.now c.args.devices.now c.in_ok-image.image.items c.in_ok-devices.devices.items c.as_slice-image.result.now c.as_slice-devices.result.now
     c.in_ok-image.ensures.unchanged c.as_slice-image.ensures.value c.as_slice-devices.ensures.value c.in_ok-image.ensures.held c.in_ok-devices.ensures.held in
     let same = c.in_ok-devices.ensures.unchanged ∙ c.in_ok-image.ensures.unchanged in
     told_as _ (Run c.in_err-trace.field-0.0) c.from_residual-in_err-trace.result c.from_residual-in_err-trace.ensures
@@ -20,7 +20,7 @@ pub returns-in_err-flush-clause-refused : goal.returns-in_err-flush-clause-refus
 returns-in_err-flush-clause-refused g c =
     let taken = g.O.Sink.taken in
     let files = g.F.Files.contents c.args.files.now in
-    let given = given_from files (g.F.Files.contents c.read.new.files) c.args.image.now c.args.devices.now c.in_ok-image.image.items c.in_ok-devices.devices.items c.as_slice-image.result.now c.as_slice-devices.result.now
+    let given = given_from files (g.F.Files.contents c.read_as.new.files) c.args.image.now c.args.devices.now c.in_ok-image.image.items c.in_ok-devices.devices.items c.as_slice-image.result.now c.as_slice-devices.result.now
     c.in_ok-image.ensures.unchanged c.as_slice-image.ensures.value c.as_slice-devices.ensures.value c.in_ok-image.ensures.held c.in_ok-devices.ensures.held in
     let same = c.in_ok-devices.ensures.unchanged ∙ c.in_ok-image.ensures.unchanged in
     told_as _ Write c.from_residual-in_err-flush.result c.from_residual-in_err-flush.ensures (
@@ -36,7 +36,7 @@ pub returns-clause-done : goal.returns-clause-done
 returns-clause-done g c =
     let taken = g.O.Sink.taken in
     let files = g.F.Files.contents c.args.files.now in
-    let given = given_from files (g.F.Files.contents c.read.new.files) c.args.image.now c.args.devices.now c.in_ok-image.image.items c.in_ok-devices.devices.items c.as_slice-image.result.now c.as_slice-devices.result.now
+    let given = given_from files (g.F.Files.contents c.read_as.new.files) c.args.image.now c.args.devices.now c.in_ok-image.image.items c.in_ok-devices.devices.items c.as_slice-image.result.now c.as_slice-devices.result.now
     c.in_ok-image.ensures.unchanged c.as_slice-image.ensures.value c.as_slice-devices.ensures.value c.in_ok-image.ensures.held c.in_ok-devices.ensures.held in
     let same = c.in_ok-devices.ensures.unchanged ∙ c.in_ok-image.ensures.unchanged in (
       same,
