@@ -1,5 +1,7 @@
+pub mod ActivationTimes
 pub mod Alike
 pub mod Contiguous
 pub mod Counted
+pub mod MeasuredTimes
+pub mod Percentiles
 pub mod Sums
-pub mod Times

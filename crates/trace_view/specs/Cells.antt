@@ -10,8 +10,9 @@ use Rattle.trace_view.specs.declared.extent.Extent.{Extent}
 use Rattle.trace_view.specs.declared.extremes.Extremes.{Extremes}
 use Rattle.trace_view.specs.declared.messages.Messages.{Messages}
 use Rattle.trace_view.specs.declared.modes.ModeTicks.{ModeTicks}
-use Rattle.trace_view.specs.declared.refusals.Refusals.{Refusals}
+use Rattle.trace_view.specs.declared.responses.ResponseSpreads.{ResponseSpreads}
 use Rattle.trace_view.specs.declared.share.Share.{Share}
+use Rattle.trace_view.specs.declared.starts.Starts.{Starts}
 use Rattle.trace_view.specs.declared.states.StateTicks.{StateTicks}
 use Rattle.trace_view.specs.declared.tally.Tally.{Tally}
 
@@ -59,19 +60,29 @@ state_cells t all =
 abbrev pub share_cells : ℕ → ℕ → List Cell
 share_cells ticks all = cell.Number ticks ∷ share_cell ticks all ∷ []
 
+abbrev pub number_cell : Option ℕ → Cell
+number_cell None = cell.Absent
+number_cell (Some n) = cell.Number n
+
 -- activations, their times, and missed deadlines
-abbrev pub time_cells : Tally → List Cell
-time_cells t =
-    cell.Number t.activations ∷ least_cell t.to_running ∷ greatest_cell t.to_running ∷ least_cell t.to_end ∷ greatest_cell t.to_end ∷ cell.Number t.deadlines_missed ∷ []
+abbrev pub time_cells : Tally → ResponseSpreads → List Cell
+time_cells t s =
+    cell.Number t.activations
+    ∷ least_cell t.to_running ∷ number_cell s.to_running.median ∷ number_cell s.to_running.ninety_fifth ∷ greatest_cell t.to_running
+    ∷ least_cell t.to_end ∷ number_cell s.to_end.median ∷ number_cell s.to_end.ninety_fifth ∷ greatest_cell t.to_end
+    ∷ cell.Number t.deadlines_missed ∷ []
 
--- refused services, by their codes from 1 to 6
-abbrev pub refusal_cells : Refusals → List Cell
-refusal_cells r =
-    cell.Number r.no_action ∷ cell.Number r.not_available ∷ cell.Number r.invalid_param ∷ cell.Number r.invalid_config ∷ cell.Number r.invalid_mode ∷ cell.Number r.timed_out ∷ []
+-- refused services, by their codes from 1 to 6, and application messages
+abbrev pub service_cells : Tally → List Cell
+service_cells t =
+    cell.Number t.refusals.no_action ∷ cell.Number t.refusals.not_available ∷ cell.Number t.refusals.invalid_param
+    ∷ cell.Number t.refusals.invalid_config ∷ cell.Number t.refusals.invalid_mode ∷ cell.Number t.refusals.timed_out
+    ∷ cell.Number t.reports ∷ []
 
--- the ticks in each mode
-abbrev pub mode_cells : ModeTicks → List Cell
-mode_cells m = cell.Number m.normal ∷ cell.Number m.cold_start ∷ cell.Number m.warm_start ∷ cell.Number m.idle ∷ []
+-- the ticks in each mode, and the starts
+abbrev pub mode_cells : ModeTicks → Starts → List Cell
+mode_cells m s =
+    cell.Number m.normal ∷ cell.Number m.cold_start ∷ cell.Number m.warm_start ∷ cell.Number m.idle ∷ cell.Number s.cold ∷ cell.Number s.warm ∷ []
 
 -- the messages of a port
 abbrev pub port_cells : Messages → List Cell

@@ -18,6 +18,7 @@ use Rattle.trace_view.specs.declared.messages.Route.{Route}
 use Rattle.trace_view.specs.declared.messages.Route.TheVariants as route
 use Rattle.trace_view.specs.declared.modes.ModeTicks.{ModeTicks}
 use Rattle.trace_view.specs.declared.refusals.Refusals.{Refusals}
+use Rattle.trace_view.specs.declared.starts.Starts.{Starts}
 use Rattle.trace_view.specs.declared.states.StateTicks.{StateTicks}
 
 -- ---- numbers
@@ -58,6 +59,13 @@ with_mode_ticks mode.Idle n t = record t { idle = capped (t.idle + n) }
 -- the ticks in each mode, with those of one more stay
 abbrev pub with_mode_stay : Span → ModeStay → ModeTicks → ModeTicks
 with_mode_stay window stay t = with_mode_ticks stay.mode (ticks_in window stay.span) t
+
+-- one more start, if the mode is that of a start
+abbrev pub with_start : Mode → Starts → Starts
+with_start mode.Normal s = s
+with_start mode.Idle s = s
+with_start mode.ColdStart s = record s { cold = capped (s.cold + 1) }
+with_start mode.WarmStart s = record s { warm = capped (s.warm + 1) }
 
 -- ---- services and messages
 

@@ -5,3 +5,4 @@ pub mod Tallies
 pub mod Traffic
 pub mod Turns
 pub mod Errors
+pub mod Percentiles

@@ -7,6 +7,8 @@ use Rattle.trace_stays.specs.declared.span.Span.{Span}
 use Rattle.trace_stays.specs.declared.stay.Stay.{Stay}
 use Rattle.trace_view.specs.Counting.{capped, with_stay, with_time}
 use Rattle.trace_view.specs.declared.tally.Activation.{Activation}
+use Rattle.trace_view.specs.declared.tally.Measured.{Measured}
+use Rattle.trace_view.specs.declared.tally.Measured.TheVariants as measure
 use Rattle.trace_view.specs.declared.tally.Tally.{Tally}
 use Rattle.trace_view.specs.declared.tally.Turn.{Turn}
 
@@ -61,6 +63,30 @@ abbrev pub over : Option Activation → ℕ → Tally → Tally
 over None tick t = t
 over (Some a) tick t = record t { to_end = Some (with_time t.to_end (tick - a.ready.0)); activation = None }
 
+-- ---- the times that turns measure
+
+abbrev pub first_if : Bool → ℕ → Option Measured
+first_if true time = None
+first_if false time = Some (measure.ToRunning time)
+
+abbrev pub measured_run : Option Activation → ℕ → Option Measured
+measured_run None tick = None
+measured_run (Some a) tick = first_if a.has_run (tick - a.ready.0)
+
+abbrev pub measured_end : Option Activation → ℕ → Option Measured
+measured_end None tick = None
+measured_end (Some a) tick = Some (measure.ToEnd (tick - a.ready.0))
+
+-- the time of an activation that a turn to this state measures: to the first RUNNING, or to the end
+abbrev pub measured : Option ProcessState → Turn → Option Activation → Option Measured
+measured None turn o = None
+measured (Some state.Ready) turn o = None
+measured (Some state.Running) turn o = measured_run o turn.tick.0
+measured (Some state.Waiting) turn o = measured_end o (ended_at turn.ended turn.tick.0)
+measured (Some state.Dormant) turn o = measured_end o (ended_at turn.ended turn.tick.0)
+
+-- ---- the numbers behind a turn
+
 -- the changes by the state that begins; a process that is gone leaves its activation unmeasured
 abbrev pub entered : Option ProcessState → Span → Turn → Tally → Tally
 entered None window turn t = record t { activation = None }
@@ -86,5 +112,6 @@ nothing_counted = record {
   to_end = None;
   deadlines_missed = 0;
   refusals = record { no_action = 0; not_available = 0; invalid_param = 0; invalid_config = 0; invalid_mode = 0; timed_out = 0 };
+  reports = 0;
   activation = None;
 }

@@ -7,8 +7,10 @@ use Rattle.trace_stays.specs.declared.span.Span.{Span}
 use Rattle.trace_stays.specs.declared.stay.Held.{Held}
 use Rattle.trace_stays.specs.declared.stay.Stay.{Stay}
 use Rattle.trace_view.specs.Counting.{capped, ticks_in, with_times}
-use Rattle.trace_view.specs.Tallies.{ended_at, ended_running, has_tick, turned}
+use Rattle.trace_view.specs.Tallies.{ended_at, ended_running, has_tick, measured, turned}
 use Rattle.trace_view.specs.declared.states.StateTicks.{StateTicks}
+use Rattle.trace_view.specs.declared.tally.Measured.{Measured}
+use Rattle.trace_view.specs.declared.tally.Measured.TheVariants as measure
 use Rattle.trace_view.specs.declared.tally.Tally.{Tally}
 use Rattle.trace_view.specs.declared.tally.Turn.{Turn}
 
@@ -97,6 +99,30 @@ times_to_end window (turn ∷ turns) = (if is_activation window turn then first_
 abbrev pub tally_after : Span → Tally → List Turn → Tally
 tally_after window t [] = t
 tally_after window t (turn ∷ turns) = tally_after window (turned window turn t) turns
+
+abbrev pub and_measured : Option Measured → List Measured → List Measured
+and_measured None others = others
+and_measured (Some one) others = one ∷ others
+
+-- the times that these turns measure, one after another
+abbrev pub measured_by : Span → Tally → List Turn → List Measured
+measured_by window t [] = []
+measured_by window t (turn ∷ turns) = and_measured (measured turn.next turn t.activation) (measured_by window (turned window turn t) turns)
+
+abbrev pub running_times : List Measured → List ℕ
+running_times [] = []
+running_times (measure.ToRunning time ∷ others) = time ∷ running_times others
+running_times (measure.ToEnd time ∷ others) = running_times others
+
+abbrev pub end_times : List Measured → List ℕ
+end_times [] = []
+end_times (measure.ToRunning time ∷ others) = end_times others
+end_times (measure.ToEnd time ∷ others) = time ∷ end_times others
+
+-- they are those of the activations, in their order
+pub record AreTimesOf (window : Span) (turns : List Turn) (times : List Measured) : Type 0 where
+  pub to_running : running_times times ≡ times_to_running window turns
+  pub to_end : end_times times ≡ times_to_end window turns
 
 -- the ticks in this state
 abbrev pub ticks_for : ProcessState → StateTicks → ℕ

@@ -1,14 +1,15 @@
 //! The cells of tables.
 
 ghost use Rattle.std.specs.Prelude.{◌≡◌, IfOk, string_bytes};
-ghost use Rattle.trace_view.specs.Cells.{cell_text, extent_cells, greatest_cell, least_cell, mode_cells, port_cells, refusal_cells, share_cells, state_cells, tick_cell, time_cells};
+ghost use Rattle.trace_view.specs.Cells.{cell_text, extent_cells, greatest_cell, least_cell, mode_cells, number_cell, port_cells, service_cells, share_cells, state_cells, tick_cell, time_cells};
 
 use crate::extent::Extent;
 use crate::extremes::Extremes;
 use crate::messages::Messages;
 use crate::modes::ModeTicks;
-use crate::refusals::Refusals;
+use crate::responses::ResponseSpreads;
 use crate::share::Share;
+use crate::starts::Starts;
 use crate::states::StateTicks;
 use crate::tally::Tally;
 use apex_types::Ticks;
@@ -103,24 +104,39 @@ pub fn share_cells(ticks: u64, all: u64) -> [Cell; 2]
     [Cell::Number(ticks), Cell::Share(Share::of(ticks, all))]
 }
 
-/// Activations; the least and the greatest time to RUNNING, and to the end; missed deadlines.
-pub fn time_cells(tally: &Tally) -> [Cell; 6]
-    ensures { result ≡ time_cells tally.now }
+fn number_cell(number: Option<u64>) -> Cell
+    ensures { result ≡ number_cell number }
+{
+    match number {
+        Some(number) => Cell::Number(number),
+        None => Cell::Absent,
+    }
+}
+
+/// Activations; the least time to RUNNING, the median, the 95th percentile and the greatest one; the
+/// same to the end; missed deadlines.
+pub fn time_cells(tally: &Tally, spreads: ResponseSpreads) -> [Cell; 10]
+    ensures { result ≡ time_cells tally.now spreads }
 {
     [
         Cell::Number(tally.activations),
         least_cell(tally.to_running),
+        number_cell(spreads.to_running.median),
+        number_cell(spreads.to_running.ninety_fifth),
         greatest_cell(tally.to_running),
         least_cell(tally.to_end),
+        number_cell(spreads.to_end.median),
+        number_cell(spreads.to_end.ninety_fifth),
         greatest_cell(tally.to_end),
         Cell::Number(tally.deadlines_missed),
     ]
 }
 
-/// Refused services by their codes, from 1 to 6.
-pub fn refusal_cells(refusals: Refusals) -> [Cell; 6]
-    ensures { result ≡ refusal_cells refusals }
+/// Refused services by their codes, from 1 to 6, and application messages.
+pub fn service_cells(tally: &Tally) -> [Cell; 7]
+    ensures { result ≡ service_cells tally.now }
 {
+    let refusals = tally.refusals;
     [
         Cell::Number(refusals.no_action),
         Cell::Number(refusals.not_available),
@@ -128,18 +144,21 @@ pub fn refusal_cells(refusals: Refusals) -> [Cell; 6]
         Cell::Number(refusals.invalid_config),
         Cell::Number(refusals.invalid_mode),
         Cell::Number(refusals.timed_out),
+        Cell::Number(tally.reports),
     ]
 }
 
-/// The ticks in each mode.
-pub fn mode_cells(modes: ModeTicks) -> [Cell; 4]
-    ensures { result ≡ mode_cells modes }
+/// The ticks in each mode, and the starts in COLD_START and WARM_START.
+pub fn mode_cells(modes: ModeTicks, starts: Starts) -> [Cell; 6]
+    ensures { result ≡ mode_cells modes starts }
 {
     [
         Cell::Number(modes.normal),
         Cell::Number(modes.cold_start),
         Cell::Number(modes.warm_start),
         Cell::Number(modes.idle),
+        Cell::Number(starts.cold),
+        Cell::Number(starts.warm),
     ]
 }
 

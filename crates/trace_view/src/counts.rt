@@ -8,9 +8,13 @@ use crate::extent::{Extent, has_tick};
 use crate::messages::{Route, route_of};
 use crate::modes::ModeTicks;
 use crate::report::{PartitionTotal, ProcessTotal, Report, RouteTotal};
+use crate::responses::Responses;
+use crate::starts::Starts;
 use crate::tally::{Tally, Turn};
 use crate::traffic::Traffic;
-use apex_types::{ErrorKind, Event, EventKind, Name, ProcessState, ReturnCode, Subject, Ticks};
+use apex_types::{
+    ErrorKind, Event, EventKind, Mode, Name, ProcessState, ReturnCode, Subject, Ticks,
+};
 use std::alloc::Global;
 use trace_stays::{Ended, Lanes, MemoryFull, Span};
 
@@ -21,8 +25,12 @@ pub struct Counts {
     lanes: Lanes,
     /// By the places of the partitions.
     modes: Vec<ModeTicks>,
+    /// By the places of the partitions.
+    starts: Vec<Starts>,
     /// By the places of the processes.
     tallies: Vec<Tally>,
+    /// By the places of the processes.
+    responses: Vec<Responses>,
     traffic: Traffic,
     errors: Errors,
     /// The stays that the last event ended.
@@ -36,7 +44,9 @@ impl Counts {
             alloc,
             lanes: Lanes::new(alloc),
             modes: Vec::new(alloc),
+            starts: Vec::new(alloc),
             tallies: Vec::new(alloc),
+            responses: Vec::new(alloc),
             traffic: Traffic::new(alloc),
             errors: Errors::new(alloc),
             ended: Vec::new(alloc),
@@ -118,9 +128,26 @@ impl Counts {
     {
         self.modes
             .resize(self.lanes.partitions().len(), ModeTicks::new())?;
+        self.starts
+            .resize(self.lanes.partitions().len(), Starts::new())?;
         self.tallies
             .resize(self.lanes.processes().len(), Tally::new())?;
-        Ok(())
+        let processes = self.lanes.processes().len();
+        make_responses(self.alloc, processes, &mut self.responses)
+    }
+
+    /// Counts a turn of the process at this place, and takes the time that it measures.
+    fn turn_at(&mut self, place: usize, turn: Turn, window: Span) -> Result<(), MemoryFull> {
+        let Some(tally) = self.tallies.get_mut(place) else {
+            return Ok(());
+        };
+        let Some(measured) = tally.turn(turn, window) else {
+            return Ok(());
+        };
+        match self.responses.get_mut(place) {
+            Some(responses) => responses.take(measured),
+            None => Ok(()),
+        }
     }
 
     /// The place of a process, which gets one if it has none.
@@ -146,15 +173,12 @@ impl Counts {
             Some(Ended::State(_, stay)) => Some(*stay),
             _ => None,
         };
-        if let Some(tally) = self.tallies.get_mut(place) {
-            let turn = Turn {
-                tick: event.tick,
-                ended,
-                next: Some(state),
-            };
-            tally.turn(turn, window);
-        }
-        Ok(())
+        let turn = Turn {
+            tick: event.tick,
+            ended,
+            next: Some(state),
+        };
+        self.turn_at(place, turn, window)
     }
 
     /// A partition enters a mode. The processes whose stays are over are gone.
@@ -191,6 +215,8 @@ impl Counts {
         match &event.kind {
             EventKind::Return(who, _, code) => self.answer(name, who, *code),
             EventKind::Error(ErrorKind::DeadlineMissed, Some(who), _) => self.miss(name, who),
+            EventKind::Report(who, _) => self.report(name, who),
+            EventKind::Mode(mode) => self.start(name, *mode),
             kind => match route_of(kind) {
                 Some(route) => self.pass(name, route, kind),
                 None => Ok(()),
@@ -219,6 +245,24 @@ impl Counts {
         Ok(())
     }
 
+    fn report(&mut self, partition: &Name, who: &Subject) -> Result<(), MemoryFull> {
+        let place = self.process_place(partition, who)?;
+        if let Some(tally) = self.tallies.get_mut(place) {
+            tally.report();
+        }
+        Ok(())
+    }
+
+    /// Counts the start of a partition, if it enters the mode of one.
+    fn start(&mut self, partition: &Name, mode: Mode) -> Result<(), MemoryFull> {
+        let place = self.lanes.partition_place(partition)?;
+        self.make_room()?;
+        if let Some(starts) = self.starts.get_mut(place) {
+            starts.count(mode);
+        }
+        Ok(())
+    }
+
     /// Counts a message that passes.
     fn pass(&mut self, partition: &Name, route: Route, kind: &EventKind) -> Result<(), MemoryFull> {
         let partition = self.lanes.partition_place(partition)?;
@@ -227,10 +271,12 @@ impl Counts {
 
     fn partition_totals(&self) -> Result<Vec<PartitionTotal>, MemoryFull> {
         let mut totals = Vec::new(self.alloc);
-        for (lane, modes) in self.lanes.partitions().iter().zip(&self.modes) {
+        let counts = self.modes.iter().zip(&self.starts);
+        for (lane, (modes, starts)) in self.lanes.partitions().iter().zip(counts) {
             totals.push(PartitionTotal {
                 name: lane.name,
                 modes: *modes,
+                starts: *starts,
             })?;
         }
         Ok(totals)
@@ -243,12 +289,14 @@ impl Counts {
     ) -> Result<Vec<ProcessTotal>, MemoryFull> {
         let mut totals = Vec::new(self.alloc);
         for (place, partition) in partitions.iter().enumerate() {
-            for (lane, tally) in self.lanes.processes().iter().zip(&self.tallies) {
+            let tallies = self.tallies.iter().zip(&self.responses);
+            for (lane, (tally, responses)) in self.lanes.processes().iter().zip(tallies) {
                 if lane.partition == place {
                     totals.push(ProcessTotal {
                         partition: partition.name,
                         who: lane.who,
                         tally: *tally,
+                        spreads: responses.spreads(),
                     })?;
                 }
             }
@@ -269,4 +317,16 @@ impl Counts {
         }
         Ok(totals)
     }
+}
+
+/// Makes a place for the response times of so many processes.
+fn make_responses(
+    alloc: Global,
+    count: usize,
+    responses: &mut Vec<Responses>,
+) -> Result<(), MemoryFull> {
+    for _ in responses.len()..count {
+        responses.push(Responses::new(alloc))?;
+    }
+    Ok(())
 }

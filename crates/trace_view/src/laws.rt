@@ -9,7 +9,7 @@ ghost use Rattle.trace_stays.specs.declared.stay.Stay.{Stay};
 ghost use Rattle.trace_view.specs.Counting.{ticks_in};
 ghost use Rattle.trace_view.specs.Extents.{AreLinesOf, extent_after, opened};
 ghost use Rattle.trace_view.specs.Tallies.{nothing_counted};
-ghost use Rattle.trace_view.specs.Turns.{AreContiguous, AreNumbersOf, StateLine, stays_in, stays_until, tally_after, ticks_in_all};
+ghost use Rattle.trace_view.specs.Turns.{AreContiguous, AreNumbersOf, AreTimesOf, StateLine, measured_by, stays_in, stays_until, tally_after, ticks_in_all};
 ghost use Rattle.trace_view.specs.declared.tally.Turn.{Turn};
 
 /// The counts of the turns of a process one by one are the sums, the counts and the times over all
@@ -17,6 +17,13 @@ ghost use Rattle.trace_view.specs.declared.tally.Turn.{Turn};
 pub fn turns_are_counted()
     ensures { (window : Span) (turns : List Turn)
         → AreNumbersOf window turns (tally_after window nothing_counted turns) }
+{}
+
+/// The times that the turns of a process measure one by one are those of its activations: to the first
+/// RUNNING, and to the end.
+pub fn times_are_measured()
+    ensures { (window : Span) (turns : List Turn)
+        → AreTimesOf window turns (measured_by window nothing_counted turns) }
 {}
 
 /// In stays that follow one another each tick counts for one state: the ticks in the four states

@@ -5,6 +5,8 @@ use crate::extent::Extent;
 use crate::fault::ReportFault;
 use crate::messages::{Messages, Route};
 use crate::modes::ModeTicks;
+use crate::responses::ResponseSpreads;
+use crate::starts::Starts;
 use crate::tally::Tally;
 use crate::{sheet, writing};
 use apex_types::{Name, Subject};
@@ -17,6 +19,7 @@ use trace_shares::Shares;
 pub struct PartitionTotal {
     pub name: Name,
     pub modes: ModeTicks,
+    pub starts: Starts,
 }
 
 /// The numbers of a process, of INIT or of an error handler.
@@ -25,6 +28,8 @@ pub struct ProcessTotal {
     pub partition: Name,
     pub who: Subject,
     pub tally: Tally,
+    /// The percentiles of its response times.
+    pub spreads: ResponseSpreads,
 }
 
 /// The messages of a port or a channel.

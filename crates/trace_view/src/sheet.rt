@@ -1,7 +1,7 @@
 //! A report as comma-separated values.
 
 use crate::cell::{
-    Cell, cell_text, extent_cells, mode_cells, port_cells, refusal_cells, state_cells, time_cells,
+    Cell, cell_text, extent_cells, mode_cells, port_cells, service_cells, state_cells, time_cells,
 };
 use crate::errors::ErrorTotal;
 use crate::fault::ReportFault;
@@ -13,7 +13,7 @@ use std::io::Write;
 use trace_stays::subject_word;
 
 /// The columns. Each row has the first three, and those of its own group.
-static HEADINGS: [&str; 40] = [
+static HEADINGS: [&str; 47] = [
     "kind",
     "partition",
     "name",
@@ -33,8 +33,12 @@ static HEADINGS: [&str; 40] = [
     "dormant_percent",
     "activations",
     "least_to_running",
+    "median_to_running",
+    "p95_to_running",
     "greatest_to_running",
     "least_to_end",
+    "median_to_end",
+    "p95_to_end",
     "greatest_to_end",
     "deadlines_missed",
     "no_action",
@@ -43,10 +47,13 @@ static HEADINGS: [&str; 40] = [
     "invalid_config",
     "invalid_mode",
     "timed_out",
+    "messages",
     "normal",
     "cold_start",
     "warm_start",
     "idle",
+    "cold_starts",
+    "warm_starts",
     "moved",
     "arrived",
     "lost",
@@ -99,14 +106,14 @@ impl<'a, W: Write> Sheet<'a, W> {
     fn trace(&mut self, report: &Report) -> Result<(), ReportFault> {
         self.names("trace", "", "")?;
         self.cells(&extent_cells(&report.extent))?;
-        self.blanks(31)?;
+        self.blanks(38)?;
         self.end()
     }
 
     fn partition(&mut self, partition: &PartitionTotal) -> Result<(), ReportFault> {
         self.names("partition", partition.name.as_str(), "")?;
-        self.blanks(26)?;
-        self.cells(&mode_cells(partition.modes))?;
+        self.blanks(31)?;
+        self.cells(&mode_cells(partition.modes, partition.starts))?;
         self.blanks(7)?;
         self.end()
     }
@@ -116,9 +123,9 @@ impl<'a, W: Write> Sheet<'a, W> {
         self.names("process", process.partition.as_str(), who)?;
         self.blanks(6)?;
         self.cells(&state_cells(process.tally.ticks, all))?;
-        self.cells(&time_cells(&process.tally))?;
-        self.cells(&refusal_cells(process.tally.refusals))?;
-        self.blanks(11)?;
+        self.cells(&time_cells(&process.tally, process.spreads))?;
+        self.cells(&service_cells(&process.tally))?;
+        self.blanks(13)?;
         self.end()
     }
 
@@ -126,13 +133,13 @@ impl<'a, W: Write> Sheet<'a, W> {
         match &total.route {
             Route::Port(port) => {
                 self.names("port", total.partition.as_str(), port.as_str())?;
-                self.blanks(30)?;
+                self.blanks(37)?;
                 self.cells(&port_cells(total.messages))?;
                 self.blanks(4)?;
             }
             Route::Channel(channel) => {
                 self.names("channel", total.partition.as_str(), channel.as_str())?;
-                self.blanks(33)?;
+                self.blanks(40)?;
                 self.cells(&[Cell::Number(total.messages.out)])?;
                 self.blanks(3)?;
             }
@@ -142,7 +149,7 @@ impl<'a, W: Write> Sheet<'a, W> {
 
     fn error(&mut self, total: &ErrorTotal) -> Result<(), ReportFault> {
         self.names("error", total.partition_word(), total.error_word())?;
-        self.blanks(34)?;
+        self.blanks(41)?;
         self.text(total.level_word())?;
         self.text(total.action_word())?;
         self.cells(&[Cell::Number(total.lines)])?;

@@ -9,8 +9,8 @@ use apex_types::{Event, Ticks};
 use std::alloc::Global;
 use trace_shares::{Shares, SharesFault};
 
-/// Counts the events of a trace, one by one. Its memory grows only with the partitions, processes,
-/// ports and channels.
+/// Counts the events of a trace, one by one. Its memory grows with the partitions, processes, ports and
+/// channels, and with the response times of a process that differ.
 #[derive(Drop)]
 pub struct Summary {
     to: Option<Ticks>,
@@ -51,6 +51,25 @@ impl Summary {
         let window = self.extent.window;
         if event.tick.0 < window.until.0 {
             self.counts.count(event, window)?;
+            if let Some(shares) = &mut self.shares {
+                shares.follow(event)?;
+            }
+        }
+        Ok(())
+    }
+
+    /// Passes over the next event of the trace: its line does not count. What the processor does is
+    /// counted by all lines.
+    ///
+    /// # Errors
+    ///
+    /// Memory ran out, or the line is of a partition that the module table has not.
+    pub fn pass(&mut self, event: &Event) -> Result<(), SharesFault>
+        ensures to { self.new.to ≡ self.old.to }
+        ensures extent { self.new.extent ≡ self.old.extent }
+        ensures counts { self.new.counts ≡ self.old.counts }
+    {
+        if event.tick.0 < self.extent.window.until.0 {
             if let Some(shares) = &mut self.shares {
                 shares.follow(event)?;
             }

@@ -20,6 +20,15 @@ pub struct Turn {
     pub next: Option<ProcessState>,
 }
 
+/// The ticks from the READY of an activation, as a turn measures them.
+#[derive(Clone, Copy, Debug, PartialEq, Eq)]
+pub enum Measured {
+    /// To its first RUNNING.
+    ToRunning(u64),
+    /// To the end of its last stay before WAITING or DORMANT.
+    ToEnd(u64),
+}
+
 /// An activation that is not over.
 #[derive(Clone, Copy, Debug, PartialEq, Eq)]
 struct Activation {
@@ -42,12 +51,14 @@ pub struct Tally {
     pub to_end: Option<Extremes>,
     pub deadlines_missed: u64,
     pub refusals: Refusals,
+    /// The application messages that it sent.
+    pub reports: u64,
     activation: Option<Activation>,
 }
 
 impl Tally {
     ghost use Rattle.trace_view.specs.Counting.{capped, with_answer};
-    ghost use Rattle.trace_view.specs.Tallies.{begun, ended_running, nothing_counted, over, run, turned, with_ended};
+    ghost use Rattle.trace_view.specs.Tallies.{begun, ended_running, measured, measured_end, measured_run, nothing_counted, over, run, turned, with_ended};
 
     /// A process without counts.
     pub fn new() -> Tally
@@ -60,22 +71,31 @@ impl Tally {
             to_end: None,
             deadlines_missed: 0,
             refusals: Refusals::new(),
+            reports: 0,
             activation: None,
         }
     }
 
-    /// Counts a turn of the process. Only the ticks and the activations of the window count.
-    pub fn turn(&mut self, turn: Turn, window: Span)
-        ensures { self.new ≡ turned window turn self.old }
+    /// Counts a turn of the process, and returns the time that it measures. Only the ticks and the
+    /// activations of the window count.
+    pub fn turn(&mut self, turn: Turn, window: Span) -> Option<Measured>
+        ensures turned { self.new ≡ turned window turn self.old }
+        ensures measured { result ≡ measured turn.next turn self.old.activation }
     {
         if let Some(stay) = turn.ended {
             self.stay(stay, window);
         }
         match turn.next {
-            Some(ProcessState::Ready) => self.become_ready(turn, window),
+            Some(ProcessState::Ready) => {
+                self.become_ready(turn, window);
+                None
+            }
             Some(ProcessState::Running) => self.run(turn.tick),
             Some(ProcessState::Waiting | ProcessState::Dormant) => self.end(turn.end()),
-            None => self.activation = None,
+            None => {
+                self.activation = None;
+                None
+            }
         }
     }
 
@@ -91,6 +111,13 @@ impl Tally {
         ensures { self.new ≡ record self.old { refusals = with_answer code self.old.refusals } }
     {
         self.refusals.count(code);
+    }
+
+    /// Counts an application message.
+    pub fn report(&mut self)
+        ensures { self.new ≡ record self.old { reports = capped (self.old.reports + 1) } }
+    {
+        self.reports = self.reports.saturating_add(1);
     }
 
     /// Counts a missed deadline.
@@ -119,31 +146,35 @@ impl Tally {
         }
     }
 
-    /// The process becomes RUNNING.
-    fn run(&mut self, tick: Ticks)
-        ensures { self.new ≡ run self.old.activation tick.0 self.old }
+    /// The process becomes RUNNING. Returns the time to it, if it is the first RUNNING of an
+    /// activation.
+    fn run(&mut self, tick: Ticks) -> Option<Measured>
+        ensures tally { self.new ≡ run self.old.activation tick.0 self.old }
+        ensures measured { result ≡ measured_run self.old.activation tick.0 }
     {
-        if let Some(activation) = self.activation {
-            if !activation.has_run {
-                let ticks = tick.0.saturating_sub(activation.ready.0);
-                self.to_running = Some(Extremes::with(self.to_running, ticks));
-                self.activation = Some(Activation {
-                    ready: activation.ready,
-                    has_run: true,
-                });
-            }
+        let activation = self.activation?;
+        if activation.has_run {
+            return None;
         }
+        let ticks = tick.0.saturating_sub(activation.ready.0);
+        self.to_running = Some(Extremes::with(self.to_running, ticks));
+        self.activation = Some(Activation {
+            ready: activation.ready,
+            has_run: true,
+        });
+        Some(Measured::ToRunning(ticks))
     }
 
-    /// The activation ends before this tick.
-    fn end(&mut self, end: Ticks)
-        ensures { self.new ≡ over self.old.activation end.0 self.old }
+    /// The activation ends before this tick. Returns the time to it, if there is an activation.
+    fn end(&mut self, end: Ticks) -> Option<Measured>
+        ensures tally { self.new ≡ over self.old.activation end.0 self.old }
+        ensures measured { result ≡ measured_end self.old.activation end.0 }
     {
-        if let Some(activation) = self.activation {
-            let ticks = end.0.saturating_sub(activation.ready.0);
-            self.to_end = Some(Extremes::with(self.to_end, ticks));
-            self.activation = None;
-        }
+        let activation = self.activation?;
+        let ticks = end.0.saturating_sub(activation.ready.0);
+        self.to_end = Some(Extremes::with(self.to_end, ticks));
+        self.activation = None;
+        Some(Measured::ToEnd(ticks))
     }
 }
 

@@ -1,7 +1,7 @@
 //! The tables of a report.
 
 use crate::cell::{
-    Cell, extent_cells, mode_cells, port_cells, refusal_cells, state_cells, time_cells,
+    Cell, extent_cells, mode_cells, port_cells, service_cells, state_cells, time_cells,
 };
 use crate::errors::ErrorTotal;
 use crate::fault::ReportFault;
@@ -25,7 +25,7 @@ pub fn write_tables<W: Write>(
         write_usage(alloc, shares, report.extent.window.ticks(), out)?;
     }
     write_times(alloc, report, out)?;
-    write_refusals(alloc, report, out)?;
+    write_services(alloc, report, out)?;
     write_modes(alloc, report, out)?;
     write_errors(alloc, report, out)?;
     write_ports(alloc, report, out)?;
@@ -57,15 +57,19 @@ fn write_times<W: Write>(alloc: Global, report: &Report, out: &mut W) -> Result<
     let numbers = [
         "activations",
         "least to RUNNING",
+        "median",
+        "95 %",
         "greatest",
         "least to end",
+        "median",
+        "95 %",
         "greatest",
         "deadlines missed",
     ];
     let mut table = Table::new(alloc, &["partition", "process"], &numbers)?;
     for process in &report.processes {
         let names = [process.partition.as_str(), subject_word(&process.who)];
-        table.add(&names, &time_cells(&process.tally))?;
+        table.add(&names, &time_cells(&process.tally, process.spreads))?;
     }
     table.write(
         "\nProcesses: activations, and ticks from READY to RUNNING and to the end",
@@ -73,7 +77,7 @@ fn write_times<W: Write>(alloc: Global, report: &Report, out: &mut W) -> Result<
     )
 }
 
-fn write_refusals<W: Write>(
+fn write_services<W: Write>(
     alloc: Global,
     report: &Report,
     out: &mut W,
@@ -85,22 +89,34 @@ fn write_refusals<W: Write>(
         "INVALID_CONFIG",
         "INVALID_MODE",
         "TIMED_OUT",
+        "messages",
     ];
     let mut table = Table::new(alloc, &["partition", "process"], &numbers)?;
     for process in &report.processes {
         let names = [process.partition.as_str(), subject_word(&process.who)];
-        table.add(&names, &refusal_cells(process.tally.refusals))?;
+        table.add(&names, &service_cells(&process.tally))?;
     }
-    table.write("\nProcesses: services refused, by their codes", out)
+    table.write(
+        "\nProcesses: services refused, by their codes, and application messages",
+        out,
+    )
 }
 
 fn write_modes<W: Write>(alloc: Global, report: &Report, out: &mut W) -> Result<(), ReportFault> {
-    let numbers = ["NORMAL", "COLD_START", "WARM_START", "IDLE"];
+    let numbers = [
+        "NORMAL",
+        "COLD_START",
+        "WARM_START",
+        "IDLE",
+        "cold starts",
+        "warm starts",
+    ];
     let mut table = Table::new(alloc, &["partition"], &numbers)?;
     for partition in &report.partitions {
-        table.add(&[partition.name.as_str()], &mode_cells(partition.modes))?;
+        let cells = mode_cells(partition.modes, partition.starts);
+        table.add(&[partition.name.as_str()], &cells)?;
     }
-    table.write("\nPartitions: ticks in each mode", out)
+    table.write("\nPartitions: ticks in each mode, and starts", out)
 }
 
 fn write_errors<W: Write>(alloc: Global, report: &Report, out: &mut W) -> Result<(), ReportFault> {

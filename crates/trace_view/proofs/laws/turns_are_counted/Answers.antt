@@ -1,5 +1,5 @@
 use Rattle.trace_view.proofs.Sums.{sum_of_ticks, sum_of_activations}
-use Rattle.trace_view.proofs.Times.{times_run, times_end}
+use Rattle.trace_view.proofs.ActivationTimes.{times_run, times_end}
 use Rattle.trace_view.proofs.laws.turns_are_counted.Goals as goal
 
 pub returns : goal.returns

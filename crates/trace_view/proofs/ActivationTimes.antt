@@ -15,20 +15,20 @@ use Rattle.trace_view.specs.declared.tally.Turn.{Turn}
 -- ---- to RUNNING
 
 -- the time of an activation that is not over, in the turns to come
-abbrev open_run_if : Bool → ℕ → List Turn → List ℕ
+abbrev pub open_run_if : Bool → ℕ → List Turn → List ℕ
 open_run_if true ready turns = []
 open_run_if false ready turns = first_running ready turns
 
-abbrev open_run : Option Activation → List Turn → List ℕ
+abbrev pub open_run : Option Activation → List Turn → List ℕ
 open_run None turns = []
 open_run (Some a) turns = open_run_if a.has_run a.ready.0 turns
 
 -- the same, if the next turn is to this state
-abbrev next_run_if : Bool → ℕ → Option ProcessState → Bool → ℕ → List Turn → List ℕ
+abbrev pub next_run_if : Bool → ℕ → Option ProcessState → Bool → ℕ → List Turn → List ℕ
 next_run_if true ready next preempted tick turns = []
 next_run_if false ready next preempted tick turns = first_running_if next preempted (tick - ready) (first_running ready turns)
 
-abbrev next_run : Option Activation → Option ProcessState → Bool → ℕ → List Turn → List ℕ
+abbrev pub next_run : Option Activation → Option ProcessState → Bool → ℕ → List Turn → List ℕ
 next_run None next preempted tick turns = []
 next_run (Some a) next preempted tick turns = next_run_if a.has_run a.ready.0 next preempted tick turns
 
@@ -36,7 +36,7 @@ open_run_if-cons : (h : Bool) (ready : ℕ) (turn : Turn) (turns : List Turn) �
 open_run_if-cons true ready turn turns = refl
 open_run_if-cons false ready turn turns = refl
 
-open_run-cons : (o : Option Activation) (turn : Turn) (turns : List Turn) → open_run o (turn ∷ turns) ≡ next_run o turn.next (ended_running turn.ended) turn.tick.0 turns
+pub open_run-cons : (o : Option Activation) (turn : Turn) (turns : List Turn) → open_run o (turn ∷ turns) ≡ next_run o turn.next (ended_running turn.ended) turn.tick.0 turns
 open_run-cons None turn turns = refl
 open_run-cons (Some a) turn turns = open_run_if-cons a.has_run a.ready.0 turn turns
 
@@ -44,7 +44,7 @@ open_run_if-nil : (h : Bool) (ready : ℕ) → open_run_if h ready [] ≡ []
 open_run_if-nil true ready = refl
 open_run_if-nil false ready = refl
 
-open_run-nil : (o : Option Activation) → open_run o [] ≡ []
+pub open_run-nil : (o : Option Activation) → open_run o [] ≡ []
 open_run-nil None = refl
 open_run-nil (Some a) = open_run_if-nil a.has_run a.ready.0
 
@@ -69,23 +69,23 @@ preempted_if : (h : Bool) (ready tick : ℕ) (turns : List Turn) → next_run_if
 preempted_if true ready tick turns = refl
 preempted_if false ready tick turns = refl
 
-none_next : (o : Option Activation) (p : Bool) (tick : ℕ) (turns : List Turn) → next_run o None p tick turns ≡ []
+pub none_next : (o : Option Activation) (p : Bool) (tick : ℕ) (turns : List Turn) → next_run o None p tick turns ≡ []
 none_next None p tick turns = refl
 none_next (Some a) p tick turns = none_if a.has_run p a.ready.0 tick turns
 
-waiting_next : (o : Option Activation) (p : Bool) (tick : ℕ) (turns : List Turn) → next_run o (Some state.Waiting) p tick turns ≡ []
+pub waiting_next : (o : Option Activation) (p : Bool) (tick : ℕ) (turns : List Turn) → next_run o (Some state.Waiting) p tick turns ≡ []
 waiting_next None p tick turns = refl
 waiting_next (Some a) p tick turns = waiting_if a.has_run p a.ready.0 tick turns
 
-dormant_next : (o : Option Activation) (p : Bool) (tick : ℕ) (turns : List Turn) → next_run o (Some state.Dormant) p tick turns ≡ []
+pub dormant_next : (o : Option Activation) (p : Bool) (tick : ℕ) (turns : List Turn) → next_run o (Some state.Dormant) p tick turns ≡ []
 dormant_next None p tick turns = refl
 dormant_next (Some a) p tick turns = dormant_if a.has_run p a.ready.0 tick turns
 
-ready_next : (o : Option Activation) (tick : ℕ) (turns : List Turn) → next_run o (Some state.Ready) false tick turns ≡ []
+pub ready_next : (o : Option Activation) (tick : ℕ) (turns : List Turn) → next_run o (Some state.Ready) false tick turns ≡ []
 ready_next None tick turns = refl
 ready_next (Some a) tick turns = ready_if a.has_run a.ready.0 tick turns
 
-preempted_next : (o : Option Activation) (tick : ℕ) (turns : List Turn) → next_run o (Some state.Ready) true tick turns ≡ open_run o turns
+pub preempted_next : (o : Option Activation) (tick : ℕ) (turns : List Turn) → next_run o (Some state.Ready) true tick turns ≡ open_run o turns
 preempted_next None tick turns = refl
 preempted_next (Some a) tick turns = preempted_if a.has_run a.ready.0 tick turns
 
@@ -146,7 +146,7 @@ ended-to_end : (window : Span) (ended : Option Stay) (t : Tally) → (with_ended
 ended-to_end window None t = refl
 ended-to_end window (Some stay) t = refl
 
-ended-activation : (window : Span) (ended : Option Stay) (t : Tally) → (with_ended window ended t).activation ≡ t.activation
+pub ended-activation : (window : Span) (ended : Option Stay) (t : Tally) → (with_ended window ended t).activation ≡ t.activation
 ended-activation window None t = refl
 ended-activation window (Some stay) t = refl
 
@@ -169,32 +169,32 @@ times_run window turns = run_after window turns nothing_counted
 -- ---- to the end
 
 -- the time of an activation that is not over, in the turns to come
-abbrev open_end : Option Activation → List Turn → List ℕ
+abbrev pub open_end : Option Activation → List Turn → List ℕ
 open_end None turns = []
 open_end (Some a) turns = first_end a.ready.0 turns
 
 -- the same, if the next turn is to this state, and its stay ended there
-abbrev next_end : Option Activation → Option ProcessState → Bool → ℕ → List Turn → List ℕ
+abbrev pub next_end : Option Activation → Option ProcessState → Bool → ℕ → List Turn → List ℕ
 next_end None next preempted end turns = []
 next_end (Some a) next preempted end turns = first_end_if next preempted (end - a.ready.0) (first_end a.ready.0 turns)
 
-open_end-cons : (o : Option Activation) (turn : Turn) (turns : List Turn) → open_end o (turn ∷ turns) ≡ next_end o turn.next (ended_running turn.ended) (ended_at turn.ended turn.tick.0) turns
+pub open_end-cons : (o : Option Activation) (turn : Turn) (turns : List Turn) → open_end o (turn ∷ turns) ≡ next_end o turn.next (ended_running turn.ended) (ended_at turn.ended turn.tick.0) turns
 open_end-cons None turn turns = refl
 open_end-cons (Some a) turn turns = refl
 
-open_end-nil : (o : Option Activation) → open_end o [] ≡ []
+pub open_end-nil : (o : Option Activation) → open_end o [] ≡ []
 open_end-nil None = refl
 open_end-nil (Some a) = refl
 
-gone_end : (o : Option Activation) (p : Bool) (end : ℕ) (turns : List Turn) → next_end o None p end turns ≡ []
+pub gone_end : (o : Option Activation) (p : Bool) (end : ℕ) (turns : List Turn) → next_end o None p end turns ≡ []
 gone_end None p end turns = refl
 gone_end (Some a) p end turns = refl
 
-ready_end : (o : Option Activation) (end : ℕ) (turns : List Turn) → next_end o (Some state.Ready) false end turns ≡ []
+pub ready_end : (o : Option Activation) (end : ℕ) (turns : List Turn) → next_end o (Some state.Ready) false end turns ≡ []
 ready_end None end turns = refl
 ready_end (Some a) end turns = refl
 
-preempted_end : (o : Option Activation) (end : ℕ) (turns : List Turn) → next_end o (Some state.Ready) true end turns ≡ open_end o turns
+pub preempted_end : (o : Option Activation) (end : ℕ) (turns : List Turn) → next_end o (Some state.Ready) true end turns ≡ open_end o turns
 preempted_end None end turns = refl
 preempted_end (Some a) end turns = refl
 
