@@ -26,9 +26,7 @@ returns-in_err-show_findings-clause-refused g c =
     c.as_slice-rows.ensures.value c.as_slice-trees.ensures.value c.as_slice-sources.ensures.value none c.in_ok-add_found.ensures in
     told_as _ Write c.from_residual-in_err-show_findings.result c.from_residual-in_err-show_findings.ensures (
       c.in_err-show_findings.ensures.failed,
-      (
-        c.as_slice-shown.result.now,
-        subst (λ (found : List PartitionFindings). AreFoundOfModule m found) (sym c.as_slice-shown.ensures.value) are,
-        c.in_err-show_findings.ensures.beginning,
-      ),
+      c.as_slice-shown.result.now,
+      subst (λ (found : List PartitionFindings). AreFoundOfModule m found) (sym c.as_slice-shown.ensures.value) are,
+      c.in_err-show_findings.ensures.beginning,
     )
