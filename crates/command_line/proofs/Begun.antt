@@ -32,7 +32,7 @@ pub whole_of : (suffices : List ℕ → Bool) (files : Option Contents) (name by
 whole_of suffices None name bytes held = (bytes, tt, ([], sym (append-nil bytes), inl refl))
 whole_of suffices (Some files) name bytes held = held
 
-all_of : (whole bytes rest : List ℕ) → whole ≡ bytes ++ rest → rest ≡ [] → whole ≡ bytes
+pub all_of : (whole bytes rest : List ℕ) → whole ≡ bytes ++ rest → rest ≡ [] → whole ≡ bytes
 all_of whole bytes rest is none = is ∙ ap (λ r. bytes ++ r) none ∙ append-nil bytes
 
 -- what is said of the beginning is said of the whole

@@ -45,10 +45,10 @@ module _ (whole bytes : List ℕ) (begun : IsBeginningOf settles_table whole byt
       go (rest, is, inr enough) = absurd (no_document bytes [] ms enough (subst (λ t. IsDocument t ms) (sym (append-nil bytes)) d))
 
   no_whole : ((ms : Members) → IsDocument bytes ms → ⊥) → (ms : Members) → IsDocument whole ms → ⊥
-  no_whole no ms d = go begun
+  no_whole lacks ms d = go begun
     where
       go : IsBeginningOf settles_table whole bytes → ⊥
-      go (rest, is, inl none) = no ms (subst (λ t. IsDocument t ms) (all_of whole bytes rest is none) d)
+      go (rest, is, inl none) = lacks ms (subst (λ t. IsDocument t ms) (all_of whole bytes rest is none) d)
       go (rest, is, inr enough) = no_document bytes rest ms enough (subst (λ t. IsDocument t ms) is d)
 
   document_whole : (ms : Members) → IsDocument bytes ms → IsDocument whole ms
@@ -73,10 +73,10 @@ module _ (whole bytes : List ℕ) (begun : IsBeginningOf settles_source whole by
       go (rest, is, inr enough) = absurd (no_source bytes [] enough (subst IsText (sym (append-nil bytes)) d))
 
   no_whole_source : (IsText bytes → ⊥) → IsText whole → ⊥
-  no_whole_source no d = go begun
+  no_whole_source lacks d = go begun
     where
       go : IsBeginningOf settles_source whole bytes → ⊥
-      go (rest, is, inl none) = no (subst IsText (all_of whole bytes rest is none) d)
+      go (rest, is, inl none) = lacks (subst IsText (all_of whole bytes rest is none) d)
       go (rest, is, inr enough) = no_source bytes rest enough (subst IsText is d)
 
   text_refused : (r : Refusal) → IsRefused r bytes → IsRefused r whole
@@ -100,7 +100,7 @@ module _ (whole bytes : List ℕ) (begun : IsBeginningOf settles_source whole by
 
 -- ---- sources
 
-AllBegun : List (List ℕ) → List (List ℕ) → Type 0
+abbrev pub AllBegun : List (List ℕ) → List (List ℕ) → Type 0
 AllBegun [] [] = Unit {0}
 AllBegun (whole ∷ wholes) (bytes ∷ texts) = IsBeginningOf settles_source whole bytes × AllBegun wholes texts
 AllBegun _ _ = ⊥
@@ -207,14 +207,17 @@ module _ (files now : Option Contents) (table : List ℕ) (names : List (List �
     texts_of_files = record { table_text = own_table.0; source_texts = own_sources.0; in_table = own_table.1; in_sources = own_sources.1 }
 
     pub built_of_files : {A E : Type 0} (view : A → List ℕ) (answer : Result A E) → IfOk answer (λ image. IsImageOf given texts (view image)) → IfOk answer (λ image. IsBuilt files table names (view image))
+    unfolding texts_of_files own_table own_sources
     built_of_files view (Ok image) h = record { texts = texts_of_files; built = image_whole own_table.0 given own_sources.0 texts own_table.2 own_sources.2 (view image) h }
     built_of_files view (Err e) h = tt
 
     pub costed_of_files : {A E : Type 0} (view : A → List PartitionCosts) (answer : Result A E) → IfOk answer (λ costs. AreCosts given texts (view costs)) → IfOk answer (λ costs. done.AreCosted files table names (view costs))
+    unfolding texts_of_files own_table own_sources
     costed_of_files view (Ok costs) h = record { texts = texts_of_files; costed = costs_whole own_table.0 given own_sources.0 texts own_table.2 own_sources.2 (view costs) h }
     costed_of_files view (Err e) h = tt
 
     pub refused_of_files : {A : Type 0} (answer : Result A refusal.Refusal) → IfErr answer (λ r. IsRefusedText given texts r) → IfErr answer (λ r. IsNotBuilt files table names r)
+    unfolding texts_of_files own_table own_sources
     refused_of_files (Ok image) h = tt
     refused_of_files (Err (refusals.Build fault)) h = (texts_of_files, refusal_whole own_table.0 given own_sources.0 texts own_table.2 own_sources.2 fault h)
     refused_of_files (Err (refusals.Run fault)) h = absurd h
@@ -225,6 +228,7 @@ module _ (files now : Option Contents) (table : List ℕ) (names : List (List �
     refused_of_files (Err refusals.Write) h = absurd h
 
     pub uncosted_of_files : {A : Type 0} (answer : Result A refusal.Refusal) → IfErr answer (λ r. IsUncostedText given texts r) → IfErr answer (λ r. IsNotCosted files table names r)
+    unfolding texts_of_files own_table own_sources
     uncosted_of_files (Ok image) h = tt
     uncosted_of_files (Err (refusals.Build fault)) h = (texts_of_files, cost_refusal_whole own_table.0 given own_sources.0 texts own_table.2 own_sources.2 fault h)
     uncosted_of_files (Err (refusals.Run fault)) h = absurd h
@@ -258,7 +262,7 @@ cut_by most text bytes (rest, begun, why) = go (nat_lt most (length bytes)) refl
     go true long =
         let many : most < length bytes = ltb-true most (length bytes) long in
         let split : text ≡ take (most + 1) bytes ++ (drop (most + 1) bytes ++ rest) =
-            begun ∙ ap (λ b. b ++ rest) (sym (take-append-drop (most + 1) bytes)) ∙ append_assoc (take (most + 1) bytes) (drop (most + 1) bytes) rest in
+        begun ∙ ap (λ b. b ++ rest) (sym (take-append-drop (most + 1) bytes)) ∙ append_assoc (take (most + 1) bytes) (drop (most + 1) bytes) rest in
         let size : length (take (most + 1) bytes) ≡ most + 1 = length-take-le (most + 1) bytes (omega (arith, many)) in
         (drop (most + 1) bytes ++ rest, split, inr (lt-ltb most (length (take (most + 1) bytes)) (omega (arith, size))))
 
