@@ -8,22 +8,16 @@ use std::fmt::Display;
 use std::time::{Clock, Duration, Instant};
 use streams::Stream;
 
-/// Of so many offers in a row, at least one looks at the clock.
-const MOST_UNSEEN: u32 = 64;
-
 /// So many milliseconds at least lie between two flushes that nobody asks for.
 const LEAST_APART: u64 = 50;
 
-/// A stream that is flushed without being asked. An offer looks at the clock if it is of no bytes,
-/// or if none of the 64 before it did. If bytes are kept back then, and the last flush of this kind
-/// is 0.05 seconds ago, they go out first. So a byte goes out at the first look that is 0.05 seconds
-/// or more behind it, or at an earlier one.
+/// A stream that is flushed without being asked. An offer of no bytes looks at the clock, and if the
+/// last flush of this kind is 0.05 seconds ago, what is kept back goes out. Offers of bytes do not
+/// look: many of them fill what keeps them back, which then goes out by itself.
 #[derive(Drop)]
 pub struct PromptStream<'a, S: Stream, C: Clock> {
     stream: S,
     clock: &'a C,
-    keeps_bytes: bool,
-    unseen: u32,
     flushed: Option<Instant>,
 }
 
@@ -35,22 +29,8 @@ impl<'a, S: Stream, C: Clock> PromptStream<'a, S, C> {
         PromptStream {
             stream,
             clock,
-            keeps_bytes: false,
-            unseen: 0,
             flushed: None,
         }
-    }
-
-    /// Whether an offer looks at the clock.
-    fn looks(&mut self, bytes: &[u8]) -> bool
-        ensures { self.new.stream ≡ self.old.stream }
-    {
-        if bytes.is_empty() || self.unseen >= MOST_UNSEEN {
-            self.unseen = 0;
-            return true;
-        }
-        self.unseen += 1;
-        false
     }
 
     /// Looks at the clock, and flushes what has been kept back for long. A clock that cannot be
@@ -63,9 +43,6 @@ impl<'a, S: Stream, C: Clock> PromptStream<'a, S, C> {
         ensures failed { OnErr result
             (S.failures self.new.stream ≡ S.failures self.old.stream + 1) }
     {
-        if !self.keeps_bytes {
-            return Ok(());
-        }
         let now = Instant::now(self.clock).ok();
         if is_soon(self.flushed, now) {
             return Ok(());
@@ -91,13 +68,10 @@ impl<'a, S: Stream, C: Clock> Sink for PromptStream<'a, S, C> {
     ghost failures = { λ s. S.failures s.stream };
 
     fn put(&mut self, bytes: &[u8]) -> Result<usize, SinkFault> {
-        if self.looks(bytes) {
-            self.look()?;
-        }
         if bytes.is_empty() {
+            self.look()?;
             return Ok(0);
         }
-        self.keeps_bytes = true;
         self.stream.put(bytes)
     }
 }
@@ -106,12 +80,10 @@ impl<'a, S: Stream, C: Clock> Stream for PromptStream<'a, S, C> {
     ghost is_flushed = { λ s. S.is_flushed s.stream };
 
     fn put_text<D: Display + Drop>(&mut self, text: D) -> Result<(), SinkFault> {
-        self.keeps_bytes = true;
         self.stream.put_text(text)
     }
 
     fn flush(&mut self) -> Result<(), SinkFault> {
-        self.keeps_bytes = false;
         self.stream.flush()
     }
 }

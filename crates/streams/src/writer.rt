@@ -34,9 +34,17 @@ impl<W: Write> Sink for WriterStream<W> {
 
     fn put(&mut self, bytes: &[u8]) -> Result<usize, SinkFault> {
         self.is_flushed = false;
-        let taken = self.writer.write(bytes).map_err(|_| SinkFault);
-        self.failures += u64::from(taken.is_err() || taken == Ok(0) && !bytes.is_empty());
-        taken
+        match self.writer.write(bytes) {
+            Ok(0) if !bytes.is_empty() => {
+                self.failures += 1;
+                Ok(0)
+            }
+            Ok(count) => Ok(count),
+            Err(_) => {
+                self.failures += 1;
+                Err(SinkFault)
+            }
+        }
     }
 }
 
