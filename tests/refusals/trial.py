@@ -65,10 +65,13 @@ class Watched:
 
 
 def commands(sources, partition, ticks):
-    """The words of each command of `mb` on a module, by its name, in an order in which one leaves what the next one reads."""
+    """The words of each command of `mb` on a module, by its name, in an order in which one leaves what the next one reads. With its sources in
+    the wrong order `lint` has something to write."""
     return {
         "check": ["check", "table", *sources],
         "cost": ["cost", "table", *sources],
+        "lint": ["lint", "table", *reversed(sources)],
+        "load": ["load", "table", *sources],
         "build": ["build", "table", "image", *sources],
         "upgrade": ["upgrade", "old", "image"],
         "dis": ["dis", "image"],

@@ -1,6 +1,6 @@
 -- From the outcome of a command to its exit status.
 use Rattle.std.proofs.Common.{◌≡◌, ◌⊎◌, inl, inr, ℕ, ◌+◌, ◌-◌, ◌^◌, ◌<◌, Bool, true, false, List, [], ◌∷◌, Some, Result, Ok, Err, refl, sym, ap, subst, ◌∙◌, arith}
-use Rattle.std.specs.Prelude.{IfErr, OnOk}
+use Rattle.std.specs.Prelude.{IfOk, IfErr, OnOk}
 use Rattle.clap.specs.Faults.{is_simple_and_free}
 use Rattle.clap.specs.Kinds.{Kinds, IsAmong}
 use Rattle.clap.specs.Values.{kind_of}
@@ -12,9 +12,11 @@ use Rattle.command_words.specs.Kinds.{AskForHelp, IsHelp, IsMistake}
 use Rattle.command_words.specs.Told.{CanTakeHelp, IsUsageTold}
 use Rattle.command_words.proofs.ErrorKinds.{help_or}
 use Rattle.command_line.specs.Answers.{AreNoCommand, IsAnswer, IsTold}
-use Rattle.command_line.specs.Done.{IsDone}
+use Rattle.command_line.specs.Done.{IsDoneWith}
 use Rattle.command_line.specs.Lines.{line_of}
-use Rattle.command_line.specs.Orders.{Order, First, Check, Build, Run, Replay, Inputs, Cost, Dis, Upgrade, Load}
+use Rattle.command_line.specs.declared.outcome.Outcome.{Outcome}
+use Rattle.command_line.specs.declared.outcome.Outcome.TheVariants.{Usual, Remarkable}
+use Rattle.command_line.specs.Orders.{Order, First, Check, Build, Run, Replay, Inputs, Cost, Dis, Upgrade, Load, Lint}
 use Rattle.command_line.specs.Refusals.{IsFailure, IsFailureOfWords, IsRefused, IsWrongTicks}
 use Rattle.command_line.specs.States.{IsSilent, State, state}
 use Rattle.command_line.specs.Told.{IsOfFailedFile}
@@ -42,15 +44,16 @@ memory_refused (Inputs image partition devices ticks) s = (inr refl, (refl, (ref
 memory_refused (Cost table sources) s = ((refl, (refl, refl)), tt)
 memory_refused (Dis image) s = ((refl, (refl, refl)), tt)
 memory_refused (Upgrade old new) s = ((refl, refl), inl (refl, tt))
+memory_refused (Lint table sources) s = ((refl, (refl, refl)), tt)
 memory_refused (Load form table []) s = ((refl, (refl, refl)), tt)
 memory_refused (Load form table (source ∷ sources)) s = ((refl, (refl, refl)), tt)
 
 -- words that the library takes, whose order is not done
-pub order_failed : (kinds : Kinds) (own order : Order) (before after : State) (answer : Result (Unit {0}) (Failure Refusal)) → kinds ≡ [] → own ≡ order
+pub order_failed : (kinds : Kinds) (own order : Order) (before after : State) (answer : Result Outcome (Failure Refusal)) → kinds ≡ [] → own ≡ order
     → IfErr answer (λ f. IsFailure own before after f) → IfErr answer (λ f. IsFailureOfWords kinds order before after f)
 order_failed kinds own order before after answer none same h = go answer (subst (λ o. IfErr answer (λ f. IsFailure o before after f)) same h)
   where
-    go : (answer : Result (Unit {0}) (Failure Refusal)) → IfErr answer (λ f. IsFailure order before after f) → IfErr answer (λ f. IsFailureOfWords kinds order before after f)
+    go : (answer : Result Outcome (Failure Refusal)) → IfErr answer (λ f. IsFailure order before after f) → IfErr answer (λ f. IsFailureOfWords kinds order before after f)
     go (Ok x) h = tt
     go (Err (Refused (refusal.Build fault))) h = (none, h)
     go (Err (Refused (refusal.Run fault))) h = (none, h)
@@ -71,6 +74,7 @@ of_usage kinds order asked before mid old_failed new_failed new_out old_err new_
       range = omega (arith, it.0);
       done = λ zero. absurd (omega (arith, it.0, zero));
       refused = λ one. absurd (omega (arith, it.0, one));
+      remarkable = λ three. absurd (omega (arith, it.0, three));
       usage = λ two. ((untouched.0, subst (IsSilent before.out) (sym it.1) untouched.1), unfailed, no_command why, it.2);
     }
   where
@@ -93,26 +97,38 @@ of_usage kinds order asked before mid old_failed new_failed new_out old_err new_
       done = λ z. (((flushed.0 ∙ untouched.1.1, flushed.1), inr (wants why, untouched.0)), unfailed, quiet);
       refused = λ one. absurd (omega (arith, zero, one));
       usage = λ two. absurd (omega (arith, zero, two));
+      remarkable = λ three. absurd (omega (arith, zero, three));
     }
     by (inr (one, failed, line)) = record {
       range = omega (arith, one);
       done = λ zero. absurd (omega (arith, zero, one));
       refused = λ o. (refusal.Write, inr (refl, wants why, failed ∙ ap (λ (n : ℕ). n + 1) untouched.1.1, untouched.0), unfailed, (false, Unwanted, (λ no. refl), line));
       usage = λ two. absurd (omega (arith, one, two));
+      remarkable = λ three. absurd (omega (arith, one, three));
     }
 
-pub answered : (kinds : Kinds) (order : Order) (asked explained : Bool) (note : Note) (before mid : State) (old_failed new_failed : List (List ℕ)) (new_out old_err new_err : Seen) (status : ℕ) (outcome : Result (Unit {0}) (Failure Refusal))
+pub answered : (kinds : Kinds) (order : Order) (asked explained : Bool) (note : Note) (before mid : State) (old_failed new_failed : List (List ℕ)) (new_out old_err new_err : Seen) (status : ℕ) (outcome : Result Outcome (Failure Refusal))
     → (asked ≡ false → explained ≡ false)
-    → OnOk outcome (kinds ≡ []) → OnOk outcome (IsDone order before mid) → OnOk outcome (IsFlushed before.out mid.out) → IfErr outcome (λ f. IsFailureOfWords kinds order before mid f)
+    → OnOk outcome (kinds ≡ []) → IfOk outcome (λ u. IsDoneWith u order before mid) → OnOk outcome (IsFlushed before.out mid.out) → IfErr outcome (λ f. IsFailureOfWords kinds order before mid f)
     → OnOk outcome (new_failed ≡ old_failed) → IfErr outcome (λ f. IsOfFailedFile old_failed new_failed f)
     → IsTold outcome explained note mid.out new_out old_err new_err status → IsAnswer kinds order asked before (state mid.files new_out) old_failed new_failed old_err new_err status
-answered kinds order asked explained note before mid old_failed new_failed new_out old_err new_err status (Ok x) quiet_if none done flushed failed unfailed named (zero, same, quiet) =
+answered kinds order asked explained note before mid old_failed new_failed new_out old_err new_err status (Ok Usual) quiet_if none done flushed failed unfailed named (zero, same, quiet) =
     let same_state : mid ≡ state mid.files new_out = ap (state mid.files) (sym same) in
     record {
       range = omega (arith, zero);
-      done = λ z. ((subst (IsFlushed before.out) (sym same) flushed, inl (none, subst (IsDone order before) same_state done)), unfailed, quiet);
+      done = λ z. ((subst (IsFlushed before.out) (sym same) flushed, inl (none, subst (IsDoneWith Usual order before) same_state done)), unfailed, quiet);
       refused = λ one. absurd (omega (arith, zero, one));
       usage = λ two. absurd (omega (arith, zero, two));
+      remarkable = λ three. absurd (omega (arith, zero, three));
+    }
+answered kinds order asked explained note before mid old_failed new_failed new_out old_err new_err status (Ok Remarkable) quiet_if none done flushed failed unfailed named (three, same, quiet) =
+    let same_state : mid ≡ state mid.files new_out = ap (state mid.files) (sym same) in
+    record {
+      range = omega (arith, three);
+      done = λ zero. absurd (omega (arith, three, zero));
+      refused = λ one. absurd (omega (arith, three, one));
+      usage = λ two. absurd (omega (arith, three, two));
+      remarkable = λ t. ((subst (IsFlushed before.out) (sym same) flushed, none, subst (IsDoneWith Remarkable order before) same_state done), unfailed, quiet);
     }
 answered kinds order asked explained note before mid old_failed new_failed new_out old_err new_err status (Err (Refused r)) quiet_if none done flushed failed unfailed named (one, same, line) =
     let same_state : mid ≡ state mid.files new_out = ap (state mid.files) (sym same) in
@@ -121,12 +137,13 @@ answered kinds order asked explained note before mid old_failed new_failed new_o
       done = λ zero. absurd (omega (arith, zero, one));
       refused = λ o. (r, inl (subst (λ s. IsFailureOfWords kinds order before s (Refused r)) same_state failed), named, (explained, note, quiet_if, line));
       usage = λ two. absurd (omega (arith, one, two));
+      remarkable = λ three. absurd (omega (arith, one, three));
     }
 answered kinds order asked explained note before mid old_failed new_failed new_out old_err new_err status (Err (Usage e)) quiet_if none done flushed failed unfailed named told =
     of_usage kinds order asked before mid old_failed new_failed new_out old_err new_err status e failed named told (help_or (kind_of e))
 
 -- output can take the help: nothing was written to it before
-pub can_take_help : (kinds : Kinds) (order : Order) (before mid : State) (outcome : Result (Unit {0}) (Failure Refusal)) → IfErr outcome (λ f. IsFailureOfWords kinds order before mid f) → before.out.failures < 2 ^ 64 - 1 → CanTakeHelp outcome mid.out.failures
+pub can_take_help : (kinds : Kinds) (order : Order) (before mid : State) (outcome : Result Outcome (Failure Refusal)) → IfErr outcome (λ f. IsFailureOfWords kinds order before mid f) → before.out.failures < 2 ^ 64 - 1 → CanTakeHelp outcome mid.out.failures
 can_take_help kinds order before mid (Ok x) failed low = tt
 can_take_help kinds order before mid (Err (Refused r)) failed low = tt
 can_take_help kinds order before mid (Err (Usage e)) failed low = subst (λ n. n < 2 ^ 64 - 1) (sym failed.0.1.1) low

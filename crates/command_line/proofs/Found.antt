@@ -12,7 +12,7 @@ use Rattle.clap.specs.declared.parser.matches.ArgMatches.{ArgMatches}
 use Rattle.clap.specs.declared.parser.matches.ArgMatches.TheViews.{out-ArgMatches, out-SubCommand}
 use Rattle.clap.specs.declared.parser.matches.SubCommand.{SubCommand}
 use Rattle.command_words.specs.Found.{word_at, words_at}
-use Rattle.command_line.specs.Orders.{First, Check, Build, Run, Replay, Inputs, Cost, Dis, Upgrade, Load, check_of, build_of, run_of, replay_of, inputs_of, cost_of, dis_of, upgrade_of, load_of, form_of, order_named, order_of}
+use Rattle.command_line.specs.Orders.{First, Check, Build, Run, Replay, Inputs, Cost, Dis, Upgrade, Load, Lint, check_of, build_of, run_of, replay_of, inputs_of, cost_of, dis_of, upgrade_of, load_of, lint_of, form_of, order_named, order_of}
 use Rattle.command_line.specs.Words.{mb_app}
 use Rattle.command_line.specs.declared.form.Form.{Form}
 
@@ -89,13 +89,18 @@ pub load_is : (m : ArgMatches) (name : List ℕ) (rows : List Row) (form : Form)
 load_is m name rows form table sources named found is one two three =
     order_is m name (codes "load") rows named found is ∙ sym (rw (one, two, three) refl)
 
--- no command of the nine
+pub lint_is : (m : ArgMatches) (name : List ℕ) (rows : List Row) (table : List ℕ) (sources : List (List ℕ)) → Some name ≡ subcommand_name_of m → Some rows ≡ option_map (λ p. p.1) (subcommand_rows_of m) → name ≡ codes "lint"
+    → table ≡ word_at (codes "TABLE") rows → sources ≡ words_at (codes "SOURCE") rows → order_of (subcommand_rows_of m) ≡ Lint table sources
+lint_is m name rows table sources named found is one two =
+    order_is m name (codes "lint") rows named found is ∙ sym (ap (λ t. Lint t sources) one ∙ ap (Lint (word_at (codes "TABLE") rows)) two)
+
+-- no command of the ten
 pub other_is : (m : ArgMatches) (name : List ℕ) (rows : List Row) → Some name ≡ subcommand_name_of m → Some rows ≡ option_map (λ p. p.1) (subcommand_rows_of m)
-    → name ≢ codes "check" → name ≢ codes "build" → name ≢ codes "run" → name ≢ codes "replay" → name ≢ codes "inputs" → name ≢ codes "cost" → name ≢ codes "dis" → name ≢ codes "upgrade" → name ≢ codes "load" → order_of (subcommand_rows_of m) ≡ First
-other_is m name rows named found one two three four five six seven eight nine =
+    → name ≢ codes "check" → name ≢ codes "build" → name ≢ codes "run" → name ≢ codes "replay" → name ≢ codes "inputs" → name ≢ codes "cost" → name ≢ codes "dis" → name ≢ codes "upgrade" → name ≢ codes "load" → name ≢ codes "lint" → order_of (subcommand_rows_of m) ≡ First
+other_is m name rows named found one two three four five six seven eight nine ten =
     order_is m name name rows named found refl
-    ∙ last (bytes_eq name (codes "check")) (bytes_eq name (codes "build")) (bytes_eq name (codes "run")) (bytes_eq name (codes "replay")) (bytes_eq name (codes "inputs")) (bytes_eq name (codes "cost")) (bytes_eq name (codes "dis")) (bytes_eq name (codes "upgrade")) (bytes_eq name (codes "load"))
-    (differ (codes "check") one) (differ (codes "build") two) (differ (codes "run") three) (differ (codes "replay") four) (differ (codes "inputs") five) (differ (codes "cost") six) (differ (codes "dis") seven) (differ (codes "upgrade") eight) (differ (codes "load") nine)
+    ∙ last (bytes_eq name (codes "check")) (bytes_eq name (codes "build")) (bytes_eq name (codes "run")) (bytes_eq name (codes "replay")) (bytes_eq name (codes "inputs")) (bytes_eq name (codes "cost")) (bytes_eq name (codes "dis")) (bytes_eq name (codes "upgrade")) (bytes_eq name (codes "load")) (bytes_eq name (codes "lint"))
+    (differ (codes "check") one) (differ (codes "build") two) (differ (codes "run") three) (differ (codes "replay") four) (differ (codes "inputs") five) (differ (codes "cost") six) (differ (codes "dis") seven) (differ (codes "upgrade") eight) (differ (codes "load") nine) (differ (codes "lint") ten)
   where
     no : (b : Bool) (P : Type 0) → (b ≡ true → P) → (P → ⊥) → b ≡ false
     no true P d h = absurd (h (d refl))
@@ -104,9 +109,9 @@ other_is m name rows named found one two three four five six seven eight nine =
     differ : (known : List ℕ) → name ≢ known → bytes_eq name known ≡ false
     differ known h = no (bytes_eq name known) (name ≡ known) (bytes_eq-Decides name known).0 h
 
-    last : (a b c d e f g i j : Bool) → a ≡ false → b ≡ false → c ≡ false → d ≡ false → e ≡ false → f ≡ false → g ≡ false → i ≡ false → j ≡ false
-        → (if a then check_of rows else if b then build_of rows else if c then run_of rows else if d then replay_of rows else if e then inputs_of rows else if f then cost_of rows else if g then dis_of rows else if i then upgrade_of rows else if j then load_of rows else First) ≡ First
-    last a b c d e f g i j h k l m n o p q r = rw (h, k, l, m, n, o, p, q, r) refl
+    last : (a b c d e f g i j s : Bool) → a ≡ false → b ≡ false → c ≡ false → d ≡ false → e ≡ false → f ≡ false → g ≡ false → i ≡ false → j ≡ false → s ≡ false
+        → (if a then check_of rows else if b then build_of rows else if c then run_of rows else if d then replay_of rows else if e then inputs_of rows else if f then cost_of rows else if g then dis_of rows else if i then upgrade_of rows else if j then load_of rows else if s then lint_of rows else First) ≡ First
+    last a b c d e f g i j s h k l m n o p q r t = rw (h, k, l, m, n, o, p, q, r, t) refl
 
 pub none_entered : (m : ArgMatches) → None ≡ subcommand_name_of m → order_of (subcommand_rows_of m) ≡ First
 none_entered m named = go (out-ArgMatches m).subcommand named

@@ -1,5 +1,6 @@
 pub mod Answered
 pub mod Found
+pub mod Linted
 pub mod Loaded
 pub mod Noted
 pub mod Ran

@@ -4,10 +4,12 @@ use Rattle.clap.specs.Kinds.{Kinds}
 use Rattle.command_words.specs.Kinds.{AreMistaken, AskForHelp}
 use Rattle.command_words.specs.Told.{IsUsageTold}
 use Rattle.streams.specs.States.{HasFailed, IsFlushed, IsWritten, Seen, TakesText}
-use Rattle.command_line.specs.Done.{IsDone}
+use Rattle.command_line.specs.Done.{IsDone, IsRemarkable}
 use Rattle.command_line.specs.Explained.{told_text}
 use Rattle.command_line.specs.Lines.{line_of}
 use Rattle.command_line.specs.Orders.{Order}
+use Rattle.command_line.specs.Outcomes.{status_of}
+use Rattle.command_line.specs.declared.outcome.Outcome.{Outcome}
 use Rattle.command_line.specs.Refusals.{IsFailureOfWords, IsWrongTicks}
 use Rattle.command_line.specs.States.{IsUntouched, State}
 use Rattle.command_line.specs.Told.{IsOfFailed}
@@ -39,16 +41,18 @@ IsRefusalTold asked old_err new_err r = (explained : Bool) × (note : Note) × (
 
 -- With 0 the order is done, and standard error is as it was; with 1 it is refused, and standard error has
 -- the line of the refusal, with an explanation if that was asked for; with 2 the words are no command, neither files nor standard output were
--- touched, and what standard error took is flushed, if it did not fail. A file is named exactly if it was not read or not written.
+-- touched, and what standard error took is flushed, if it did not fail; with 3 the order is done as with 0, and something is found. A
+-- file is named exactly if it was not read or not written.
 pub record IsAnswer (kinds : Kinds) (order : Order) (asked : Bool) (before after : State) (old_failed new_failed : List (List ℕ)) (old_err new_err : Seen) (status : ℕ) : Type 0 where
-  pub range : status ≤ 2
+  pub range : status ≤ 3
   pub done : status ≡ 0 → IsDoneOrHelp kinds order before after × (new_failed ≡ old_failed) × (new_err ≡ old_err)
   pub refused : status ≡ 1 → (r : Refusal) × IsRefusedFor kinds order before after r × IsOfFailed old_failed new_failed r × IsRefusalTold asked old_err new_err r
   pub usage : status ≡ 2 → IsUntouched before after × (new_failed ≡ old_failed) × AreNoCommand kinds order × IsWritten old_err new_err
+  pub remarkable : status ≡ 3 → (IsFlushed before.out after.out × (kinds ≡ []) × IsRemarkable order before after) × (new_failed ≡ old_failed) × (new_err ≡ old_err)
 
 -- ---- the report of an outcome
 
-abbrev pub IsTold : Result (Unit {0}) (Failure Refusal) → Bool → Note → Seen → Seen → Seen → Seen → ℕ → Type 0
-IsTold (Ok done) asked note old_out new_out old_err new_err status = (status ≡ 0) × (new_out ≡ old_out) × (new_err ≡ old_err)
+abbrev pub IsTold : Result Outcome (Failure Refusal) → Bool → Note → Seen → Seen → Seen → Seen → ℕ → Type 0
+IsTold (Ok outcome) asked note old_out new_out old_err new_err status = (status ≡ status_of outcome) × (new_out ≡ old_out) × (new_err ≡ old_err)
 IsTold (Err (Refused r)) asked note old_out new_out old_err new_err status = (status ≡ 1) × (new_out ≡ old_out) × TakesText old_err new_err (told_text asked r note)
 IsTold (Err (Usage error)) asked note old_out new_out old_err new_err status = IsUsageTold error (Some (line_of Write)) old_out new_out old_err new_err status

@@ -1,5 +1,5 @@
 -- The effect of a command that is done.
-use Rattle.std.specs.Prelude.{◌≡◌, ℕ, List, [], ◌∷◌, ◌++◌, length, Option, Result, Ok, codes}
+use Rattle.std.specs.Prelude.{◌≡◌, ℕ, Bool, true, false, List, [], ◌∷◌, ◌++◌, length, Option, Result, Ok, codes}
 use Rattle.std.specs.Fmt.{decimal}
 use Rattle.std.specs.Io.KnownBytes.{Appends}
 use Rattle.std.specs.Str.Parse.{IsNumeral, digits_value}
@@ -19,8 +19,14 @@ use Rattle.module.specs.declared.fault.BuildAndRunFault.{BuildAndRunFault}
 use Rattle.module.specs.declared.inputs_fault.InputsFault.{InputsFault}
 use Rattle.module.specs.declared.fault.RunFault.{RunFault}
 use Rattle.streams.specs.Contents.{Contents, Holds, HoldAll, Spares}
-use Rattle.command_line.specs.Orders.{Order, First, Check, Build, Run, Replay, Inputs, Cost, Dis, Upgrade, Load}
+use Rattle.command_line.specs.Orders.{Order, First, Check, Build, Run, Replay, Inputs, Cost, Dis, Upgrade, Load, Lint}
 use Rattle.command_line.specs.Loading.{AreLoaded, IsLoadOfText, IsShown}
+use Rattle.command_line.specs.Linting.{AreFound, IsReadModule}
+use Rattle.command_line.specs.declared.linting.ReadModule.{ReadModule}
+use Rattle.command_line.specs.declared.outcome.Outcome.{Outcome}
+use Rattle.command_line.specs.declared.outcome.Outcome.TheVariants.{Usual, Remarkable}
+use Rattle.lint.specs.Sentences.{findings_text, have_findings}
+use Rattle.lint.specs.declared.report.PartitionFindings.{PartitionFindings}
 use Rattle.schedule_load.specs.declared.load.FrameLoad.{FrameLoad}
 use Rattle.command_line.specs.States.{State}
 use Rattle.command_line.specs.declared.first_run.TheConstants.{SOURCE, TABLE, TICKS}
@@ -43,6 +49,16 @@ pub record IsBuilt (files : Option Contents) (table : List ℕ) (sources : List 
 pub record AreCosted (files : Option Contents) (table : List ℕ) (sources : List (List ℕ)) (costs : List PartitionCosts) : Type 0 where
   pub texts : Texts files table sources
   pub costed : AreCosts texts.table_text texts.source_texts costs
+
+-- They are accepted, and this is what the code holds of them.
+pub record IsModuleIn (files : Option Contents) (table : List ℕ) (sources : List (List ℕ)) (m : ReadModule) : Type 0 where
+  pub texts : Texts files table sources
+  pub read : IsReadModule texts.table_text texts.source_texts m
+
+-- They are accepted, and this is found of them.
+pub record AreFoundIn (files : Option Contents) (table : List ℕ) (sources : List (List ℕ)) (found : List PartitionFindings) : Type 0 where
+  pub texts : Texts files table sources
+  pub of_texts : AreFound texts.table_text texts.source_texts found
 
 -- The load of a table; of a table with its sources, all of them accepted.
 abbrev pub IsLoadIn : Option Contents → List ℕ → List (List ℕ) → FrameLoad → Type 0
@@ -117,6 +133,12 @@ abbrev pub AreInputsDone : List ℕ → List ℕ → List ℕ → ℕ → State 
 AreInputsDone image partition devices n before after =
     (after.files ≡ before.files) × (given : ImageAndText before.files image devices) × AreInputsOf given partition n before.out.taken after.out.taken is_ok
 
+-- the findings of a module were written, if there are any
+abbrev pub IsLinted : Bool → List ℕ → List (List ℕ) → State → State → Type 0
+IsLinted any table sources before after =
+    (after.files ≡ before.files)
+    × (found : List PartitionFindings) × AreFoundIn before.files table sources found × (have_findings found ≡ any) × Appends before.out.taken after.out.taken (findings_text found)
+
 abbrev pub IsDone : Order → State → State → Type 0
 IsDone First before after = (after.files ≡ before.files) × IsFirstRun before.out.taken after.out.taken is_ok
 IsDone (Check table sources) before after =
@@ -137,3 +159,13 @@ IsDone (Load form table sources) before after =
 IsDone (Upgrade old new) before after =
     (bytes : List ℕ) × IsUpgradedIn before.files old bytes × Holds after.files new bytes × Spares new before.files after.files
     × Appends before.out.taken after.out.taken (upgraded_text (length bytes))
+IsDone (Lint table sources) before after = IsLinted false table sources before after
+
+-- with status 3 something is found
+abbrev pub IsRemarkable : Order → State → State → Type 0
+IsRemarkable (Lint table sources) before after = IsLinted true table sources before after
+IsRemarkable order before after = ⊥
+
+abbrev pub IsDoneWith : Outcome → Order → State → State → Type 0
+IsDoneWith Usual order before after = IsDone order before after
+IsDoneWith Remarkable order before after = IsRemarkable order before after

@@ -2,7 +2,9 @@ pub mod Answers
 pub mod Done
 pub mod Explained
 pub mod Lines
+pub mod Linting
 pub mod Loading
+pub mod Outcomes
 pub mod Orders
 pub mod Reading
 pub mod Refusals

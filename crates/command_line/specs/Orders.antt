@@ -18,6 +18,7 @@ pub data Order : Type 0 where
   Dis : (image : List ℕ) → Order
   Upgrade : (old : List ℕ) (new : List ℕ) → Order
   Load : (form : Form) (table : List ℕ) (sources : List (List ℕ)) → Order
+  Lint : (table : List ℕ) (sources : List (List ℕ)) → Order
 
 abbrev pub check_of : List Row → Order
 check_of rows = Check (word_at (codes "TABLE") rows) (words_at (codes "SOURCE") rows)
@@ -54,6 +55,9 @@ form_of rows = if is_flagged (codes "svg") rows then Picture else if is_flagged 
 abbrev pub load_of : List Row → Order
 load_of rows = Load (form_of rows) (word_at (codes "TABLE") rows) (words_at (codes "SOURCE") rows)
 
+abbrev pub lint_of : List Row → Order
+lint_of rows = Lint (word_at (codes "TABLE") rows) (words_at (codes "SOURCE") rows)
+
 -- a command by its name
 abbrev pub order_named : List ℕ → List Row → Order
 order_named name rows =
@@ -66,6 +70,7 @@ order_named name rows =
     else if bytes_eq name (codes "dis") then dis_of rows
     else if bytes_eq name (codes "upgrade") then upgrade_of rows
     else if bytes_eq name (codes "load") then load_of rows
+    else if bytes_eq name (codes "lint") then lint_of rows
     else First
 
 -- without a command the stored module

@@ -21,9 +21,11 @@ use Rattle.module.specs.declared.inputs_fault.InputsFault.TheVariants as input_f
 use Rattle.module.specs.declared.fault.RunFault.{RunFault}
 use Rattle.module.specs.declared.fault.RunFault.TheVariants as faults
 use Rattle.streams.specs.Contents.{Contents, Holds, Spares}
-use Rattle.command_line.specs.Done.{Texts, IsBuilt, AreCosted, IsLoadIn, IsImageIn, IsUpgradedIn, ImageAndText, IsRunOf, IsRunDone, IsReplayOf, IsReplayDone, AreInputsOf, AreInputsDone, IsFirstRun, is_ok}
-use Rattle.command_line.specs.Orders.{Order, First as first, Check as check, Build as build, Run as run, Replay as replay, Inputs as inputs, Cost as cost, Dis as dis, Upgrade as upgrade, Load as load}
+use Rattle.command_line.specs.Done.{Texts, IsBuilt, AreCosted, AreFoundIn, IsLoadIn, IsImageIn, IsUpgradedIn, ImageAndText, IsRunOf, IsRunDone, IsReplayOf, IsReplayDone, AreInputsOf, AreInputsDone, IsFirstRun, is_ok}
+use Rattle.command_line.specs.Orders.{Order, First as first, Check as check, Build as build, Run as run, Replay as replay, Inputs as inputs, Cost as cost, Dis as dis, Upgrade as upgrade, Load as load, Lint as lint}
 use Rattle.command_line.specs.Loading.{IsRefusedTable}
+use Rattle.lint.specs.Sentences.{findings_text}
+use Rattle.lint.specs.declared.report.PartitionFindings.{PartitionFindings}
 use Rattle.schedule_load.specs.declared.load.FrameLoad.{FrameLoad}
 use Rattle.command_line.specs.States.{IsSilent, IsUntouched, State}
 use Rattle.command_line.specs.declared.refusal.Refusal.{Refusal}
@@ -64,7 +66,7 @@ IsNotCosted files table sources _ = ⊥
 
 -- why no table is taken of the file of this name
 abbrev pub IsNoTableIn : Option Contents → List ℕ → Refusal → Type 0
-IsNoTableIn files name (File shown) = string_bytes shown ≡ name
+IsNoTableIn files name (File shown reason) = string_bytes shown ≡ name
 IsNoTableIn files name (Build fault) = (text : List ℕ) × Holds files name text × IsRefusedTable text (Build fault)
 IsNoTableIn files name Memory = Unit {0}
 IsNoTableIn files name _ = ⊥
@@ -168,6 +170,12 @@ IsLoadRefused table sources before after Write =
     HasFailed before.out after.out × (after.files ≡ before.files) × ((load : FrameLoad) × IsLoadIn before.files table sources load)
 IsLoadRefused table sources before after r = IsUntouched before after × IsNotLoadedFrom before.files table sources r
 
+abbrev pub IsLintRefused : List ℕ → List (List ℕ) → State → State → Refusal → Type 0
+IsLintRefused table sources before after Write =
+    HasFailed before.out after.out × (after.files ≡ before.files)
+    × (found : List PartitionFindings) × AreFoundIn before.files table sources found × TakesBeginning before.out.taken after.out.taken (findings_text found)
+IsLintRefused table sources before after r = IsUntouched before after × IsNotCosted before.files table sources r
+
 abbrev pub IsDisRefused : List ℕ → State → State → Refusal → Type 0
 IsDisRefused name before after Write =
     HasFailed before.out after.out × (after.files ≡ before.files)
@@ -187,6 +195,7 @@ IsRefused (check table sources) before after r = IsCheckRefused table sources be
 IsRefused (build table image sources) before after r = IsBuildRefused table image sources before after r
 IsRefused (cost table sources) before after r = IsCostRefused table sources before after r
 IsRefused (load form table sources) before after r = IsLoadRefused table sources before after r
+IsRefused (lint table sources) before after r = IsLintRefused table sources before after r
 IsRefused (dis image) before after r = IsDisRefused image before after r
 IsRefused (upgrade old new) before after r = IsUpgradeRefused old new before after r
 IsRefused (run image devices ticks) before after r =

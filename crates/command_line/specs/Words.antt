@@ -29,7 +29,7 @@ abbrev pub build_app : App
 build_app = with_rule (with_rule (with_rule (explained_app (codes "build")) (word_rule (codes "TABLE"))) (word_rule (codes "IMAGE"))) sources_rule
 
 abbrev pub run_app : App
-run_app = with_rule (with_rule (with_rule (explained_app (codes "run")) (word_rule (codes "IMAGE"))) (word_rule (codes "DEVICES"))) (word_rule (codes "TICKS"))
+run_app = with_rule (with_rule (with_rule (with_rule (explained_app (codes "run")) (flag_rule (codes "progress"))) (word_rule (codes "IMAGE"))) (word_rule (codes "DEVICES"))) (word_rule (codes "TICKS"))
 
 -- a command on one partition of an image
 abbrev pub partition_app : List ℕ → App
@@ -54,7 +54,10 @@ abbrev pub load_app : App
 load_app =
     with_rule (with_rule (with_rule (with_rule (explained_app (codes "load")) (flag_rule (codes "csv"))) (flag_rule (codes "svg"))) (word_rule (codes "TABLE"))) any_sources_rule
 
+abbrev pub lint_app : App
+lint_app = with_rule (with_rule (explained_app (codes "lint")) (word_rule (codes "TABLE"))) sources_rule
+
 abbrev pub mb_app : App
 mb_app =
-    with_subcommand (with_subcommand (with_subcommand (with_subcommand (with_subcommand (with_subcommand (with_subcommand (with_subcommand (with_subcommand
-    (new_app (codes "mb")) check_app.top) build_app.top) run_app.top) replay_app.top) inputs_app.top) cost_app.top) dis_app.top) upgrade_app.top) load_app.top
+    with_subcommand (with_subcommand (with_subcommand (with_subcommand (with_subcommand (with_subcommand (with_subcommand (with_subcommand (with_subcommand (with_subcommand
+    (new_app (codes "mb")) check_app.top) build_app.top) run_app.top) replay_app.top) inputs_app.top) cost_app.top) dis_app.top) upgrade_app.top) load_app.top) lint_app.top

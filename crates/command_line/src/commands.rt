@@ -1,11 +1,11 @@
 //! The action of each command.
 
-ghost use Rattle.std.specs.Prelude.{◌≡◌, ◌-◌, ◌^◌, ◌<◌, [], map, false, IfErr, OnOk};
+ghost use Rattle.std.specs.Prelude.{◌≡◌, ◌-◌, ◌^◌, ◌<◌, [], map, false, IfOk, IfErr, OnOk};
 ghost use Rattle.clap.specs.Faults.{fault_of};
 ghost use Rattle.clap.specs.Matches.{found_of};
 ghost use Rattle.clap.specs.Simple.{subcommand_of, subcommand_rows_of};
 ghost use Rattle.clap.specs.Walk.{rows_of};
-ghost use Rattle.command_line.specs.Done.{IsDone};
+ghost use Rattle.command_line.specs.Done.{IsDone, IsDoneWith};
 ghost use Rattle.command_line.specs.Orders.{Build, Check, Upgrade, asks, form_of, order_of};
 ghost use Rattle.command_line.specs.Refusals.{IsBuildRefused, IsCheckRefused, IsFailure, IsFailureOfWords, IsUpgradeRefused};
 ghost use Rattle.command_line.specs.States.{state};
@@ -16,7 +16,9 @@ ghost use Rattle.command_line.specs.Words.{mb_app};
 use crate::explaining::Note;
 use crate::form::Form;
 use crate::grammar::grammar;
+use crate::linting::lint;
 use crate::loading::load;
+use crate::outcome::Outcome;
 use crate::reading::{build_named, upgrade_named};
 use crate::refusal::Refusal;
 use crate::replaying::{inputs, replay};
@@ -24,26 +26,30 @@ use crate::running::{run, run_stored};
 use crate::showing::{cost, dis};
 use clap::ArgMatches;
 use command_words::{Failure, word};
+use module::Watch;
 use std::alloc::Global;
 use std::convert::AsStr;
 use streams::{Files, Stream, write_line};
 
 /// Does what the words say. Sets `asked` to true if they ask for an explanation of a refusal;
-/// `note` then gets the explanation of a refused source.
-pub fn perform<S: AsStr, F: Files, O: Stream>(
+/// `note` then gets the explanation of a refused source. A run is told to `watch`, if they ask for
+/// that.
+pub fn perform<S: AsStr, F: Files, O: Stream, W: Watch>(
     alloc: Global,
     words: &[S],
     files: &mut F,
     out: &mut O,
+    watch: &mut W,
     asked: &mut bool,
     note: &mut Note,
-) -> Result<(), Failure<Refusal>>
+) -> Result<Outcome, Failure<Refusal>>
     requires { O.failures out.old < 2 ^ 64 - 1 }
     ensures asked { asked.old ≡ false → asks (subcommand_of mb_app (map S.text words.now)) ≡ false
         → asked.new ≡ false }
     ensures command { OnOk result (fault_of mb_app (map S.text words.now) ≡ []) }
-    ensures done { OnOk result
-        (IsDone (order_of (subcommand_of mb_app (map S.text words.now)))
+    ensures done { IfOk result
+        (λ outcome.
+        IsDoneWith outcome (order_of (subcommand_of mb_app (map S.text words.now)))
         (state (F.contents files.old) (seen O.taken O.failures O.is_flushed out.old))
         (state (F.contents files.new) (seen O.taken O.failures O.is_flushed out.new))) }
     ensures flushed { OnOk result
@@ -60,7 +66,7 @@ pub fn perform<S: AsStr, F: Files, O: Stream>(
     let matches = grammar(alloc)?.try_get_matches_from(words)?;
     *asked = asks(&matches);
     *note = Note::new(*asked);
-    obey(alloc, &matches, files, out, note)
+    obey(alloc, &matches, files, out, watch, note)
 }
 
 /// Returns true if the words ask for an explanation of a refusal.
@@ -74,16 +80,18 @@ fn asks(matches: &ArgMatches<'_>) -> bool
 }
 
 /// Does the command that was found in the words.
-fn obey<F: Files, O: Stream>(
+fn obey<F: Files, O: Stream, W: Watch>(
     alloc: Global,
     matches: &ArgMatches<'_>,
     files: &mut F,
     out: &mut O,
+    watch: &mut W,
     note: &mut Note,
-) -> Result<(), Failure<Refusal>>
+) -> Result<Outcome, Failure<Refusal>>
     requires { O.failures out.old < 2 ^ 64 - 1 }
-    ensures done { OnOk result
-        (IsDone (order_of (subcommand_rows_of matches.now))
+    ensures done { IfOk result
+        (λ outcome.
+        IsDoneWith outcome (order_of (subcommand_rows_of matches.now))
         (state (F.contents files.old) (seen O.taken O.failures O.is_flushed out.old))
         (state (F.contents files.new) (seen O.taken O.failures O.is_flushed out.new))) }
     ensures flushed { OnOk result
@@ -100,43 +108,76 @@ fn obey<F: Files, O: Stream>(
         Some(("check", found)) => {
             let table = word(found, "TABLE");
             let sources = found.get_strs("SOURCE").unwrap_or(&[]);
-            Ok(check(alloc, table, sources, files, out, note)?)
+            check(alloc, table, sources, files, out, note)?;
+            Ok(Outcome::Usual)
         }
         Some(("build", found)) => {
             let (table, image) = (word(found, "TABLE"), word(found, "IMAGE"));
             let sources = found.get_strs("SOURCE").unwrap_or(&[]);
-            Ok(build(alloc, table, image, sources, files, out, note)?)
+            build(alloc, table, image, sources, files, out, note)?;
+            Ok(Outcome::Usual)
         }
         Some(("run", found)) => {
             let (image, devices) = (word(found, "IMAGE"), word(found, "DEVICES"));
-            run(alloc, image, devices, word(found, "TICKS"), files, out)
+            begin_if_asked(found, watch);
+            run(
+                alloc,
+                image,
+                devices,
+                word(found, "TICKS"),
+                files,
+                out,
+                watch,
+                note,
+            )
         }
         Some(("replay", found)) => {
             let (image, partition) = (word(found, "IMAGE"), word(found, "PARTITION"));
             let (inputs, ticks) = (word(found, "INPUTS"), word(found, "TICKS"));
-            replay(alloc, image, partition, inputs, ticks, files, out)
+            replay(alloc, image, partition, inputs, ticks, files, out, note)
         }
         Some(("inputs", found)) => {
             let (image, partition) = (word(found, "IMAGE"), word(found, "PARTITION"));
             let (devices, ticks) = (word(found, "DEVICES"), word(found, "TICKS"));
-            inputs(alloc, image, partition, devices, ticks, files, out)
+            inputs(alloc, image, partition, devices, ticks, files, out, note)
         }
         Some(("cost", found)) => {
             let table = word(found, "TABLE");
             let sources = found.get_strs("SOURCE").unwrap_or(&[]);
-            Ok(cost(alloc, table, sources, files, out, note)?)
+            cost(alloc, table, sources, files, out, note)?;
+            Ok(Outcome::Usual)
         }
-        Some(("dis", found)) => Ok(dis(alloc, word(found, "IMAGE"), files, out)?),
+        Some(("dis", found)) => {
+            dis(alloc, word(found, "IMAGE"), files, out, note)?;
+            Ok(Outcome::Usual)
+        }
         Some(("upgrade", found)) => {
             let (old, new) = (word(found, "OLD"), word(found, "NEW"));
-            Ok(upgrade(alloc, old, new, files, out)?)
+            upgrade(alloc, old, new, files, out, note)?;
+            Ok(Outcome::Usual)
         }
         Some(("load", found)) => {
             let table = word(found, "TABLE");
             let sources = found.get_strs("SOURCE").unwrap_or(&[]);
-            Ok(load(alloc, form_of(found), table, sources, files, out, note)?)
+            load(alloc, form_of(found), table, sources, files, out, note)?;
+            Ok(Outcome::Usual)
         }
-        _ => Ok(run_stored(alloc, out)?),
+        Some(("lint", found)) => {
+            let table = word(found, "TABLE");
+            let sources = found.get_strs("SOURCE").unwrap_or(&[]);
+            Ok(lint(alloc, table, sources, files, out, note)?)
+        }
+        _ => {
+            run_stored(alloc, out)?;
+            Ok(Outcome::Usual)
+        }
+    }
+}
+
+/// Begins to watch if the words of a run ask for that.
+fn begin_if_asked<W: Watch>(found: &ArgMatches<'_>, watch: &mut W) {
+    if word(found, "progress").as_bytes() == b"true".as_slice() {
+        watch.begin();
     }
 }
 
@@ -221,6 +262,7 @@ fn upgrade<F: Files, O: Stream>(
     new: &str,
     files: &mut F,
     out: &mut O,
+    note: &mut Note,
 ) -> Result<(), Refusal>
     requires { O.failures out.old < 2 ^ 64 - 1 }
     ensures done { OnOk result
@@ -237,7 +279,7 @@ fn upgrade<F: Files, O: Stream>(
     ensures noted { OnOk result (F.failed files.new ≡ F.failed files.old) }
     ensures named { IfErr result (λ r. IsOfFailed (F.failed files.old) (F.failed files.new) r) }
 {
-    let image = upgrade_named(alloc, old, files)?;
+    let image = upgrade_named(alloc, old, files, note)?;
     let shown = String::from_str(alloc, new)?;
     if let Err(fault) = files.write(new, image.as_slice()) {
         return Err(Refusal::of_file(shown, fault));

@@ -6,7 +6,7 @@ ghost use Rattle.clap.specs.Values.{kind_of};
 ghost use Rattle.clap.specs.Walk.{rule_of};
 ghost use Rattle.clap.specs.declared.error.kind.ErrorKind.TheVariants.{ValueValidation};
 ghost use Rattle.command_words.specs.Grammar.{IsCommand};
-ghost use Rattle.command_line.specs.Words.{sources_rule, explained_app, check_app, build_app, run_app, partition_app, replay_app, inputs_app, cost_app, dis_app, upgrade_app, load_app, any_sources_rule, mb_app};
+ghost use Rattle.command_line.specs.Words.{sources_rule, explained_app, check_app, build_app, run_app, partition_app, replay_app, inputs_app, cost_app, dis_app, upgrade_app, load_app, lint_app, any_sources_rule, mb_app};
 
 use clap::error::ErrorKind;
 use clap::{Arg, ArgAction, Command, Error};
@@ -26,7 +26,8 @@ pub fn grammar<'a>(alloc: Global) -> Result<Command<'a>, AllocError>
         .subcommand(cost(alloc)?)?
         .subcommand(dis(alloc)?)?
         .subcommand(upgrade(alloc)?)?
-        .subcommand(load(alloc)?)
+        .subcommand(load(alloc)?)?
+        .subcommand(lint(alloc)?)
 }
 
 /// The program without its commands.
@@ -67,6 +68,11 @@ fn run<'a>(alloc: Global) -> Result<Command<'a>, AllocError>
     explained(alloc, "run")?
         .about("Runs an image for so many ticks and writes its trace")
         .after_help("Example: mb run module.image devices.txt 1000")
+        .arg(flag(
+            alloc,
+            "progress",
+            "Tells once a second on standard error how far the run is",
+        ))?
         .arg(required_word(alloc, "IMAGE", "The file of an image"))?
         .arg(required_word(
             alloc,
@@ -159,6 +165,16 @@ fn load<'a>(alloc: Global) -> Result<Command<'a>, AllocError>
         .arg(flag(alloc, "svg", "Writes a picture of the frame"))?
         .arg(required_word(alloc, "TABLE", "The file of the module table"))?
         .arg(any_sources(alloc))
+}
+
+fn lint<'a>(alloc: Global) -> Result<Command<'a>, AllocError>
+    ensures { IfOk result (λ command. IsCommand command lint_app) }
+{
+    explained(alloc, "lint")?
+        .about("Writes what of a module is accepted and probably not meant, a line each")
+        .after_help("Example: mb lint table.toml a.pal b.pal")
+        .arg(required_word(alloc, "TABLE", "The file of the module table"))?
+        .arg(sources(alloc))
 }
 
 /// A command on one partition of an image.

@@ -18,7 +18,9 @@ mod explaining;
 mod first_run;
 mod form;
 mod grammar;
+mod linting;
 mod loading;
+mod outcome;
 mod reading;
 mod refusal;
 mod replaying;
@@ -28,6 +30,7 @@ mod telling;
 
 use commands::perform;
 use explaining::Note;
+pub use module::{Unwatched, Watch};
 pub use refusal::Refusal;
 use std::alloc::Global;
 use std::convert::AsStr;
@@ -36,18 +39,19 @@ use telling::tell;
 
 /// Does what the words of a command line say, the program's name first, and returns the exit
 /// status: 0; 1 for a refused command, with its line on `err`, and an explanation behind it if the
-/// words ask for one; 2 for words that are no command, with the usage on `err`. Help goes to `out`,
-/// with status 0.
+/// words ask for one; 2 for words that are no command, with the usage on `err`; 3 for a command that
+/// is done and has found something. Help goes to `out`, with status 0.
 ///
 /// Faults are met in this order: the words, the files read in the order of the words, the build,
 /// the run or what is listed, the file written, the lines printed. An image is written only if it
-/// was built.
-pub fn command<S: AsStr, F: Files, O: Stream, E: Stream>(
+/// was built. A run is told to `watch`, if the words ask for that.
+pub fn command<S: AsStr, F: Files, O: Stream, E: Stream, W: Watch>(
     alloc: Global,
     words: &[S],
     files: &mut F,
     out: &mut O,
     err: &mut E,
+    watch: &mut W,
 ) -> u8
     requires out { O.failures out.old < 2 ^ 64 - 1 }
     requires err { E.failures err.old < 2 ^ 64 - 1 }
@@ -61,6 +65,6 @@ pub fn command<S: AsStr, F: Files, O: Stream, E: Stream>(
 {
     let mut asked = false;
     let mut note = Note::new(false);
-    let outcome = perform(alloc, words, files, out, &mut asked, &mut note);
+    let outcome = perform(alloc, words, files, out, watch, &mut asked, &mut note);
     tell(outcome, asked, note, out, err)
 }

@@ -14,10 +14,10 @@ ghost use Rattle.schedule_load.specs.Load.{IsLoadOf};
 
 use crate::explaining::Note;
 use crate::form::Form;
-use crate::reading::{read, read_all, slices};
+use crate::reading::{module_of_texts, read, read_all};
 use crate::refusal::Refusal;
 use load_views::{LoadReport, PartitionBodies};
-use module::{AcceptedModule, accept_module, accept_table};
+use module::{AcceptedModule, accept_table};
 use pal::Checked;
 use schedule_load::{FrameLoad, body_loads, frame_load};
 use std::alloc::{AllocError, Global};
@@ -81,25 +81,26 @@ fn loaded_named<F: Files>(
     ensures noted { OnOk result (F.failed files.new ≡ F.failed files.old) }
     ensures named { IfErr result (λ r. IsOfFailed (F.failed files.old) (F.failed files.new) r) }
 {
-    let table = read(alloc, table, files)?;
+    let name = table;
+    let table = read(alloc, name, files)?;
     match sources.split_first() {
-        None => load_of_text(alloc, table.as_slice(), note),
+        None => load_of_text(alloc, name, table.as_slice(), note),
         Some(_) => {
             let sources = read_all(alloc, sources, files)?;
-            load_of_texts(alloc, table.as_slice(), sources.as_slice(), note)
+            load_of_texts(alloc, name, table.as_slice(), sources.as_slice(), note)
         }
     }
 }
 
 /// The load of a table.
-fn load_of_text(alloc: Global, table: &[u8], note: &mut Note) -> Result<Loaded, Refusal>
+fn load_of_text(alloc: Global, name: &str, table: &[u8], note: &mut Note) -> Result<Loaded, Refusal>
     ensures loaded { IfOk result (λ loaded. IsLoadOfText table.now loaded.load) }
     ensures refused { IfErr result (λ r. IsRefusedTable table.now r) }
 {
     match accept_table(alloc, table) {
-        Ok(accepted) => Ok(loaded(alloc, accepted, Vec::new(alloc))?),
+        Ok(accepted) => Ok(load_of_accepted(alloc, accepted, Vec::new(alloc))?),
         Err(fault) => {
-            note.explain(alloc, table, &[], &fault);
+            note.explain(alloc, name, table, &[], &fault);
             Err(Refusal::Build(fault))
         }
     }
@@ -108,6 +109,7 @@ fn load_of_text(alloc: Global, table: &[u8], note: &mut Note) -> Result<Loaded, 
 /// The load of a table and its sources.
 fn load_of_texts(
     alloc: Global,
+    name: &str,
     table: &[u8],
     sources: &[Vec<u8>],
     note: &mut Note,
@@ -115,18 +117,16 @@ fn load_of_texts(
     ensures loaded { IfOk result (λ loaded. AreLoaded table.now (texts_of sources.now) loaded.load) }
     ensures refused { IfErr result (λ r. IsUncostedText table.now (texts_of sources.now) r) }
 {
-    let texts = slices(alloc, sources)?;
-    match accept_module(alloc, table, texts.as_slice()) {
-        Ok(AcceptedModule { table, sources }) => Ok(loaded(alloc, table, sources)?),
-        Err(fault) => {
-            note.explain(alloc, table, texts.as_slice(), &fault);
-            Err(Refusal::Build(fault))
-        }
-    }
+    let AcceptedModule { table, sources } = module_of_texts(alloc, name, table, sources, note)?;
+    Ok(load_of_accepted(alloc, table, sources)?)
 }
 
 /// The load of an accepted table and accepted sources.
-fn loaded(alloc: Global, table: ModuleTable, sources: Vec<Checked>) -> Result<Loaded, AllocError>
+fn load_of_accepted(
+    alloc: Global,
+    table: ModuleTable,
+    sources: Vec<Checked>,
+) -> Result<Loaded, AllocError>
     ensures { IfOk result (λ loaded. IsLoadOf (table_of table) loaded.load) }
 {
     let load = frame_load(alloc, &table)?;

@@ -7,7 +7,7 @@ ghost use Rattle.streams.specs.Contents.{HoldAll, Holds};
 ghost use Rattle.command_line.specs.Done.{AreCosted, IsBuilt, IsImageIn, IsUpgradedIn};
 ghost use Rattle.command_line.specs.Reading.{IsRefusedText, IsUncostedText, IsUnread, IsUnreadAmong, texts_of};
 ghost use Rattle.module.specs.Building.{IsImageOf};
-ghost use Rattle.module.specs.Costs.{AreCosts};
+ghost use Rattle.module.specs.Costs.{AreCosts, IsAcceptedModule};
 ghost use Rattle.module.specs.Running.{IsRefused};
 ghost use Rattle.module.specs.Upgrades.{IsUpgraded};
 ghost use Rattle.command_line.specs.Refusals.{IsNotBuilt, IsNotCosted, IsNotLoaded};
@@ -16,7 +16,7 @@ ghost use Rattle.command_line.specs.Told.{IsOfFailed};
 use crate::explaining::Note;
 use crate::refusal::Refusal;
 use image::{Image, load_image};
-use module::{PartitionCosts, RunFault, upgrade};
+use module::{AcceptedModule, PartitionCosts, RunFault, upgrade};
 use std::alloc::{AllocError, Global};
 use streams::Files;
 
@@ -147,8 +147,37 @@ fn costs_of_texts(
     }
 }
 
+/// An accepted table and its sources. A refusal is explained in `note`; `name` is that of the
+/// table's file.
+pub fn module_of_texts(
+    alloc: Global,
+    name: &str,
+    table: &[u8],
+    sources: &[Vec<u8>],
+    note: &mut Note,
+) -> Result<AcceptedModule, Refusal>
+    ensures accepted { IfOk result
+        (λ m. IsAcceptedModule table.now (texts_of sources.now) m) }
+    ensures refused { IfErr result (λ r. IsUncostedText table.now (texts_of sources.now) r) }
+{
+    let texts = slices(alloc, sources)?;
+    match module::accept_module(alloc, table, texts.as_slice()) {
+        Ok(module) => Ok(module),
+        Err(fault) => {
+            note.explain(alloc, name, table, texts.as_slice(), &fault);
+            Err(Refusal::Build(fault))
+        }
+    }
+}
+
 /// The image in the file of that name.
-pub fn load_named<F: Files>(alloc: Global, name: &str, files: &mut F) -> Result<Image, Refusal>
+/// A refusal of the image is explained in `note`.
+pub fn load_named<F: Files>(
+    alloc: Global,
+    name: &str,
+    files: &mut F,
+    note: &mut Note,
+) -> Result<Image, Refusal>
     ensures loaded { IfOk result
         (λ image. IsImageIn (F.contents files.old) name.now (image_of image)) }
     ensures refused { IfErr result (λ r. IsNotLoaded (F.contents files.old) name.now r) }
@@ -157,19 +186,29 @@ pub fn load_named<F: Files>(alloc: Global, name: &str, files: &mut F) -> Result<
     ensures named { IfErr result (λ r. IsOfFailed (F.failed files.old) (F.failed files.new) r) }
 {
     let bytes = read(alloc, name, files)?;
-    Ok(load(alloc, bytes.as_slice())?)
+    Ok(load(alloc, name, bytes.as_slice(), note)?)
 }
 
 /// The image in the bytes.
-fn load(alloc: Global, bytes: &[u8]) -> Result<Image, RunFault>
+fn load(alloc: Global, name: &str, bytes: &[u8], note: &mut Note) -> Result<Image, RunFault>
     ensures loaded { IfOk result (λ image. image_at bytes.now ≡ Ok (image_of image)) }
     ensures refused { IfErr result (λ fault. IsRefused (image_at bytes.now) fault) }
 {
-    Ok(load_image(alloc, bytes)?)
+    let loaded = load_image(alloc, bytes);
+    if let Err(fault) = &loaded {
+        note.explain_image(alloc, name, bytes, *fault);
+    }
+    Ok(loaded?)
 }
 
 /// The image in the file of that name, upgraded.
-pub fn upgrade_named<F: Files>(alloc: Global, name: &str, files: &mut F) -> Result<Vec<u8>, Refusal>
+/// A refusal of the image is explained in `note`.
+pub fn upgrade_named<F: Files>(
+    alloc: Global,
+    name: &str,
+    files: &mut F,
+    note: &mut Note,
+) -> Result<Vec<u8>, Refusal>
     ensures upgraded { IfOk result
         (λ bytes. IsUpgradedIn (F.contents files.old) name.now bytes.items) }
     ensures refused { IfErr result (λ r. IsNotLoaded (F.contents files.old) name.now r) }
@@ -178,15 +217,24 @@ pub fn upgrade_named<F: Files>(alloc: Global, name: &str, files: &mut F) -> Resu
     ensures named { IfErr result (λ r. IsOfFailed (F.failed files.old) (F.failed files.new) r) }
 {
     let bytes = read(alloc, name, files)?;
-    Ok(upgraded(alloc, bytes.as_slice())?)
+    Ok(upgraded(alloc, name, bytes.as_slice(), note)?)
 }
 
 /// The image in the bytes, upgraded.
-fn upgraded(alloc: Global, bytes: &[u8]) -> Result<Vec<u8>, RunFault>
+fn upgraded(
+    alloc: Global,
+    name: &str,
+    bytes: &[u8],
+    note: &mut Note,
+) -> Result<Vec<u8>, RunFault>
     ensures upgraded { IfOk result (λ image. IsUpgraded bytes.now image.items) }
     ensures refused { IfErr result (λ fault. IsRefused (image_at bytes.now) fault) }
 {
-    Ok(upgrade(alloc, bytes)?)
+    let upgraded = upgrade(alloc, bytes);
+    if let Err(fault) = &upgraded {
+        note.explain_image(alloc, name, bytes, *fault);
+    }
+    Ok(upgraded?)
 }
 
 /// Each of them as a slice.

@@ -1,17 +1,19 @@
 //! One partition of an image: its replay, and the inputs that a run brings it.
 
-ghost use Rattle.std.specs.Prelude.{◌≡◌, ◌-◌, ◌^◌, ◌<◌, IfErr, OnOk};
+ghost use Rattle.std.specs.Prelude.{◌≡◌, ◌-◌, ◌^◌, ◌<◌, IfOk, IfErr, OnOk};
 ghost use Rattle.machine_meaning.specs.ImageReading.{image_at};
 ghost use Rattle.module.specs.Replays.{Replays};
 ghost use Rattle.module.specs.Telling.{Tells};
-ghost use Rattle.command_line.specs.Done.{AreInputsDone, IsDone, IsReplayDone};
+ghost use Rattle.command_line.specs.Done.{AreInputsDone, IsDoneWith, IsReplayDone};
 ghost use Rattle.command_line.specs.Orders.{Inputs, Replay};
 ghost use Rattle.command_line.specs.Refusals.{AreInputsRefused, HasFailedBy, HasFailedByInputs, IsFailure, IsReplayRefused};
 ghost use Rattle.command_line.specs.States.{state};
 ghost use Rattle.command_line.specs.Told.{IsOfFailed, IsOfFailedFile};
 ghost use Rattle.streams.specs.States.{IsFlushed, seen};
 
+use crate::explaining::{Note, RunFiles};
 use crate::grammar::bad_ticks;
+use crate::outcome::Outcome;
 use crate::reading::read;
 use crate::refusal::Refusal;
 use command_words::{Failure, number_of};
@@ -28,10 +30,12 @@ pub fn replay<F: Files, O: Stream>(
     ticks: &str,
     files: &mut F,
     out: &mut O,
-) -> Result<(), Failure<Refusal>>
+    note: &mut Note,
+) -> Result<Outcome, Failure<Refusal>>
     requires { O.failures out.old < 2 ^ 64 - 1 }
-    ensures done { OnOk result
-        (IsDone (Replay image.now partition.now inputs.now ticks.now)
+    ensures done { IfOk result
+        (λ outcome.
+        IsDoneWith outcome (Replay image.now partition.now inputs.now ticks.now)
         (state (F.contents files.old) (seen O.taken O.failures O.is_flushed out.old))
         (state (F.contents files.new) (seen O.taken O.failures O.is_flushed out.new))) }
     ensures flushed { OnOk result
@@ -47,7 +51,8 @@ pub fn replay<F: Files, O: Stream>(
     let Some(number) = number_of(ticks) else {
         return Err(Failure::Usage(bad_ticks(alloc, ticks)?));
     };
-    Ok(replay_named(alloc, image, partition, inputs, number, files, out)?)
+    replay_named(alloc, image, partition, inputs, number, files, out, note)?;
+    Ok(Outcome::Usual)
 }
 
 /// Replays a partition of an image for `ticks` ticks.
@@ -59,6 +64,7 @@ fn replay_named<F: Files, O: Stream>(
     ticks: u64,
     files: &mut F,
     out: &mut O,
+    note: &mut Note,
 ) -> Result<(), Refusal>
     requires { O.failures out.old < 2 ^ 64 - 1 }
     ensures done { OnOk result
@@ -75,39 +81,44 @@ fn replay_named<F: Files, O: Stream>(
     ensures noted { OnOk result (F.failed files.new ≡ F.failed files.old) }
     ensures named { IfErr result (λ r. IsOfFailed (F.failed files.old) (F.failed files.new) r) }
 {
+    let (image_name, text_name) = (image, inputs);
     let image = read(alloc, image, files)?;
     let inputs = read(alloc, inputs, files)?;
-    match trace_alone(
-        alloc,
-        image.as_slice(),
-        partition,
-        inputs.as_slice(),
-        ticks,
-        out,
-    ) {
+    let run_files = RunFiles {
+        image_name,
+        image: image.as_slice(),
+        text_name,
+        text: inputs.as_slice(),
+    };
+    match trace_alone(alloc, run_files, partition, ticks, out, note) {
         Ok(()) => Ok(out.flush()?),
         Err(fault) => Err(Refusal::Replay(fault)),
     }
 }
 
-/// Writes the trace of a partition alone.
+/// Writes the trace of a partition alone. A refusal of the image or of the replay text is explained in
+/// `note`.
 fn trace_alone<O: Stream>(
     alloc: Global,
-    image: &[u8],
+    files: RunFiles<'_>,
     partition: &str,
-    inputs: &[u8],
     ticks: u64,
     out: &mut O,
+    note: &mut Note,
 ) -> Result<(), RunFault>
     requires { O.failures out.old < 2 ^ 64 - 1 }
-    ensures trace { Replays (image_at image.now) partition.now inputs.now ticks (O.taken out.old)
-        (O.taken out.new) result }
+    ensures trace { Replays (image_at files.entry.image.now) partition.now files.entry.text.now
+        ticks (O.taken out.old) (O.taken out.new) result }
     ensures quiet { OnOk result (O.failures out.new ≡ O.failures out.old) }
     ensures failed { IfErr result
         (λ f. HasFailedBy f (seen O.taken O.failures O.is_flushed out.old)
         (seen O.taken O.failures O.is_flushed out.new)) }
 {
-    module::replay(alloc, image, partition, inputs, ticks, out)
+    let traced = module::replay(alloc, files.image, partition, files.text, ticks, out);
+    if let Err(fault) = &traced {
+        note.explain_replay(alloc, files, partition, fault);
+    }
+    traced
 }
 
 /// Writes the inputs that a run of an image brings a partition in the ticks of a word.
@@ -119,10 +130,12 @@ pub fn inputs<F: Files, O: Stream>(
     ticks: &str,
     files: &mut F,
     out: &mut O,
-) -> Result<(), Failure<Refusal>>
+    note: &mut Note,
+) -> Result<Outcome, Failure<Refusal>>
     requires { O.failures out.old < 2 ^ 64 - 1 }
-    ensures done { OnOk result
-        (IsDone (Inputs image.now partition.now devices.now ticks.now)
+    ensures done { IfOk result
+        (λ outcome.
+        IsDoneWith outcome (Inputs image.now partition.now devices.now ticks.now)
         (state (F.contents files.old) (seen O.taken O.failures O.is_flushed out.old))
         (state (F.contents files.new) (seen O.taken O.failures O.is_flushed out.new))) }
     ensures flushed { OnOk result
@@ -138,7 +151,8 @@ pub fn inputs<F: Files, O: Stream>(
     let Some(number) = number_of(ticks) else {
         return Err(Failure::Usage(bad_ticks(alloc, ticks)?));
     };
-    Ok(inputs_named(alloc, image, partition, devices, number, files, out)?)
+    inputs_named(alloc, image, partition, devices, number, files, out, note)?;
+    Ok(Outcome::Usual)
 }
 
 /// Writes the inputs that `ticks` ticks of an image bring a partition.
@@ -150,6 +164,7 @@ fn inputs_named<F: Files, O: Stream>(
     ticks: u64,
     files: &mut F,
     out: &mut O,
+    note: &mut Note,
 ) -> Result<(), Refusal>
     requires { O.failures out.old < 2 ^ 64 - 1 }
     ensures done { OnOk result
@@ -166,35 +181,40 @@ fn inputs_named<F: Files, O: Stream>(
     ensures noted { OnOk result (F.failed files.new ≡ F.failed files.old) }
     ensures named { IfErr result (λ r. IsOfFailed (F.failed files.old) (F.failed files.new) r) }
 {
+    let (image_name, text_name) = (image, devices);
     let image = read(alloc, image, files)?;
     let devices = read(alloc, devices, files)?;
-    tell_inputs(
-        alloc,
-        image.as_slice(),
-        partition,
-        devices.as_slice(),
-        ticks,
-        out,
-    )?;
+    let run_files = RunFiles {
+        image_name,
+        image: image.as_slice(),
+        text_name,
+        text: devices.as_slice(),
+    };
+    tell_inputs(alloc, run_files, partition, ticks, out, note)?;
     Ok(out.flush()?)
 }
 
-/// Writes the inputs that a run of an image brings a partition, as a replay text.
+/// Writes the inputs that a run of an image brings a partition, as a replay text. A refusal of the
+/// image or of the device text is explained in `note`.
 fn tell_inputs<O: Stream>(
     alloc: Global,
-    image: &[u8],
+    files: RunFiles<'_>,
     partition: &str,
-    devices: &[u8],
     ticks: u64,
     out: &mut O,
+    note: &mut Note,
 ) -> Result<(), InputsFault>
     requires { O.failures out.old < 2 ^ 64 - 1 }
-    ensures told { Tells (image_at image.now) partition.now devices.now ticks (O.taken out.old)
-        (O.taken out.new) result }
+    ensures told { Tells (image_at files.entry.image.now) partition.now files.entry.text.now ticks
+        (O.taken out.old) (O.taken out.new) result }
     ensures quiet { OnOk result (O.failures out.new ≡ O.failures out.old) }
     ensures failed { IfErr result
         (λ f. HasFailedByInputs f (seen O.taken O.failures O.is_flushed out.old)
         (seen O.taken O.failures O.is_flushed out.new)) }
 {
-    module::inputs(alloc, image, partition, devices, ticks, out)
+    let told = module::inputs(alloc, files.image, partition, files.text, ticks, out);
+    if let Err(fault) = &told {
+        note.explain_inputs(alloc, files, fault);
+    }
+    told
 }

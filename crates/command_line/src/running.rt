@@ -1,36 +1,41 @@
 //! Runs, of an image and of the stored module.
 
-ghost use Rattle.std.specs.Prelude.{◌≡◌, ◌-◌, ◌^◌, ◌<◌, IfErr, OnOk};
+ghost use Rattle.std.specs.Prelude.{◌≡◌, ◌-◌, ◌^◌, ◌<◌, IfOk, IfErr, OnOk};
 ghost use Rattle.machine_meaning.specs.ImageReading.{image_at};
 ghost use Rattle.module.specs.Runs.{Runs};
-ghost use Rattle.command_line.specs.Done.{IsDone, IsFirstRun, IsRunDone, is_ok};
+ghost use Rattle.command_line.specs.Done.{IsDoneWith, IsFirstRun, IsRunDone, is_ok};
 ghost use Rattle.command_line.specs.Orders.{Run};
 ghost use Rattle.command_line.specs.Refusals.{HasFailedBy, HasFailedByBoth, IsFailure, IsRunRefused, IsStoredRefused};
 ghost use Rattle.command_line.specs.States.{state};
 ghost use Rattle.command_line.specs.Told.{IsOfFailed, IsOfFailedFile};
 ghost use Rattle.streams.specs.States.{IsFlushed, seen};
 
+use crate::explaining::{Note, RunFiles};
 use crate::first_run::{SOURCE, TABLE, TICKS};
 use crate::grammar::bad_ticks;
+use crate::outcome::Outcome;
 use crate::reading::read;
 use crate::refusal::Refusal;
 use command_words::{Failure, number_of};
-use module::{BuildAndRunFault, RunFault};
+use module::{BuildAndRunFault, RunFault, Watch};
 use std::alloc::Global;
 use streams::{Files, Stream};
 
-/// Runs an image for the ticks of a word.
-pub fn run<F: Files, O: Stream>(
+/// Runs an image for the ticks of a word, and tells a watcher how far it is.
+pub fn run<F: Files, O: Stream, W: Watch>(
     alloc: Global,
     image: &str,
     devices: &str,
     ticks: &str,
     files: &mut F,
     out: &mut O,
-) -> Result<(), Failure<Refusal>>
+    watch: &mut W,
+    note: &mut Note,
+) -> Result<Outcome, Failure<Refusal>>
     requires { O.failures out.old < 2 ^ 64 - 1 }
-    ensures done { OnOk result
-        (IsDone (Run image.now devices.now ticks.now)
+    ensures done { IfOk result
+        (λ outcome.
+        IsDoneWith outcome (Run image.now devices.now ticks.now)
         (state (F.contents files.old) (seen O.taken O.failures O.is_flushed out.old))
         (state (F.contents files.new) (seen O.taken O.failures O.is_flushed out.new))) }
     ensures flushed { OnOk result
@@ -46,17 +51,20 @@ pub fn run<F: Files, O: Stream>(
     let Some(number) = number_of(ticks) else {
         return Err(Failure::Usage(bad_ticks(alloc, ticks)?));
     };
-    Ok(run_named(alloc, image, devices, number, files, out)?)
+    run_named(alloc, image, devices, number, files, out, watch, note)?;
+    Ok(Outcome::Usual)
 }
 
 /// Runs an image for `ticks` ticks.
-fn run_named<F: Files, O: Stream>(
+fn run_named<F: Files, O: Stream, W: Watch>(
     alloc: Global,
     image: &str,
     devices: &str,
     ticks: u64,
     files: &mut F,
     out: &mut O,
+    watch: &mut W,
+    note: &mut Note,
 ) -> Result<(), Refusal>
     requires { O.failures out.old < 2 ^ 64 - 1 }
     ensures done { OnOk result
@@ -73,29 +81,41 @@ fn run_named<F: Files, O: Stream>(
     ensures noted { OnOk result (F.failed files.new ≡ F.failed files.old) }
     ensures named { IfErr result (λ r. IsOfFailed (F.failed files.old) (F.failed files.new) r) }
 {
+    let (image_name, text_name) = (image, devices);
     let image = read(alloc, image, files)?;
     let devices = read(alloc, devices, files)?;
-    trace(alloc, image.as_slice(), devices.as_slice(), ticks, out)?;
+    let run_files = RunFiles {
+        image_name,
+        image: image.as_slice(),
+        text_name,
+        text: devices.as_slice(),
+    };
+    trace(alloc, run_files, ticks, out, watch, note)?;
     Ok(out.flush()?)
 }
 
-/// Writes the trace of an image.
-fn trace<O: Stream>(
+/// Writes the trace of an image. A refusal of the image or of the device text is explained in `note`.
+fn trace<O: Stream, W: Watch>(
     alloc: Global,
-    image: &[u8],
-    devices: &[u8],
+    files: RunFiles<'_>,
     ticks: u64,
     out: &mut O,
+    watch: &mut W,
+    note: &mut Note,
 ) -> Result<(), RunFault>
     requires { O.failures out.old < 2 ^ 64 - 1 }
-    ensures trace { Runs (image_at image.now) devices.now ticks (O.taken out.old) (O.taken out.new)
-        result }
+    ensures trace { Runs (image_at files.entry.image.now) files.entry.text.now ticks
+        (O.taken out.old) (O.taken out.new) result }
     ensures quiet { OnOk result (O.failures out.new ≡ O.failures out.old) }
     ensures failed { IfErr result
         (λ f. HasFailedBy f (seen O.taken O.failures O.is_flushed out.old)
         (seen O.taken O.failures O.is_flushed out.new)) }
 {
-    module::run(alloc, image, devices, ticks, out)
+    let traced = module::run_watched(alloc, files.image, files.text, ticks, out, watch);
+    if let Err(fault) = &traced {
+        note.explain_run(alloc, files, fault);
+    }
+    traced
 }
 
 /// Runs the stored module.

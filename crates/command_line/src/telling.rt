@@ -6,6 +6,7 @@ ghost use Rattle.command_words.specs.Told.{CanTakeHelp};
 ghost use Rattle.streams.specs.States.{seen};
 
 use crate::explaining::{Note, Told};
+use crate::outcome::Outcome;
 use crate::refusal::Refusal;
 use command_words::{Failure, tell_usage};
 use streams::{Stream, tell_text};
@@ -13,7 +14,7 @@ use streams::{Stream, tell_text};
 /// Reports the outcome of a command and returns its exit status. Explains a refusal if `asked` is
 /// true.
 pub fn tell<O: Stream, E: Stream>(
-    outcome: Result<(), Failure<Refusal>>,
+    outcome: Result<Outcome, Failure<Refusal>>,
     asked: bool,
     note: Note,
     out: &mut O,
@@ -27,7 +28,7 @@ pub fn tell<O: Stream, E: Stream>(
         (seen E.taken E.failures E.is_flushed err.new) result }
 {
     match outcome {
-        Ok(()) => 0,
+        Ok(outcome) => outcome.status(),
         Err(Failure::Refused(refusal)) => {
             let told = Told {
                 refusal,

@@ -3,8 +3,11 @@
 
 ghost use Rattle.std.specs.Prelude.{◌≤◌};
 
+mod progress;
+
 use command_line::command;
 use host::{HostFiles, Program, run};
+use progress::Progress;
 use std::alloc::AllocGlobal;
 use std::process::ExitCode;
 use streams::Stream;
@@ -14,11 +17,12 @@ use streams::Stream;
 struct Commands<'a>(&'a HostRuntime);
 
 impl<'a> Program for Commands<'a> {
-    ghost greatest = { 2 };
+    ghost greatest = { 3 };
 
     fn obey<O: Stream, E: Stream>(&mut self, words: &[String], out: &mut O, err: &mut E) -> u8 {
         let mut files = HostFiles::new(self.0);
-        command(self.0.alloc(), words, &mut files, out, err)
+        let mut progress = Progress::new(self.0);
+        command(self.0.alloc(), words, &mut files, out, err, &mut progress)
     }
 }
 

@@ -1,9 +1,9 @@
 use Rattle.std.proofs.Common.{rules, ◌≡◌, map, refl, sym, subst, codes}
-use Rattle.std.specs.Prelude.{OnOk}
+use Rattle.std.specs.Prelude.{IfOk}
 use Rattle.clap.specs.Matches.{found_of}
 use Rattle.clap.specs.Simple.{subcommand_rows_of}
 use Rattle.clap.specs.Walk.{rows_of}
-use Rattle.command_line.specs.Done.{IsDone}
+use Rattle.command_line.specs.Done.{IsDone, IsDoneWith}
 use Rattle.command_line.specs.Orders.{First, order_of}
 use Rattle.command_line.specs.Refusals.{IsRefused}
 use Rattle.streams.specs.States.{seen}
@@ -11,7 +11,7 @@ use Rattle.command_line.specs.States.{state}
 use Rattle.command_words.specs.declared.failure.Failure.TheVariants.{Refused}
 use Rattle.command_words.specs.Found.{words_at}
 use Rattle.command_words.proofs.Found.{words_are}
-use Rattle.command_line.proofs.Found.{check_is, build_is, run_is, replay_is, inputs_is, cost_is, dis_is, upgrade_is, load_is, other_is, none_entered}
+use Rattle.command_line.proofs.Found.{check_is, build_is, run_is, replay_is, inputs_is, cost_is, dis_is, upgrade_is, load_is, lint_is, other_is, none_entered}
 use Rattle.command_line.proofs.Ran.{told_as}
 use Rattle.command_line.proofs.commands.obey.Goals.{in_default-via-in-Some+in_default, in_default-via-in_default}
 use Rattle.command_line.proofs.commands.obey.Goals as goal
@@ -90,6 +90,19 @@ returns-in_err-load-in-Some-load-default-clause-failed g c =
     told_as _ (Refused r) c.from_residual-in_err-load-in-Some-load-default.result c.from_residual-in_err-load-in-Some-load-default.ensures
     (subst (λ o. IsRefused o before after r) (sym order) c.in_err-load-in-Some-load-default.ensures.refused)
 
+pub returns-in_err-lint-in-Some-lint-default-clause-failed : goal.returns-in_err-lint-in-Some-lint-default-clause-failed
+returns-in_err-lint-in-Some-lint-default-clause-failed g c =
+    let before = state (g.F.Files.contents c.args.files.now) (seen g.O.Sink.taken g.O.Sink.failures g.O.Stream.is_flushed c.args.out.now) in
+    let after = state (g.F.Files.contents c.lint.new.files) (seen g.O.Sink.taken g.O.Sink.failures g.O.Stream.is_flushed c.lint.new.out) in
+    let arm = c.in-Some-lint-default in
+    let rows = rows_of (found_of arm.found.now) in
+    let sources : map (λ s. s.now) c.unwrap_or-sources-in-Some-lint-default.result.now ≡ words_at (codes "SOURCE") rows =
+    words_are (found_of arm.found.now) (codes "SOURCE") c.get_strs-in-Some-lint-default.result _ c.unwrap_or-sources-in-Some-lint-default.result c.get_strs-in-Some-lint-default.ensures (search rules) c.unwrap_or-sources-in-Some-lint-default.ensures in
+    let order = lint_is c.args.matches.now arm.field-0-0.now rows c.word-table-in-Some-lint-default.result.now (map (λ s. s.now) c.unwrap_or-sources-in-Some-lint-default.result.now) arm.ensures.name arm.ensures.rows arm.is-lint c.word-table-in-Some-lint-default.ensures sources in
+    let r = c.in_err-lint-in-Some-lint-default.field-0.0 in
+    told_as _ (Refused r) c.from_residual-in_err-lint-in-Some-lint-default.result c.from_residual-in_err-lint-in-Some-lint-default.ensures
+    (subst (λ o. IsRefused o before after r) (sym order) c.in_err-lint-in-Some-lint-default.ensures.refused)
+
 pub returns-in_ok-check-in-Some-check-default-clause-done : goal.returns-in_ok-check-in-Some-check-default-clause-done
 returns-in_ok-check-in-Some-check-default-clause-done g c =
     let before = state (g.F.Files.contents c.args.files.now) (seen g.O.Sink.taken g.O.Sink.failures g.O.Stream.is_flushed c.args.out.now) in
@@ -152,6 +165,17 @@ returns-in_ok-load-in-Some-load-default-clause-done g c =
     let order = load_is c.args.matches.now arm.field-0-0.now rows c.form_of.result c.word-table-in-Some-load-default.result.now (map (λ s. s.now) c.unwrap_or-sources-in-Some-load-default.result.now) arm.ensures.name arm.ensures.rows arm.is-load c.form_of.ensures c.word-table-in-Some-load-default.ensures sources in
     subst (λ o. IsDone o before after) (sym order) c.in_ok-load-in-Some-load-default.ensures.done
 
+pub returns-in_ok-lint-in-Some-lint-default-clause-done : goal.returns-in_ok-lint-in-Some-lint-default-clause-done
+returns-in_ok-lint-in-Some-lint-default-clause-done g c =
+    let before = state (g.F.Files.contents c.args.files.now) (seen g.O.Sink.taken g.O.Sink.failures g.O.Stream.is_flushed c.args.out.now) in
+    let after = state (g.F.Files.contents c.lint.new.files) (seen g.O.Sink.taken g.O.Sink.failures g.O.Stream.is_flushed c.lint.new.out) in
+    let arm = c.in-Some-lint-default in
+    let rows = rows_of (found_of arm.found.now) in
+    let sources : map (λ s. s.now) c.unwrap_or-sources-in-Some-lint-default.result.now ≡ words_at (codes "SOURCE") rows =
+    words_are (found_of arm.found.now) (codes "SOURCE") c.get_strs-in-Some-lint-default.result _ c.unwrap_or-sources-in-Some-lint-default.result c.get_strs-in-Some-lint-default.ensures (search rules) c.unwrap_or-sources-in-Some-lint-default.ensures in
+    let order = lint_is c.args.matches.now arm.field-0-0.now rows c.word-table-in-Some-lint-default.result.now (map (λ s. s.now) c.unwrap_or-sources-in-Some-lint-default.result.now) arm.ensures.name arm.ensures.rows arm.is-lint c.word-table-in-Some-lint-default.ensures sources in
+    subst (λ o. IsDoneWith c.in_ok-lint-in-Some-lint-default.field-0 o before after) (sym order) c.in_ok-lint-in-Some-lint-default.ensures.done
+
 pub returns-in-Some-run-default-clause-done : goal.returns-in-Some-run-default-clause-done
 returns-in-Some-run-default-clause-done g c =
     let before = state (g.F.Files.contents c.args.files.now) (seen g.O.Sink.taken g.O.Sink.failures g.O.Stream.is_flushed c.args.out.now) in
@@ -160,7 +184,7 @@ returns-in-Some-run-default-clause-done g c =
     let rows = rows_of (found_of arm.found.now) in
     let order = run_is c.args.matches.now arm.field-0-0.now rows c.word-image-in-Some-run-default.result.now c.word-devices.result.now c.word.result.now arm.ensures.name arm.ensures.rows arm.is-run
     c.word-image-in-Some-run-default.ensures c.word-devices.ensures c.word.ensures in
-    subst (λ o. OnOk c.run.result (IsDone o before after)) (sym order) c.run.ensures.done
+    subst (λ o. IfOk c.run.result (λ u. IsDoneWith u o before after)) (sym order) c.run.ensures.done
 
 pub returns-in-Some-replay-default-clause-done : goal.returns-in-Some-replay-default-clause-done
 returns-in-Some-replay-default-clause-done g c =
@@ -170,7 +194,7 @@ returns-in-Some-replay-default-clause-done g c =
     let rows = rows_of (found_of arm.found.now) in
     let order = replay_is c.args.matches.now arm.field-0-0.now rows c.word-image-in-Some-replay-default.result.now c.word-partition.result.now c.word-inputs.result.now c.word-ticks.result.now arm.ensures.name arm.ensures.rows arm.is-replay
     c.word-image-in-Some-replay-default.ensures c.word-partition.ensures c.word-inputs.ensures c.word-ticks.ensures in
-    subst (λ o. OnOk c.replay.result (IsDone o before after)) (sym order) c.replay.ensures.done
+    subst (λ o. IfOk c.replay.result (λ u. IsDoneWith u o before after)) (sym order) c.replay.ensures.done
 
 pub returns-in-Some-inputs-default-clause-done : goal.returns-in-Some-inputs-default-clause-done
 returns-in-Some-inputs-default-clause-done g c =
@@ -180,14 +204,14 @@ returns-in-Some-inputs-default-clause-done g c =
     let rows = rows_of (found_of arm.found.now) in
     let order = inputs_is c.args.matches.now arm.field-0-0.now rows c.word-image-in-Some-inputs-default.result.now c.word-partition-in-Some-inputs-default.result.now c.word-devices-in-Some-inputs-default.result.now c.word-ticks-in-Some-inputs-default.result.now arm.ensures.name arm.ensures.rows arm.is-inputs
     c.word-image-in-Some-inputs-default.ensures c.word-partition-in-Some-inputs-default.ensures c.word-devices-in-Some-inputs-default.ensures c.word-ticks-in-Some-inputs-default.ensures in
-    subst (λ o. OnOk c.inputs.result (IsDone o before after)) (sym order) c.inputs.ensures.done
+    subst (λ o. IfOk c.inputs.result (λ u. IsDoneWith u o before after)) (sym order) c.inputs.ensures.done
 
 pub returns-in_err-run_stored-in_default-clause-failed : goal.returns-in_err-run_stored-in_default-clause-failed
 returns-in_err-run_stored-in_default-clause-failed g c =
     let before = state (g.F.Files.contents c.args.files.now) (seen g.O.Sink.taken g.O.Sink.failures g.O.Stream.is_flushed c.args.out.now) in
     let after = state (g.F.Files.contents c.args.files.now) (seen g.O.Sink.taken g.O.Sink.failures g.O.Stream.is_flushed c.run_stored.new.out) in
     let order : order_of (subcommand_rows_of c.args.matches.now) ≡ First = elim c.in_default.branch [
-      | in_default-via-in-Some+in_default w ↦ other_is c.args.matches.now w.in_default.field-0.0.now (rows_of (found_of w.in_default.field-0.1.now)) (search (rules, c.subcommand.ensures.name)) (search (rules, c.subcommand.ensures.rows)) (search rules) (search rules) (search rules) (search rules) (search rules) (search rules) (search rules) (search rules) (search rules)
+      | in_default-via-in-Some+in_default w ↦ other_is c.args.matches.now w.in_default.field-0.0.now (rows_of (found_of w.in_default.field-0.1.now)) (search (rules, c.subcommand.ensures.name)) (search (rules, c.subcommand.ensures.rows)) (search rules) (search rules) (search rules) (search rules) (search rules) (search rules) (search rules) (search rules) (search rules) (search rules)
       | in_default-via-in_default w ↦ none_entered c.args.matches.now (search (rules, c.subcommand.ensures.name))
     ] in
     let r = c.in_err-run_stored-in_default.field-0.0 in
@@ -199,7 +223,7 @@ returns-in_ok-run_stored-in_default-clause-done g c =
     let before = state (g.F.Files.contents c.args.files.now) (seen g.O.Sink.taken g.O.Sink.failures g.O.Stream.is_flushed c.args.out.now) in
     let after = state (g.F.Files.contents c.args.files.now) (seen g.O.Sink.taken g.O.Sink.failures g.O.Stream.is_flushed c.run_stored.new.out) in
     let order : order_of (subcommand_rows_of c.args.matches.now) ≡ First = elim c.in_default.branch [
-      | in_default-via-in-Some+in_default w ↦ other_is c.args.matches.now w.in_default.field-0.0.now (rows_of (found_of w.in_default.field-0.1.now)) (search (rules, c.subcommand.ensures.name)) (search (rules, c.subcommand.ensures.rows)) (search rules) (search rules) (search rules) (search rules) (search rules) (search rules) (search rules) (search rules) (search rules)
+      | in_default-via-in-Some+in_default w ↦ other_is c.args.matches.now w.in_default.field-0.0.now (rows_of (found_of w.in_default.field-0.1.now)) (search (rules, c.subcommand.ensures.name)) (search (rules, c.subcommand.ensures.rows)) (search rules) (search rules) (search rules) (search rules) (search rules) (search rules) (search rules) (search rules) (search rules) (search rules)
       | in_default-via-in_default w ↦ none_entered c.args.matches.now (search (rules, c.subcommand.ensures.name))
     ] in
     subst (λ o. IsDone o before after) (sym order) (refl, c.in_ok-run_stored-in_default.ensures.done)

@@ -1,12 +1,12 @@
 use Rattle.std.proofs.Common.{◌≡◌, [], inl, map, ap, refl, subst, ◌∙◌}
-use Rattle.std.specs.Prelude.{OnOk}
+use Rattle.std.specs.Prelude.{IfOk}
 use Rattle.clap.specs.Faults.{fault_of}
 use Rattle.clap.specs.Kinds.{HasKind}
 use Rattle.clap.specs.Simple.{subcommand_of, subcommand_rows_of}
 use Rattle.streams.specs.States.{seen}
 use Rattle.command_words.proofs.Failed.{on_ok, untaken}
 use Rattle.command_words.proofs.Found.{entered_is, of_kinds}
-use Rattle.command_line.specs.Done.{IsDone}
+use Rattle.command_line.specs.Done.{IsDoneWith}
 use Rattle.command_line.specs.Orders.{asks, order_of}
 use Rattle.command_line.specs.Refusals.{IsFailureOfWords}
 use Rattle.command_line.specs.States.{state}
@@ -38,7 +38,7 @@ returns-clause-done g c =
     let before = state (g.F.Files.contents c.args.files.now) (seen g.O.Sink.taken g.O.Sink.failures g.O.Stream.is_flushed c.args.out.now) in
     let after = state (g.F.Files.contents c.obey.new.files) (seen g.O.Sink.taken g.O.Sink.failures g.O.Stream.is_flushed c.obey.new.out) in
     let entered = entered_is mb_app words c.in_ok-grammar.field-0 c.in_ok-matches.matches c.in_ok-grammar.ensures mb_is_simple c.in_ok-matches.ensures.matches in
-    subst (λ o. OnOk c.obey.result (IsDone o before after)) (ap order_of entered) c.obey.ensures.done
+    subst (λ o. IfOk c.obey.result (λ u. IsDoneWith u o before after)) (ap order_of entered) c.obey.ensures.done
 
 pub returns-clause-failed : goal.returns-clause-failed
 returns-clause-failed g c =

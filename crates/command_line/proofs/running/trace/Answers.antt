@@ -5,4 +5,4 @@ use Rattle.command_line.proofs.running.trace.Goals as goal
 pub returns-clause-failed : goal.returns-clause-failed
 returns-clause-failed g c =
     let out = seen g.O.Sink.taken g.O.Sink.failures g.O.Stream.is_flushed in
-    failed_by (out c.args.out.now) (out c.run.new.sink) c.run.result c.run.ensures.write c.run.ensures.quiet
+    failed_by (out c.args.out.now) (out c.run_watched.new.sink) c.run_watched.result c.run_watched.ensures.write c.run_watched.ensures.quiet

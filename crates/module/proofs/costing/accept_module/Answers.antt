@@ -10,4 +10,4 @@ returns-in_err-table-clause-refused c =
 
 pub returns-in_err-sources-clause-refused : goal.returns-in_err-sources-clause-refused
 returns-in_err-sources-clause-refused c =
-    passed_on _ _ c.in_err-sources.field-0.0 c.from_residual.result c.from_residual.ensures (not_costed_with c.args.table.now (map (λ s. s.now) c.args.sources.now) (table_of c.in_ok-table.table) c.in_ok-table.ensures.table) c.in_err-sources.ensures.refused
+    passed_on _ _ c.in_err-sources.field-0.0 c.from_residual-in_err-sources.result c.from_residual-in_err-sources.ensures (not_costed_with c.args.table.now (map (λ s. s.now) c.args.sources.now) (table_of c.in_ok-table.table) c.in_ok-table.ensures.table) c.in_err-sources.ensures.refused

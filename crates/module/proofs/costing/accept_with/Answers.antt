@@ -1,4 +1,5 @@
 use Rattle.std.proofs.Common.{rules, ◌≡◌, List, length, map, sym, subst, ◌∙◌}
+use Rattle.std.specs.Prelude.{IfErr}
 use Rattle.std.proofs.lemmas.List.{length-map}
 use Rattle.window_table.specs.Views.{partition_view, table_of}
 use Rattle.window_table.specs.declared.table.PartitionRow.{PartitionRow}
@@ -12,4 +13,5 @@ returns-clause-refused c =
     let texts = map (λ s. s.now) c.args.sources.now in
     let e : length c.args.sources.now ≡ length c.args.table.now.partitions.items = search rules in
     let count : length texts ≡ length (table_of c.args.table.now).partitions = length-map c.args.sources.now (λ s. s.now) ∙ e ∙ sym (length-map c.args.table.now.partitions.items partition_view) in
-    weaker _ _ c.accept_sources.result (source_not_costed (table_of c.args.table.now) texts count) c.accept_sources.ensures.refused
+    let here = subst (λ (rows : List PartitionRow). IfErr c.accept_sources.result (λ fault. AreSourceRefusals (map partition_view rows) texts fault)) c.as_slice-rows.ensures.value c.accept_sources.ensures.refused in
+    weaker _ _ c.accept_sources.result (source_not_costed (table_of c.args.table.now) texts count) here

@@ -1,0 +1,106 @@
+-- What is found in the texts of the files that are named.
+use Rattle.std.proofs.Common.{◌≡◌, ℕ, Bool, true, false, List, [], ◌∷◌, ◌++◌, map, Option, Result, Ok, Err, IfOk, IfErr, refl, sym, subst, ◌∙◌, append-nil, append_assoc}
+use Rattle.apex_types.specs.declared.cost.Costs.{Costs}
+use Rattle.module_meaning.specs.Table.{Partition}
+use Rattle.pal_meaning.specs.Syntax as written
+use Rattle.pal_base.specs.WrittenView.{program_of}
+use Rattle.pal_base.specs.declared.checked.Checked.{Checked}
+use Rattle.pal_base.specs.declared.syntax.Program as tree
+use Rattle.lint.specs.declared.report.PartitionFindings.{PartitionFindings}
+use Rattle.window_table.specs.Views.{partition_view, table_of}
+use Rattle.window_table.specs.declared.table.PartitionRow.{PartitionRow}
+use Rattle.module.specs.Sources.{AreSources}
+use Rattle.streams.specs.Contents.{Contents, Holds, HoldAll}
+use Rattle.streams.specs.States.{Seen}
+use Rattle.command_line.specs.Done.{AreFoundIn, IsDoneWith, IsLinted, IsModuleIn}
+use Rattle.command_line.specs.Linting.{AddsFound, AddsTrees, AreAllFound, AreFoundOf, AreFoundOfModule, AreNotShown, AreShown, AreTrees, IsFoundOf, IsReadModule}
+use Rattle.command_line.specs.Orders.{Lint}
+use Rattle.command_line.specs.Outcomes.{is_remarkable}
+use Rattle.command_line.specs.Refusals.{IsLintRefused}
+use Rattle.command_line.specs.States.{State}
+use Rattle.command_line.specs.Told.{IsOfFailed}
+use Rattle.command_line.specs.declared.linting.ReadModule.{ReadModule}
+use Rattle.command_line.specs.declared.outcome.Outcome.{Outcome}
+use Rattle.command_line.specs.declared.outcome.Outcome.TheVariants.{Usual, Remarkable}
+use Rattle.command_line.specs.declared.refusal.Refusal.{Refusal}
+use Rattle.command_line.specs.declared.refusal.Refusal.TheVariants.{Build, Run, Replay, Inputs, File, Memory, Write}
+
+-- the module is that of the texts in the files
+pub read_named : {E : Type 0} (files now : Option Contents) (table : List ℕ) (sources : List (List ℕ)) (table_text : List ℕ) (texts : List (List ℕ)) (answer : Result ReadModule E)
+    → now ≡ files → Holds files table table_text → HoldAll now sources texts → IfOk answer (λ m. IsReadModule table_text texts m) → IfOk answer (λ m. IsModuleIn files table sources m)
+read_named files now table sources table_text texts (Ok m) same in_table in_sources read =
+    record { texts = record { table_text = table_text; source_texts = texts; in_table = in_table; in_sources = subst (λ f. HoldAll f sources texts) same in_sources }; read = read }
+read_named files now table sources table_text texts (Err e) same in_table in_sources read = tt
+
+-- one more tree, and one more partition with what is found of it
+pub more_trees : (text : List ℕ) (texts : List (List ℕ)) (p : tree.Program) (old mid new : List tree.Program) → mid ≡ old ++ p ∷ [] → AreTrees (text ∷ []) (program_of p ∷ []) → AddsTrees texts mid new → AddsTrees (text ∷ texts) old new
+more_trees text texts p old mid new pushed own (trees, rest, are) =
+    (p ∷ trees, rest ∙ subst (λ (m : List tree.Program). m ++ trees ≡ old ++ p ∷ trees) (sym pushed) (append_assoc old (p ∷ []) trees), own.0, are)
+
+pub more_found : (costs : Costs) (all : List PartitionRow) (row : PartitionRow) (rows : List PartitionRow) (p : tree.Program) (trees : List tree.Program) (given : Checked) (accepted : List Checked) (f : PartitionFindings) (old mid new : List PartitionFindings)
+    → mid ≡ old ++ f ∷ [] → IsFoundOf costs (map partition_view all) (partition_view row) (program_of p) given f → AddsFound costs all rows trees accepted mid new → AddsFound costs all (row ∷ rows) (p ∷ trees) (given ∷ accepted) old new
+more_found costs all row rows p trees given accepted f old mid new pushed own (found, rest, are) =
+    (f ∷ found, rest ∙ subst (λ (m : List PartitionFindings). m ++ found ≡ old ++ f ∷ found) (sym pushed) (append_assoc old (f ∷ []) found), own, are)
+
+pub all_trees : (texts : List (List ℕ)) (old new : List tree.Program) → old ≡ [] → AddsTrees texts old new → AreTrees texts (map program_of new)
+all_trees texts old new none (trees, same, are) =
+    let whole : new ≡ trees = subst (λ (o : List tree.Program). new ≡ o ++ trees) none same in
+    subst (λ (ps : List tree.Program). AreTrees texts (map program_of ps)) (sym whole) are
+
+-- what is found of accepted sources is what is found of their texts
+all_found : (costs : Costs) (all rows : List Partition) (texts : List (List ℕ)) (trees : List written.Program) (givens : List Checked) (found : List PartitionFindings)
+    → AreSources rows texts givens → AreTrees texts trees → AreFoundOf costs all rows trees givens found → AreAllFound costs all rows texts found
+all_found costs all [] [] trees [] found s t f = subst (AreAllFound costs all [] []) (sym f) tt
+all_found costs all [] [] trees (g ∷ givens) found s t f = absurd s
+all_found costs all [] (text ∷ texts) trees givens found s t f = absurd s
+all_found costs all (row ∷ rows) [] trees givens found s t f = absurd s
+all_found costs all (row ∷ rows) (text ∷ texts) trees [] found s t f = absurd s
+all_found costs all (row ∷ rows) (text ∷ texts) [] (g ∷ givens) found s t f = absurd t
+all_found costs all (row ∷ rows) (text ∷ texts) (p ∷ trees) (g ∷ givens) [] s t f = absurd f
+all_found costs all (row ∷ rows) (text ∷ texts) (p ∷ trees) (g ∷ givens) (x ∷ found) s t f =
+    (record { given = g; accepted = s.0; tree = p; written = t.0; of_tree = f.0 }, all_found costs all rows texts trees givens found s.1 t.1 f.1)
+
+found_in : (files : Option Contents) (table : List ℕ) (sources : List (List ℕ)) (m : ReadModule) (new : List PartitionFindings) → IsModuleIn files table sources m → AreFoundOfModule m new → AreFoundIn files table sources new
+found_in files table sources m new is (found, same, are) =
+    let rows = table_of m.accepted.table in
+    record {
+      texts = is.texts;
+      of_texts = record {
+        rows = rows;
+        accepted = is.read.accepted.accepted;
+        of_rows = subst (AreAllFound rows.costs rows.partitions rows.partitions is.texts.source_texts) (sym same)
+            (all_found rows.costs rows.partitions rows.partitions is.texts.source_texts (map program_of m.trees.items) m.accepted.sources.items found is.read.accepted.programs is.read.trees are);
+      };
+    }
+
+linted : (any : Bool) (table : List ℕ) (sources : List (List ℕ)) (m : ReadModule) (before after : State) → after.files ≡ before.files → IsModuleIn before.files table sources m → AreShown any m before.out.taken after.out.taken → IsLinted any table sources before after
+linted any table sources m before after same is (found, are, which, written) = (same, found, found_in before.files table sources m found is are, which, written)
+
+-- the outcome tells whether anything is found
+pub lint_done : (table : List ℕ) (sources : List (List ℕ)) (m : ReadModule) (before after : State) (answer : Result Outcome Refusal) → after.files ≡ before.files → IsModuleIn before.files table sources m
+    → IfOk answer (λ o. AreShown (is_remarkable o) m before.out.taken after.out.taken) → IfOk answer (λ o. IsDoneWith o (Lint table sources) before after)
+lint_done table sources m before after (Ok Usual) same is h = linted false table sources m before after same is h
+lint_done table sources m before after (Ok Remarkable) same is h = linted true table sources m before after same is h
+lint_done table sources m before after (Err r) same is h = tt
+
+pub lint_refused : (table : List ℕ) (sources : List (List ℕ)) (m : ReadModule) (before after : State) (answer : Result Outcome Refusal) → after.files ≡ before.files → IsModuleIn before.files table sources m
+    → IfErr answer (λ r. AreNotShown m before.out after.out r) → IfErr answer (λ r. IsLintRefused table sources before after r)
+lint_refused table sources m before after (Ok o) same is h = tt
+lint_refused table sources m before after (Err Write) same is (failed, found, are, begun) = (failed, same, found, found_in before.files table sources m found is are, begun)
+lint_refused table sources m before after (Err Memory) same is h = ((same, h), tt)
+lint_refused table sources m before after (Err (Build fault)) same is h = absurd h
+lint_refused table sources m before after (Err (Run fault)) same is h = absurd h
+lint_refused table sources m before after (Err (Replay fault)) same is h = absurd h
+lint_refused table sources m before after (Err (Inputs fault)) same is h = absurd h
+lint_refused table sources m before after (Err (File name reason)) same is h = absurd h
+
+-- no file is named where findings are not written
+pub unnamed_findings : (old new : List (List ℕ)) (m : ReadModule) (before after : Seen) (answer : Result Outcome Refusal) → new ≡ old → IfErr answer (λ r. AreNotShown m before after r) → IfErr answer (λ r. IsOfFailed old new r)
+unnamed_findings old new m before after (Ok o) same h = tt
+unnamed_findings old new m before after (Err Write) same h = same
+unnamed_findings old new m before after (Err Memory) same h = same
+unnamed_findings old new m before after (Err (Build fault)) same h = absurd h
+unnamed_findings old new m before after (Err (Run fault)) same h = absurd h
+unnamed_findings old new m before after (Err (Replay fault)) same h = absurd h
+unnamed_findings old new m before after (Err (Inputs fault)) same h = absurd h
+unnamed_findings old new m before after (Err (File name reason)) same h = absurd h

@@ -1,0 +1,93 @@
+-- What of a module is accepted and probably not meant.
+use Rattle.std.specs.Prelude.{◌≡◌, ℕ, Bool, List, [], ◌∷◌, ◌++◌, map, Option}
+use Rattle.std.specs.Io.KnownBytes.{Appends}
+use Rattle.apex_types.specs.Line.{TakesBeginning}
+use Rattle.apex_types.specs.declared.cost.Costs.{Costs}
+use Rattle.module_meaning.specs.Accepted.{IsTable}
+use Rattle.module_meaning.specs.Table.{Partition, Table}
+use Rattle.pal_meaning.specs.Grammar.{IsProgramOf}
+use Rattle.pal_meaning.specs.Syntax as written
+use Rattle.pal_base.specs.WrittenView.{program_of}
+use Rattle.pal_base.specs.declared.checked.Checked.{Checked}
+use Rattle.pal_base.specs.declared.syntax.Program as tree
+use Rattle.lint.specs.Findings.{findings}
+use Rattle.lint.specs.Sentences.{findings_text, have_findings}
+use Rattle.lint.specs.Slow.{slow_processes}
+use Rattle.lint.specs.Views.{found_all}
+use Rattle.lint.specs.declared.report.PartitionFindings.{PartitionFindings}
+use Rattle.window_table.specs.Views.{partition_view}
+use Rattle.window_table.specs.declared.table.PartitionRow.{PartitionRow}
+use Rattle.module.specs.Costs.{IsAcceptedModule}
+use Rattle.module.specs.Sources.{IsSource}
+use Rattle.streams.specs.States.{HasFailed, Seen}
+use Rattle.command_line.specs.States.{IsSilent}
+use Rattle.command_line.specs.declared.linting.ReadModule.{ReadModule}
+use Rattle.command_line.specs.declared.refusal.Refusal.{Refusal}
+use Rattle.command_line.specs.declared.refusal.Refusal.TheVariants.{Memory, Write}
+
+-- ---- of accepted sources
+
+-- What is found of a source as it is written and as it was accepted, for the partition of a row in a table with these costs and rows.
+pub record IsFoundOf (costs : Costs) (all : List Partition) (row : Partition) (source : written.Program) (given : Checked) (found : PartitionFindings) : Type 0 where
+  pub partition : found.partition.now ≡ row.name
+  pub findings : found_all found.findings.items ≡ findings all row.ports source ++ slow_processes costs given.program.processes.items
+
+-- one for each partition, in order
+abbrev pub AreFoundOf : Costs → List Partition → List Partition → List written.Program → List Checked → List PartitionFindings → Type 0
+AreFoundOf costs all (row ∷ rows) (source ∷ sources) (given ∷ accepted) (f ∷ found) = IsFoundOf costs all row source given f × AreFoundOf costs all rows sources accepted found
+AreFoundOf costs all (row ∷ rows) (source ∷ sources) (given ∷ accepted) [] = ⊥
+AreFoundOf costs all _ _ _ found = found ≡ []
+
+-- behind what is already there
+abbrev pub AddsFound : Costs → List PartitionRow → List PartitionRow → List tree.Program → List Checked → List PartitionFindings → List PartitionFindings → Type 0
+AddsFound costs all rows trees accepted old new =
+    (found : List PartitionFindings) × (new ≡ old ++ found) × AreFoundOf costs (map partition_view all) (map partition_view rows) (map program_of trees) accepted found
+
+-- each text is that of a program
+abbrev pub AreTrees : List (List ℕ) → List written.Program → Type 0
+AreTrees [] [] = Unit {0}
+AreTrees (text ∷ texts) (p ∷ ps) = IsProgramOf text p × AreTrees texts ps
+AreTrees _ _ = ⊥
+
+abbrev pub AddsTrees : List (List ℕ) → List tree.Program → List tree.Program → Type 0
+AddsTrees texts old new = (trees : List tree.Program) × (new ≡ old ++ trees) × AreTrees texts (map program_of trees)
+
+-- The table and the sources are accepted, and this is what the code holds of them.
+pub record IsReadModule (table : List ℕ) (sources : List (List ℕ)) (m : ReadModule) : Type 0 where
+  pub accepted : IsAcceptedModule table sources m.accepted
+  pub trees : AreTrees sources (map program_of m.trees.items)
+
+-- this is found of a module
+abbrev pub AreFoundOfModule : ReadModule → List PartitionFindings → Type 0
+AreFoundOfModule m found = AddsFound m.accepted.table.costs m.accepted.table.partitions.items m.accepted.table.partitions.items m.trees.items m.accepted.sources.items [] found
+
+-- the findings of a module were written, if there are any
+abbrev pub AreShown : Bool → ReadModule → Option (List ℕ) → Option (List ℕ) → Type 0
+AreShown any m old new = (found : List PartitionFindings) × AreFoundOfModule m found × (have_findings found ≡ any) × Appends old new (findings_text found)
+
+-- why they are not written; if the stream took no more, it has a beginning of them
+abbrev pub AreNotShown : ReadModule → Seen → Seen → Refusal → Type 0
+AreNotShown m old new Write = HasFailed old new × (found : List PartitionFindings) × AreFoundOfModule m found × TakesBeginning old.taken new.taken (findings_text found)
+AreNotShown m old new Memory = IsSilent old new
+AreNotShown m old new _ = ⊥
+
+-- ---- of texts
+
+-- The source is accepted for its partition and is the text of this program, and this is found of it.
+pub record IsFound (costs : Costs) (all : List Partition) (row : Partition) (source : List ℕ) (found : PartitionFindings) : Type 0 where
+  pub given : Checked
+  pub accepted : IsSource row source given
+  pub tree : written.Program
+  pub written : IsProgramOf source tree
+  pub of_tree : IsFoundOf costs all row tree given found
+
+abbrev pub AreAllFound : Costs → List Partition → List Partition → List (List ℕ) → List PartitionFindings → Type 0
+AreAllFound costs all [] [] [] = Unit {0}
+AreAllFound costs all (row ∷ rows) (source ∷ sources) (f ∷ found) = IsFound costs all row source f × AreAllFound costs all rows sources found
+AreAllFound costs all _ _ _ = ⊥
+
+-- The table and the sources are accepted, and this is found of them.
+pub record AreFound (table : List ℕ) (sources : List (List ℕ)) (found : List PartitionFindings) : Type 0 where
+  pub rows : Table
+  pub accepted : IsTable table rows
+  pub of_rows : AreAllFound rows.costs rows.partitions rows.partitions sources found

@@ -1,0 +1,197 @@
+//! What of a module is accepted and probably not meant.
+
+ghost use Rattle.std.specs.Prelude.{◌≡◌, ◌-◌, ◌^◌, ◌<◌, map, IfOk, IfErr, OnErr, OnOk};
+ghost use Rattle.std.specs.Io.KnownBytes.{Appends};
+ghost use Rattle.apex_types.specs.Line.{TakesBeginning};
+ghost use Rattle.lint.specs.Sentences.{findings_text};
+ghost use Rattle.command_line.specs.Done.{IsDoneWith, IsModuleIn};
+ghost use Rattle.command_line.specs.Linting.{AddsFound, AddsTrees, AreNotShown, AreShown, IsReadModule};
+ghost use Rattle.command_line.specs.Orders.{Lint};
+ghost use Rattle.command_line.specs.Outcomes.{is_remarkable};
+ghost use Rattle.command_line.specs.Reading.{IsUncostedText, texts_of};
+ghost use Rattle.command_line.specs.Refusals.{IsLintRefused, IsNotCosted};
+ghost use Rattle.command_line.specs.States.{state};
+ghost use Rattle.command_line.specs.Told.{IsOfFailed};
+ghost use Rattle.streams.specs.States.{HasFailed, IsFlushed, seen};
+
+use crate::explaining::Note;
+use crate::outcome::Outcome;
+use crate::reading::{module_of_texts, read, read_all};
+use crate::refusal::Refusal;
+use apex_types::{Costs, SinkFault};
+use lint::{PartitionFindings, partition_findings, write_findings};
+use module::AcceptedModule;
+use pal::Checked;
+use pal_base::parse::parse;
+use pal_base::syntax::Program;
+use std::alloc::{AllocError, Global};
+use streams::{Files, Stream};
+use window_table::PartitionRow;
+
+/// An accepted module, and its sources as they are written.
+#[derive(Drop)]
+pub struct ReadModule {
+    accepted: AcceptedModule,
+    /// One for each partition, in the order of the table.
+    trees: Vec<Program>,
+}
+
+/// Writes what is found in the sources, a line each.
+pub fn lint<F: Files, O: Stream>(
+    alloc: Global,
+    table: &str,
+    sources: &[&str],
+    files: &mut F,
+    out: &mut O,
+    note: &mut Note,
+) -> Result<Outcome, Refusal>
+    requires { O.failures out.old < 2 ^ 64 - 1 }
+    ensures done { IfOk result
+        (λ outcome.
+        IsDoneWith outcome (Lint table.now (map (λ s. s.now) sources.now))
+        (state (F.contents files.old) (seen O.taken O.failures O.is_flushed out.old))
+        (state (F.contents files.new) (seen O.taken O.failures O.is_flushed out.new))) }
+    ensures flushed { OnOk result
+        (IsFlushed (seen O.taken O.failures O.is_flushed out.old)
+        (seen O.taken O.failures O.is_flushed out.new)) }
+    ensures refused { IfErr result
+        (λ r. IsLintRefused table.now (map (λ s. s.now) sources.now)
+        (state (F.contents files.old) (seen O.taken O.failures O.is_flushed out.old))
+        (state (F.contents files.new) (seen O.taken O.failures O.is_flushed out.new)) r) }
+    ensures noted { OnOk result (F.failed files.new ≡ F.failed files.old) }
+    ensures named { IfErr result (λ r. IsOfFailed (F.failed files.old) (F.failed files.new) r) }
+{
+    let read = module_named(alloc, table, sources, files, note)?;
+    show_module(alloc, &read, out)
+}
+
+/// Writes what is found in the sources of a module.
+fn show_module<O: Stream>(alloc: Global, read: &ReadModule, out: &mut O) -> Result<Outcome, Refusal>
+    requires { O.failures out.old < 2 ^ 64 - 1 }
+    ensures shown { IfOk result
+        (λ outcome. AreShown (is_remarkable outcome) read.now (O.taken out.old) (O.taken out.new)) }
+    ensures flushed { OnOk result
+        (IsFlushed (seen O.taken O.failures O.is_flushed out.old)
+        (seen O.taken O.failures O.is_flushed out.new)) }
+    ensures refused { IfErr result
+        (λ r. AreNotShown read.now (seen O.taken O.failures O.is_flushed out.old)
+        (seen O.taken O.failures O.is_flushed out.new) r) }
+{
+    let accepted = &read.accepted;
+    let rows = accepted.table.partitions.as_slice();
+    let sources = accepted.sources.as_slice();
+    let mut found = Vec::new(alloc);
+    add_found(
+        alloc,
+        &accepted.table.costs,
+        rows,
+        rows,
+        read.trees.as_slice(),
+        sources,
+        &mut found,
+    )?;
+    show_findings(found.as_slice(), out)?;
+    Ok(Outcome::of_findings(found.as_slice()))
+}
+
+/// The module of the table and the sources in the files of these names. A refusal is explained in
+/// `note`.
+fn module_named<F: Files>(
+    alloc: Global,
+    table: &str,
+    sources: &[&str],
+    files: &mut F,
+    note: &mut Note,
+) -> Result<ReadModule, Refusal>
+    ensures read { IfOk result
+        (λ m. IsModuleIn (F.contents files.old) table.now (map (λ s. s.now) sources.now) m) }
+    ensures refused { IfErr result
+        (λ r. IsNotCosted (F.contents files.old) table.now (map (λ s. s.now) sources.now) r) }
+    ensures unchanged { F.contents files.new ≡ F.contents files.old }
+    ensures noted { OnOk result (F.failed files.new ≡ F.failed files.old) }
+    ensures named { IfErr result (λ r. IsOfFailed (F.failed files.old) (F.failed files.new) r) }
+{
+    let name = table;
+    let table = read(alloc, name, files)?;
+    let sources = read_all(alloc, sources, files)?;
+    read_texts(alloc, name, table.as_slice(), sources.as_slice(), note)
+}
+
+/// The module of a table and its sources.
+fn read_texts(
+    alloc: Global,
+    name: &str,
+    table: &[u8],
+    sources: &[Vec<u8>],
+    note: &mut Note,
+) -> Result<ReadModule, Refusal>
+    ensures read { IfOk result (λ m. IsReadModule table.now (texts_of sources.now) m) }
+    ensures refused { IfErr result (λ r. IsUncostedText table.now (texts_of sources.now) r) }
+{
+    let accepted = module_of_texts(alloc, name, table, sources, note)?;
+    let mut trees = Vec::new(alloc);
+    add_trees(alloc, sources, &mut trees)?;
+    Ok(ReadModule { accepted, trees })
+}
+
+/// Adds accepted sources as they are written.
+fn add_trees(alloc: Global, sources: &[Vec<u8>], trees: &mut Vec<Program>) -> Result<(), AllocError>
+    ensures { OnOk result (AddsTrees (texts_of sources.now) trees.old.items trees.new.items) }
+{
+    let Some((source, sources)) = sources.split_first() else {
+        return Ok(());
+    };
+    // An accepted source is the text of a program, so nothing but memory can be lacking.
+    let Ok(tree) = parse(alloc, source.as_slice()) else {
+        return Err(AllocError);
+    };
+    trees.push(tree)?;
+    add_trees(alloc, sources, trees)
+}
+
+/// Adds what is found for the partitions of these rows, with their sources as they are written and
+/// as they were accepted. `all` are the rows of the table.
+fn add_found<'a>(
+    alloc: Global,
+    costs: &Costs,
+    all: &'a [PartitionRow],
+    rows: &'a [PartitionRow],
+    trees: &'a [Program],
+    sources: &'a [Checked],
+    found: &mut Vec<PartitionFindings<'a>>,
+) -> Result<(), AllocError>
+    ensures { OnOk result
+        (AddsFound costs.now all.now rows.now trees.now sources.now found.old.items
+        found.new.items) }
+{
+    match (
+        rows.split_first(),
+        trees.split_first(),
+        sources.split_first(),
+    ) {
+        (Some((row, rows)), Some((tree, trees)), Some((source, sources))) => {
+            let processes = source.program.processes.as_slice();
+            found.push(partition_findings(alloc, all, row, tree, costs, processes)?)?;
+            add_found(alloc, costs, all, rows, trees, sources, found)
+        }
+        _ => Ok(()),
+    }
+}
+
+/// Writes the lines of findings, to their end.
+fn show_findings<O: Stream>(found: &[PartitionFindings<'_>], out: &mut O) -> Result<(), SinkFault>
+    requires { O.failures out.old < 2 ^ 64 - 1 }
+    ensures written { OnOk result
+        (Appends (O.taken out.old) (O.taken out.new) (findings_text found.now)) }
+    ensures flushed { OnOk result
+        (IsFlushed (seen O.taken O.failures O.is_flushed out.old)
+        (seen O.taken O.failures O.is_flushed out.new)) }
+    ensures beginning { OnErr result
+        (TakesBeginning (O.taken out.old) (O.taken out.new) (findings_text found.now)) }
+    ensures failed { OnErr result
+        (HasFailed (seen O.taken O.failures O.is_flushed out.old)
+        (seen O.taken O.failures O.is_flushed out.new)) }
+{
+    write_findings(found, out)?;
+    out.flush()
+}

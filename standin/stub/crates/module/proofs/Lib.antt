@@ -1,6 +1,0 @@
-pub mod Bursts
-pub mod DeviceLines
-pub mod Machines
-pub mod Runs
-pub mod Standing
-pub mod Texts
