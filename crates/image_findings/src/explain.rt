@@ -66,12 +66,7 @@ fn limit_lines(alloc: Global, file: &str, bytes: &[u8]) -> Result<String, AllocE
 
 /// The same, by whether all fields are there.
 #[tactic(auto, using(crate::proofs::Told::of_value))]
-fn limit_lines_if(
-    alloc: Global,
-    file: &str,
-    bytes: &[u8],
-    all: bool,
-) -> Result<String, AllocError>
+fn limit_lines_if(alloc: Global, file: &str, bytes: &[u8], all: bool) -> Result<String, AllocError>
     requires { is_truncated (image_at bytes.now) ≡ false }
     ensures { IfOk result (λ lines. spec.IsOfLimitIf all file.now bytes.now (string_bytes lines)) }
 {

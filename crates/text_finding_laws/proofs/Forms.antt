@@ -43,7 +43,7 @@ named : {A : Type 0} (t : Bool) (p : Part) (o : Option A) (rest : Option Wrong) 
 named true p o rest h = h
 named false p o rest h = part_rule p.left p.text (NoName p.text) refl
 
-unnamed : {A : Type 0} (t : Bool) (p : Part) (w : Wrong) → rule_of w.what ≡ fault.Form → IsFormed {A = A} None (cond t (Some w) (Some (wrong_part p (NoName p.text))))
+unnamed : (t : Bool) (p : Part) (w : Wrong) → rule_of w.what ≡ fault.Form → IsFormed {A = Written} None (cond t (Some w) (Some (wrong_part p (NoName p.text))))
 unnamed true p w h = h
 unnamed false p w h = part_rule p.left p.text (NoName p.text) refl
 

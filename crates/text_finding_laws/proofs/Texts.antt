@@ -10,7 +10,7 @@ use Rattle.apex_types.specs.declared.device.DeviceLine.{DeviceLine}
 use Rattle.apex_types.specs.declared.limits.TheConstants.{MOST_TICKS}
 use Rattle.apex_types.specs.declared.row.PortRow.{PortRow}
 use Rattle.engine_meaning.specs.Digits.{same}
-use Rattle.isolation.specs.Alone.{Input}
+use Rattle.isolation.specs.declared.input.Input.{Input}
 use Rattle.isolation.specs.declared.input.InputLine.{InputLine}
 use Rattle.isolation.specs.ReplayText as replay
 use Rattle.module_meaning.specs.DeviceText as device
@@ -91,15 +91,15 @@ step tick_of tick n m (Err f) (Some x) other rest h each = ap (λ (g : DeviceFau
 step tick_of tick n m (Ok l) None other rest h each = put_found l (rest l) ∙ each l h
 step tick_of tick n m (Ok l) (Some x) other rest h each = absurd h
 
-last_found : {L : Type 0} (last : List ℕ) → refusal_of (ends_with {L = L} last) ≡ rule_in (unended last)
-last_found [] = refl
-last_found (b ∷ bs) = refl
+last_found : (L : Type 0) (last : List ℕ) → refusal_of (ends_with {L = L} last) ≡ rule_in (unended last)
+last_found L [] = refl
+last_found L (b ∷ bs) = refl
 
 lines_found : {L : Type 0} (names : Names) (named : Taking L) (tick_of : L → ℕ) → Keeps names named tick_of → (count before : ℕ) (ps : List (List ℕ))
     → refusal_of (lines_by (mark_of names.kind) named tick_of count before ps) ≡ rule_in (first_wrong names count before ps)
 unfolding lines_by first_wrong
 lines_found names named tick_of keeps count before [] = refl
-lines_found {L = L} names named tick_of keeps count before (last ∷ []) = last_found {L = L} last
+lines_found {L = L} names named tick_of keeps count before (last ∷ []) = last_found L last
 lines_found names named tick_of keeps count before (line ∷ next ∷ more) =
     step tick_of (naming.tick_of (piece space line)) (total (line ∷ next ∷ more)) (length line) (taken_by named count before (line_by (mark_of names.kind) line)) (line_wrong names count before line)
     (first_wrong names (count + 1) (naming.tick_of (piece space line)) (next ∷ more)) (λ l. lines_by (mark_of names.kind) named tick_of (count + 1) (tick_of l) (next ∷ more))

@@ -30,10 +30,7 @@ pub enum What<'a> {
     /// The text stands behind the partition of a fault.
     More(&'a [u8]),
     /// The tick is below that of the line before.
-    Early {
-        tick: u64,
-        before: u64,
-    },
+    Early { tick: u64, before: u64 },
     /// The text names no channel or port.
     UnknownReceiver(&'a [u8]),
     /// The channel does not come from the device, or the port is no destination.
@@ -43,10 +40,7 @@ pub enum What<'a> {
     /// So many lines stand before this one that no more may follow.
     TooManyLines,
     /// The message has more words than it may have.
-    TooManyWords {
-        words: usize,
-        most: u8,
-    },
+    TooManyWords { words: usize, most: u8 },
 }
 
 /// What is wrong, and how many bytes are left at the place where it is.

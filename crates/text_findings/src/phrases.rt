@@ -148,7 +148,11 @@ fn receiver_advice(alloc: Global, names: &Names<'_>, text: &[u8]) -> Result<Stri
         (λ advice. string_bytes advice ≡ spec.receiver_advice (names_of names.now) text.now) }
 {
     let open = open_names(alloc, names.receivers.as_slice())?;
-    near_or(alloc, nearest(text, open.as_slice()), write_receiver(names.kind))
+    near_or(
+        alloc,
+        nearest(text, open.as_slice()),
+        write_receiver(names.kind),
+    )
 }
 
 /// The names of the channels or ports to which a text may send a message.
