@@ -36,8 +36,11 @@ abbrev pub row_named : List ℕ → List Item → Option Partition
 row_named name [] = None
 row_named name (item ∷ items) = if same item.partition.name name then Some item.partition else row_named name items
 
+-- the lines are those of what is wrong with a replay text for the partition of that name
+abbrev pub AreOfPartition : List ℕ → Image → List ℕ → List ℕ → List ℕ → Type 0
+AreOfPartition file image name text lines = (row : Partition) × (row_named name image.items ≡ Some row) × AreOfText file (input_names row) text lines
+
 -- the text explains the refusal of a replay text for the partition of that name of this image
 abbrev pub IsReplayExplanation : List ℕ → List ℕ → List ℕ → List ℕ → DeviceFault → List ℕ → Type 0
 IsReplayExplanation file bytes partition text fault whole =
-    (image : Image) × (row : Partition) × (lines : List ℕ) × IsImage bytes image × (row_named partition image.items ≡ Some row) × AreOfText file (input_names row) text lines
-    × (whole ≡ explanation (replay_sentence fault) lines)
+    (image : Image) × (lines : List ℕ) × IsImage bytes image × AreOfPartition file image partition text lines × (whole ≡ explanation (replay_sentence fault) lines)

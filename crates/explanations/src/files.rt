@@ -7,6 +7,7 @@ ghost use Rattle.image.specs.Views.{image_of};
 ghost use Rattle.machine_meaning.specs.ImageReading.{image_at};
 ghost use Rattle.explanations.specs.Files as spec;
 ghost use Rattle.text_findings.specs.Views.{names_of};
+ghost use Rattle.text_names.specs.Named.{input_names};
 
 use crate::sentences::{device_sentence, image_sentence, replay_sentence};
 use apex_types::DeviceFault;
@@ -90,10 +91,36 @@ pub fn explain_inputs(
         (string_bytes lines)) }
 {
     let image = loaded(alloc, image)?;
-    let row = row_named(image.partitions.as_slice(), partition)?;
-    let names = input_names(alloc, row).ok()?;
-    let lines = text_lines(alloc, file, &names, text)?;
+    let lines = partition_lines(alloc, file, &image, partition, text)?;
     explanation(alloc, replay_sentence(fault), lines.as_str())
+}
+
+/// The lines of what is wrong with a replay text for the partition of that name.
+fn partition_lines(
+    alloc: Global,
+    file: &str,
+    image: &Image,
+    partition: &str,
+    text: &[u8],
+) -> Option<String>
+    ensures { IfSome result
+        (λ lines.
+        spec.AreOfPartition file.now (image_of image.now) partition.now text.now
+        (string_bytes lines)) }
+{
+    let row = row_named(image.partitions.as_slice(), partition)?;
+    row_lines(alloc, file, row, text)
+}
+
+/// The lines of what is wrong with a replay text for the partition of this row.
+fn row_lines(alloc: Global, file: &str, row: &PartitionRow, text: &[u8]) -> Option<String>
+    ensures { IfSome result
+        (λ lines.
+        spec.AreOfText file.now (input_names (partition_of row.now)) text.now
+        (string_bytes lines)) }
+{
+    let names = input_names(alloc, row).ok()?;
+    text_lines(alloc, file, &names, text)
 }
 
 /// The row of the partition of that name.
