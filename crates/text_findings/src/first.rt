@@ -57,9 +57,11 @@ fn unended() -> Wrong<'static>
     }
 }
 
-/// What is wrong with a line that is the first one of the rest of a text, by what is left of the text.
+/// What is wrong with a line that is the first one of the rest of a text, by what is left of the
+/// text.
 fn in_text<'a>(rest: &[u8], line: &[u8], wrong: Wrong<'a>) -> Wrong<'a>
-    ensures { wrong_of result ≡ spec.in_text (length rest.now) (length line.now) (wrong_of wrong.entry) }
+    ensures { wrong_of result
+        ≡ spec.in_text (length rest.now) (length line.now) (wrong_of wrong.entry) }
 {
     let Wrong { left, what } = wrong;
     Wrong {

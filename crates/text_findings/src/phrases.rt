@@ -159,7 +159,8 @@ fn receiver_advice(alloc: Global, names: &Names<'_>, text: &[u8]) -> Result<Stri
 #[tactic(auto, using(std::proofs::lemmas::List::drop_more, std::proofs::lemmas::List::append_assoc, crate::proofs::Texts::append_nil))]
 fn open_names<'a>(alloc: Global, receivers: &[Receiver<'a>]) -> Result<Vec<&'a str>, AllocError>
     ensures { IfOk result
-        (λ names. map (λ name. name.now) names.items ≡ spec.open_names (map receiver_of receivers.now)) }
+        (λ names. map (λ name. name.now) names.items
+        ≡ spec.open_names (map receiver_of receivers.now)) }
 {
     let mut names = Vec::new(alloc);
     for receiver in receivers {
