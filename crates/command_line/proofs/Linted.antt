@@ -1,11 +1,15 @@
 -- What is found in the texts of the files that are named.
-use Rattle.std.proofs.Common.{◌≡◌, ℕ, Bool, true, false, List, [], ◌∷◌, ◌++◌, map, Option, Result, Ok, Err, IfOk, IfErr, refl, sym, subst, ◌∙◌, append-nil, append_assoc}
+use Rattle.std.proofs.Common.{◌≡◌, ℕ, Bool, true, false, List, [], ◌∷◌, ◌++◌, length, map, Option, Result, Ok, Err, IfOk, IfErr, OnOk, refl, sym, ap, subst, ◌∙◌, append-nil, append_assoc, arith}
 use Rattle.apex_types.specs.declared.cost.Costs.{Costs}
 use Rattle.module_meaning.specs.Table.{Partition}
 use Rattle.pal_meaning.specs.Syntax as written
 use Rattle.pal_base.specs.WrittenView.{program_of}
 use Rattle.pal_base.specs.declared.checked.Checked.{Checked}
+use Rattle.pal_base.specs.declared.program.Process.{Process}
 use Rattle.pal_base.specs.declared.syntax.Program as tree
+use Rattle.lint.specs.Findings.{findings}
+use Rattle.lint.specs.Slow.{slow_processes}
+use Rattle.lint.specs.Views.{found_all}
 use Rattle.lint.specs.declared.report.PartitionFindings.{PartitionFindings}
 use Rattle.window_table.specs.Views.{partition_view, table_of}
 use Rattle.window_table.specs.declared.table.PartitionRow.{PartitionRow}
@@ -35,12 +39,53 @@ read_named files now table sources table_text texts (Err e) same in_table in_sou
 -- one more tree, and one more partition with what is found of it
 pub more_trees : (text : List ℕ) (texts : List (List ℕ)) (p : tree.Program) (old mid new : List tree.Program) → mid ≡ old ++ p ∷ [] → AreTrees (text ∷ []) (program_of p ∷ []) → AddsTrees texts mid new → AddsTrees (text ∷ texts) old new
 more_trees text texts p old mid new pushed own (trees, rest, are) =
-    (p ∷ trees, rest ∙ subst (λ (m : List tree.Program). m ++ trees ≡ old ++ p ∷ trees) (sym pushed) (append_assoc old (p ∷ []) trees), own.0, are)
+    (p ∷ trees, rest ∙ subst (λ (m : List tree.Program). m ++ trees ≡ old ++ p ∷ trees) (sym pushed) (append_assoc old (p ∷ []) trees), (own.0, are))
 
 pub more_found : (costs : Costs) (all : List PartitionRow) (row : PartitionRow) (rows : List PartitionRow) (p : tree.Program) (trees : List tree.Program) (given : Checked) (accepted : List Checked) (f : PartitionFindings) (old mid new : List PartitionFindings)
     → mid ≡ old ++ f ∷ [] → IsFoundOf costs (map partition_view all) (partition_view row) (program_of p) given f → AddsFound costs all rows trees accepted mid new → AddsFound costs all (row ∷ rows) (p ∷ trees) (given ∷ accepted) old new
 more_found costs all row rows p trees given accepted f old mid new pushed own (found, rest, are) =
-    (f ∷ found, rest ∙ subst (λ (m : List PartitionFindings). m ++ found ≡ old ++ f ∷ found) (sym pushed) (append_assoc old (f ∷ []) found), own, are)
+    (f ∷ found, rest ∙ subst (λ (m : List PartitionFindings). m ++ found ≡ old ++ f ∷ found) (sym pushed) (append_assoc old (f ∷ []) found), (own, are))
+
+pub more_found_by : {E : Type 0} (answer : Result (Unit {0}) E) (costs : Costs) (all rows later : List PartitionRow) (row : PartitionRow) (trees more : List tree.Program) (p : tree.Program) (accepted others : List Checked) (given : Checked) (processes : List Process) (f : PartitionFindings) (old mid new : List PartitionFindings)
+    → rows ≡ row ∷ later → trees ≡ p ∷ more → accepted ≡ given ∷ others → processes ≡ given.program.processes.items → mid ≡ old ++ f ∷ [] → f.partition.now ≡ row.name
+    → found_all f.findings.items ≡ findings (map partition_view all) row.ports.items (program_of p) ++ slow_processes costs processes
+    → OnOk answer (AddsFound costs all later more others mid new) → OnOk answer (AddsFound costs all rows trees accepted old new)
+more_found_by (Err e) costs all rows later row trees more p accepted others given processes f old mid new one two three same pushed named found rest = tt
+more_found_by (Ok x) costs all rows later row trees more p accepted others given processes f old mid new one two three same pushed named found rest =
+    let own : IsFoundOf costs (map partition_view all) (partition_view row) (program_of p) given f = record {
+      partition = named;
+      findings = found ∙ ap (λ ps. findings (map partition_view all) row.ports.items (program_of p) ++ slow_processes costs ps) same;
+    } in
+    subst (λ (rs : List PartitionRow). AddsFound costs all rs trees accepted old new) (sym one)
+    (subst (λ (ts : List tree.Program). AddsFound costs all (row ∷ later) ts accepted old new) (sym two)
+    (subst (λ (gs : List Checked). AddsFound costs all (row ∷ later) (p ∷ more) gs old new) (sym three)
+    (more_found costs all row later p more given others f old mid new pushed own rest)))
+
+-- a list has come to its end
+pub no_rows : (costs : Costs) (all rows : List PartitionRow) (trees : List tree.Program) (accepted : List Checked) (old : List PartitionFindings) → length rows ≡ 0 → AddsFound costs all rows trees accepted old old
+no_rows costs all [] trees accepted old e = ([], sym (append-nil old), refl)
+no_rows costs all (r ∷ rows) trees accepted old e = absurd (omega (arith, e))
+
+pub no_trees : (costs : Costs) (all rows : List PartitionRow) (trees : List tree.Program) (accepted : List Checked) (old : List PartitionFindings) → length trees ≡ 0 → AddsFound costs all rows trees accepted old old
+no_trees costs all [] trees accepted old e = ([], sym (append-nil old), refl)
+no_trees costs all (r ∷ rows) [] accepted old e = ([], sym (append-nil old), refl)
+no_trees costs all (r ∷ rows) (t ∷ trees) accepted old e = absurd (omega (arith, e))
+
+pub no_sources : (costs : Costs) (all rows : List PartitionRow) (trees : List tree.Program) (accepted : List Checked) (old : List PartitionFindings) → length accepted ≡ 0 → AddsFound costs all rows trees accepted old old
+no_sources costs all [] trees accepted old e = ([], sym (append-nil old), refl)
+no_sources costs all (r ∷ rows) [] accepted old e = ([], sym (append-nil old), refl)
+no_sources costs all (r ∷ rows) (t ∷ trees) [] old e = ([], sym (append-nil old), refl)
+no_sources costs all (r ∷ rows) (t ∷ trees) (a ∷ accepted) old e = absurd (omega (arith, e))
+
+-- the module whose findings these are
+pub module_found : (m : ReadModule) (rows : List PartitionRow) (trees : List tree.Program) (accepted : List Checked) (old new : List PartitionFindings) → rows ≡ m.accepted.table.partitions.items → trees ≡ m.trees.items → accepted ≡ m.accepted.sources.items → old ≡ []
+    → AddsFound m.accepted.table.costs rows rows trees accepted old new → AreFoundOfModule m new
+module_found m rows trees accepted old new one two three none h =
+    let costs = m.accepted.table.costs in
+    subst (λ (rs : List PartitionRow). AddsFound costs rs rs m.trees.items m.accepted.sources.items [] new) one
+    (subst (λ (ts : List tree.Program). AddsFound costs rows rows ts m.accepted.sources.items [] new) two
+    (subst (λ (gs : List Checked). AddsFound costs rows rows trees gs [] new) three
+    (subst (λ (o : List PartitionFindings). AddsFound costs rows rows trees accepted o new) none h)))
 
 pub all_trees : (texts : List (List ℕ)) (old new : List tree.Program) → old ≡ [] → AddsTrees texts old new → AreTrees texts (map program_of new)
 all_trees texts old new none (trees, same, are) =

@@ -24,7 +24,7 @@ no_table files table text (Build fault) held h = (text, held, h)
 no_table files table text (Run fault) held h = absurd h
 no_table files table text (Replay fault) held h = absurd h
 no_table files table text (Inputs fault) held h = absurd h
-no_table files table text (File name) held h = absurd h
+no_table files table text (File name reason) held h = absurd h
 no_table files table text Memory held h = tt
 no_table files table text Write held h = absurd h
 
@@ -55,6 +55,6 @@ unnamed_table old new text (Err (Build fault)) same h = same
 unnamed_table old new text (Err (Run fault)) same h = same
 unnamed_table old new text (Err (Replay fault)) same h = same
 unnamed_table old new text (Err (Inputs fault)) same h = same
-unnamed_table old new text (Err (File name)) same h = absurd h
+unnamed_table old new text (Err (File name reason)) same h = absurd h
 unnamed_table old new text (Err Memory) same h = same
 unnamed_table old new text (Err Write) same h = same

@@ -99,7 +99,7 @@ run_done_by image devices n v before after is (same, given, run) =
     (same, given, runs_by (image_at given.image_bytes) given.text_bytes n v before.out.taken after.out.taken is_ok is run)
 
 pub run_refused_by : (image devices : List ℕ) (n v : ℕ) (before after : State) (r : Refusal) → n ≡ min v (2 ^ 64 - 1) → IsRunRefused image devices n before after r → IsRunRefused image devices v before after r
-run_refused_by image devices n v before after (refusal.File name) is h = h
+run_refused_by image devices n v before after (refusal.File name reason) is h = h
 run_refused_by image devices n v before after (refusal.Run fault) is (failed, same, given, run) =
     (failed, same, given, runs_by (image_at given.image_bytes) given.text_bytes n v before.out.taken after.out.taken (Err fault) is run)
 run_refused_by image devices n v before after refusal.Memory is h = h

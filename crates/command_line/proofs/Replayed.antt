@@ -68,7 +68,7 @@ replay_done_by image partition text n v before after is (same, given, replay) =
     (same, given, replays_by (image_at given.image_bytes) partition given.text_bytes n v before.out.taken after.out.taken is_ok is replay)
 
 pub replay_refused_by : (image partition text : List ℕ) (n v : ℕ) (before after : State) (r : Refusal) → n ≡ min v (2 ^ 64 - 1) → IsReplayRefused image partition text n before after r → IsReplayRefused image partition text v before after r
-replay_refused_by image partition text n v before after (refusal.File name) is h = h
+replay_refused_by image partition text n v before after (refusal.File name reason) is h = h
 replay_refused_by image partition text n v before after (refusal.Replay fault) is (failed, same, given, replay) =
     (failed, same, given, replays_by (image_at given.image_bytes) partition given.text_bytes n v before.out.taken after.out.taken (Err fault) is replay)
 replay_refused_by image partition text n v before after refusal.Memory is h = h
@@ -82,7 +82,7 @@ inputs_done_by image partition devices n v before after is (same, given, told) =
     (same, given, tells_by (image_at given.image_bytes) partition given.text_bytes n v before.out.taken after.out.taken is_ok is told)
 
 pub inputs_refused_by : (image partition devices : List ℕ) (n v : ℕ) (before after : State) (r : Refusal) → n ≡ min v (2 ^ 64 - 1) → AreInputsRefused image partition devices n before after r → AreInputsRefused image partition devices v before after r
-inputs_refused_by image partition devices n v before after (refusal.File name) is h = h
+inputs_refused_by image partition devices n v before after (refusal.File name reason) is h = h
 inputs_refused_by image partition devices n v before after (refusal.Inputs fault) is (failed, same, given, told) =
     (failed, same, given, tells_by (image_at given.image_bytes) partition given.text_bytes n v before.out.taken after.out.taken (Err fault) is told)
 inputs_refused_by image partition devices n v before after refusal.Memory is h = h

@@ -28,8 +28,11 @@ check_app = with_rule (with_rule (explained_app (codes "check")) (word_rule (cod
 abbrev pub build_app : App
 build_app = with_rule (with_rule (with_rule (explained_app (codes "build")) (word_rule (codes "TABLE"))) (word_rule (codes "IMAGE"))) sources_rule
 
+abbrev pub run_flags_app : App
+run_flags_app = with_rule (explained_app (codes "run")) (flag_rule (codes "progress"))
+
 abbrev pub run_app : App
-run_app = with_rule (with_rule (with_rule (with_rule (explained_app (codes "run")) (flag_rule (codes "progress"))) (word_rule (codes "IMAGE"))) (word_rule (codes "DEVICES"))) (word_rule (codes "TICKS"))
+run_app = with_rule (with_rule (with_rule run_flags_app (word_rule (codes "IMAGE"))) (word_rule (codes "DEVICES"))) (word_rule (codes "TICKS"))
 
 -- a command on one partition of an image
 abbrev pub partition_app : List ℕ → App
@@ -50,9 +53,11 @@ dis_app = with_rule (explained_app (codes "dis")) (word_rule (codes "IMAGE"))
 abbrev pub upgrade_app : App
 upgrade_app = with_rule (with_rule (explained_app (codes "upgrade")) (word_rule (codes "OLD"))) (word_rule (codes "NEW"))
 
+abbrev pub load_flags_app : App
+load_flags_app = with_rule (with_rule (explained_app (codes "load")) (flag_rule (codes "csv"))) (flag_rule (codes "svg"))
+
 abbrev pub load_app : App
-load_app =
-    with_rule (with_rule (with_rule (with_rule (explained_app (codes "load")) (flag_rule (codes "csv"))) (flag_rule (codes "svg"))) (word_rule (codes "TABLE"))) any_sources_rule
+load_app = with_rule (with_rule load_flags_app (word_rule (codes "TABLE"))) any_sources_rule
 
 abbrev pub lint_app : App
 lint_app = with_rule (with_rule (explained_app (codes "lint")) (word_rule (codes "TABLE"))) sources_rule

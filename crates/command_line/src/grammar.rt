@@ -6,7 +6,7 @@ ghost use Rattle.clap.specs.Values.{kind_of};
 ghost use Rattle.clap.specs.Walk.{rule_of};
 ghost use Rattle.clap.specs.declared.error.kind.ErrorKind.TheVariants.{ValueValidation};
 ghost use Rattle.command_words.specs.Grammar.{IsCommand};
-ghost use Rattle.command_line.specs.Words.{sources_rule, explained_app, check_app, build_app, run_app, partition_app, replay_app, inputs_app, cost_app, dis_app, upgrade_app, load_app, lint_app, any_sources_rule, mb_app};
+ghost use Rattle.command_line.specs.Words.{sources_rule, explained_app, check_app, build_app, run_app, partition_app, replay_app, inputs_app, cost_app, dis_app, upgrade_app, load_app, load_flags_app, lint_app, run_flags_app, any_sources_rule, mb_app};
 
 use clap::error::ErrorKind;
 use clap::{Arg, ArgAction, Command, Error};
@@ -65,14 +65,9 @@ fn build<'a>(alloc: Global) -> Result<Command<'a>, AllocError>
 fn run<'a>(alloc: Global) -> Result<Command<'a>, AllocError>
     ensures { IfOk result (λ command. IsCommand command run_app) }
 {
-    explained(alloc, "run")?
+    of_run(alloc)?
         .about("Runs an image for so many ticks and writes its trace")
         .after_help("Example: mb run module.image devices.txt 1000")
-        .arg(flag(
-            alloc,
-            "progress",
-            "Tells once a second on standard error how far the run is",
-        ))?
         .arg(required_word(alloc, "IMAGE", "The file of an image"))?
         .arg(required_word(
             alloc,
@@ -84,6 +79,17 @@ fn run<'a>(alloc: Global) -> Result<Command<'a>, AllocError>
             "TICKS",
             "How many ticks the image runs, at most 1099511627776",
         ))
+}
+
+/// The command with its flags.
+fn of_run<'a>(alloc: Global) -> Result<Command<'a>, AllocError>
+    ensures { IfOk result (λ command. IsCommand command run_flags_app) }
+{
+    explained(alloc, "run")?.arg(flag(
+        alloc,
+        "progress",
+        "Tells once a second on standard error how far the run is",
+    ))
 }
 
 fn replay<'a>(alloc: Global) -> Result<Command<'a>, AllocError>
@@ -158,13 +164,20 @@ fn upgrade<'a>(alloc: Global) -> Result<Command<'a>, AllocError>
 fn load<'a>(alloc: Global) -> Result<Command<'a>, AllocError>
     ensures { IfOk result (λ command. IsCommand command load_app) }
 {
-    explained(alloc, "load")?
+    of_load(alloc)?
         .about("Writes whose the ticks of the frame are, and with sources what each body costs")
         .after_help("Example: mb load table.toml a.pal b.pal")
-        .arg(flag(alloc, "csv", "Writes one table of comma-separated values"))?
-        .arg(flag(alloc, "svg", "Writes a picture of the frame"))?
         .arg(required_word(alloc, "TABLE", "The file of the module table"))?
         .arg(any_sources(alloc))
+}
+
+/// The command with its flags.
+fn of_load<'a>(alloc: Global) -> Result<Command<'a>, AllocError>
+    ensures { IfOk result (λ command. IsCommand command load_flags_app) }
+{
+    explained(alloc, "load")?
+        .arg(flag(alloc, "csv", "Writes one table of comma-separated values"))?
+        .arg(flag(alloc, "svg", "Writes a picture of the frame"))
 }
 
 fn lint<'a>(alloc: Global) -> Result<Command<'a>, AllocError>

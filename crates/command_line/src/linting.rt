@@ -79,19 +79,14 @@ fn show_module<O: Stream>(alloc: Global, read: &ReadModule, out: &mut O) -> Resu
 {
     let accepted = &read.accepted;
     let rows = accepted.table.partitions.as_slice();
+    let trees = read.trees.as_slice();
     let sources = accepted.sources.as_slice();
+    let costs = &accepted.table.costs;
     let mut found = Vec::new(alloc);
-    add_found(
-        alloc,
-        &accepted.table.costs,
-        rows,
-        rows,
-        read.trees.as_slice(),
-        sources,
-        &mut found,
-    )?;
-    show_findings(found.as_slice(), out)?;
-    Ok(Outcome::of_findings(found.as_slice()))
+    add_found(alloc, costs, rows, rows, trees, sources, &mut found)?;
+    let shown = found.as_slice();
+    show_findings(shown, out)?;
+    Ok(Outcome::of_findings(shown))
 }
 
 /// The module of the table and the sources in the files of these names. A refusal is explained in
@@ -151,6 +146,7 @@ fn add_trees(alloc: Global, sources: &[Vec<u8>], trees: &mut Vec<Program>) -> Re
 
 /// Adds what is found for the partitions of these rows, with their sources as they are written and
 /// as they were accepted. `all` are the rows of the table.
+#[tactic(auto, using(crate::proofs::Linted::no_rows, crate::proofs::Linted::no_trees, crate::proofs::Linted::no_sources))]
 fn add_found<'a>(
     alloc: Global,
     costs: &Costs,
@@ -164,18 +160,18 @@ fn add_found<'a>(
         (AddsFound costs.now all.now rows.now trees.now sources.now found.old.items
         found.new.items) }
 {
-    match (
-        rows.split_first(),
-        trees.split_first(),
-        sources.split_first(),
-    ) {
-        (Some((row, rows)), Some((tree, trees)), Some((source, sources))) => {
-            let processes = source.program.processes.as_slice();
-            found.push(partition_findings(alloc, all, row, tree, costs, processes)?)?;
-            add_found(alloc, costs, all, rows, trees, sources, found)
-        }
-        _ => Ok(()),
-    }
+    let Some((row, rows)) = rows.split_first() else {
+        return Ok(());
+    };
+    let Some((tree, trees)) = trees.split_first() else {
+        return Ok(());
+    };
+    let Some((source, sources)) = sources.split_first() else {
+        return Ok(());
+    };
+    let processes = source.program.processes.as_slice();
+    found.push(partition_findings(alloc, all, row, tree, costs, processes)?)?;
+    add_found(alloc, costs, all, rows, trees, sources, found)
 }
 
 /// Writes the lines of findings, to their end.

@@ -11,6 +11,7 @@ ghost use Rattle.command_line.specs.Told.{IsOfFailed};
 ghost use Rattle.streams.specs.States.{IsFlushed, seen};
 ghost use Rattle.window_table.specs.Views.{table_of};
 ghost use Rattle.schedule_load.specs.Load.{IsLoadOf};
+ghost use Rattle.trace_picture.specs.Page.{IsPicture};
 
 use crate::explaining::Note;
 use crate::form::Form;
@@ -168,12 +169,34 @@ fn shown(alloc: Global, form: Form, loaded: &Loaded) -> Result<Vec<u8>, AllocErr
         windows: loaded.table.schedule.windows.as_slice(),
         bodies: loaded.bodies.as_slice(),
     };
-    let mut text = Vec::new(alloc);
     match form {
-        Form::Tables => report.write_table(alloc, &mut text).map_err(no_memory)?,
-        Form::Rows => report.write_csv(alloc, &mut text).map_err(no_memory)?,
-        Form::Picture => text.extend_from_slice(report.picture(alloc)?.as_bytes())?,
+        Form::Tables => tables(alloc, &report),
+        Form::Rows => rows(alloc, &report),
+        Form::Picture => picture(alloc, &report),
     }
+}
+
+/// The tables of a load.
+fn tables(alloc: Global, report: &LoadReport<'_>) -> Result<Vec<u8>, AllocError> {
+    let mut text = Vec::new(alloc);
+    report.write_table(alloc, &mut text).map_err(no_memory)?;
+    Ok(text)
+}
+
+/// The comma-separated values of a load.
+fn rows(alloc: Global, report: &LoadReport<'_>) -> Result<Vec<u8>, AllocError> {
+    let mut text = Vec::new(alloc);
+    report.write_csv(alloc, &mut text).map_err(no_memory)?;
+    Ok(text)
+}
+
+/// The picture of a frame.
+fn picture(alloc: Global, report: &LoadReport<'_>) -> Result<Vec<u8>, AllocError>
+    ensures { IfOk result (λ text. ∥ IsPicture text.items ∥₁) }
+{
+    let drawn = report.picture(alloc)?;
+    let mut text = Vec::new(alloc);
+    text.extend_from_slice(drawn.as_bytes())?;
     Ok(text)
 }
 

@@ -27,10 +27,7 @@ impl<'a> Progress<'a> {
 
 /// The share in tenths of a percent, rounded down.
 fn tenths(made: u64, ticks: u64) -> u64 {
-    match ticks {
-        0 => 1000,
-        _ => made.saturating_mul(1000) / ticks,
-    }
+    made.saturating_mul(1000).checked_div(ticks).unwrap_or(1000)
 }
 
 impl<'a> Watch for Progress<'a> {

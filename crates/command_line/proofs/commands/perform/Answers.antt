@@ -15,7 +15,15 @@ use Rattle.command_line.specs.Words.{mb_app}
 use Rattle.command_line.specs.declared.refusal.Refusal.TheVariants as refusal
 use Rattle.command_line.proofs.Answered.{mb_is_free, memory_refused, order_failed}
 use Rattle.command_line.proofs.Found.{mb_is_simple}
+use Rattle.command_line.proofs.Ran.{told_as}
+use Rattle.command_words.specs.declared.failure.Failure.TheVariants.{Refused}
 use Rattle.command_line.proofs.commands.perform.Goals as goal
+
+pub returns-in_err-grammar-clause-failed : goal.returns-in_err-grammar-clause-failed
+returns-in_err-grammar-clause-failed g c =
+    let order = order_of (subcommand_of mb_app (map g.S.AsStr.text c.args.words.now)) in
+    let before = state (g.F.Files.contents c.args.files.now) (seen g.O.Sink.taken g.O.Sink.failures g.O.Stream.is_flushed c.args.out.now) in
+    told_as _ (Refused refusal.Memory) c.from_residual.result c.from_residual.ensures (memory_refused order before)
 
 pub returns-in_err-matches-clause-failed : goal.returns-in_err-matches-clause-failed
 returns-in_err-matches-clause-failed g c =

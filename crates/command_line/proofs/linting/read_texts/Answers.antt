@@ -1,6 +1,10 @@
-use Rattle.std.proofs.Common.{refl}
+use Rattle.std.proofs.Common.{rules}
+use Rattle.command_line.specs.Reading.{texts_of}
 use Rattle.command_line.proofs.Linted.{all_trees}
 use Rattle.command_line.proofs.linting.read_texts.Goals as goal
 
 pub returns-clause-read : goal.returns-clause-read
-returns-clause-read c = record { accepted = c.in_ok-accepted.ensures.accepted; trees = all_trees _ _ _ refl c.in_ok-add_trees.ensures }
+returns-clause-read c = record {
+  accepted = c.in_ok-accepted.ensures.accepted;
+  trees = all_trees (texts_of c.args.sources.now) c.new-trees.result.items c.add_trees.new.trees.items (search rules) c.in_ok-add_trees.ensures;
+}
