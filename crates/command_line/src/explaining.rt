@@ -9,9 +9,9 @@ ghost use Rattle.command_line.specs.Explained.{IsExplained, IsExplainedWith, IsN
 use crate::refusal::Refusal;
 use apex_types::Name;
 use explanations::{
-    CommandFault, command_sentence, device_sentence, explain_devices, explain_image, explain_inputs,
-    explain_source, explain_table, file_sentence, image_sentence, replay_sentence, source_sentence,
-    table_sentence,
+    CommandFault, command_sentence, device_sentence, explain_devices, explain_image,
+    explain_inputs, explain_source, explain_table, file_sentence, image_sentence, replay_sentence,
+    source_sentence, table_sentence,
 };
 use image::ImageFault;
 use module::{BuildFault, InputsFault, RunFault};
@@ -155,7 +155,14 @@ fn replay_explanation(
     match fault {
         RunFault::Image(fault) => explain_image(alloc, files.image_name, files.image, *fault),
         RunFault::Device(fault) => {
-            explain_inputs(alloc, files.text_name, files.image, partition, files.text, *fault)
+            explain_inputs(
+                alloc,
+                files.text_name,
+                files.image,
+                partition,
+                files.text,
+                *fault,
+            )
         }
         _ => None,
     }

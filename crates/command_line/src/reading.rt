@@ -221,12 +221,7 @@ pub fn upgrade_named<F: Files>(
 }
 
 /// The image in the bytes, upgraded.
-fn upgraded(
-    alloc: Global,
-    name: &str,
-    bytes: &[u8],
-    note: &mut Note,
-) -> Result<Vec<u8>, RunFault>
+fn upgraded(alloc: Global, name: &str, bytes: &[u8], note: &mut Note) -> Result<Vec<u8>, RunFault>
     ensures upgraded { IfOk result (λ image. IsUpgraded bytes.now image.items) }
     ensures refused { IfErr result (λ fault. IsRefused (image_at bytes.now) fault) }
 {
