@@ -3,6 +3,7 @@ use Rattle.std.specs.Prelude.{◌≡◌, ℕ, Bool, true, false, List, [], ◌�
 use Rattle.std.specs.Str.{bytes_eq}
 use Rattle.module_meaning.specs.Table.{Partition, Table}
 use Rattle.explanations.specs.Explanation.{IsExplanationOf, IsTableExplanation}
+use Rattle.explanations.specs.Files.{IsDeviceExplanation, IsImageExplanation, IsReplayExplanation}
 use Rattle.explanations.specs.Sentences.{command_sentence, device_sentence, file_sentence, image_sentence, replay_sentence, source_sentence, table_sentence}
 use Rattle.explanations.specs.declared.sentences.CommandFault.TheVariants as command
 use Rattle.module_meaning.specs.Accepted.{IsTable}
@@ -14,6 +15,7 @@ use Rattle.module.specs.declared.fault.RunFault.{RunFault}
 use Rattle.module.specs.declared.fault.RunFault.TheVariants as run
 use Rattle.pal_base.specs.declared.fault.PalFault.{PalFault}
 use Rattle.command_line.specs.Lines.{line_of}
+use Rattle.command_line.specs.declared.explaining.RunFiles.{RunFiles}
 use Rattle.command_line.specs.declared.explaining.Note.{Note}
 use Rattle.command_line.specs.declared.explaining.Note.TheVariants.{Unwanted, Wanted, Explained}
 use Rattle.command_line.specs.declared.refusal.Refusal.{Refusal}
@@ -92,3 +94,37 @@ IsNoted file table sources fault text = ⊥
 abbrev pub IsNoteOf : List ℕ → List ℕ → List (List ℕ) → BuildFault → Note → Note → Type 0
 IsNoteOf file table sources fault Wanted (Explained text) = IsNoted file table sources fault (string_bytes text)
 IsNoteOf file table sources fault old new = new ≡ old
+
+-- ---- the note on a refused image, device text or replay text
+
+-- the files of a run: the image and the text, each with its name
+pub record Files : Type 0 where
+  pub image_name : List ℕ
+  pub image : List ℕ
+  pub text_name : List ℕ
+  pub text : List ℕ
+
+abbrev pub files_of : RunFiles → Files
+files_of f = record { image_name = f.image_name.now; image = f.image.now; text_name = f.text_name.now; text = f.text.now }
+
+-- If an explanation was wanted, there may be one of which this is so.
+abbrev pub IsNotedBy : (List ℕ → Type 0) → Note → Note → Type 0
+IsNotedBy is Wanted (Explained text) = is (string_bytes text)
+IsNotedBy is old new = new ≡ old
+
+-- the text explains the refusal of the image or of the device text
+abbrev pub IsOfRun : Files → RunFault → List ℕ → Type 0
+IsOfRun f (run.Image fault) text = IsImageExplanation f.image_name f.image fault text
+IsOfRun f (run.Device fault) text = IsDeviceExplanation f.text_name f.image f.text fault text
+IsOfRun f fault text = ⊥
+
+-- that of the image or of the text of the replay of this partition
+abbrev pub IsOfReplay : Files → List ℕ → RunFault → List ℕ → Type 0
+IsOfReplay f partition (run.Image fault) text = IsImageExplanation f.image_name f.image fault text
+IsOfReplay f partition (run.Device fault) text = IsReplayExplanation f.text_name f.image partition f.text fault text
+IsOfReplay f partition fault text = ⊥
+
+abbrev pub IsOfInputs : Files → InputsFault → List ℕ → Type 0
+IsOfInputs f (inputs.Image fault) text = IsImageExplanation f.image_name f.image fault text
+IsOfInputs f (inputs.Device fault) text = IsDeviceExplanation f.text_name f.image f.text fault text
+IsOfInputs f fault text = ⊥

@@ -128,17 +128,18 @@ fn obey<F: Files, O: Stream, W: Watch>(
                 files,
                 out,
                 watch,
+                note,
             )
         }
         Some(("replay", found)) => {
             let (image, partition) = (word(found, "IMAGE"), word(found, "PARTITION"));
             let (inputs, ticks) = (word(found, "INPUTS"), word(found, "TICKS"));
-            replay(alloc, image, partition, inputs, ticks, files, out)
+            replay(alloc, image, partition, inputs, ticks, files, out, note)
         }
         Some(("inputs", found)) => {
             let (image, partition) = (word(found, "IMAGE"), word(found, "PARTITION"));
             let (devices, ticks) = (word(found, "DEVICES"), word(found, "TICKS"));
-            inputs(alloc, image, partition, devices, ticks, files, out)
+            inputs(alloc, image, partition, devices, ticks, files, out, note)
         }
         Some(("cost", found)) => {
             let table = word(found, "TABLE");
@@ -147,12 +148,12 @@ fn obey<F: Files, O: Stream, W: Watch>(
             Ok(Outcome::Usual)
         }
         Some(("dis", found)) => {
-            dis(alloc, word(found, "IMAGE"), files, out)?;
+            dis(alloc, word(found, "IMAGE"), files, out, note)?;
             Ok(Outcome::Usual)
         }
         Some(("upgrade", found)) => {
             let (old, new) = (word(found, "OLD"), word(found, "NEW"));
-            upgrade(alloc, old, new, files, out)?;
+            upgrade(alloc, old, new, files, out, note)?;
             Ok(Outcome::Usual)
         }
         Some(("load", found)) => {
@@ -261,6 +262,7 @@ fn upgrade<F: Files, O: Stream>(
     new: &str,
     files: &mut F,
     out: &mut O,
+    note: &mut Note,
 ) -> Result<(), Refusal>
     requires { O.failures out.old < 2 ^ 64 - 1 }
     ensures done { OnOk result
@@ -277,7 +279,7 @@ fn upgrade<F: Files, O: Stream>(
     ensures noted { OnOk result (F.failed files.new ≡ F.failed files.old) }
     ensures named { IfErr result (λ r. IsOfFailed (F.failed files.old) (F.failed files.new) r) }
 {
-    let image = upgrade_named(alloc, old, files)?;
+    let image = upgrade_named(alloc, old, files, note)?;
     let shown = String::from_str(alloc, new)?;
     if let Err(fault) = files.replace(new, image.as_slice()) {
         return Err(Refusal::of_file(shown, fault));

@@ -3,28 +3,31 @@
 ghost use Rattle.std.specs.Prelude.{◌≡◌, Some, map, option_map, string_bytes, IfSome};
 ghost use Rattle.module_meaning.specs.Accepted.{IsTable};
 ghost use Rattle.window_table.specs.Views.{partition_view, table_of};
-ghost use Rattle.command_line.specs.Explained.{IsExplained, IsExplainedWith, IsNoted, IsNoteOf, build_sentence, inputs_sentence, run_sentence, sentence_of, sentence_of_replay, source_of, told_text};
+ghost use Rattle.explanations.specs.Files.{IsImageExplanation};
+ghost use Rattle.command_line.specs.Explained.{IsExplained, IsExplainedWith, IsNoted, IsNotedBy, IsNoteOf, IsOfInputs, IsOfReplay, IsOfRun, build_sentence, files_of, inputs_sentence, run_sentence, sentence_of, sentence_of_replay, source_of, told_text};
 
 use crate::refusal::Refusal;
 use apex_types::Name;
 use explanations::{
-    CommandFault, command_sentence, device_sentence, explain_source, explain_table, file_sentence,
-    image_sentence, replay_sentence, source_sentence, table_sentence,
+    CommandFault, command_sentence, device_sentence, explain_devices, explain_image,
+    explain_inputs, explain_source, explain_table, file_sentence, image_sentence, replay_sentence,
+    source_sentence, table_sentence,
 };
+use image::ImageFault;
 use module::{BuildFault, InputsFault, RunFault};
 use pal_base::fault::PalFault;
 use std::alloc::Global;
 use std::fmt;
 use window_table::{ModuleTable, PartitionRow, read_table};
 
-/// The explanation of a refused source or table, for the lines behind that of its refusal.
+/// The explanation of a refused file, for the lines behind that of its refusal.
 #[derive(Drop)]
 pub enum Note {
     /// Nobody asked for an explanation.
     Unwanted,
-    /// No source and no table is refused so far.
+    /// No file is refused so far.
     Wanted,
-    /// The lines that explain the refusal of a source or a table, to their end.
+    /// The lines that explain the refusal of a file, to their end.
     Explained(String),
 }
 
@@ -53,6 +56,129 @@ impl Note {
         if let Some(text) = explanation(alloc, file, table, sources, fault) {
             *self = Note::Explained(text);
         }
+    }
+}
+
+/// An image and a text for it: the names of their files, and their bytes.
+#[derive(Clone, Copy)]
+pub struct RunFiles<'a> {
+    pub image_name: &'a str,
+    pub image: &'a [u8],
+    pub text_name: &'a str,
+    pub text: &'a [u8],
+}
+
+impl Note {
+    /// Notes the explanation of a refused image, if it is wanted and there is memory for it.
+    pub fn explain_image(&mut self, alloc: Global, file: &str, bytes: &[u8], fault: ImageFault)
+        ensures { IsNotedBy (IsImageExplanation file.now bytes.now fault) self.old self.new }
+    {
+        let Note::Wanted = self else {
+            return;
+        };
+        if let Some(text) = explain_image(alloc, file, bytes, fault) {
+            *self = Note::Explained(text);
+        }
+    }
+
+    /// Notes the explanation of a run whose image or device text is refused, if it is wanted and there
+    /// is memory for it.
+    pub fn explain_run(&mut self, alloc: Global, files: RunFiles<'_>, fault: &RunFault)
+        ensures { IsNotedBy (IsOfRun (files_of files.entry) fault.now) self.old self.new }
+    {
+        let Note::Wanted = self else {
+            return;
+        };
+        if let Some(text) = run_explanation(alloc, files, fault) {
+            *self = Note::Explained(text);
+        }
+    }
+
+    /// Notes the explanation of a replay of a partition whose image or replay text is refused, if it is
+    /// wanted and there is memory for it.
+    pub fn explain_replay(
+        &mut self,
+        alloc: Global,
+        files: RunFiles<'_>,
+        partition: &str,
+        fault: &RunFault,
+    )
+        ensures { IsNotedBy (IsOfReplay (files_of files.entry) partition.now fault.now) self.old
+            self.new }
+    {
+        let Note::Wanted = self else {
+            return;
+        };
+        if let Some(text) = replay_explanation(alloc, files, partition, fault) {
+            *self = Note::Explained(text);
+        }
+    }
+
+    /// Notes the explanation of inputs whose image or device text is refused, if it is wanted and there
+    /// is memory for it.
+    pub fn explain_inputs(&mut self, alloc: Global, files: RunFiles<'_>, fault: &InputsFault)
+        ensures { IsNotedBy (IsOfInputs (files_of files.entry) fault.now) self.old self.new }
+    {
+        let Note::Wanted = self else {
+            return;
+        };
+        if let Some(text) = inputs_explanation(alloc, files, fault) {
+            *self = Note::Explained(text);
+        }
+    }
+}
+
+/// The explanation of a refused image or device text, if there is memory for it.
+fn run_explanation(alloc: Global, files: RunFiles<'_>, fault: &RunFault) -> Option<String>
+    ensures { IfSome result
+        (λ text. IsOfRun (files_of files.entry) fault.now (string_bytes text)) }
+{
+    match fault {
+        RunFault::Image(fault) => explain_image(alloc, files.image_name, files.image, *fault),
+        RunFault::Device(fault) => {
+            explain_devices(alloc, files.text_name, files.image, files.text, *fault)
+        }
+        _ => None,
+    }
+}
+
+/// The explanation of a refused image or replay text, if there is memory for it.
+fn replay_explanation(
+    alloc: Global,
+    files: RunFiles<'_>,
+    partition: &str,
+    fault: &RunFault,
+) -> Option<String>
+    ensures { IfSome result
+        (λ text. IsOfReplay (files_of files.entry) partition.now fault.now (string_bytes text)) }
+{
+    match fault {
+        RunFault::Image(fault) => explain_image(alloc, files.image_name, files.image, *fault),
+        RunFault::Device(fault) => {
+            explain_inputs(
+                alloc,
+                files.text_name,
+                files.image,
+                partition,
+                files.text,
+                *fault,
+            )
+        }
+        _ => None,
+    }
+}
+
+/// The explanation of a refused image or device text, if there is memory for it.
+fn inputs_explanation(alloc: Global, files: RunFiles<'_>, fault: &InputsFault) -> Option<String>
+    ensures { IfSome result
+        (λ text. IsOfInputs (files_of files.entry) fault.now (string_bytes text)) }
+{
+    match fault {
+        InputsFault::Image(fault) => explain_image(alloc, files.image_name, files.image, *fault),
+        InputsFault::Device(fault) => {
+            explain_devices(alloc, files.text_name, files.image, files.text, *fault)
+        }
+        _ => None,
     }
 }
 

@@ -237,7 +237,13 @@ pub fn module_of_texts(
 }
 
 /// The image in the file of that name.
-pub fn load_named<F: Files>(alloc: Global, name: &str, files: &mut F) -> Result<Image, Refusal>
+/// A refusal of the image is explained in `note`.
+pub fn load_named<F: Files>(
+    alloc: Global,
+    name: &str,
+    files: &mut F,
+    note: &mut Note,
+) -> Result<Image, Refusal>
     ensures loaded { IfOk result
         (λ image. IsImageIn (F.contents files.old) name.now (image_of image)) }
     ensures refused { IfErr result (λ r. IsNotLoaded (F.contents files.old) name.now r) }
@@ -246,19 +252,29 @@ pub fn load_named<F: Files>(alloc: Global, name: &str, files: &mut F) -> Result<
     ensures named { IfErr result (λ r. IsOfFailed (F.failed files.old) (F.failed files.new) r) }
 {
     let bytes = read_as(alloc, TextKind::Image, name, files)?;
-    Ok(load(alloc, bytes.as_slice())?)
+    Ok(load(alloc, name, bytes.as_slice(), note)?)
 }
 
 /// The image in the bytes.
-fn load(alloc: Global, bytes: &[u8]) -> Result<Image, RunFault>
+fn load(alloc: Global, name: &str, bytes: &[u8], note: &mut Note) -> Result<Image, RunFault>
     ensures loaded { IfOk result (λ image. image_at bytes.now ≡ Ok (image_of image)) }
     ensures refused { IfErr result (λ fault. IsRefused (image_at bytes.now) fault) }
 {
-    Ok(load_image(alloc, bytes)?)
+    let loaded = load_image(alloc, bytes);
+    if let Err(fault) = &loaded {
+        note.explain_image(alloc, name, bytes, *fault);
+    }
+    Ok(loaded?)
 }
 
 /// The image in the file of that name, upgraded.
-pub fn upgrade_named<F: Files>(alloc: Global, name: &str, files: &mut F) -> Result<Vec<u8>, Refusal>
+/// A refusal of the image is explained in `note`.
+pub fn upgrade_named<F: Files>(
+    alloc: Global,
+    name: &str,
+    files: &mut F,
+    note: &mut Note,
+) -> Result<Vec<u8>, Refusal>
     ensures upgraded { IfOk result
         (λ bytes. IsUpgradedIn (F.contents files.old) name.now bytes.items) }
     ensures refused { IfErr result (λ r. IsNotLoaded (F.contents files.old) name.now r) }
@@ -266,16 +282,20 @@ pub fn upgrade_named<F: Files>(alloc: Global, name: &str, files: &mut F) -> Resu
     ensures noted { OnOk result (F.failed files.new ≡ F.failed files.old) }
     ensures named { IfErr result (λ r. IsOfFailed (F.failed files.old) (F.failed files.new) r) }
 {
-    let old = read_as(alloc, TextKind::Image, name, files)?;
-    Ok(upgraded(alloc, old.as_slice())?)
+    let bytes = read_as(alloc, TextKind::Image, name, files)?;
+    Ok(upgraded(alloc, name, bytes.as_slice(), note)?)
 }
 
 /// The image in the bytes, upgraded.
-fn upgraded(alloc: Global, bytes: &[u8]) -> Result<Vec<u8>, RunFault>
+fn upgraded(alloc: Global, name: &str, bytes: &[u8], note: &mut Note) -> Result<Vec<u8>, RunFault>
     ensures upgraded { IfOk result (λ image. IsUpgraded bytes.now image.items) }
     ensures refused { IfErr result (λ fault. IsRefused (image_at bytes.now) fault) }
 {
-    Ok(upgrade(alloc, bytes)?)
+    let upgraded = upgrade(alloc, bytes);
+    if let Err(fault) = &upgraded {
+        note.explain_image(alloc, name, bytes, *fault);
+    }
+    Ok(upgraded?)
 }
 
 /// Each of them as a slice.

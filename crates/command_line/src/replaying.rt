@@ -11,6 +11,7 @@ ghost use Rattle.command_line.specs.States.{state};
 ghost use Rattle.command_line.specs.Told.{IsOfFailed, IsOfFailedFile};
 ghost use Rattle.streams.specs.States.{IsFlushed, seen};
 
+use crate::explaining::{Note, RunFiles};
 use crate::grammar::bad_ticks;
 use crate::outcome::Outcome;
 use crate::reading::read_as;
@@ -30,6 +31,7 @@ pub fn replay<F: Files, O: Stream>(
     ticks: &str,
     files: &mut F,
     out: &mut O,
+    note: &mut Note,
 ) -> Result<Outcome, Failure<Refusal>>
     requires { O.failures out.old < 2 ^ 64 - 1 }
     ensures done { IfOk result
@@ -50,7 +52,7 @@ pub fn replay<F: Files, O: Stream>(
     let Some(number) = number_of(ticks) else {
         return Err(Failure::Usage(bad_ticks(alloc, "replay", ticks)?));
     };
-    replay_named(alloc, image, partition, inputs, number, files, out)?;
+    replay_named(alloc, image, partition, inputs, number, files, out, note)?;
     Ok(Outcome::Usual)
 }
 
@@ -63,6 +65,7 @@ fn replay_named<F: Files, O: Stream>(
     ticks: u64,
     files: &mut F,
     out: &mut O,
+    note: &mut Note,
 ) -> Result<(), Refusal>
     requires { O.failures out.old < 2 ^ 64 - 1 }
     ensures done { OnOk result
@@ -79,39 +82,44 @@ fn replay_named<F: Files, O: Stream>(
     ensures noted { OnOk result (F.failed files.new ≡ F.failed files.old) }
     ensures named { IfErr result (λ r. IsOfFailed (F.failed files.old) (F.failed files.new) r) }
 {
+    let (image_name, text_name) = (image, inputs);
     let image = read_as(alloc, TextKind::Image, image, files)?;
     let inputs = read_as(alloc, TextKind::Inputs, inputs, files)?;
-    match trace_alone(
-        alloc,
-        image.as_slice(),
-        partition,
-        inputs.as_slice(),
-        ticks,
-        out,
-    ) {
+    let run_files = RunFiles {
+        image_name,
+        image: image.as_slice(),
+        text_name,
+        text: inputs.as_slice(),
+    };
+    match trace_alone(alloc, run_files, partition, ticks, out, note) {
         Ok(()) => Ok(out.flush()?),
         Err(fault) => Err(Refusal::Replay(fault)),
     }
 }
 
-/// Writes the trace of a partition alone.
+/// Writes the trace of a partition alone. A refusal of the image or of the replay text is explained in
+/// `note`.
 fn trace_alone<O: Stream>(
     alloc: Global,
-    image: &[u8],
+    files: RunFiles<'_>,
     partition: &str,
-    inputs: &[u8],
     ticks: u64,
     out: &mut O,
+    note: &mut Note,
 ) -> Result<(), RunFault>
     requires { O.failures out.old < 2 ^ 64 - 1 }
-    ensures trace { Replays (image_at image.now) partition.now inputs.now ticks (O.taken out.old)
-        (O.taken out.new) result }
+    ensures trace { Replays (image_at files.entry.image.now) partition.now files.entry.text.now
+        ticks (O.taken out.old) (O.taken out.new) result }
     ensures quiet { OnOk result (O.failures out.new ≡ O.failures out.old) }
     ensures failed { IfErr result
         (λ f. HasFailedBy f (seen O.taken O.failures O.is_flushed out.old)
         (seen O.taken O.failures O.is_flushed out.new)) }
 {
-    module::replay(alloc, image, partition, inputs, ticks, out)
+    let traced = module::replay(alloc, files.image, partition, files.text, ticks, out);
+    if let Err(fault) = &traced {
+        note.explain_replay(alloc, files, partition, fault);
+    }
+    traced
 }
 
 /// Writes the inputs that a run of an image brings a partition in the ticks of a word.
@@ -123,6 +131,7 @@ pub fn inputs<F: Files, O: Stream>(
     ticks: &str,
     files: &mut F,
     out: &mut O,
+    note: &mut Note,
 ) -> Result<Outcome, Failure<Refusal>>
     requires { O.failures out.old < 2 ^ 64 - 1 }
     ensures done { IfOk result
@@ -143,7 +152,7 @@ pub fn inputs<F: Files, O: Stream>(
     let Some(number) = number_of(ticks) else {
         return Err(Failure::Usage(bad_ticks(alloc, "inputs", ticks)?));
     };
-    inputs_named(alloc, image, partition, devices, number, files, out)?;
+    inputs_named(alloc, image, partition, devices, number, files, out, note)?;
     Ok(Outcome::Usual)
 }
 
@@ -156,6 +165,7 @@ fn inputs_named<F: Files, O: Stream>(
     ticks: u64,
     files: &mut F,
     out: &mut O,
+    note: &mut Note,
 ) -> Result<(), Refusal>
     requires { O.failures out.old < 2 ^ 64 - 1 }
     ensures done { OnOk result
@@ -172,35 +182,40 @@ fn inputs_named<F: Files, O: Stream>(
     ensures noted { OnOk result (F.failed files.new ≡ F.failed files.old) }
     ensures named { IfErr result (λ r. IsOfFailed (F.failed files.old) (F.failed files.new) r) }
 {
+    let (image_name, text_name) = (image, devices);
     let image = read_as(alloc, TextKind::Image, image, files)?;
     let devices = read_as(alloc, TextKind::Inputs, devices, files)?;
-    tell_inputs(
-        alloc,
-        image.as_slice(),
-        partition,
-        devices.as_slice(),
-        ticks,
-        out,
-    )?;
+    let run_files = RunFiles {
+        image_name,
+        image: image.as_slice(),
+        text_name,
+        text: devices.as_slice(),
+    };
+    tell_inputs(alloc, run_files, partition, ticks, out, note)?;
     Ok(out.flush()?)
 }
 
-/// Writes the inputs that a run of an image brings a partition, as a replay text.
+/// Writes the inputs that a run of an image brings a partition, as a replay text. A refusal of the
+/// image or of the device text is explained in `note`.
 fn tell_inputs<O: Stream>(
     alloc: Global,
-    image: &[u8],
+    files: RunFiles<'_>,
     partition: &str,
-    devices: &[u8],
     ticks: u64,
     out: &mut O,
+    note: &mut Note,
 ) -> Result<(), InputsFault>
     requires { O.failures out.old < 2 ^ 64 - 1 }
-    ensures told { Tells (image_at image.now) partition.now devices.now ticks (O.taken out.old)
-        (O.taken out.new) result }
+    ensures told { Tells (image_at files.entry.image.now) partition.now files.entry.text.now ticks
+        (O.taken out.old) (O.taken out.new) result }
     ensures quiet { OnOk result (O.failures out.new ≡ O.failures out.old) }
     ensures failed { IfErr result
         (λ f. HasFailedByInputs f (seen O.taken O.failures O.is_flushed out.old)
         (seen O.taken O.failures O.is_flushed out.new)) }
 {
-    module::inputs(alloc, image, partition, devices, ticks, out)
+    let told = module::inputs(alloc, files.image, partition, files.text, ticks, out);
+    if let Err(fault) = &told {
+        note.explain_inputs(alloc, files, fault);
+    }
+    told
 }

@@ -10,6 +10,7 @@ ghost use Rattle.command_line.specs.States.{state};
 ghost use Rattle.command_line.specs.Told.{IsOfFailed, IsOfFailedFile};
 ghost use Rattle.streams.specs.States.{IsFlushed, seen};
 
+use crate::explaining::{Note, RunFiles};
 use crate::first_run::{SOURCE, TABLE, TICKS};
 use crate::grammar::bad_ticks;
 use crate::outcome::Outcome;
@@ -30,6 +31,7 @@ pub fn run<F: Files, O: Stream, W: Watch>(
     files: &mut F,
     out: &mut O,
     watch: &mut W,
+    note: &mut Note,
 ) -> Result<Outcome, Failure<Refusal>>
     requires { O.failures out.old < 2 ^ 64 - 1 }
     ensures done { IfOk result
@@ -50,7 +52,7 @@ pub fn run<F: Files, O: Stream, W: Watch>(
     let Some(number) = number_of(ticks) else {
         return Err(Failure::Usage(bad_ticks(alloc, "run", ticks)?));
     };
-    run_named(alloc, image, devices, number, files, out, watch)?;
+    run_named(alloc, image, devices, number, files, out, watch, note)?;
     Ok(Outcome::Usual)
 }
 
@@ -63,6 +65,7 @@ fn run_named<F: Files, O: Stream, W: Watch>(
     files: &mut F,
     out: &mut O,
     watch: &mut W,
+    note: &mut Note,
 ) -> Result<(), Refusal>
     requires { O.failures out.old < 2 ^ 64 - 1 }
     ensures done { OnOk result
@@ -79,31 +82,41 @@ fn run_named<F: Files, O: Stream, W: Watch>(
     ensures noted { OnOk result (F.failed files.new ≡ F.failed files.old) }
     ensures named { IfErr result (λ r. IsOfFailed (F.failed files.old) (F.failed files.new) r) }
 {
+    let (image_name, text_name) = (image, devices);
     let image = read_as(alloc, TextKind::Image, image, files)?;
     let devices = read_as(alloc, TextKind::Inputs, devices, files)?;
-    let (image, devices) = (image.as_slice(), devices.as_slice());
-    trace(alloc, image, devices, ticks, out, watch)?;
+    let run_files = RunFiles {
+        image_name,
+        image: image.as_slice(),
+        text_name,
+        text: devices.as_slice(),
+    };
+    trace(alloc, run_files, ticks, out, watch, note)?;
     Ok(out.flush()?)
 }
 
-/// Writes the trace of an image.
+/// Writes the trace of an image. A refusal of the image or of the device text is explained in `note`.
 fn trace<O: Stream, W: Watch>(
     alloc: Global,
-    image: &[u8],
-    devices: &[u8],
+    files: RunFiles<'_>,
     ticks: u64,
     out: &mut O,
     watch: &mut W,
+    note: &mut Note,
 ) -> Result<(), RunFault>
     requires { O.failures out.old < 2 ^ 64 - 1 }
-    ensures trace { Runs (image_at image.now) devices.now ticks (O.taken out.old) (O.taken out.new)
-        result }
+    ensures trace { Runs (image_at files.entry.image.now) files.entry.text.now ticks
+        (O.taken out.old) (O.taken out.new) result }
     ensures quiet { OnOk result (O.failures out.new ≡ O.failures out.old) }
     ensures failed { IfErr result
         (λ f. HasFailedBy f (seen O.taken O.failures O.is_flushed out.old)
         (seen O.taken O.failures O.is_flushed out.new)) }
 {
-    module::run_watched(alloc, image, devices, ticks, out, watch)
+    let traced = module::run_watched(alloc, files.image, files.text, ticks, out, watch);
+    if let Err(fault) = &traced {
+        note.explain_run(alloc, files, fault);
+    }
+    traced
 }
 
 /// Runs the stored module.

@@ -57,6 +57,7 @@ pub fn dis<F: Files, O: Stream>(
     image: &str,
     files: &mut F,
     out: &mut O,
+    note: &mut Note,
 ) -> Result<(), Refusal>
     requires { O.failures out.old < 2 ^ 64 - 1 }
     ensures done { OnOk result
@@ -73,7 +74,7 @@ pub fn dis<F: Files, O: Stream>(
     ensures noted { OnOk result (F.failed files.new ≡ F.failed files.old) }
     ensures named { IfErr result (λ r. IsOfFailed (F.failed files.old) (F.failed files.new) r) }
 {
-    let image = load_named(alloc, image, files)?;
+    let image = load_named(alloc, image, files, note)?;
     Ok(show_code(&image, out)?)
 }
 

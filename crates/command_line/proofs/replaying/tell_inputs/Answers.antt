@@ -2,7 +2,12 @@ use Rattle.streams.specs.States.{seen}
 use Rattle.command_line.proofs.Replayed.{failed_by_inputs}
 use Rattle.command_line.proofs.replaying.tell_inputs.Goals as goal
 
-pub returns-clause-failed : goal.returns-clause-failed
-returns-clause-failed g c =
+pub returns-in-Err-clause-failed : goal.returns-in-Err-clause-failed
+returns-in-Err-clause-failed g c =
     let out = seen g.O.Sink.taken g.O.Sink.failures g.O.Stream.is_flushed in
-    failed_by_inputs (out c.args.out.now) (out c.inputs.new.sink) c.inputs.result c.inputs.ensures.write c.inputs.ensures.quiet
+    failed_by_inputs (out c.args.out.now) (out c.inputs-told.new.sink) c.inputs-told.result c.inputs-told.ensures.write c.inputs-told.ensures.quiet
+
+pub returns-in_default-clause-failed : goal.returns-in_default-clause-failed
+returns-in_default-clause-failed g c =
+    let out = seen g.O.Sink.taken g.O.Sink.failures g.O.Stream.is_flushed in
+    failed_by_inputs (out c.args.out.now) (out c.inputs-told.new.sink) c.inputs-told.result c.inputs-told.ensures.write c.inputs-told.ensures.quiet

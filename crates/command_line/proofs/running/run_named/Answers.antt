@@ -10,8 +10,8 @@ use Rattle.command_line.proofs.running.run_named.Goals as goal
 pub returns-in_err-trace-clause-refused : goal.returns-in_err-trace-clause-refused
 returns-in_err-trace-clause-refused g c =
     let files = g.F.Files.contents c.args.files.now in
-    let given = given_from files (g.F.Files.contents c.read_as.new.files) c.args.image.now c.args.devices.now c.in_ok-image.image.items c.in_ok-devices.devices.items c.as_slice-image.result.now c.as_slice-devices.result.now
-    c.in_ok-image.ensures.unchanged c.as_slice-image.ensures.value c.as_slice-devices.ensures.value c.in_ok-image.ensures.held c.in_ok-devices.ensures.held in
+    let given = given_from files (g.F.Files.contents c.read_as.new.files) c.args.image.now c.args.devices.now c.in_ok-image.image.items c.in_ok-devices.devices.items c.as_slice.result.now c.as_slice-2.result.now
+    c.in_ok-image.ensures.unchanged c.as_slice.ensures.value c.as_slice-2.ensures.value c.in_ok-image.ensures.held c.in_ok-devices.ensures.held in
     let same = c.in_ok-devices.ensures.unchanged ∙ c.in_ok-image.ensures.unchanged in
     told_as _ (Run c.in_err-trace.field-0.0) c.from_residual-in_err-trace.result c.from_residual-in_err-trace.ensures
     (c.in_err-trace.ensures.failed, same, given.given, run_of_whole given c.args.ticks (g.O.Sink.taken c.args.out.now) (g.O.Sink.taken c.trace.new.out) (Err c.in_err-trace.field-0.0) c.in_err-trace.ensures.trace)
@@ -20,15 +20,15 @@ pub returns-in_err-flush-clause-refused : goal.returns-in_err-flush-clause-refus
 returns-in_err-flush-clause-refused g c =
     let taken = g.O.Sink.taken in
     let files = g.F.Files.contents c.args.files.now in
-    let given = given_from files (g.F.Files.contents c.read_as.new.files) c.args.image.now c.args.devices.now c.in_ok-image.image.items c.in_ok-devices.devices.items c.as_slice-image.result.now c.as_slice-devices.result.now
-    c.in_ok-image.ensures.unchanged c.as_slice-image.ensures.value c.as_slice-devices.ensures.value c.in_ok-image.ensures.held c.in_ok-devices.ensures.held in
+    let given = given_from files (g.F.Files.contents c.read_as.new.files) c.args.image.now c.args.devices.now c.in_ok-image.image.items c.in_ok-devices.devices.items c.as_slice.result.now c.as_slice-2.result.now
+    c.in_ok-image.ensures.unchanged c.as_slice.ensures.value c.as_slice-2.ensures.value c.in_ok-image.ensures.held c.in_ok-devices.ensures.held in
     let same = c.in_ok-devices.ensures.unchanged ∙ c.in_ok-image.ensures.unchanged in
     told_as _ Write c.from_residual-in_err-flush.result c.from_residual-in_err-flush.ensures (
       c.in_err-flush.ensures.failed ∙ ap (λ (n : ℕ). n + 1) c.in_ok-trace.ensures.quiet,
       (
         same,
         given.given,
-        run_of_whole given c.args.ticks (taken c.args.out.now) (taken c.flush.new.self) is_ok (kept_run (image_at c.as_slice-image.result.now) c.as_slice-devices.result.now c.args.ticks (taken c.args.out.now) (taken c.trace.new.out) (taken c.flush.new.self) c.in_ok-trace.ensures.trace c.in_err-flush.ensures.kept),
+        run_of_whole given c.args.ticks (taken c.args.out.now) (taken c.flush.new.self) is_ok (kept_run (image_at c.as_slice.result.now) c.as_slice-2.result.now c.args.ticks (taken c.args.out.now) (taken c.trace.new.out) (taken c.flush.new.self) c.in_ok-trace.ensures.trace c.in_err-flush.ensures.kept),
       ),
     )
 
@@ -36,10 +36,10 @@ pub returns-clause-done : goal.returns-clause-done
 returns-clause-done g c =
     let taken = g.O.Sink.taken in
     let files = g.F.Files.contents c.args.files.now in
-    let given = given_from files (g.F.Files.contents c.read_as.new.files) c.args.image.now c.args.devices.now c.in_ok-image.image.items c.in_ok-devices.devices.items c.as_slice-image.result.now c.as_slice-devices.result.now
-    c.in_ok-image.ensures.unchanged c.as_slice-image.ensures.value c.as_slice-devices.ensures.value c.in_ok-image.ensures.held c.in_ok-devices.ensures.held in
+    let given = given_from files (g.F.Files.contents c.read_as.new.files) c.args.image.now c.args.devices.now c.in_ok-image.image.items c.in_ok-devices.devices.items c.as_slice.result.now c.as_slice-2.result.now
+    c.in_ok-image.ensures.unchanged c.as_slice.ensures.value c.as_slice-2.ensures.value c.in_ok-image.ensures.held c.in_ok-devices.ensures.held in
     let same = c.in_ok-devices.ensures.unchanged ∙ c.in_ok-image.ensures.unchanged in (
       same,
       given.given,
-      run_of_whole given c.args.ticks (taken c.args.out.now) (taken c.flush.new.self) is_ok (kept_run (image_at c.as_slice-image.result.now) c.as_slice-devices.result.now c.args.ticks (taken c.args.out.now) (taken c.trace.new.out) (taken c.flush.new.self) c.in_ok-trace.ensures.trace c.in_ok-flush.ensures.kept),
+      run_of_whole given c.args.ticks (taken c.args.out.now) (taken c.flush.new.self) is_ok (kept_run (image_at c.as_slice.result.now) c.as_slice-2.result.now c.args.ticks (taken c.args.out.now) (taken c.trace.new.out) (taken c.flush.new.self) c.in_ok-trace.ensures.trace c.in_ok-flush.ensures.kept),
     )
