@@ -8,6 +8,5 @@ pub mod Marks
 pub mod Page
 pub mod Rows
 pub mod Titles
-pub mod Windows
 pub mod Shapes
 pub mod Added

@@ -141,7 +141,7 @@ fn draw_mode_bar(
 }
 
 /// Draws the word of a mode on its bar, if the bar is wide enough.
-pub fn draw_word(
+fn draw_word(
     page: &mut Page,
     axis: Axis,
     top: Length,
@@ -161,7 +161,7 @@ pub fn draw_word(
 }
 
 /// Draws a bar with a title.
-pub fn draw_bar(
+fn draw_bar(
     page: &mut Page,
     axis: Axis,
     top: Length,

@@ -179,7 +179,7 @@ pub fn draw_report(
 }
 
 /// Draws an outline of this class, moved to a place, with a title.
-pub fn draw_outline(
+fn draw_outline(
     page: &mut Page,
     class: &str,
     outline: &str,
