@@ -9,8 +9,8 @@ use Rattle.window_table.specs.Schedules.{schedule_of}
 
 -- none is
 pub stays : (w : Windows) → HasPassed w w
-stays w = ([], (sym (append-nil w.stretches.items), refl))
+stays w = ([], sym (append-nil w.stretches.items), refl)
 
 pub passes : (old new : Windows) (more : List Stretch) → new.stretches.items ≡ old.stretches.items ++ more
-    → AreStretches (owner_by (schedule_of old.schedule) (frames_of old)) old.now.0 new.now.0 more → HasPassed old new
-passes old new more added are = (more, (added, are))
+    → AreStretches (owner_by (schedule_of old.schedule) (frames_of old)) old.next.0 new.next.0 more → HasPassed old new
+passes old new more added are = (more, added, are)

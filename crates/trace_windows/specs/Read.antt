@@ -10,11 +10,11 @@ abbrev pub frames_of : Windows → Frames
 frames_of w = record { origin = w.origin.0; is_down = w.is_down }
 
 -- the first tick that is in no stretch yet, behind those before `t`
-abbrev pub now_behind : Windows → ℕ → ℕ
-now_behind w t = max w.now.0 (min t w.to.0)
+abbrev pub next_behind : Windows → ℕ → ℕ
+next_behind w t = max w.next.0 (min t w.to.0)
 
 -- the stretches up to there are added
 abbrev pub HasPassed : Windows → Windows → Type 0
 HasPassed old new =
     (more : List Stretch) × (new.stretches.items ≡ old.stretches.items ++ more)
-    × AreStretches (owner_by (schedule_of old.schedule) (frames_of old)) old.now.0 new.now.0 more
+    × AreStretches (owner_by (schedule_of old.schedule) (frames_of old)) old.next.0 new.next.0 more

@@ -25,13 +25,13 @@ pub struct Windows {
     origin: Ticks,
     is_down: bool,
     /// The first tick that is in no stretch yet.
-    now: Ticks,
+    next: Ticks,
     /// The tick before which the shown ticks end.
     to: Ticks,
     /// The most stretches.
     most: usize,
     stretches: Vec<Stretch>,
-    ghost past: { min origin.0 to.0 ≤ now.0 },
+    ghost past: { min origin.0 to.0 ≤ next.0 },
     ghost within: { to.0 ≤ MOST_TICKS },
 }
 
@@ -39,7 +39,7 @@ impl Windows {
     ghost use Rattle.std.specs.Prelude.{false, true, None, is_some, IfErr};
     ghost use Rattle.trace_windows.specs.Frames.{acted, at_first, is_release_at, owner_by, with_line, with_module};
     ghost use Rattle.trace_windows.specs.Names.{place_in};
-    ghost use Rattle.trace_windows.specs.Read.{HasPassed, frames_of, now_behind};
+    ghost use Rattle.trace_windows.specs.Read.{HasPassed, frames_of, next_behind};
 
     /// The windows of a schedule with these partitions, in the ticks from the first on and before the
     /// second; without it, as far as a run can go. There may be so many stretches.
@@ -52,7 +52,7 @@ impl Windows {
     ) -> Windows
         ensures frames { frames_of result ≡ at_first }
         ensures schedule { result.schedule ≡ schedule }
-        ensures from { result.now ≡ shown.0 }
+        ensures from { result.next ≡ shown.0 }
         ensures stretches { result.stretches.items ≡ [] }
     {
         let (from, to) = shown;
@@ -66,7 +66,7 @@ impl Windows {
             names,
             origin: Ticks(0),
             is_down: false,
-            now: from,
+            next: from,
             to,
             most,
             stretches: Vec::new(alloc),
@@ -103,16 +103,16 @@ impl Windows {
         ensures frames { OnOk result (frames_of self.new ≡ frames_of self.old) }
         ensures schedule { OnOk result (self.new.schedule ≡ self.old.schedule) }
         ensures to { OnOk result (self.new.to ≡ self.old.to) }
-        ensures now { OnOk result (self.new.now.0 ≡ now_behind self.old tick.0) }
+        ensures next { OnOk result (self.new.next.0 ≡ next_behind self.old tick.0) }
         ensures passed { OnOk result (HasPassed self.old self.new) }
     {
         let until = tick.min(self.to);
-        if until.0 <= self.now.0 {
+        if until.0 <= self.next.0 {
             return Ok(());
         }
         let more = self.stretches_until(until)?;
         self.stretches.extend_from_slice(more.as_slice())?;
-        self.now = until;
+        self.next = until;
         Ok(())
     }
 
@@ -133,14 +133,14 @@ impl Windows {
     /// The stretches from here on and before this tick.
     #[tactic(auto, using(crate::proofs::Stretched::one_more))]
     fn stretches_until(&self, until: Ticks) -> Result<Vec<Stretch>, WindowsFault>
-        requires ahead { self.now.now.0 < until.0 }
+        requires ahead { self.now.next.0 < until.0 }
         requires shown { until.0 ≤ self.now.to.0 }
         ensures { IfOk result
             (λ more. AreStretches (owner_by (schedule_of self.now.schedule) (frames_of self.now))
-            self.now.now.0 until.0 more.items) }
+            self.now.next.0 until.0 more.items) }
     {
         let mut more = Vec::new(self.alloc);
-        let mut now = self.now;
+        let mut now = self.next;
         while now.0 < until.0 {
             if self.stretches.len().saturating_add(more.len()) >= self.most {
                 return Err(WindowsFault::TooMany);
@@ -154,7 +154,7 @@ impl Windows {
 
     /// The stretch that begins at a tick, and ends before the other.
     fn stretch(&self, from: Ticks, until: Ticks) -> Stretch
-        requires past { self.now.now.0 ≤ from.0 }
+        requires past { self.now.next.0 ≤ from.0 }
         requires ahead { from.0 < until.0 }
         requires shown { until.0 ≤ self.now.to.0 }
         ensures from { result.span.from ≡ from }
@@ -254,9 +254,8 @@ impl Windows {
                 self.is_down = true;
                 Ok(())
             }
-            Response::Module(ModuleAction::Ignore)
-            | Response::Partition(_)
-            | Response::Handler => Ok(()),
+            Response::Module(ModuleAction::Ignore) | Response::Partition(_) | Response::Handler =>
+                Ok(()),
         }
     }
 

@@ -8,9 +8,9 @@ use Rattle.trace_windows.proofs.windows.Windows.stretches_until.Given as goal
 -- the stretches so far are those before this tick
 abbrev pub invariant-loop-now : goal.invariant-loop-now
 invariant-loop-now l = record {
-  past : l.self.now.0 ≤ l.now.0;
+  past : l.self.next.0 ≤ l.now.0;
   before : l.now.0 ≤ l.until.0;
-  so_far : AreStretches (owner_by (schedule_of l.self.schedule) (frames_of l.self)) l.self.now.0 l.now.0 l.more.items;
+  so_far : AreStretches (owner_by (schedule_of l.self.schedule) (frames_of l.self)) l.self.next.0 l.now.0 l.more.items;
 }
 
 abbrev pub decreases-loop-now : goal.decreases-loop-now
