@@ -1,5 +1,9 @@
--- Why a text is not taken as a module table.
-use Rattle.std.specs.Prelude.{◌≡◌, ℕ, List, Option, string_bytes}
+-- Why a text is not taken as a module table, and the shares by the windows of one.
+use Rattle.std.specs.Prelude.{◌≡◌, ℕ, List, [], map, Option, Some, None, string_bytes}
+use Rattle.apex_types.specs.declared.identity.Ticks.{Ticks}
+use Rattle.trace_shares.specs.Standings.{at_first, standing_of}
+use Rattle.trace_shares.specs.declared.shares.Shares.{Shares}
+use Rattle.window_table.specs.declared.table.ModuleTable.{ModuleTable}
 use Rattle.view_command.specs.Texts.{IsRefusedTable}
 use Rattle.view_command.specs.declared.refusal.Refusal.{Refusal}
 use Rattle.view_command.specs.declared.refusal.Refusal.TheVariants.{Read, Table, Memory}
@@ -10,3 +14,14 @@ IsBadTable text name (Read shown) = string_bytes shown ≡ name
 IsBadTable text name (Table fault shown) = (string_bytes shown ≡ name) × IsRefusedTable text fault
 IsBadTable text name Memory = Unit {0}
 IsBadTable text name _ = ⊥
+
+-- the names of its partitions, in their order
+abbrev pub names_of : ModuleTable → List (List ℕ)
+names_of table = map (λ p. p.name) table.partitions.items
+
+-- no line is read, and no tick is counted: the shares by the windows of a table, from a tick on, if there is a table
+abbrev pub AreSharesBefore : Option ModuleTable → Ticks → Option Shares → Type 0
+AreSharesBefore None from None = Unit {0}
+AreSharesBefore (Some table) from (Some shares) =
+    (shares.schedule ≡ table.schedule) × (shares.from ≡ from) × (standing_of shares ≡ at_first (names_of table)) × (shares.counted.rows.items ≡ [])
+AreSharesBefore _ from _ = ⊥

@@ -6,7 +6,7 @@ ghost use Rattle.view_command.specs.Answers.{IsRefusedByTable, IsTableRefused};
 ghost use Rattle.view_command.specs.Orders.{asked_text};
 ghost use Rattle.view_command.specs.States.{state};
 ghost use Rattle.view_command.specs.Texts.{IsRefusedTable, IsTable, IsTableAsked, IsTableIn};
-ghost use Rattle.view_command.specs.Windows.{IsBadTable};
+ghost use Rattle.view_command.specs.Windows.{AreSharesBefore, IsBadTable, names_of};
 ghost use Rattle.window_table.specs.Answers.{AnswersText};
 
 use crate::refusal::Refusal;
@@ -86,7 +86,10 @@ fn of_reading(name: String, kind: ErrorKind) -> Refusal
 }
 
 /// The names of the partitions, in their order.
-fn names(alloc: Global, table: &ModuleTable) -> Result<Vec<Name>, AllocError> {
+#[tactic(auto, using(std::proofs::lemmas::List::drop_more))]
+fn names(alloc: Global, table: &ModuleTable) -> Result<Vec<Name>, AllocError>
+    ensures { IfOk result (λ names. names.items ≡ names_of table.now) }
+{
     let mut names = Vec::with_capacity(alloc, table.partitions.len())?;
     for partition in &table.partitions {
         names.push(partition.name)?;
@@ -99,7 +102,9 @@ pub fn shares_of(
     alloc: Global,
     table: Option<ModuleTable>,
     from: Ticks,
-) -> Result<Option<Shares>, SharesFault> {
+) -> Result<Option<Shares>, SharesFault>
+    ensures { IfOk result (λ shares. AreSharesBefore table from shares) }
+{
     let Some(table) = table else {
         return Ok(None);
     };
