@@ -27,9 +27,9 @@ use Rattle.trace_text.proofs.SoFar.{IsReadSoFar, read_as, read_on}
 use Rattle.view_command.specs.Answers.{IsRefused, IsUnread}
 use Rattle.view_command.specs.Lines.{called}
 use Rattle.view_command.specs.States.{IsUntouched, State}
-use Rattle.view_command.specs.Texts.{IsRefusedIn, IsRefusedLine, IsTraceIn}
+use Rattle.view_command.specs.Texts.{AreInRun, IsLateIn, IsLateLine, IsRefusedIn, IsRefusedLine, IsTraceIn}
 use Rattle.view_command.specs.declared.refusal.Refusal.{Refusal}
-use Rattle.view_command.specs.declared.refusal.Refusal.TheVariants.{Open, Read, Line, TooMany, Table, Foreign, Memory, Write}
+use Rattle.view_command.specs.declared.refusal.Refusal.TheVariants.{Open, Read, Line, Late, TooMany, Table, Foreign, Memory, Write}
 use Rattle.view_command.specs.declared.views.Outcome.{Outcome}
 use Rattle.view_command.specs.declared.views.Outcome.TheVariants.{Shown, Found}
 use Rattle.view_command.specs.Compared.{AreToldBy, AreToldIn, IsInOrder, IsTextOf, asked, first_behind, second_behind, tick_behind}
@@ -264,11 +264,16 @@ told_some (d ∷ ds) p a b are some =
     let told : told_of d.partition (d ∷ ds) ≡ Some d = rw (partition_itself d.partition) refl in
     (d.partition, differ d.before.items d.first d.second _ _ (subst (λ (v : Option Difference). IsJudged v (part d.partition (asked p a)) (part d.partition (asked p b))) told (are d.partition)))
 
+-- each tick is one of a run of which it is not known how many it had
+in_any_run : (events : List Event) → AreInRun None events
+in_any_run [] = tt
+in_any_run (e ∷ es) = (refl, in_any_run es)
+
 -- the trace of a name, of the text that its reader has
-pub trace_in : (texts : Option Contents) (name : List ℕ) (text : Option (List ℕ)) (events : List Event) → Opens texts name text → IsTextOf text events → IsTraceIn texts name
+pub trace_in : (texts : Option Contents) (name : List ℕ) (text : Option (List ℕ)) (events : List Event) → Opens texts name text → IsTextOf text events → IsTraceIn texts None name
 trace_in None name text events opens is = tt
 trace_in (Some files) name None events opens is = absurd opens
-trace_in (Some files) name (Some bytes) events opens is = (bytes, opens, events, is)
+trace_in (Some files) name (Some bytes) events opens is = (bytes, opens, events, is, in_any_run events)
 
 pub told_in : (texts : Option Contents) (name other : List ℕ) (text other_text : Option (List ℕ)) (p : Option (String Global)) (o : Outcome) (a b : List Event) → Opens texts name text → Opens texts other other_text
     → IsTextOf text a → IsTextOf other_text b → AreToldBy o p a b → AreToldIn texts name other p o
@@ -279,30 +284,36 @@ told_in (Some files) name other (Some bytes) (Some other_bytes) p o a b one two 
     (a, (b, (bytes, (one, is)), (other_bytes, (two, is_other)), told))
 
 -- a text that is not read, or not taken, changes nothing
-pub unread_in : (texts : Option Contents) (name shown : List ℕ) (text : Option (List ℕ)) (before after : State) (r : Refusal) → Opens texts name text → shown ≡ called name → IsUntouched before after → IsUnread text shown r → IsRefused texts name before after r
-unread_in texts name shown text before after (Open s) opens is same h = absurd h
-unread_in texts name shown text before after (Read s) opens is same h = (same, h ∙ is)
-unread_in texts name shown text before after (Line number s) opens is same h = (same, h.0 ∙ is, refused_in texts name text number opens h.1)
+pub unread_in : (texts : Option Contents) (ran : Option ℕ) (name shown : List ℕ) (text : Option (List ℕ)) (before after : State) (r : Refusal) → Opens texts name text → shown ≡ called name → IsUntouched before after → IsUnread text ran shown r → IsRefused texts ran name before after r
+unread_in texts ran name shown text before after (Open s) opens is same h = absurd h
+unread_in texts ran name shown text before after (Read s) opens is same h = (same, h ∙ is)
+unread_in texts ran name shown text before after (Line number s) opens is same h = (same, h.0 ∙ is, refused_in texts name text number opens h.1)
   where
     refused_in : (texts : Option Contents) (name : List ℕ) (text : Option (List ℕ)) (number : ℕ) → Opens texts name text → IsRefusedLine text number → IsRefusedIn texts name number
     refused_in None name text number opens h = tt
     refused_in (Some files) name None number opens h = absurd opens
     refused_in (Some files) name (Some bytes) number opens h = (bytes, opens, h)
-unread_in texts name shown text before after TooMany opens is same h = same
-unread_in texts name shown text before after (Table fault s) opens is same h = absurd h
-unread_in texts name shown text before after (Foreign partition) opens is same h = same
-unread_in texts name shown text before after Memory opens is same h = same
-unread_in texts name shown text before after Write opens is same h = absurd h
+unread_in texts ran name shown text before after (Late number s) opens is same h = (same, h.0 ∙ is, late_in texts name text opens h.1)
+  where
+    late_in : (texts : Option Contents) (name : List ℕ) (text : Option (List ℕ)) → Opens texts name text → IsLateLine text ran number → IsLateIn texts ran name number
+    late_in None name text opens h = tt
+    late_in (Some files) name None opens h = absurd opens
+    late_in (Some files) name (Some bytes) opens h = (bytes, opens, h)
+unread_in texts ran name shown text before after TooMany opens is same h = same
+unread_in texts ran name shown text before after (Table fault s) opens is same h = absurd h
+unread_in texts ran name shown text before after (Foreign partition) opens is same h = same
+unread_in texts ran name shown text before after Memory opens is same h = same
+unread_in texts ran name shown text before after Write opens is same h = absurd h
 
 -- one of two texts is not read
 pub unread_of_both : {A : Type 0} (texts : Option Contents) (name other shown other_shown : List ℕ) (text other_text : Option (List ℕ)) (before after : State) (r : Refusal) (answer : Result A Refusal)
     → Opens texts name text → Opens texts other other_text → shown ≡ called name → other_shown ≡ called other → IsUntouched before after
-    → IsUnread text shown r ⊎ IsUnread other_text other_shown r → IsErr answer × IsErrAnd answer (λ e. e ≡ r)
-    → IfErr answer (λ e. IsRefused texts name before after e ⊎ IsRefused texts other before after e)
+    → IsUnread text None shown r ⊎ IsUnread other_text None other_shown r → IsErr answer × IsErrAnd answer (λ e. e ≡ r)
+    → IfErr answer (λ e. IsRefused texts None name before after e ⊎ IsRefused texts None other before after e)
 unread_of_both texts name other shown other_shown text other_text before after r (Ok x) one two is is_other same h passed = tt
 unread_of_both texts name other shown other_shown text other_text before after r (Err e) one two is is_other same h passed =
-    subst (λ (v : Refusal). IsRefused texts name before after v ⊎ IsRefused texts other before after v) (sym passed.1) (go h)
+    subst (λ (v : Refusal). IsRefused texts None name before after v ⊎ IsRefused texts None other before after v) (sym passed.1) (go h)
   where
-    go : IsUnread text shown r ⊎ IsUnread other_text other_shown r → IsRefused texts name before after r ⊎ IsRefused texts other before after r
-    go (inl u) = inl (unread_in texts name shown text before after r one is same u)
-    go (inr u) = inr (unread_in texts other other_shown other_text before after r two is_other same u)
+    go : IsUnread text None shown r ⊎ IsUnread other_text None other_shown r → IsRefused texts None name before after r ⊎ IsRefused texts None other before after r
+    go (inl u) = inl (unread_in texts None name shown text before after r one is same u)
+    go (inr u) = inr (unread_in texts None other other_shown other_text before after r two is_other same u)

@@ -11,14 +11,14 @@ use Rattle.clap.specs.declared.parser.matches.Found.{Found}
 use Rattle.clap.proofs.WalkLemmas.{first_value-rows}
 use Rattle.command_words.specs.Found.{Entered, words_at}
 use Rattle.command_words.specs.Kinds.{IsMistake}
-use Rattle.command_words.specs.Numbers.{ReadsNumber}
+use Rattle.command_words.specs.Numbers.{ReadsNumber, number_in}
 use Rattle.command_words.specs.declared.failure.Failure.{Failure}
 use Rattle.command_words.specs.declared.failure.Failure.TheVariants.{Refused, Usage}
-use Rattle.view_command.specs.Answers.{IsFailureOfWords, IsKindFailure, IsLimitFailure, IsNothingAsked, IsTickFailure, IsWordsFailure}
+use Rattle.view_command.specs.Answers.{IsEndFailure, IsFailureOfWords, IsKindFailure, IsLimitFailure, IsNothingAsked, IsRunFailure, IsTickFailure, IsWordsFailure}
 use Rattle.text_lines.specs.Pieces.{pieces_of}
 use Rattle.trace_filter.specs.KindSets.{no_kinds, with_words}
 use Rattle.trace_filter.specs.declared.kinds.Kinds.{Kinds}
-use Rattle.view_command.specs.Orders.{AreWrongWords, IsNoKind, IsNoTick, IsTickOf}
+use Rattle.view_command.specs.Orders.{AreKindsIn, AreWrongTicks, AreWrongWords, EndsBefore, IsNoKind, IsNoTick, IsTickOf, from_in, ran_in}
 use Rattle.view_command.specs.Words.{view_app}
 use Rattle.view_command.specs.declared.refusal.Refusal.{Refusal}
 use Rattle.view_command.specs.declared.refusal.Refusal.TheVariants as refusal
@@ -47,6 +47,21 @@ pub bad_kinds : (f : Found) (name : List ℕ) (given : Option (Bor (List ℕ))) 
 bad_kinds f name given w r k found is reads none invalid =
     (subst IsNoKind (one_word f name given w found is) (sym reads ∙ sym none), ((λ help. cc), (λ version. cc)))
 
+pub some_kinds : (f : Found) (name : List ℕ) (given : Option (Bor (List ℕ))) (w : Bor (List ℕ)) (r : Option Kinds) (ks : Kinds) → option_map (λ s. s.now) given ≡ first_value f name → Some w ≡ given
+    → r ≡ with_words (pieces_of 44 (Some w.now)) (Some no_kinds) → Some ks ≡ r → AreKindsIn (first_of name (rows_of f)) (Some ks)
+some_kinds f name given w r ks found is reads some = subst (λ o. AreKindsIn o (Some ks)) (one_word f name given w found is) (sym reads ∙ sym some)
+
+pub no_kinds_asked : (f : Found) (name : List ℕ) (given : Option (Bor (List ℕ))) → option_map (λ s. s.now) given ≡ first_value f name → None ≡ given → AreKindsIn (first_of name (rows_of f)) None
+no_kinds_asked f name None found is = subst (λ o. AreKindsIn o None) (found ∙ first_value-rows f name) tt
+no_kinds_asked f name (Some w) found is = absurd cc
+
+-- the number of a word is that which is read
+pub value_of : (word : Option (List ℕ)) (n : Option ℕ) → IsTickOf word n → n ≡ option_map number_in word
+value_of None None is = refl
+value_of None (Some n) is = absurd is
+value_of (Some word) None is = absurd is
+value_of (Some word) (Some n) is = ap Some is.1
+
 -- ---- a word that its option does not take is a wrong word
 
 pub tick_wrong : (name : List ℕ) (rows : List Row) (f : Failure Refusal) → (IsNoTick (first_of name rows) → AreWrongWords rows) → IsTickFailure (first_of name rows) f → IsWordsFailure rows f
@@ -54,6 +69,7 @@ tick_wrong name rows (Usage e) is h = (is h.0, h.1)
 tick_wrong name rows (Refused (refusal.Open shown)) is h = absurd h
 tick_wrong name rows (Refused (refusal.Read shown)) is h = absurd h
 tick_wrong name rows (Refused (refusal.Line number shown)) is h = absurd h
+tick_wrong name rows (Refused (refusal.Late number shown)) is h = absurd h
 tick_wrong name rows (Refused refusal.TooMany) is h = absurd h
 tick_wrong name rows (Refused (refusal.Table fault shown)) is h = absurd h
 tick_wrong name rows (Refused (refusal.Foreign partition)) is h = absurd h
@@ -65,6 +81,7 @@ kind_wrong name rows (Usage e) is h = (is h.0, h.1)
 kind_wrong name rows (Refused (refusal.Open shown)) is h = absurd h
 kind_wrong name rows (Refused (refusal.Read shown)) is h = absurd h
 kind_wrong name rows (Refused (refusal.Line number shown)) is h = absurd h
+kind_wrong name rows (Refused (refusal.Late number shown)) is h = absurd h
 kind_wrong name rows (Refused refusal.TooMany) is h = absurd h
 kind_wrong name rows (Refused (refusal.Table fault shown)) is h = absurd h
 kind_wrong name rows (Refused (refusal.Foreign partition)) is h = absurd h
@@ -76,11 +93,46 @@ limit_wrong rows (Usage e) h = (inr (inr (inr (inl h.0))), h.1)
 limit_wrong rows (Refused (refusal.Open shown)) h = absurd h
 limit_wrong rows (Refused (refusal.Read shown)) h = absurd h
 limit_wrong rows (Refused (refusal.Line number shown)) h = absurd h
+limit_wrong rows (Refused (refusal.Late number shown)) h = absurd h
 limit_wrong rows (Refused refusal.TooMany) h = absurd h
 limit_wrong rows (Refused (refusal.Table fault shown)) h = absurd h
 limit_wrong rows (Refused (refusal.Foreign partition)) h = absurd h
 limit_wrong rows (Refused refusal.Memory) h = tt
 limit_wrong rows (Refused refusal.Write) h = absurd h
+
+-- the words for ticks leave none
+pub end_wrong : (rows : List Row) (from : ℕ) (end : Option ℕ) (f : Failure Refusal) → (EndsBefore from end → AreWrongTicks rows) → IsEndFailure from end f → IsWordsFailure rows f
+end_wrong rows from end (Usage e) is h = (inl (is h.0), h.1)
+end_wrong rows from end (Refused (refusal.Open shown)) is h = absurd h
+end_wrong rows from end (Refused (refusal.Read shown)) is h = absurd h
+end_wrong rows from end (Refused (refusal.Line number shown)) is h = absurd h
+end_wrong rows from end (Refused (refusal.Late number shown)) is h = absurd h
+end_wrong rows from end (Refused refusal.TooMany) is h = absurd h
+end_wrong rows from end (Refused (refusal.Table fault shown)) is h = absurd h
+end_wrong rows from end (Refused (refusal.Foreign partition)) is h = absurd h
+end_wrong rows from end (Refused refusal.Memory) is h = tt
+end_wrong rows from end (Refused refusal.Write) is h = absurd h
+
+pub no_ticks_to : (rows : List Row) (from : ℕ) (end : Option ℕ) → from ≡ from_in (first_of (codes "from") rows) → end ≡ option_map number_in (first_of (codes "to") rows) → EndsBefore from end → AreWrongTicks rows
+no_ticks_to rows from end one two h =
+    inr (inr (inr (inl (subst (λ (e : Option ℕ). EndsBefore (from_in (first_of (codes "from") rows)) e) two (subst (λ (n : ℕ). EndsBefore n end) one h)))))
+
+pub no_ticks_run : (rows : List Row) (from : ℕ) (end : Option ℕ) → from ≡ from_in (first_of (codes "from") rows) → end ≡ ran_in rows → EndsBefore from end → AreWrongTicks rows
+no_ticks_run rows from end one two h =
+    inr (inr (inr (inr (subst (λ (e : Option ℕ). EndsBefore (from_in (first_of (codes "from") rows)) e) two (subst (λ (n : ℕ). EndsBefore n end) one h)))))
+
+-- the word is no number of ticks
+pub run_wrong : (rows : List Row) (f : Failure Refusal) → IsRunFailure (first_of (codes "ticks") rows) f → IsWordsFailure rows f
+run_wrong rows (Usage e) h = (inl (inr (inr (inl h.0))), h.1)
+run_wrong rows (Refused (refusal.Open shown)) h = absurd h
+run_wrong rows (Refused (refusal.Read shown)) h = absurd h
+run_wrong rows (Refused (refusal.Line number shown)) h = absurd h
+run_wrong rows (Refused (refusal.Late number shown)) h = absurd h
+run_wrong rows (Refused refusal.TooMany) h = absurd h
+run_wrong rows (Refused (refusal.Table fault shown)) h = absurd h
+run_wrong rows (Refused (refusal.Foreign partition)) h = absurd h
+run_wrong rows (Refused refusal.Memory) h = tt
+run_wrong rows (Refused refusal.Write) h = absurd h
 
 pub view_is_simple : is_simple view_app ≡ true
 view_is_simple = refl
@@ -97,6 +149,7 @@ nothing_asked kinds own entered answer none same h = go answer (subst (λ o. IfE
     go (Err (Refused (refusal.Open shown))) h = h
     go (Err (Refused (refusal.Read shown))) h = h
     go (Err (Refused (refusal.Line number shown))) h = h
+    go (Err (Refused (refusal.Late number shown))) h = h
     go (Err (Refused refusal.TooMany)) h = h
     go (Err (Refused (refusal.Table fault shown))) h = h
     go (Err (Refused (refusal.Foreign partition))) h = h

@@ -9,39 +9,41 @@ use Rattle.streams.specs.Contents.{Contents}
 use Rattle.streams.specs.States.{HasFailed, IsFlushed, IsWritten, Seen, TakesLine}
 use Rattle.view_command.specs.Lines.{called, line_of}
 use Rattle.clap.specs.Walk.{Row}
-use Rattle.view_command.specs.Orders.{AreWrongWords, AsksForNothing, IsDiff, IsNoKind, IsNoLimit, IsNoTick, other_of, table_of, trace_of}
+use Rattle.view_command.specs.Orders.{AreWrongWords, AsksForNothing, EndsBefore, IsDiff, IsNoKind, IsNoLimit, IsNoRun, IsNoTick, other_of, ran_of, table_of, trace_of}
 use Rattle.view_command.specs.States.{IsUntouched, State}
-use Rattle.view_command.specs.Texts.{IsRefusedIn, IsRefusedLine, IsRefusedTableIn, IsTableAsked, IsTraceIn}
+use Rattle.view_command.specs.Texts.{IsLateIn, IsLateLine, IsRefusedIn, IsRefusedLine, IsRefusedTableIn, IsTableAsked, IsTraceIn}
 use Rattle.command_words.specs.declared.failure.Failure.{Failure}
 use Rattle.command_words.specs.declared.failure.Failure.TheVariants.{Refused, Usage}
 use Rattle.view_command.specs.declared.views.Outcome.{Outcome}
 use Rattle.view_command.specs.declared.views.Outcome.TheVariants.{Shown, Found}
 use Rattle.view_command.specs.declared.refusal.Refusal.{Refusal}
-use Rattle.view_command.specs.declared.refusal.Refusal.TheVariants.{Open, Read, Line, TooMany, Table, Foreign, Memory, Write}
+use Rattle.view_command.specs.declared.refusal.Refusal.TheVariants.{Open, Read, Line, Late, TooMany, Table, Foreign, Memory, Write}
 
 -- ---- why a trace is not shown; memory may run out at every step
 
--- the text of the reader, which has this name, is not read to its end, or not taken
-abbrev pub IsUnread : Option (List ℕ) → List ℕ → Refusal → Type 0
-IsUnread text name (Read shown) = string_bytes shown ≡ name
-IsUnread text name (Line number shown) = (string_bytes shown ≡ name) × IsRefusedLine text number
-IsUnread text name TooMany = Unit {0}
-IsUnread text name (Foreign partition) = Unit {0}
-IsUnread text name Memory = Unit {0}
-IsUnread text name _ = ⊥
+-- the text of the reader, which has this name, is not read to its end, or not taken as the trace of such a run
+abbrev pub IsUnread : Option (List ℕ) → Option ℕ → List ℕ → Refusal → Type 0
+IsUnread text ran name (Read shown) = string_bytes shown ≡ name
+IsUnread text ran name (Line number shown) = (string_bytes shown ≡ name) × IsRefusedLine text number
+IsUnread text ran name (Late number shown) = (string_bytes shown ≡ name) × IsLateLine text ran number
+IsUnread text ran name TooMany = Unit {0}
+IsUnread text ran name (Foreign partition) = Unit {0}
+IsUnread text ran name Memory = Unit {0}
+IsUnread text ran name _ = ⊥
 
--- The trace of this name is not shown. A text that is not opened is noted; a line is refused if it
--- is the first that is no line of a trace there; only a whole trace is written, and that write
--- failed.
-abbrev pub IsRefused : Option Contents → List ℕ → State → State → Refusal → Type 0
-IsRefused texts name before after Write = HasFailed before.out after.out × (after.unopened ≡ before.unopened) × IsTraceIn texts name
-IsRefused texts name before after (Open shown) = (after.out ≡ before.out) × (string_bytes shown ≡ called name) × (after.unopened ≡ before.unopened ++ name ∷ [])
-IsRefused texts name before after (Read shown) = IsUntouched before after × (string_bytes shown ≡ called name)
-IsRefused texts name before after (Line number shown) = IsUntouched before after × (string_bytes shown ≡ called name) × IsRefusedIn texts name number
-IsRefused texts name before after TooMany = IsUntouched before after
-IsRefused texts name before after (Foreign partition) = IsUntouched before after
-IsRefused texts name before after (Table fault shown) = ⊥
-IsRefused texts name before after Memory = IsUntouched before after
+-- The trace of this name, of a run of so many ticks if that is known, is not shown. A text that is not
+-- opened is noted; a line is refused if it is the first that is no line of a trace there, or the first
+-- of a tick that the run did not have; only a whole trace is written, and that write failed.
+abbrev pub IsRefused : Option Contents → Option ℕ → List ℕ → State → State → Refusal → Type 0
+IsRefused texts ran name before after Write = HasFailed before.out after.out × (after.unopened ≡ before.unopened) × IsTraceIn texts ran name
+IsRefused texts ran name before after (Open shown) = (after.out ≡ before.out) × (string_bytes shown ≡ called name) × (after.unopened ≡ before.unopened ++ name ∷ [])
+IsRefused texts ran name before after (Read shown) = IsUntouched before after × (string_bytes shown ≡ called name)
+IsRefused texts ran name before after (Line number shown) = IsUntouched before after × (string_bytes shown ≡ called name) × IsRefusedIn texts name number
+IsRefused texts ran name before after (Late number shown) = IsUntouched before after × (string_bytes shown ≡ called name) × IsLateIn texts ran name number
+IsRefused texts ran name before after TooMany = IsUntouched before after
+IsRefused texts ran name before after (Foreign partition) = IsUntouched before after
+IsRefused texts ran name before after (Table fault shown) = ⊥
+IsRefused texts ran name before after Memory = IsUntouched before after
 
 -- The module table of this name is not taken: it is not opened, not read, or breaks a rule.
 abbrev pub IsRefusedByTable : Option Contents → List ℕ → State → State → Refusal → Type 0
@@ -55,16 +57,23 @@ abbrev pub IsTableRefused : Option Contents → Option (List ℕ) → State → 
 IsTableRefused texts None before after r = ⊥
 IsTableRefused texts (Some name) before after r = IsRefusedByTable texts name before after r
 
--- The trace, the other one with which it is compared, or the module table is not taken.
+-- Two traces are compared, and one of them is not taken.
+abbrev pub IsDiffRefused : Option Contents → Entered → State → State → Refusal → Type 0
+IsDiffRefused texts entered before after r =
+    IsDiff entered × (IsRefused texts None (trace_of entered) before after r ⊎ IsRefused texts None (other_of entered) before after r)
+
+-- The trace, one of two that are compared, or the module table is not taken.
 abbrev pub IsRefusedOf : Option Contents → Entered → State → State → Refusal → Type 0
 IsRefusedOf texts entered before after r =
-    IsRefused texts (trace_of entered) before after r ⊎ (IsDiff entered × IsRefused texts (other_of entered) before after r)
+    IsRefused texts (ran_of entered) (trace_of entered) before after r ⊎ IsDiffRefused texts entered before after r
     ⊎ IsTableRefused texts (table_of entered) before after r
 
--- The trace was read to its end. So was the other one, if they were compared, and else the module table, if one is asked for.
+-- Both traces were read to their ends, if they were compared; else the trace was, with no line behind the end of its
+-- run, and so was the module table, if one is asked for.
 abbrev pub AreTracesIn : Option Contents → Entered → Type 0
 AreTracesIn texts entered =
-    IsTraceIn texts (trace_of entered) × (IsDiff entered → IsTraceIn texts (other_of entered)) × ((IsDiff entered → ⊥) → IsTableAsked texts (table_of entered))
+    (IsDiff entered → IsTraceIn texts None (trace_of entered) × IsTraceIn texts None (other_of entered))
+    × ((IsDiff entered → ⊥) → IsTraceIn texts (ran_of entered) (trace_of entered) × IsTableAsked texts (table_of entered))
 
 -- ---- the words, for which the library of command lines reports these errors
 
@@ -77,6 +86,18 @@ abbrev pub IsTickFailure : Option (List ℕ) → Failure Refusal → Type 0
 IsTickFailure word (Refused Memory) = Unit {0}
 IsTickFailure word (Refused _) = ⊥
 IsTickFailure word (Usage error) = IsNoTick word × IsMistake (kind_of error)
+
+-- the word is no number of ticks for which a module runs, or memory ran out
+abbrev pub IsRunFailure : Option (List ℕ) → Failure Refusal → Type 0
+IsRunFailure word (Refused Memory) = Unit {0}
+IsRunFailure word (Refused _) = ⊥
+IsRunFailure word (Usage error) = IsNoRun word × IsMistake (kind_of error)
+
+-- no tick is from the first one on and before this end, or memory ran out
+abbrev pub IsEndFailure : ℕ → Option ℕ → Failure Refusal → Type 0
+IsEndFailure from end (Refused Memory) = Unit {0}
+IsEndFailure from end (Refused _) = ⊥
+IsEndFailure from end (Usage error) = EndsBefore from end × IsMistake (kind_of error)
 
 -- the word for kinds of lines is none, or memory ran out
 abbrev pub IsKindFailure : Option (List ℕ) → Failure Refusal → Type 0

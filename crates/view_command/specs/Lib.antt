@@ -1,5 +1,6 @@
 pub mod Answers
 pub mod Compared
+pub mod DifferenceTexts
 pub mod Differences
 pub mod Faults
 pub mod Lines

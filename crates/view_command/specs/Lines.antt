@@ -4,7 +4,7 @@ use Rattle.std.specs.Fmt.{decimal}
 use Rattle.std.specs.Str.{bytes_eq}
 use Rattle.window_table.specs.Answers.{number_of}
 use Rattle.view_command.specs.declared.refusal.Refusal.{Refusal}
-use Rattle.view_command.specs.declared.refusal.Refusal.TheVariants.{Open, Read, Line, TooMany, Table, Foreign, Memory, Write}
+use Rattle.view_command.specs.declared.refusal.Refusal.TheVariants.{Open, Read, Line, Late, TooMany, Table, Foreign, Memory, Write}
 
 -- the name of a text in a line: `-` stands for the standard input
 abbrev pub called : List ℕ → List ℕ
@@ -14,6 +14,7 @@ abbrev pub line_of : Refusal → List ℕ
 line_of (Open trace) = codes "mbview: " ++ string_bytes trace ++ codes " cannot be opened"
 line_of (Read trace) = codes "mbview: " ++ string_bytes trace ++ codes " cannot be read to its end"
 line_of (Line number trace) = codes "mbview: line " ++ decimal number ++ codes " of " ++ string_bytes trace ++ codes " is no line of a trace"
+line_of (Late number trace) = codes "mbview: line " ++ decimal number ++ codes " of " ++ string_bytes trace ++ codes " is behind the last tick of the run"
 line_of TooMany = codes "mbview: the view would have too many elements; choose fewer ticks with --from and --to"
 line_of (Table fault table) = codes "mbview: " ++ (string_bytes table ++ (codes " breaks rule " ++ (decimal (number_of fault) ++ codes " of a module table")))
 line_of (Foreign partition) = codes "mbview: the trace has a partition that the module table has not: " ++ partition

@@ -1,15 +1,24 @@
 -- The request in the words.
-use Rattle.std.specs.Prelude.{◌≡◌, ◌≢◌, ◌⊎◌, ℕ, ◌≤◌, List, [], ◌∷◌, Option, Some, None, option_map, codes, string_bytes}
+use Rattle.std.specs.Prelude.{◌≡◌, ◌≢◌, ◌⊎◌, ℕ, ◌<◌, ◌≤◌, min, List, [], ◌∷◌, Option, Some, None, option_map, codes, string_bytes}
 use Rattle.std.specs.Str.Parse.{IsNumeral}
 use Rattle.std.specs.declared.alloc.Global.{Global}
 use Rattle.std.specs.declared.string.String.{String}
+use Rattle.apex_types.specs.declared.identity.Ticks.{Ticks}
+use Rattle.apex_types.specs.declared.limits.TheConstants.{MOST_TICKS}
 use Rattle.clap.specs.Walk.{Row, first_of}
 use Rattle.command_words.specs.Found.{Entered, word_at, words_at}
 use Rattle.command_words.specs.Numbers.{number_in}
 use Rattle.text_lines.specs.Pieces.{pieces_of}
 use Rattle.trace_filter.specs.KindSets.{no_kinds, with_words}
+use Rattle.trace_filter.specs.declared.filter.Filter.{Filter}
+use Rattle.trace_filter.specs.declared.kinds.Kinds.{Kinds}
 use Rattle.view_command.specs.declared.request.Request.{Request}
 use Rattle.view_command.specs.declared.request.Request.TheVariants.{Compare, Show}
+
+-- the words of the command
+abbrev pub rows_in : Entered → List Row
+rows_in None = []
+rows_in (Some entered) = entered.1
 
 -- the name of the trace
 abbrev pub trace_of : Entered → List ℕ
@@ -29,6 +38,49 @@ table_of (Some entered) = first_of (codes "table") entered.1
 abbrev pub asked_text : Option (String Global) → Option (List ℕ)
 asked_text asked = option_map string_bytes asked
 
+-- the first tick that is shown
+abbrev pub from_in : Option (List ℕ) → ℕ
+from_in None = 0
+from_in (Some word) = number_in word
+
+-- for how many ticks the module ran, if that is given
+abbrev pub ran_in : List Row → Option ℕ
+ran_in rows = option_map number_in (first_of (codes "ticks") rows)
+
+abbrev pub ran_of : Entered → Option ℕ
+ran_of entered = ran_in (rows_in entered)
+
+-- the earlier of two ends, each of which may be left out
+abbrev pub end_of : Option ℕ → Option ℕ → Option ℕ
+end_of None None = None
+end_of (Some to) None = Some to
+end_of None (Some ran) = Some ran
+end_of (Some to) (Some ran) = Some (min to ran)
+
+-- the number of ticks, if it is given
+abbrev pub number_of : Option Ticks → Option ℕ
+number_of ticks = option_map (λ (t : Ticks). t.0) ticks
+
+-- The ticks that are shown: from that of `--from` on, or all, and before that of `--to`, or the end of the run if it is
+-- earlier or the only one that is given.
+pub record AreTicksIn (rows : List Row) (from : Ticks) (to ran : Option Ticks) : Type 0 where
+  pub first : from.0 ≡ from_in (first_of (codes "from") rows)
+  pub end : number_of to ≡ end_of (option_map number_in (first_of (codes "to") rows)) (ran_in rows)
+  pub run : number_of ran ≡ ran_in rows
+
+-- the kinds of lines in a word, if it is there
+abbrev pub AreKindsIn : Option (List ℕ) → Option Kinds → Type 0
+AreKindsIn None None = Unit {0}
+AreKindsIn (Some text) (Some kinds) = with_words (pieces_of 44 (Some text)) (Some no_kinds) ≡ Some kinds
+AreKindsIn _ _ = ⊥
+
+-- The filter asks for what the words name, in any tick.
+pub record AreNamesIn (rows : List Row) (f : Filter) : Type 0 where
+  pub kinds : AreKindsIn (first_of (codes "kind") rows) f.kinds
+  pub partition : asked_text f.partition ≡ first_of (codes "partition") rows
+  pub process : asked_text f.process ≡ first_of (codes "process") rows
+  pub port : asked_text f.port ≡ first_of (codes "port") rows
+
 -- two traces are to be compared
 abbrev pub IsDiff : Entered → Type 0
 IsDiff None = ⊥
@@ -36,7 +88,9 @@ IsDiff (Some entered) = entered.0 ≡ codes "diff"
 
 -- the words of a command that shows a trace
 abbrev pub IsShown : List Row → Request → Type 0
-IsShown rows (Show showing) = (string_bytes showing.trace ≡ word_at (codes "TRACE") rows) × (asked_text showing.table ≡ first_of (codes "table") rows)
+IsShown rows (Show showing) =
+    (string_bytes showing.trace ≡ word_at (codes "TRACE") rows) × (asked_text showing.table ≡ first_of (codes "table") rows)
+    × AreTicksIn rows showing.from showing.to showing.ran × AreNamesIn rows showing.kept
 IsShown rows (Compare pair) = ⊥
 
 -- the words of a command that compares two
@@ -46,7 +100,9 @@ IsCompared rows (Compare pair) = (string_bytes pair.first ≡ word_at (codes "TR
 
 -- the request that the words found make
 abbrev pub IsRequest : Entered → Request → Type 0
-IsRequest entered (Show showing) = (IsDiff entered → ⊥) × (string_bytes showing.trace ≡ trace_of entered) × (asked_text showing.table ≡ table_of entered)
+IsRequest entered (Show showing) =
+    (IsDiff entered → ⊥) × (string_bytes showing.trace ≡ trace_of entered) × (asked_text showing.table ≡ table_of entered)
+    × AreTicksIn (rows_in entered) showing.from showing.to showing.ran × AreNamesIn (rows_in entered) showing.kept
 IsRequest entered (Compare pair) = IsDiff entered × (string_bytes pair.first ≡ trace_of entered) × (string_bytes pair.second ≡ other_of entered)
 
 -- the tick of an optional word
@@ -55,24 +111,33 @@ IsTickOf None None = Unit {0}
 IsTickOf (Some word) (Some n) = IsNumeral 10 word × (n ≡ number_in word)
 IsTickOf _ _ = ⊥
 
--- the first tick that is shown
-abbrev pub from_in : Option (List ℕ) → ℕ
-from_in None = 0
-from_in (Some word) = number_in word
-
 -- the word is there, and is not written in digits
 abbrev pub IsNoTick : Option (List ℕ) → Type 0
 IsNoTick None = ⊥
 IsNoTick (Some word) = IsNumeral 10 word → ⊥
 
--- no tick is from the first one on and before the second
+-- no tick is from the first one on and before this end
+abbrev pub EndsBefore : ℕ → Option ℕ → Type 0
+EndsBefore from None = ⊥
+EndsBefore from (Some end) = end ≤ from
+
 abbrev pub AreNoTicks : Option (List ℕ) → Option (List ℕ) → Type 0
-AreNoTicks from None = ⊥
-AreNoTicks from (Some to) = number_in to ≤ from_in from
+AreNoTicks from end = EndsBefore (from_in from) (option_map number_in end)
+
+-- for so many ticks no module runs
+abbrev pub IsBeyond : Option ℕ → Type 0
+IsBeyond None = ⊥
+IsBeyond (Some ticks) = MOST_TICKS < ticks
+
+-- the word is there, and is no such number
+abbrev pub IsNoRun : Option (List ℕ) → Type 0
+IsNoRun word = IsNoTick word ⊎ IsBeyond (option_map number_in word)
 
 -- the words for ticks are no ticks, or leave none
 abbrev pub AreWrongTicks : List Row → Type 0
-AreWrongTicks rows = IsNoTick (first_of (codes "from") rows) ⊎ IsNoTick (first_of (codes "to") rows) ⊎ AreNoTicks (first_of (codes "from") rows) (first_of (codes "to") rows)
+AreWrongTicks rows =
+    IsNoTick (first_of (codes "from") rows) ⊎ IsNoTick (first_of (codes "to") rows) ⊎ IsNoRun (first_of (codes "ticks") rows)
+    ⊎ AreNoTicks (first_of (codes "from") rows) (first_of (codes "to") rows) ⊎ AreNoTicks (first_of (codes "from") rows) (first_of (codes "ticks") rows)
 
 -- ---- kinds of lines, and how many of them there may be
 

@@ -1,6 +1,10 @@
--- Why a text is not taken as a module table, and what a page has of it.
-use Rattle.std.specs.Prelude.{◌≡◌, ℕ, List, map, Option, Some, None, codes, string_bytes}
+-- Why a text is not taken as a module table, what a page has of it, and the shares by the windows of one.
+use Rattle.std.specs.Prelude.{◌≡◌, ℕ, List, [], map, Option, Some, None, codes, string_bytes}
+use Rattle.apex_types.specs.declared.identity.Ticks.{Ticks}
 use Rattle.trace_page.specs.Windows.{windows_text}
+use Rattle.trace_shares.specs.Standings.{at_first, standing_of}
+use Rattle.trace_shares.specs.declared.shares.Shares.{Shares}
+use Rattle.window_table.specs.declared.table.ModuleTable.{ModuleTable}
 use Rattle.view_command.specs.Texts.{IsRefusedTable}
 use Rattle.view_command.specs.declared.refusal.Refusal.{Refusal}
 use Rattle.view_command.specs.declared.refusal.Refusal.TheVariants.{Read, Table, Memory}
@@ -21,3 +25,10 @@ names_of table = map (λ p. p.name) table.partitions.items
 abbrev pub page_windows : Option ModuleTable → List ℕ
 page_windows None = codes "null"
 page_windows (Some table) = windows_text table.schedule.frame table.schedule.windows.items (names_of table)
+
+-- no line is read, and no tick is counted: the shares by the windows of a table, from a tick on, if there is a table
+abbrev pub AreSharesBefore : Option ModuleTable → Ticks → Option Shares → Type 0
+AreSharesBefore None from None = Unit {0}
+AreSharesBefore (Some table) from (Some shares) =
+    (shares.schedule ≡ table.schedule) × (shares.from ≡ from) × (standing_of shares ≡ at_first (names_of table)) × (shares.counted.rows.items ≡ [])
+AreSharesBefore _ from _ = ⊥

@@ -24,23 +24,37 @@ csv_rule = flag_rule (codes "csv")
 abbrev pub shown_app : List ℕ → App
 shown_app name = with_rule (with_rule (with_rule (new_app name) trace_rule) (option_rule (codes "from"))) (option_rule (codes "to"))
 
-abbrev pub summary_app : App
-summary_app = with_rule (with_rule (shown_app (codes "summary")) (option_rule (codes "table"))) csv_rule
-
--- the command that writes a dump
-abbrev pub vcd_app : App
-vcd_app = with_rule (shown_app (codes "vcd")) (option_rule (codes "table"))
-
--- the command that writes a page
-abbrev pub html_app : App
-html_app = with_rule (with_rule (new_app (codes "html")) trace_rule) (option_rule (codes "table"))
-
--- a command on some lines of a trace
+-- a command on the lines of a partition
 abbrev pub of_partition_app : List ℕ → App
 of_partition_app name = with_rule (shown_app name) (option_rule (codes "partition"))
 
+-- a command on lines that are chosen by what they name
+abbrev pub lines_app : List ℕ → App
+lines_app name = with_rule (with_rule (with_rule (of_partition_app name) (option_rule (codes "process"))) (option_rule (codes "kind"))) (option_rule (codes "port"))
+
+-- and that takes for how many ticks the module ran
+abbrev pub run_app : List ℕ → App
+run_app name = with_rule (lines_app name) (option_rule (codes "ticks"))
+
+abbrev pub summary_app : App
+summary_app = with_rule (with_rule (run_app (codes "summary")) (option_rule (codes "table"))) csv_rule
+
+-- the command that writes a dump
+abbrev pub vcd_app : App
+vcd_app = with_rule (run_app (codes "vcd")) (option_rule (codes "table"))
+
+-- the command that writes a page, which shows all ticks of a trace
+abbrev pub page_app : App
+page_app = with_rule (with_rule (new_app (codes "html")) trace_rule) (option_rule (codes "partition"))
+
+abbrev pub page_lines_app : App
+page_lines_app = with_rule (with_rule (with_rule page_app (option_rule (codes "process"))) (option_rule (codes "kind"))) (option_rule (codes "port"))
+
+abbrev pub html_app : App
+html_app = with_rule (with_rule page_lines_app (option_rule (codes "ticks"))) (option_rule (codes "table"))
+
 abbrev pub list_app : App
-list_app = with_rule (with_rule (with_rule (of_partition_app (codes "list")) (option_rule (codes "process"))) (option_rule (codes "kind"))) (option_rule (codes "port"))
+list_app = lines_app (codes "list")
 
 abbrev pub check_app : App
 check_app = with_rule (with_rule (with_rule (of_partition_app (codes "check")) (option_rule (codes "no"))) (pair_rule (codes "at-most"))) (option_rule (codes "missed"))
@@ -54,7 +68,7 @@ top_app = on_top (λ s. record s { subcommand_required = true }) (versioned (new
 
 -- the program, with the commands that sum up or draw a trace
 abbrev pub pictures_app : App
-pictures_app = with_subcommand (with_subcommand (with_subcommand top_app summary_app.top) (shown_app (codes "svg")).top) vcd_app.top
+pictures_app = with_subcommand (with_subcommand (with_subcommand top_app summary_app.top) (run_app (codes "svg")).top) vcd_app.top
 
 abbrev pub view_app : App
 view_app = with_subcommand (with_subcommand (with_subcommand (with_subcommand pictures_app list_app.top) check_app.top) diff_app.top) html_app.top

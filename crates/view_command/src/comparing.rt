@@ -1,6 +1,6 @@
 //! Two traces are read to their ends, and compared.
 
-ghost use Rattle.std.specs.Prelude.{◌≡◌, ◌⊎◌, ℕ, ◌-◌, ◌^◌, ◌<◌, ◌≤◌, List, [], IfErr, IfOk, OnOk, string_bytes};
+ghost use Rattle.std.specs.Prelude.{◌≡◌, ◌⊎◌, ℕ, ◌-◌, ◌^◌, ◌<◌, ◌≤◌, List, [], IfErr, IfOk, None, OnOk, string_bytes};
 ghost use Rattle.apex_types.specs.declared.event.Event.{Event};
 ghost use Rattle.streams.specs.States.{IsFlushed, seen};
 ghost use Rattle.trace_difference.specs.Comparisons.{AreParts};
@@ -47,17 +47,17 @@ pub fn compare<F: Sources, O: Stream>(
     ensures told { IfOk result
         (AreToldIn (F.texts sources.old) (string_bytes pair.first) (string_bytes pair.second)
         pair.partition) }
-    ensures first { OnOk result (IsTraceIn (F.texts sources.old) (string_bytes pair.first)) }
-    ensures second { OnOk result (IsTraceIn (F.texts sources.old) (string_bytes pair.second)) }
+    ensures first { OnOk result (IsTraceIn (F.texts sources.old) None (string_bytes pair.first)) }
+    ensures second { OnOk result (IsTraceIn (F.texts sources.old) None (string_bytes pair.second)) }
     ensures opened { OnOk result (F.unopened sources.new ≡ F.unopened sources.old) }
     ensures flushed { OnOk result
         (IsFlushed (seen O.taken O.failures O.is_flushed out.old)
         (seen O.taken O.failures O.is_flushed out.new)) }
     ensures refused { IfErr result
-        (λ r. IsRefused (F.texts sources.old) (string_bytes pair.first)
+        (λ r. IsRefused (F.texts sources.old) None (string_bytes pair.first)
         (state (F.unopened sources.old) (seen O.taken O.failures O.is_flushed out.old))
         (state (F.unopened sources.new) (seen O.taken O.failures O.is_flushed out.new)) r
-        ⊎ IsRefused (F.texts sources.old) (string_bytes pair.second)
+        ⊎ IsRefused (F.texts sources.old) None (string_bytes pair.second)
         (state (F.unopened sources.old) (seen O.taken O.failures O.is_flushed out.old))
         (state (F.unopened sources.new) (seen O.taken O.failures O.is_flushed out.new)) r) }
 {
@@ -109,8 +109,8 @@ fn read_both<R: Read + Drop, Q: Read + Drop>(
         → AreCompared (R.remaining reader) (Q.remaining other_reader) partition.now
         comparison.new.parts.items) }
     ensures refused { IfErr result
-        (λ r. IsUnread (R.remaining reader) (string_bytes name) r
-        ⊎ IsUnread (Q.remaining other_reader) (string_bytes other_name) r) }
+        (λ r. IsUnread (R.remaining reader) None (string_bytes name) r
+        ⊎ IsUnread (Q.remaining other_reader) None (string_bytes other_name) r) }
 {
     let mut stream = match TraceStream::new(alloc, reader) {
         Ok(stream) => stream,

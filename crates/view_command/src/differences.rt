@@ -1,8 +1,10 @@
 //! Differences as text.
 
+ghost use Rattle.std.specs.Prelude.{◌≡◌, ◌++◌, IfOk, OnOk};
+ghost use Rattle.view_command.specs.DifferenceTexts as text;
+
 use apex_types::{Event, Name};
 use std::alloc::Global;
-use std::io::{self, Write};
 use trace_difference::{Difference, Rest};
 use trace_filter::line_of;
 use trace_stays::MemoryFull;
@@ -12,46 +14,57 @@ use trace_stays::MemoryFull;
 /// # Errors
 ///
 /// Memory ran out.
-pub fn report(alloc: Global, differences: &[Difference]) -> Result<Vec<u8>, MemoryFull> {
-    let mut text = Vec::new(alloc);
+#[tactic(auto, using(std::proofs::lemmas::List::drop_more))]
+pub fn report(alloc: Global, differences: &[Difference]) -> Result<Vec<u8>, MemoryFull>
+    ensures { IfOk result (λ report. report.items ≡ text.report differences.now) }
+{
+    let mut report = Vec::new(alloc);
     for difference in differences {
-        if write_difference(alloc, difference, &mut text).is_err() {
-            return Err(MemoryFull);
-        }
+        push_difference(alloc, difference, &mut report)?;
     }
-    Ok(text)
+    Ok(report)
 }
 
-/// Writes the first difference of a partition: the lines before it, the first line that only one trace
+/// Adds the first difference of a partition: the lines before it, the first line that only one trace
 /// has there, or only the other, and how many there are from there on.
-fn write_difference(alloc: Global, difference: &Difference, out: &mut Vec<u8>) -> io::Result<()> {
+fn push_difference(
+    alloc: Global,
+    difference: &Difference,
+    out: &mut Vec<u8>,
+) -> Result<(), MemoryFull>
+    ensures { OnOk result (out.new.items ≡ out.old.items ++ text.difference difference.now) }
+{
     let tick = tick_of(&difference.first, &difference.second);
-    write_heading(&difference.partition, tick, out)?;
-    for line in difference.before.iter().rev() {
-        write_line(alloc, "  ", line, out)?;
-    }
-    write_rest(alloc, "- ", &difference.first, out)?;
-    write_rest(alloc, "+ ", &difference.second, out)?;
-    writeln!(
-        out,
-        "  lines from there on: {} in the first trace, {} in the second",
-        difference.first.lines, difference.second.lines
-    )
+    push_heading(alloc, &difference.partition, tick, out)?;
+    push_before(alloc, difference.before.as_slice(), out)?;
+    push_rest(alloc, "- ", &difference.first, out)?;
+    push_rest(alloc, "+ ", &difference.second, out)?;
+    push_numbers(alloc, difference.first.lines, difference.second.lines, out)
 }
 
-fn write_heading(partition: &Option<Name>, tick: u64, out: &mut Vec<u8>) -> io::Result<()> {
-    match partition {
-        Some(name) => writeln!(
-            out,
-            "partition {} differs from tick {tick} on",
+fn push_heading(
+    alloc: Global,
+    partition: &Option<Name>,
+    tick: u64,
+    out: &mut Vec<u8>,
+) -> Result<(), MemoryFull>
+    ensures { OnOk result (out.new.items ≡ out.old.items ++ text.heading partition.now tick) }
+{
+    let heading = match partition {
+        Some(name) => format!(in alloc;
+            "partition {} differs from tick {tick} on\n",
             name.as_str()
-        ),
-        None => writeln!(out, "the module differs from tick {tick} on"),
-    }
+        )?,
+        None => format!(in alloc; "the module differs from tick {tick} on\n")?,
+    };
+    out.extend_from_slice(heading.as_bytes())?;
+    Ok(())
 }
 
 /// The tick of the difference: that of the earlier of the two lines.
-fn tick_of(first: &Rest, second: &Rest) -> u64 {
+fn tick_of(first: &Rest, second: &Rest) -> u64
+    ensures { result ≡ text.tick_of first.now.line second.now.line }
+{
     match (&first.line, &second.line) {
         (Some(one), Some(other)) => one.tick.0.min(other.tick.0),
         (Some(line), None) | (None, Some(line)) => line.tick.0,
@@ -59,17 +72,48 @@ fn tick_of(first: &Rest, second: &Rest) -> u64 {
     }
 }
 
-fn write_rest(alloc: Global, front: &str, rest: &Rest, out: &mut Vec<u8>) -> io::Result<()> {
-    match &rest.line {
-        Some(line) => write_line(alloc, front, line, out),
-        None => writeln!(out, "{front}no more lines"),
+/// Adds the lines that both traces have before it, of which the latest is the first here.
+fn push_before(alloc: Global, lines: &[Event], out: &mut Vec<u8>) -> Result<(), MemoryFull>
+    ensures { OnOk result (out.new.items ≡ out.old.items ++ text.before lines.now) }
+{
+    match lines.split_first() {
+        Some((latest, earlier)) => {
+            push_before(alloc, earlier, out)?;
+            push_line(alloc, "  ", latest, out)
+        }
+        None => Ok(()),
     }
 }
 
-fn write_line(alloc: Global, front: &str, event: &Event, out: &mut Vec<u8>) -> io::Result<()> {
-    write!(out, "{front}")?;
-    match line_of(alloc, event) {
-        Ok(line) => out.write_all(line.as_slice()),
-        Err(_) => Err(io::ErrorKind::OutOfMemory.into()),
+fn push_rest(alloc: Global, front: &str, rest: &Rest, out: &mut Vec<u8>) -> Result<(), MemoryFull>
+    ensures { OnOk result (out.new.items ≡ out.old.items ++ text.rest front.now rest.now.line) }
+{
+    match &rest.line {
+        Some(line) => push_line(alloc, front, line, out),
+        None => {
+            out.extend_from_slice(front.as_bytes())?;
+            out.extend_from_slice(b"no more lines\n")?;
+            Ok(())
+        }
     }
+}
+
+/// Adds how many lines each trace has from there on.
+fn push_numbers(alloc: Global, first: u64, second: u64, out: &mut Vec<u8>) -> Result<(), MemoryFull>
+    ensures { OnOk result (out.new.items ≡ out.old.items ++ text.numbers first second) }
+{
+    let numbers = format!(in alloc;
+        "  lines from there on: {first} in the first trace, {second} in the second\n"
+    )?;
+    out.extend_from_slice(numbers.as_bytes())?;
+    Ok(())
+}
+
+fn push_line(alloc: Global, front: &str, event: &Event, out: &mut Vec<u8>) -> Result<(), MemoryFull>
+    ensures { OnOk result (out.new.items ≡ out.old.items ++ text.line front.now event.now) }
+{
+    let line = line_of(alloc, event)?;
+    out.extend_from_slice(front.as_bytes())?;
+    out.extend_from_slice(line.as_slice())?;
+    Ok(())
 }

@@ -5,7 +5,7 @@ ghost use Rattle.clap.specs.Values.{kind_of};
 ghost use Rattle.clap.specs.Walk.{rule_of};
 ghost use Rattle.clap.specs.declared.error.kind.ErrorKind.TheVariants.{MissingSubcommand, ValueValidation};
 ghost use Rattle.command_words.specs.Grammar.{IsCommand};
-ghost use Rattle.view_command.specs.Words.{check_app, diff_app, html_app, list_app, of_partition_app, option_rule, pair_rule, pictures_app, shown_app, summary_app, vcd_app, view_app};
+ghost use Rattle.view_command.specs.Words.{check_app, diff_app, html_app, lines_app, list_app, of_partition_app, option_rule, page_app, page_lines_app, pair_rule, pictures_app, run_app, shown_app, summary_app, vcd_app, view_app};
 
 use clap::error::ErrorKind;
 use clap::{Arg, ArgAction, Command, Error};
@@ -43,7 +43,7 @@ fn pictures<'a>(alloc: Global) -> Result<Command<'a>, AllocError>
 fn summary<'a>(alloc: Global) -> Result<Command<'a>, AllocError>
     ensures { IfOk result (λ command. IsCommand command summary_app) }
 {
-    shown(alloc, "summary")?
+    run(alloc, "summary")?
         .about("Writes a table of what each partition and each process did")
         .after_help("Example: mbview summary trace.txt --from 1000 --to 2000 --table table.toml")
         .arg(option(
@@ -56,10 +56,10 @@ fn summary<'a>(alloc: Global) -> Result<Command<'a>, AllocError>
 }
 
 fn svg<'a>(alloc: Global) -> Result<Command<'a>, AllocError>
-    ensures { IfOk result (λ command. IsCommand command (shown_app (codes "svg"))) }
+    ensures { IfOk result (λ command. IsCommand command (run_app (codes "svg"))) }
 {
     Ok(
-        shown(alloc, "svg")?
+        run(alloc, "svg")?
             .about("Writes a picture of the trace, an SVG")
             .after_help("Example: mbview svg trace.txt --from 0 --to 500"),
     )
@@ -68,7 +68,7 @@ fn svg<'a>(alloc: Global) -> Result<Command<'a>, AllocError>
 fn vcd<'a>(alloc: Global) -> Result<Command<'a>, AllocError>
     ensures { IfOk result (λ command. IsCommand command vcd_app) }
 {
-    shown(alloc, "vcd")?
+    run(alloc, "vcd")?
         .about("Writes a value change dump of the trace, for a viewer of waves")
         .after_help(
             "Example: mb run module.image devices.txt 1000 | mbview vcd - --table table.toml",
@@ -84,27 +84,11 @@ fn vcd<'a>(alloc: Global) -> Result<Command<'a>, AllocError>
 fn list<'a>(alloc: Global) -> Result<Command<'a>, AllocError>
     ensures { IfOk result (λ command. IsCommand command list_app) }
 {
-    of_partition(alloc, "list")?
-        .about("Writes the lines of the trace that have all that is asked for, as they stand")
-        .after_help("Example: mbview list trace.txt --partition a --kind STATE,HM")
-        .arg(option(
-            alloc,
-            "process",
-            "NAME",
-            "Only lines of this process, of INIT or of HANDLER",
-        ))?
-        .arg(option(
-            alloc,
-            "kind",
-            "KIND[,KIND]",
-            "Only lines of these kinds: STATE, RET, MODE, HM, REPORT, MOVE, ARRIVE, LOST, OUT",
-        ))?
-        .arg(option(
-            alloc,
-            "port",
-            "NAME",
-            "Only lines of messages at this port, or by this channel",
-        ))
+    Ok(
+        lines(alloc, "list")?
+            .about("Writes the lines of the trace that have all that is asked for, as they stand")
+            .after_help("Example: mbview list trace.txt --partition a --kind STATE,HM"),
+    )
 }
 
 fn check<'a>(alloc: Global) -> Result<Command<'a>, AllocError>
@@ -131,20 +115,39 @@ fn check<'a>(alloc: Global) -> Result<Command<'a>, AllocError>
 fn html<'a>(alloc: Global) -> Result<Command<'a>, AllocError>
     ensures { IfOk result (λ command. IsCommand command html_app) }
 {
-    Command::new(alloc, "html")
+    page_lines(alloc)?
         .about("Writes a page for a browser, in which one can look around in the trace")
         .after_help("Example: mbview html trace.txt --table table.toml > trace.html")
-        .arg(required_word(
-            alloc,
-            "TRACE",
-            "The file of a trace, or - for the standard input",
-        ))?
+        .arg(run_ticks(alloc))?
         .arg(option(
             alloc,
             "table",
             "TABLE",
             "The module table: shows its windows",
         ))
+}
+
+/// The command that writes a page, on lines that are chosen by what they name.
+fn page_lines<'a>(alloc: Global) -> Result<Command<'a>, AllocError>
+    ensures { IfOk result (λ command. IsCommand command page_lines_app) }
+{
+    page(alloc)?
+        .arg(process(alloc))?
+        .arg(kind(alloc))?
+        .arg(port(alloc))
+}
+
+/// The command that writes a page, on the lines of a partition.
+fn page<'a>(alloc: Global) -> Result<Command<'a>, AllocError>
+    ensures { IfOk result (λ command. IsCommand command page_app) }
+{
+    Command::new(alloc, "html")
+        .arg(required_word(
+            alloc,
+            "TRACE",
+            "The file of a trace, or - for the standard input",
+        ))?
+        .arg(partition(alloc))
 }
 
 fn diff<'a>(alloc: Global) -> Result<Command<'a>, AllocError>
@@ -161,24 +164,91 @@ fn diff<'a>(alloc: Global) -> Result<Command<'a>, AllocError>
             "The file of a trace, or - for the standard input",
         ))?
         .arg(required_word(alloc, "OTHER", "The file of the other trace"))?
-        .arg(option(
-            alloc,
-            "partition",
-            "NAME",
-            "Only lines of this partition; - stands for the module itself",
-        ))
+        .arg(partition(alloc))
 }
 
 /// A command that shows the ticks of a trace, of one partition if that is asked for.
 fn of_partition<'a>(alloc: Global, name: &'a str) -> Result<Command<'a>, AllocError>
     ensures { IfOk result (λ command. IsCommand command (of_partition_app name.entry.now)) }
 {
-    shown(alloc, name)?.arg(option(
+    shown(alloc, name)?.arg(partition(alloc))
+}
+
+/// A command on lines that are chosen by what they name.
+fn lines<'a>(alloc: Global, name: &'a str) -> Result<Command<'a>, AllocError>
+    ensures { IfOk result (λ command. IsCommand command (lines_app name.entry.now)) }
+{
+    of_partition(alloc, name)?
+        .arg(process(alloc))?
+        .arg(kind(alloc))?
+        .arg(port(alloc))
+}
+
+fn partition<'a>(alloc: Global) -> Arg<'a>
+    ensures rule { rule_of result ≡ option_rule (codes "partition") }
+    ensures local { result.global ≡ false }
+{
+    option(
         alloc,
         "partition",
         "NAME",
         "Only lines of this partition; - stands for the module itself",
-    ))
+    )
+}
+
+fn process<'a>(alloc: Global) -> Arg<'a>
+    ensures rule { rule_of result ≡ option_rule (codes "process") }
+    ensures local { result.global ≡ false }
+{
+    option(
+        alloc,
+        "process",
+        "NAME",
+        "Only lines of this process, of INIT or of HANDLER",
+    )
+}
+
+fn kind<'a>(alloc: Global) -> Arg<'a>
+    ensures rule { rule_of result ≡ option_rule (codes "kind") }
+    ensures local { result.global ≡ false }
+{
+    option(
+        alloc,
+        "kind",
+        "KIND[,KIND]",
+        "Only lines of these kinds: STATE, RET, MODE, HM, REPORT, MOVE, ARRIVE, LOST, OUT",
+    )
+}
+
+fn port<'a>(alloc: Global) -> Arg<'a>
+    ensures rule { rule_of result ≡ option_rule (codes "port") }
+    ensures local { result.global ≡ false }
+{
+    option(
+        alloc,
+        "port",
+        "NAME",
+        "Only lines of messages at this port, or by this channel",
+    )
+}
+
+/// A command that shows chosen lines of a trace, and takes for how many ticks the module ran.
+fn run<'a>(alloc: Global, name: &'a str) -> Result<Command<'a>, AllocError>
+    ensures { IfOk result (λ command. IsCommand command (run_app name.entry.now)) }
+{
+    lines(alloc, name)?.arg(run_ticks(alloc))
+}
+
+fn run_ticks<'a>(alloc: Global) -> Arg<'a>
+    ensures rule { rule_of result ≡ option_rule (codes "ticks") }
+    ensures local { result.global ≡ false }
+{
+    option(
+        alloc,
+        "ticks",
+        "TICKS",
+        "For how many ticks the module ran: it ends there, and no line is later",
+    )
 }
 
 /// A command that shows the ticks of a trace.
@@ -236,12 +306,13 @@ pub fn bad_value(alloc: Global, option: &str, value: &str, word: &str) -> Result
     grammar(alloc)?.error(ErrorKind::ValueValidation, message.as_str())
 }
 
-/// The usage error of two ticks that have no tick between them.
-pub fn no_ticks(alloc: Global, from: u64, to: u64) -> Result<Error, AllocError>
+/// The usage error of two ticks that have no tick between them: that of `--from`, and the end that
+/// another option gives.
+pub fn no_ticks(alloc: Global, from: u64, end: u64, option: &str) -> Result<Error, AllocError>
     ensures { IfOk result (λ error. kind_of error ≡ ValueValidation) }
 {
     let message = format!(in alloc;
-        "there is no tick from {from} on before {to}: '--from' has to be below '--to'"
+        "there is no tick from {from} on before {end}: '--from' has to be below '--{option}'"
     )?;
     grammar(alloc)?.error(ErrorKind::ValueValidation, message.as_str())
 }

@@ -1,43 +1,148 @@
 //! The options that were found in the words.
 
-ghost use Rattle.std.specs.Prelude.{◌≡◌, ◌∷◌, [], IfErr, IfOk, codes, map};
+ghost use Rattle.std.specs.Prelude.{◌≡◌, ◌↔◌, ◌∷◌, [], IfErr, IfOk, IsTrue, codes, map, option_map};
 ghost use Rattle.clap.specs.Matches.{found_of};
 ghost use Rattle.clap.specs.Walk.{first_of, rows_of};
 ghost use Rattle.command_words.specs.Found.{words_at};
-ghost use Rattle.view_command.specs.Answers.{IsKindFailure, IsLimitFailure, IsTickFailure, IsWordsFailure};
-ghost use Rattle.view_command.specs.Orders.{IsTickOf, asked_text};
+ghost use Rattle.command_words.specs.Numbers.{number_in};
+ghost use Rattle.view_command.specs.Answers.{IsEndFailure, IsKindFailure, IsLimitFailure, IsRunFailure, IsTickFailure, IsWordsFailure};
+ghost use Rattle.view_command.specs.Orders.{AreKindsIn, AreNamesIn, AreTicksIn, IsBeyond, IsTickOf, asked_text, end_of, from_in, number_of, ran_in};
 
 use crate::grammar::{bad_value, no_ticks};
 use crate::refusal::Refusal;
 use crate::views::View;
 use apex_types::Ticks;
+use apex_types::limits::MOST_TICKS;
 use clap::ArgMatches;
 use command_words::{Failure, number_of};
 use std::alloc::{AllocError, Global};
 use trace_filter::{Counted, Filter, Kinds, Limit, Limits};
 
-/// The ticks that are asked for: the first, and that before which they end, if one is given.
-pub fn ticks(
-    alloc: Global,
-    found: &ArgMatches<'_>,
-) -> Result<(Ticks, Option<Ticks>), Failure<Refusal>>
-    ensures { IfErr result (λ f. IsWordsFailure (rows_of (found_of found.now)) f) }
-{
-    let from = number(alloc, found, "from", "TICK")?.unwrap_or(0);
-    let to = number(alloc, found, "to", "TICK")?;
-    if let Some(to) = to {
-        if to <= from {
-            return Err(Failure::Usage(no_ticks(alloc, from, to)?));
-        }
-    }
-    Ok((Ticks(from), to.map(Ticks)))
+/// The ticks that are asked for.
+#[derive(Clone, Copy, Debug, PartialEq, Eq)]
+pub struct AskedTicks {
+    /// The first one.
+    pub from: Ticks,
+    /// That before which they end, if one is given.
+    pub to: Option<Ticks>,
+    /// For how many ticks the module ran, if that is given.
+    pub ran: Option<Ticks>,
 }
 
-/// The filter that is asked for.
+/// The ticks that are asked for. They end with the run, if they would end later.
+pub fn ticks(alloc: Global, found: &ArgMatches<'_>) -> Result<AskedTicks, Failure<Refusal>>
+    ensures ticks { IfOk result (λ t. AreTicksIn (rows_of (found_of found.now)) t.from t.to t.ran) }
+    ensures failed { IfErr result (λ f. IsWordsFailure (rows_of (found_of found.now)) f) }
+{
+    let from = first_tick(alloc, found)?;
+    let to = number(alloc, found, "to", "TICK")?;
+    let ran = run_ticks(alloc, found)?;
+    check_end(alloc, from, to, "to")?;
+    check_end(alloc, from, ran, "ticks")?;
+    Ok(AskedTicks {
+        from: Ticks(from),
+        to: as_ticks(earlier(to, ran)),
+        ran: as_ticks(ran),
+    })
+}
+
+fn as_ticks(number: Option<u64>) -> Option<Ticks>
+    ensures { number_of result ≡ number }
+{
+    match number {
+        Some(number) => Some(Ticks(number)),
+        None => None,
+    }
+}
+
+/// The first tick that is shown.
+fn first_tick(alloc: Global, found: &ArgMatches<'_>) -> Result<u64, Failure<Refusal>>
+    ensures tick { IfOk result
+        (λ t. t ≡ from_in (first_of (codes "from") (rows_of (found_of found.now)))) }
+    ensures failed { IfErr result
+        (λ f. IsTickFailure (first_of (codes "from") (rows_of (found_of found.now))) f) }
+{
+    Ok(number(alloc, found, "from", "TICK")?.unwrap_or(0))
+}
+
+/// For how many ticks the module ran, if that is given.
+fn run_ticks(alloc: Global, found: &ArgMatches<'_>) -> Result<Option<u64>, Failure<Refusal>>
+    ensures ticks { IfOk result (λ t. t ≡ ran_in (rows_of (found_of found.now))) }
+    ensures failed { IfErr result
+        (λ f. IsRunFailure (first_of (codes "ticks") (rows_of (found_of found.now))) f) }
+{
+    let ticks = number(alloc, found, "ticks", "TICKS")?;
+    if is_beyond(ticks) {
+        let word = found.get_str("ticks").unwrap_or("");
+        return Err(Failure::Usage(bad_value(alloc, "ticks", "TICKS", word)?));
+    }
+    Ok(ticks)
+}
+
+/// Returns true if for so many ticks no module runs.
+fn is_beyond(ticks: Option<u64>) -> bool
+    ensures { IsTrue result ↔ IsBeyond ticks }
+{
+    match ticks {
+        Some(ticks) => MOST_TICKS < ticks,
+        None => false,
+    }
+}
+
+/// Checks that there is a tick from the first one on and before the end that this option gives.
+fn check_end(
+    alloc: Global,
+    from: u64,
+    end: Option<u64>,
+    option: &str,
+) -> Result<(), Failure<Refusal>>
+    ensures { IfErr result (λ f. IsEndFailure from end f) }
+{
+    if let Some(end) = end {
+        if end <= from {
+            return Err(Failure::Usage(no_ticks(alloc, from, end, option)?));
+        }
+    }
+    Ok(())
+}
+
+/// The earlier of two ends, each of which may be left out.
+fn earlier(to: Option<u64>, ran: Option<u64>) -> Option<u64>
+    ensures { result ≡ end_of to ran }
+{
+    match (to, ran) {
+        (Some(to), Some(ran)) => Some(to.min(ran)),
+        (Some(end), None) | (None, Some(end)) => Some(end),
+        (None, None) => None,
+    }
+}
+
+/// The filter of lines that is asked for, with its ticks.
 pub fn chosen(alloc: Global, found: &ArgMatches<'_>) -> Result<Filter, Failure<Refusal>>
     ensures { IfErr result (λ f. IsWordsFailure (rows_of (found_of found.now)) f) }
 {
-    let (from, to) = ticks(alloc, found)?;
+    let asked = ticks(alloc, found)?;
+    filter(alloc, found, asked.from, asked.to)
+}
+
+/// The filter of what lines name, in any tick.
+pub fn named(alloc: Global, found: &ArgMatches<'_>) -> Result<Filter, Failure<Refusal>>
+    ensures names { IfOk result (λ f. AreNamesIn (rows_of (found_of found.now)) f) }
+    ensures failed { IfErr result (λ f. IsWordsFailure (rows_of (found_of found.now)) f) }
+{
+    filter(alloc, found, Ticks(0), None)
+}
+
+/// The filter of what lines name, in these ticks.
+fn filter(
+    alloc: Global,
+    found: &ArgMatches<'_>,
+    from: Ticks,
+    to: Option<Ticks>,
+) -> Result<Filter, Failure<Refusal>>
+    ensures names { IfOk result (λ f. AreNamesIn (rows_of (found_of found.now)) f) }
+    ensures failed { IfErr result (λ f. IsWordsFailure (rows_of (found_of found.now)) f) }
+{
     let kinds = kinds(alloc, found, "kind")?;
     Ok(Filter {
         from,
@@ -79,6 +184,8 @@ fn number(
 ) -> Result<Option<u64>, Failure<Refusal>>
     ensures read { IfOk result
         (λ t. IsTickOf (first_of option.now (rows_of (found_of found.now))) t) }
+    ensures value { IfOk result
+        (λ t. t ≡ option_map number_in (first_of option.now (rows_of (found_of found.now)))) }
     ensures failed { IfErr result
         (λ f. IsTickFailure (first_of option.now (rows_of (found_of found.now))) f) }
 {
@@ -97,7 +204,9 @@ fn kinds(
     found: &ArgMatches<'_>,
     option: &str,
 ) -> Result<Option<Kinds>, Failure<Refusal>>
-    ensures { IfErr result
+    ensures kinds { IfOk result
+        (λ k. AreKindsIn (first_of option.now (rows_of (found_of found.now))) k) }
+    ensures failed { IfErr result
         (λ f. IsKindFailure (first_of option.now (rows_of (found_of found.now))) f) }
 {
     let Some(word) = found.get_str(option) else {

@@ -20,6 +20,8 @@ pub enum Refusal {
     Read(String),
     /// The line of that number in the text of that name is no line of a trace.
     Line { number: u64, trace: String },
+    /// The line of that number in the text of that name is of a tick that the run did not have.
+    Late { number: u64, trace: String },
     /// The picture or the dump would have too many elements.
     TooMany,
     /// The text of that name breaks a rule of a module table.
@@ -41,6 +43,12 @@ impl fmt::Display for Refusal {
             Refusal::Line { number, trace } => write!(
                 f,
                 "mbview: line {} of {} is no line of a trace",
+                *number,
+                trace.as_str()
+            ),
+            Refusal::Late { number, trace } => write!(
+                f,
+                "mbview: line {} of {} is behind the last tick of the run",
                 *number,
                 trace.as_str()
             ),

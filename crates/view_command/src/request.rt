@@ -11,7 +11,7 @@ ghost use Rattle.view_command.specs.Words.{view_app};
 
 use crate::comparing::Pair;
 use crate::grammar::{grammar, no_command};
-use crate::options::{checked, chosen, text, ticks};
+use crate::options::{checked, chosen, named, text, ticks};
 use crate::refusal::Refusal;
 use crate::views::View;
 use apex_types::Ticks;
@@ -19,6 +19,7 @@ use clap::ArgMatches;
 use command_words::{Failure, word};
 use std::alloc::Global;
 use std::convert::AsStr;
+use trace_filter::Filter;
 
 /// What the words ask for.
 #[derive(Drop)]
@@ -41,6 +42,10 @@ pub struct Showing {
     pub from: Ticks,
     /// The tick before which it ends, if it is not the end of the trace.
     pub to: Option<Ticks>,
+    /// For how many ticks the module ran, if that is given.
+    pub ran: Option<Ticks>,
+    /// What lines have to name, so that the view reads them.
+    pub kept: Filter,
 }
 
 /// The request in the words.
@@ -89,13 +94,16 @@ fn shown(alloc: Global, view: View, found: &ArgMatches<'_>) -> Result<Request, F
 {
     let trace = String::from_str(alloc, word(found, "TRACE"))?;
     let table = text(alloc, found, "table")?;
-    let (from, to) = ticks(alloc, found)?;
+    let asked = ticks(alloc, found)?;
+    let kept = named(alloc, found)?;
     Ok(Request::Show(Showing {
         view,
         trace,
         table,
-        from,
-        to,
+        from: asked.from,
+        to: asked.to,
+        ran: asked.ran,
+        kept,
     }))
 }
 

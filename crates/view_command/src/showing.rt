@@ -5,17 +5,19 @@ ghost use Rattle.streams.specs.States.{IsFlushed, seen};
 ghost use Rattle.view_command.specs.Answers.{IsRefused, IsTableRefused, IsUnread};
 ghost use Rattle.view_command.specs.Faults as faults;
 ghost use Rattle.view_command.specs.Lines.{called};
-ghost use Rattle.view_command.specs.Orders.{asked_text};
+ghost use Rattle.view_command.specs.Orders.{asked_text, number_of};
 ghost use Rattle.view_command.specs.States.{state};
-ghost use Rattle.view_command.specs.Texts.{IsTableAsked, IsTraceIn, IsTraceOf};
+ghost use Rattle.view_command.specs.Texts.{IsTableAsked, IsTraceIn, IsTraceOf, is_late};
 
 use crate::refusal::Refusal;
 use crate::request::Showing;
 use crate::views::{Outcome, Shown, ViewFault};
 use crate::windows::table_asked;
+use apex_types::Ticks;
 use std::alloc::Global;
 use std::io::Read;
 use streams::{NameFault, Sources, Stream, write_bytes};
+use trace_filter::Filter;
 use trace_text::{StreamFault, TraceStream};
 
 /// Reads the trace to its end, and then writes it as the request wants it.
@@ -26,14 +28,15 @@ pub fn show<F: Sources, O: Stream>(
     out: &mut O,
 ) -> Result<Outcome, Refusal>
     requires { O.failures out.old < 2 ^ 64 - 1 }
-    ensures trace { OnOk result (IsTraceIn (F.texts sources.old) (string_bytes request.trace)) }
+    ensures trace { OnOk result
+        (IsTraceIn (F.texts sources.old) (number_of request.ran) (string_bytes request.trace)) }
     ensures table { OnOk result (IsTableAsked (F.texts sources.old) (asked_text request.table)) }
     ensures opened { OnOk result (F.unopened sources.new ≡ F.unopened sources.old) }
     ensures flushed { OnOk result
         (IsFlushed (seen O.taken O.failures O.is_flushed out.old)
         (seen O.taken O.failures O.is_flushed out.new)) }
     ensures refused { IfErr result
-        (λ r. IsRefused (F.texts sources.old) (string_bytes request.trace)
+        (λ r. IsRefused (F.texts sources.old) (number_of request.ran) (string_bytes request.trace)
         (state (F.unopened sources.old) (seen O.taken O.failures O.is_flushed out.old))
         (state (F.unopened sources.new) (seen O.taken O.failures O.is_flushed out.new)) r
         ⊎ IsTableRefused (F.texts sources.old) (asked_text request.table)
@@ -46,6 +49,8 @@ pub fn show<F: Sources, O: Stream>(
         table,
         from,
         to,
+        ran,
+        kept,
     } = request;
     let table = table_asked(alloc, &table, sources)?;
     let name = String::from_str(alloc, called(trace.as_str()))?;
@@ -57,7 +62,7 @@ pub fn show<F: Sources, O: Stream>(
         Ok(shown) => shown,
         Err(fault) => return Err(of_view(fault)),
     };
-    read_all(alloc, name, reader, &mut shown)?;
+    read_all(alloc, name, reader, ran, &kept, &mut shown)?;
     let outcome = shown.outcome();
     let bytes = match shown.into_bytes(alloc) {
         Ok(bytes) => bytes,
@@ -67,15 +72,18 @@ pub fn show<F: Sources, O: Stream>(
     Ok(outcome)
 }
 
-/// Reads every line of the trace `name`.
+/// Reads every line of the trace `name`. None may be behind the end of the run, if it is known.
 fn read_all<R: Read + Drop>(
     alloc: Global,
     name: String,
     reader: R,
+    ran: Option<Ticks>,
+    kept: &Filter,
     shown: &mut Shown,
 ) -> Result<(), Refusal>
-    ensures trace { OnOk result (IsTraceOf (R.remaining reader)) }
-    ensures refused { IfErr result (λ r. IsUnread (R.remaining reader) (string_bytes name) r) }
+    ensures trace { OnOk result (IsTraceOf (R.remaining reader) (number_of ran)) }
+    ensures refused { IfErr result
+        (λ r. IsUnread (R.remaining reader) (number_of ran) (string_bytes name) r) }
 {
     let mut stream = match TraceStream::new(alloc, reader) {
         Ok(stream) => stream,
@@ -84,7 +92,13 @@ fn read_all<R: Read + Drop>(
     for _ in 0..u64::MAX {
         match stream.next_event() {
             Ok(Some(event)) => {
-                if let Err(fault) = shown.add(&event) {
+                if is_late(ran, event.tick) {
+                    return Err(Refusal::Late {
+                        number: stream.lines(),
+                        trace: name,
+                    });
+                }
+                if let Err(fault) = shown.read(kept, &event) {
                     return Err(of_view(fault));
                 }
             }
@@ -93,6 +107,16 @@ fn read_all<R: Read + Drop>(
         }
     }
     Err(Refusal::Read(name))
+}
+
+/// Returns true if the run did not have this tick.
+fn is_late(ran: Option<Ticks>, tick: Ticks) -> bool
+    ensures { result ≡ is_late (number_of ran) tick.0 }
+{
+    match ran {
+        Some(ran) => ran.0 <= tick.0,
+        None => false,
+    }
 }
 
 /// The refusal of a text that was not opened.

@@ -106,6 +106,21 @@ impl Shown {
         Ok(shown)
     }
 
+    /// Reads the next event, if the filter lets it through. Only what the processor did is counted by
+    /// all lines.
+    pub fn read(&mut self, kept: &Filter, event: &Event) -> Result<(), ViewFault>
+        ensures { IsErrOf result ViewFault.TooMany → IsOfPicture self.old }
+    {
+        if kept.shows(event) {
+            return self.add(event);
+        }
+        match self {
+            Shown::Table(summary) | Shown::Rows(summary) => summary.pass(event)?,
+            _ => {}
+        }
+        Ok(())
+    }
+
     /// Takes the next event. Only a picture or a dump may have too many elements.
     pub fn add(&mut self, event: &Event) -> Result<(), ViewFault>
         ensures { IsErrOf result ViewFault.TooMany → IsOfPicture self.old }

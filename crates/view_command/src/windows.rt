@@ -6,7 +6,7 @@ ghost use Rattle.view_command.specs.Answers.{IsRefusedByTable, IsTableRefused};
 ghost use Rattle.view_command.specs.Orders.{asked_text};
 ghost use Rattle.view_command.specs.States.{state};
 ghost use Rattle.view_command.specs.Texts.{IsRefusedTable, IsTable, IsTableAsked, IsTableIn};
-ghost use Rattle.view_command.specs.Windows.{IsBadTable, names_of, page_windows};
+ghost use Rattle.view_command.specs.Windows.{AreSharesBefore, IsBadTable, names_of, page_windows};
 ghost use Rattle.window_table.specs.Answers.{AnswersText};
 
 use crate::refusal::Refusal;
@@ -103,7 +103,9 @@ pub fn shares_of(
     alloc: Global,
     table: Option<ModuleTable>,
     from: Ticks,
-) -> Result<Option<Shares>, SharesFault> {
+) -> Result<Option<Shares>, SharesFault>
+    ensures { IfOk result (λ shares. AreSharesBefore table from shares) }
+{
     let Some(table) = table else {
         return Ok(None);
     };

@@ -1,6 +1,7 @@
-use Rattle.std.proofs.Common.{rules, ◌≡◌, ℕ, length, refl, sym, ap, subst, ◌∙◌, string_bytes}
+use Rattle.std.proofs.Common.{rules, ◌≡◌, ℕ, None, length, refl, sym, ap, subst, ◌∙◌, string_bytes}
 use Rattle.streams.specs.Contents.{Opens}
 use Rattle.view_command.specs.Compared.{AreToldBy, asked}
+use Rattle.view_command.proofs.Tables.{unwritten_or}
 use Rattle.view_command.proofs.Compared.{told_in, told_none, told_some, trace_in, unread_of_both}
 use Rattle.view_command.proofs.comparing.compare.Goals.{then-is_empty, else-is_empty}
 use Rattle.view_command.proofs.comparing.compare.Goals as goal
@@ -41,3 +42,20 @@ returns-clause-second g c =
     subst (λ n. Opens texts n (remaining c.in-Ok-open.reader)) c.as_str-second.ensures.value (subst (λ t. Opens t c.as_str-second.result.now (remaining c.in-Ok-open.reader)) c.open.ensures.kept c.in-Ok-open.ensures.opened) in
     let compared = c.in_ok-read_both.ensures.compared c.new-comparison.ensures in
     trace_in texts (string_bytes c.args.pair.second) (remaining c.in-Ok-open.reader) compared.second two compared.second_text
+
+pub returns-clause-first : goal.returns-clause-first
+returns-clause-first g c =
+    let texts = g.F.Sources.texts c.args.sources.now in
+    let remaining = g.F.Reader.Read.remaining in
+    let one : Opens texts (string_bytes c.args.pair.first) (remaining c.in-Ok.reader) = subst (λ n. Opens texts n (remaining c.in-Ok.reader)) c.as_str-first.ensures.value c.in-Ok.ensures.opened in
+    let compared = c.in_ok-read_both.ensures.compared c.new-comparison.ensures in
+    trace_in texts (string_bytes c.args.pair.first) (remaining c.in-Ok.reader) compared.first one compared.first_text
+
+pub returns-in_err-write_bytes-clause-refused : goal.returns-in_err-write_bytes-clause-refused
+returns-in_err-write_bytes-clause-refused g c =
+    let texts = g.F.Sources.texts c.args.sources.now in
+    let remaining = g.F.Reader.Read.remaining in
+    let one : Opens texts (string_bytes c.args.pair.first) (remaining c.in-Ok.reader) = subst (λ n. Opens texts n (remaining c.in-Ok.reader)) c.as_str-first.ensures.value c.in-Ok.ensures.opened in
+    let compared = c.in_ok-read_both.ensures.compared c.new-comparison.ensures in
+    let trace = trace_in texts (string_bytes c.args.pair.first) (remaining c.in-Ok.reader) compared.first one compared.first_text in
+    unwritten_or _ texts None (string_bytes c.args.pair.first) _ _ c.from_residual-in_err-write_bytes.result (search rules) (search rules) trace c.from_residual-in_err-write_bytes.ensures

@@ -17,8 +17,8 @@ returns-in-Err-next_event-clause-refused g c =
     let s = c.in-Ok.stream in
     let new = c.in-Ok.ensures in
     let so = so_far_start text (left remaining s) s.before.0 s.lines (at_start remaining s c.args.reader new.reader new.ahead) new.before new.lines in
-    let it = unread_of text (left remaining s) s.before.0 s.lines c.args.name c.in-Err-next_event.fault (omega (arith, new.lines)) so c.in-Err-next_event.ensures.refused in
-    inl (subst (IsUnread text (string_bytes c.args.name)) (sym c.of_stream.ensures) it)
+    let it = unread_of None text (left remaining s) s.before.0 s.lines c.args.name c.in-Err-next_event.fault (omega (arith, new.lines)) so c.in-Err-next_event.ensures.refused in
+    inl (subst (IsUnread text None (string_bytes c.args.name)) (sym c.of_stream.ensures) it)
 
 pub returns-in-Err-next_event-2-clause-refused : goal.returns-in-Err-next_event-2-clause-refused
 returns-in-Err-next_event-2-clause-refused g c =
@@ -27,8 +27,8 @@ returns-in-Err-next_event-2-clause-refused g c =
     let s = c.in-Ok-new.stream in
     let new = c.in-Ok-new.ensures in
     let so = so_far_start text (left remaining s) s.before.0 s.lines (at_start remaining s c.args.other_reader new.reader new.ahead) new.before new.lines in
-    let it = unread_of text (left remaining s) s.before.0 s.lines c.args.other_name c.in-Err-next_event-2.fault (omega (arith, new.lines)) so c.in-Err-next_event-2.ensures.refused in
-    inr (subst (IsUnread text (string_bytes c.args.other_name)) (sym c.of_stream-in-Err-next_event-2.ensures) it)
+    let it = unread_of None text (left remaining s) s.before.0 s.lines c.args.other_name c.in-Err-next_event-2.fault (omega (arith, new.lines)) so c.in-Err-next_event-2.ensures.refused in
+    inr (subst (IsUnread text None (string_bytes c.args.other_name)) (sym c.of_stream-in-Err-next_event-2.ensures) it)
 
 pub loop-init : goal.loop-init
 loop-init g c =
@@ -67,8 +67,8 @@ returns-in-Err-next_event-3-clause-refused g c =
     let turn = first_turn c.loop.line c.loop.other_line (search rules) in
     let so = so_far text (left remaining s) s.before.0 s.lines _ (subst (λ n. IsBetween text (left remaining s) s.before.0 s.lines c.loop.counter n now a) turn.1 one).is_fed in
     let below : c.loop.counter < 2 ^ 64 - 2 = search rules in
-    let it = unread_of text (left remaining s) s.before.0 s.lines c.args.name c.in-Err-next_event-3.fault (omega (arith, below, one.few)) so c.in-Err-next_event-3.ensures.refused in
-    inl (subst (IsUnread text (string_bytes c.args.name)) (sym c.of_stream-in-Err-next_event-3.ensures) it)
+    let it = unread_of None text (left remaining s) s.before.0 s.lines c.args.name c.in-Err-next_event-3.fault (omega (arith, below, one.few)) so c.in-Err-next_event-3.ensures.refused in
+    inl (subst (IsUnread text None (string_bytes c.args.name)) (sym c.of_stream-in-Err-next_event-3.ensures) it)
 
 pub returns-in-Err-next_event-4-clause-refused : goal.returns-in-Err-next_event-4-clause-refused
 returns-in-Err-next_event-4-clause-refused g c =
@@ -79,8 +79,8 @@ returns-in-Err-next_event-4-clause-refused g c =
     let turn = second_turn c.loop.line c.loop.other_line (search rules) in
     let so = so_far text (left remaining s) s.before.0 s.lines _ (subst (λ n. IsBetween text (left remaining s) s.before.0 s.lines c.loop.counter n now b) turn.1 two).is_fed in
     let below : c.loop.counter < 2 ^ 64 - 2 = search rules in
-    let it = unread_of text (left remaining s) s.before.0 s.lines c.args.other_name c.in-Err-next_event-4.fault (omega (arith, below, two.few)) so c.in-Err-next_event-4.ensures.refused in
-    inr (subst (IsUnread text (string_bytes c.args.other_name)) (sym c.of_stream-in-Err-next_event-4.ensures) it)
+    let it = unread_of None text (left remaining s) s.before.0 s.lines c.args.other_name c.in-Err-next_event-4.fault (omega (arith, below, two.few)) so c.in-Err-next_event-4.ensures.refused in
+    inr (subst (IsUnread text None (string_bytes c.args.other_name)) (sym c.of_stream-in-Err-next_event-4.ensures) it)
 
 pub loop-preserved : goal.loop-preserved
 loop-preserved g c =

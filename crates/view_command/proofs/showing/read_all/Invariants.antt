@@ -1,9 +1,10 @@
 use Rattle.std.proofs.Common.{◌≡◌}
 use Rattle.trace_text.specs.Stream.{left}
-use Rattle.view_command.proofs.SoFar.{IsSoFar}
+use Rattle.view_command.specs.Orders.{number_of}
+use Rattle.view_command.proofs.SoFar.{IsRunSoFar}
 use Rattle.view_command.proofs.showing.read_all.Given as goal
 
 abbrev pub invariant-loop : goal.invariant-loop
 invariant-loop g l =
-    IsSoFar (g.R.Read.remaining l.fn.reader) l.stream.before.0 l.stream.lines (left g.R.Read.remaining l.stream)
+    IsRunSoFar (number_of l.fn.ran) (g.R.Read.remaining l.fn.reader) l.stream.before.0 l.stream.lines (left g.R.Read.remaining l.stream)
     × (l.stream.lines ≡ l.counter)

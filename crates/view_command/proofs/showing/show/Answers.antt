@@ -1,6 +1,7 @@
 use Rattle.std.proofs.Common.{rules, string_bytes, subst}
 use Rattle.streams.specs.Contents.{Opens}
-use Rattle.view_command.proofs.Tables.{unread_or}
+use Rattle.view_command.specs.Orders.{number_of}
+use Rattle.view_command.proofs.Tables.{unopened_or, unread_or}
 use Rattle.view_command.proofs.showing.show.Goals as goal
 
 pub returns-in_err-read_all-clause-refused : goal.returns-in_err-read_all-clause-refused
@@ -9,5 +10,11 @@ returns-in_err-read_all-clause-refused g c =
     let left = g.F.Reader.Read.remaining c.in-Ok.reader in
     let opens : Opens texts (string_bytes c.args.request.trace) left =
     subst (λ n. Opens texts n left) c.as_str-2.ensures.value (subst (λ t. Opens t c.as_str-2.result.now left) c.table_asked.ensures.kept c.in-Ok.ensures.opened) in
-    unread_or _ texts (string_bytes c.args.request.trace) (string_bytes c.in_ok-name.name) left _ _ c.in_err-read_all.field-0.0 c.from_residual-in_err-read_all.result
+    unread_or _ texts (number_of c.args.request.ran) (string_bytes c.args.request.trace) (string_bytes c.in_ok-name.name) left _ _ c.in_err-read_all.field-0.0 c.from_residual-in_err-read_all.result
     opens (search rules) (search rules) c.in_err-read_all.ensures.refused c.from_residual-in_err-read_all.ensures
+
+pub returns-in-Err-clause-refused : goal.returns-in-Err-clause-refused
+returns-in-Err-clause-refused g c =
+    let mid = g.F.Sources.unopened c.table_asked.new.sources in
+    unopened_or _ _ (number_of c.args.request.ran) (string_bytes c.args.request.trace) c.in_ok-name.name _ _ mid c.in-Err.fault c.of_source.result c.of_source.ensures
+    (search rules) (search rules) (search rules) (search rules)
