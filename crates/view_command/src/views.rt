@@ -106,8 +106,8 @@ impl Shown {
         Ok(shown)
     }
 
-    /// Reads the next event, if the filter lets it through. Only what the processor did is counted by
-    /// all lines.
+    /// Reads the next event, if the filter lets it through. Only what the processor did and the
+    /// windows of a dump go by all lines.
     pub fn read(&mut self, kept: &Filter, event: &Event) -> Result<(), ViewFault>
         ensures { IsErrOf result ViewFault.TooMany → IsOfPicture self.old }
     {
@@ -116,6 +116,7 @@ impl Shown {
         }
         match self {
             Shown::Table(summary) | Shown::Rows(summary) => summary.pass(event)?,
+            Shown::Waves(_, windows) => read_windows(windows, event)?,
             _ => {}
         }
         Ok(())
