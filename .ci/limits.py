@@ -10,6 +10,8 @@ TESTS = {"text_tests", "kernel_tests", "lint_tests", "meaning_rows", "refusals"}
 NUMBER = re.compile(r"(?<![\w.^])(?:16|31|32|62|63|64|93|189|239|256|512|4_?096|65_?536)(?![\w.])|(?:2 \^|1 <<) 40")
 # What bounds a type, or is one.
 OF_TYPES = re.compile(r"(?:2 \^|1 <<) (?:16|32|63|64)\b|\[u8; 16\]")
+# The least byte that is no control character, and the end of an array in a table.
+BYTES = re.compile(r"(?:byte|\bb|\bd) < 32|(?:nat_lt|ltb-true) (?:byte|b|d) 32|(?:after_byte|after_element|==) 93")
 TEXT = re.compile(r'"(?:[^"\\]|\\.)*"')
 
 
@@ -24,7 +26,7 @@ def found():
     for file in files():
         for line in file.read_text().splitlines():
             text = line.strip()
-            if not text.startswith(("//", "--")) and NUMBER.search(OF_TYPES.sub("", TEXT.sub('""', text))):
+            if not text.startswith(("//", "--")) and NUMBER.search(BYTES.sub("", OF_TYPES.sub("", TEXT.sub('""', text)))):
                 yield f"{file.relative_to(ROOT)}: {text}"
 
 
