@@ -1,4 +1,0 @@
-pub mod Following
-pub mod Kept
-pub mod Lines
-pub mod Needs
