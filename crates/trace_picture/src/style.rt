@@ -32,7 +32,7 @@ text{font:12px sans-serif;fill:#1f2933}
 .lost{stroke:#b42318;stroke-width:1.3;stroke-dasharray:4 2;marker-end:url(#cross)}
 .flag{fill:#d64545;stroke:#5c0a0a;stroke-width:1.2}
 .ready-ink{stroke:#b7791f;stroke-width:1.7}
-.cold-ink{stroke:#7b8794;stroke-width:2.4}
+.cold-ink{stroke:#b8c2cc;stroke-width:1.6}
 .warm-ink{stroke:#9aa5b1;stroke-width:1}
 .dormant-ink{stroke:#7b8794;stroke-width:5}
 .head-ink{fill:#1f2933}

@@ -18,7 +18,7 @@ use wave_dump::{Dump, MemoryFull};
 use window_table::ModuleTable;
 
 /// The most windows, and ticks between them, of a dump.
-const MOST_WINDOWS: usize = 1_000_000;
+const MOST_WINDOWS: usize = 100_000;
 
 /// How a trace is shown.
 #[derive(Drop)]
