@@ -39,7 +39,7 @@ message_place axis m = tenths (place axis m.tick.0)
 
 -- Arrows of one tick end below one another within the row: four places follow one another.
 abbrev pub fan_of : Message → Length
-fan_of m = times_of (tenths 50) (m.beside % 4)
+fan_of m = times_of (tenths 30) (m.beside % 4)
 
 -- the places where an arrow begins and ends, from the row with one top to the row with the other
 abbrev pub start_of : Length → Length → Length

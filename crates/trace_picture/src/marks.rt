@@ -15,7 +15,7 @@ use std::alloc::{AllocError, Global};
 use trace_stays::Lanes;
 
 /// The distance between the ends of arrows of one tick.
-const FAN: Length = Length(50);
+const FAN: Length = Length(30);
 
 /// The number of places where these ends stand.
 const FAN_PLACES: u64 = 4;
