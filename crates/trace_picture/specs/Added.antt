@@ -34,7 +34,7 @@ abbrev pub IsAddedIf : Bool → Event → Picture → Picture → Type 0
 IsAddedIf false e old new = (new.shapes ≡ old.shapes) × (new.lanes ≡ old.lanes) × (new.way ≡ old.way)
 IsAddedIf true e old new =
     (over : List Ended) × ((between : Lanes) × HasFollowed e old.lanes between [] over × AreKept between new.lanes
-        × AreMarks (nat_lt e.tick.0 (open_ticks old.shown).from.0) e (old.shapes.items ++ bars_of_stays (open_ticks old.shown) over) old new)
+    × AreMarks (nat_lt e.tick.0 (open_ticks old.shown).from.0) e (old.shapes.items ++ bars_of_stays (open_ticks old.shown) over) old new)
 
 abbrev pub IsAdded : Event → Picture → Picture → Type 0
 IsAdded e old new = IsAddedIf (is_before_end old.shown.to e.tick.0) e old new

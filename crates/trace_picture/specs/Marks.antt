@@ -85,4 +85,4 @@ abbrev pub report_text : Span → Lanes → Rows → Report → List ℕ
 report_text axis l rows r =
     in_row (row_of_process rows r.process)
     (λ top. titled tag.Path (path_start (codes "report") REPORT.now (tenths (place axis r.tick.0)) (behind top (tenths 110)))
-        (report_title (process_name l r.process) r))
+    (report_title (process_name l r.process) r))

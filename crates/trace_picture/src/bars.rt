@@ -98,8 +98,20 @@ pub fn draw_state(
     let Some(top) = rows.process(process) else {
         return Ok(());
     };
-    let title = bar_title(alloc, process_name(lanes, process), stay.state.word(), stay.span)?;
-    draw_bar(page, axis, top, bar_of_state(stay.state), stay.span, title.as_str())
+    let title = bar_title(
+        alloc,
+        process_name(lanes, process),
+        stay.state.word(),
+        stay.span,
+    )?;
+    draw_bar(
+        page,
+        axis,
+        top,
+        bar_of_state(stay.state),
+        stay.span,
+        title.as_str(),
+    )
 }
 
 /// Draws the stay of a partition in a mode, with the mode's word if it fits.

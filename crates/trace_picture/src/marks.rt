@@ -154,7 +154,14 @@ pub fn draw_flag(
     };
     let title = flag_title(alloc, flag)?;
     let down = flag_down(flag.owner);
-    draw_outline(page, "flag", FLAG, axis.place(flag.tick), top + down, title.as_str())
+    draw_outline(
+        page,
+        "flag",
+        FLAG,
+        axis.place(flag.tick),
+        top + down,
+        title.as_str(),
+    )
 }
 
 /// Draws an application message as a mark, in the row of its process.
@@ -175,7 +182,14 @@ pub fn draw_report(
     };
     let title = report_title(alloc, process_name(lanes, report.process), report)?;
     let left = axis.place(report.tick);
-    draw_outline(page, "report", REPORT, left, top + REPORT_DOWN, title.as_str())
+    draw_outline(
+        page,
+        "report",
+        REPORT,
+        left,
+        top + REPORT_DOWN,
+        title.as_str(),
+    )
 }
 
 /// Draws an outline of this class, moved to a place, with a title.

@@ -30,12 +30,7 @@ pub fn process_name(lanes: &Lanes, place: usize) -> &str
 }
 
 /// The title of a bar.
-pub fn bar_title(
-    alloc: Global,
-    name: &str,
-    word: &str,
-    span: Span,
-) -> Result<String, AllocError>
+pub fn bar_title(alloc: Global, name: &str, word: &str, span: Span) -> Result<String, AllocError>
     ensures { IfOk result (λ text. string_bytes text ≡ spec.bar_title name.now word.now span) }
 {
     let from = span.from.0;
@@ -91,11 +86,7 @@ fn fate_text(is_lost: bool) -> &'static str
 }
 
 /// The title of the arrow of a message.
-pub fn message_title(
-    alloc: Global,
-    lanes: &Lanes,
-    message: &Message,
-) -> Result<String, AllocError>
+pub fn message_title(alloc: Global, lanes: &Lanes, message: &Message) -> Result<String, AllocError>
     ensures { IfOk result
         (λ text. string_bytes text ≡ spec.message_title lanes.now message.now) }
 {

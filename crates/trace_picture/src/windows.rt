@@ -76,7 +76,14 @@ fn draw_release_mark(
     };
     let title = release_title(alloc, name, tick)?;
     let left = axis.place(tick);
-    draw_outline(page, "release", RELEASE, left, top + RELEASE_DOWN, title.as_str())
+    draw_outline(
+        page,
+        "release",
+        RELEASE,
+        left,
+        top + RELEASE_DOWN,
+        title.as_str(),
+    )
 }
 
 /// Draws the mark of a release point, if it is one.
@@ -158,7 +165,15 @@ pub fn draw_window(
     };
     let name = owner_name(windows, owner);
     draw_window_bar(page, alloc, axis, rows, name, stretch.span)?;
-    draw_release(page, alloc, axis, rows, stretch.is_release, name, stretch.span.from)
+    draw_release(
+        page,
+        alloc,
+        axis,
+        rows,
+        stretch.is_release,
+        name,
+        stretch.span.from,
+    )
 }
 
 /// The class of the bar of a process that is in a state outside the windows of its partition.
@@ -233,7 +248,14 @@ fn draw_outside(
         word_outside(stay.state),
         stay.span,
     )?;
-    draw_bar(page, axis, top, bar_outside(stay.state), stay.span, title.as_str())
+    draw_bar(
+        page,
+        axis,
+        top,
+        bar_outside(stay.state),
+        stay.span,
+        title.as_str(),
+    )
 }
 
 /// The place of the partition of a process in the module table.
@@ -306,7 +328,15 @@ fn draw_pieces(
     let (process, stay) = piece;
     let own = own_place(windows, lanes, process);
     for stretch in windows.stretches() {
-        draw_piece(page, alloc, axis, lanes, rows, (process, stay, own), stretch)?;
+        draw_piece(
+            page,
+            alloc,
+            axis,
+            lanes,
+            rows,
+            (process, stay, own),
+            stretch,
+        )?;
     }
     Ok(())
 }

@@ -254,9 +254,8 @@ impl Windows {
                 self.is_down = true;
                 Ok(())
             }
-            Response::Module(ModuleAction::Ignore)
-            | Response::Partition(_)
-            | Response::Handler => Ok(()),
+            Response::Module(ModuleAction::Ignore) | Response::Partition(_) | Response::Handler =>
+                Ok(()),
         }
     }
 

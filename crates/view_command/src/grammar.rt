@@ -73,7 +73,9 @@ fn vcd<'a>(alloc: Global) -> Result<Command<'a>, AllocError>
 {
     shown(alloc, "vcd")?
         .about("Writes a value change dump of the trace, for a viewer of waves")
-        .after_help("Example: mb run module.image devices.txt 1000 | mbview vcd - --table table.toml")
+        .after_help(
+            "Example: mb run module.image devices.txt 1000 | mbview vcd - --table table.toml",
+        )
         .arg(option(
             alloc,
             "table",

@@ -16,5 +16,5 @@ returns c =
     let title : c.as_str.result.now ≡ flag_title c.args.flag.now = search rules in
     subst (λ (s : List ℕ). OnOk c.draw_outline.result (string_bytes c.draw_outline.new.page.text ≡ string_bytes c.args.page.now.text ++ s))
     (in_its_row (row_of_owner c.args.rows.now c.args.flag.now.owner) c.in-Some.top (codes "flag") FLAG.now c.place.result (tenths (place c.args.axis.span c.args.flag.now.tick.0)) (flag_down c.args.flag.now.owner) c.add.result c.as_str.result.now
-        (flag_title c.args.flag.now) row left height title)
+    (flag_title c.args.flag.now) row left height title)
     c.draw_outline.ensures

@@ -15,5 +15,5 @@ returns c =
     let title : c.as_str.result.now ≡ report_title (process_name c.args.lanes.now c.args.report.now.process) c.args.report.now = search rules in
     subst (λ (s : List ℕ). OnOk c.draw_outline.result (string_bytes c.draw_outline.new.page.text ≡ string_bytes c.args.page.now.text ++ s))
     (in_its_row (row_of_process c.args.rows.now c.args.report.now.process) c.in-Some.top (codes "report") REPORT.now c.place-left.result (tenths (place c.args.axis.span c.args.report.now.tick.0)) (tenths 110) c.add.result c.as_str.result.now
-        (report_title (process_name c.args.lanes.now c.args.report.now.process) c.args.report.now) row left height title)
+    (report_title (process_name c.args.lanes.now c.args.report.now.process) c.args.report.now) row left height title)
     c.draw_outline.ensures
