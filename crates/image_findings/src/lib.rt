@@ -11,4 +11,3 @@ mod foreign;
 mod seen;
 
 pub use explain::explain_image;
-pub use seen::seen_at;
