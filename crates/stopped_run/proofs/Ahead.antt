@@ -35,7 +35,7 @@ NoneCame asked image devices n = (k : ℕ) → k ≤ n → has_line asked (text_
 pub ahead_first : (image : Image) (m : Machine) (devices : List DeviceLine) → m ≡ fresh_machine image → IsAhead image devices devices m.standing
 ahead_first image m devices is =
     subst (λ (x : Machine). IsAhead image devices devices x.standing) (sym is)
-    (λ k. ap text_of (sym (ticks_are_the_trace image devices k)))
+    (λ k. let all : 0 + k ≡ k = omega arith in ap (text_to image devices) all ∙ ap text_of (sym (ticks_are_the_trace image devices k)))
 
 none_at_first : (asked : List (List ℕ)) (image : Image) (devices : List DeviceLine) → has_line asked (text_to image devices 0) ≡ false
 none_at_first asked image devices = line_of_nothing asked

@@ -21,7 +21,7 @@ use Rattle.stopped_run.proofs.Ahead.{IsAhead, NoneCame, ahead_first, ahead_skipp
 
 -- Of n ticks, all but `left` are made. No line came so far, and the sink has taken their text.
 pub record IsReached (asked : List (List ℕ)) (image : Image) (devices lines : List DeviceLine) (n left : ℕ) (old now : Option (List ℕ)) (m : Machine) : Type 0 where
-  pub image : m.image ≡ image
+  pub same : m.image ≡ image
   pub sound : m.failed ≡ false
   pub count : m.standing.now + left ≡ n
   pub order : AreFrom m.standing.now lines
@@ -32,7 +32,7 @@ pub record IsReached (asked : List (List ℕ)) (image : Image) (devices lines : 
 pub reached_first : (asked : List (List ℕ)) (image : Image) (devices : List DeviceLine) (n : ℕ) (old : Option (List ℕ)) (m : Machine) → m ≡ fresh_machine image → AreFrom 0 devices → IsReached asked image devices devices n n old old m
 reached_first asked image devices n old m fresh order =
     let first : m.standing.now ≡ 0 = ap (λ (x : Machine). x.standing.now) fresh in record {
-      image = ap (λ (x : Machine). x.image) fresh;
+      same = ap (λ (x : Machine). x.image) fresh;
       sound = ap (λ (x : Machine). x.failed) fresh;
       count = omega (arith, first);
       order = subst (λ t. AreFrom t devices) (sym first) order;
@@ -42,10 +42,10 @@ reached_first asked image devices n old m fresh order =
     }
 
 -- nothing more is taken
-pub reached_kept : {asked : List (List ℕ)} {image : Image} {devices lines : List DeviceLine} {n left : ℕ} {old mid new : Option (List ℕ)} {m : Machine} → IsReached asked image devices lines n left old mid m → Keeps mid new
+pub reached_kept : {asked : List (List ℕ)} {image : Image} {devices lines : List DeviceLine} {n left : ℕ} {old mid : Option (List ℕ)} {m : Machine} (new : Option (List ℕ)) → IsReached asked image devices lines n left old mid m → Keeps mid new
     → IsReached asked image devices lines n left old new m
-reached_kept {old = old} {mid = mid} {new = new} i kept = record {
-  image = i.image;
+reached_kept {old = old} {mid = mid} new i kept = record {
+  same = i.same;
   sound = i.sound;
   count = i.count;
   order = i.order;
@@ -59,11 +59,11 @@ pub reached_skipped : {asked : List (List ℕ)} {image : Image} {devices lines :
     → HasSkipped lines most m next k → AreFrom next.standing.now lines → left ≡ k + rest → IsReached asked image devices lines n rest old mid next
 reached_skipped {asked = asked} {image = image} {devices = devices} {lines = lines} {old = old} {mid = mid} {m = m} next most k rest i h order count =
     let s = m.standing in
-    let now = h.3 in
-    let leads = subst (λ (x : Image). LeadsTo (machine_module x).plan lines k s [] next.standing) i.image h.4 in
+    let now = h.2.1 in
+    let leads = subst (λ (x : Image). LeadsTo (machine_module x).plan lines k s [] next.standing) i.same h.2.2 in
     let all : k ≤ k = omega arith in
     record {
-      image = h.0 ∙ i.image;
+      same = h.0 ∙ i.same;
       sound = h.1 ∙ i.sound;
       count = omega (arith, now, i.count, count);
       order = order;
@@ -83,35 +83,35 @@ pub record IsNext (lines now later : List DeviceLine) (m next : Machine) (bytes 
 line_of_tick : {asked : List (List ℕ)} {image : Image} {devices lines : List DeviceLine} {n left : ℕ} {old mid : Option (List ℕ)} {m : Machine} (next : Machine) (now later : List DeviceLine) (bytes : List ℕ)
     → IsReached asked image devices lines n left old mid m → IsNext lines now later m next bytes → has_line asked (text_to image devices next.standing.now) ≡ has_line asked bytes
 line_of_tick {asked = asked} {image = image} {devices = devices} {lines = lines} {m = m} next now later bytes i h =
-    line_ticked asked image devices m.standing.now next.standing.now bytes (now_ticked h.held) (text_ticked image m next devices lines now later bytes i.image h.own h.others h.held i.ahead) i.none
+    line_ticked asked image devices m.standing.now next.standing.now bytes (now_ticked h.held) (text_ticked image m next devices lines now later bytes i.same h.own h.others h.held i.ahead) i.none
 
-taken_ticked : {asked : List (List ℕ)} {image : Image} {devices lines : List DeviceLine} {n left : ℕ} {old mid new : Option (List ℕ)} {m : Machine} (next : Machine) (now later : List DeviceLine) (bytes : List ℕ)
+taken_ticked : {asked : List (List ℕ)} {image : Image} {devices lines : List DeviceLine} {n left : ℕ} {old mid : Option (List ℕ)} {m : Machine} (new : Option (List ℕ)) (next : Machine) (now later : List DeviceLine) (bytes : List ℕ)
     → IsReached asked image devices lines n left old mid m → IsNext lines now later m next bytes → Appends mid new bytes → Appends old new (text_to image devices next.standing.now)
-taken_ticked {image = image} {devices = devices} {lines = lines} {old = old} {mid = mid} {new = new} {m = m} next now later bytes i h more =
-    subst (Appends old new) (sym (text_ticked image m next devices lines now later bytes i.image h.own h.others h.held i.ahead) ∙ ap (text_to image devices) (sym (now_ticked h.held)))
+taken_ticked {image = image} {devices = devices} {lines = lines} {old = old} {mid = mid} {m = m} new next now later bytes i h more =
+    subst (Appends old new) (sym (text_ticked image m next devices lines now later bytes i.same h.own h.others h.held i.ahead) ∙ ap (text_to image devices) (sym (now_ticked h.held)))
     (Appends-trans old mid new (text_to image devices m.standing.now) bytes i.taken more)
 
 -- it has no line that is asked for
-pub reached_ticked : {asked : List (List ℕ)} {image : Image} {devices lines : List DeviceLine} {n left : ℕ} {old mid new : Option (List ℕ)} {m : Machine} (next : Machine) (now later : List DeviceLine) (bytes : List ℕ) (rest : ℕ)
+pub reached_ticked : {asked : List (List ℕ)} {image : Image} {devices lines : List DeviceLine} {n left : ℕ} {old mid : Option (List ℕ)} {m : Machine} (new : Option (List ℕ)) (next : Machine) (now later : List DeviceLine) (bytes : List ℕ) (rest : ℕ)
     → IsReached asked image devices lines n left old mid m → IsNext lines now later m next bytes → AreFrom next.standing.now later → left ≡ rest + 1 → Appends mid new bytes → has_line asked bytes ≡ false
     → IsReached asked image devices later n rest old new next
-reached_ticked {asked = asked} {image = image} {devices = devices} {lines = lines} {m = m} next now later bytes rest i h order count more without =
+reached_ticked {asked = asked} {image = image} {devices = devices} {lines = lines} {m = m} new next now later bytes rest i h order count more without =
     let after = now_ticked h.held in
     record {
-      image = h.held.image ∙ i.image;
+      same = h.held.image ∙ i.same;
       sound = h.held.failed;
       count = omega (arith, after, i.count, count);
       order = order;
-      ahead = ahead_ticked image m next devices lines now later bytes i.image h.own h.others h.held i.ahead;
+      ahead = ahead_ticked image m next devices lines now later bytes i.same h.own h.others h.held i.ahead;
       none = none_ticked asked image devices m.standing.now next.standing.now after i.none (line_of_tick next now later bytes i h ∙ without);
-      taken = taken_ticked next now later bytes i h more;
+      taken = taken_ticked new next now later bytes i h more;
     }
 
 -- it has one
-pub ends_found : {asked : List (List ℕ)} {image : Image} {devices lines : List DeviceLine} {n left : ℕ} {old mid new : Option (List ℕ)} {m : Machine} (next : Machine) (now later : List DeviceLine) (bytes : List ℕ)
+pub ends_found : {asked : List (List ℕ)} {image : Image} {devices lines : List DeviceLine} {n left : ℕ} {old mid : Option (List ℕ)} {m : Machine} (new : Option (List ℕ)) (next : Machine) (now later : List DeviceLine) (bytes : List ℕ)
     → IsReached asked image devices lines n left old mid m → IsNext lines now later m next bytes → 0 < left → Appends mid new bytes → has_line asked bytes ≡ true
     → EndsImage asked image devices n old new (Ok true)
-ends_found {asked = asked} {image = image} {devices = devices} {n = n} {m = m} next now later bytes i h some more with =
+ends_found {asked = asked} {image = image} {devices = devices} {n = n} {m = m} new next now later bytes i h some more with =
     let after = now_ticked h.held in (
       next.standing.now,
       record {
@@ -120,27 +120,27 @@ ends_found {asked = asked} {image = image} {devices = devices} {n = n} {m = m} n
         none_before = λ k below. i.none k (omega (arith, below, after));
         all = λ (e : true ≡ false). absurd cc;
       },
-      taken_ticked next now later bytes i h more,
+      taken_ticked new next now later bytes i h more,
     )
 
 -- the sink fails in it
-pub breaks_in_tick : {asked : List (List ℕ)} {image : Image} {devices lines : List DeviceLine} {n left : ℕ} {old mid new : Option (List ℕ)} {m : Machine} (next : Machine) (now later : List DeviceLine) (bytes : List ℕ)
+pub breaks_in_tick : {asked : List (List ℕ)} {image : Image} {devices lines : List DeviceLine} {n left : ℕ} {old mid : Option (List ℕ)} {m : Machine} (new : Option (List ℕ)) (next : Machine) (now later : List DeviceLine) (bytes : List ℕ)
     → IsReached asked image devices lines n left old mid m → IsNext lines now later m next bytes → 0 < left → TakesBeginning mid new bytes → TakesBeginning old new (text_to image devices n)
-breaks_in_tick {image = image} {devices = devices} {lines = lines} {n = n} {left = left} {old = old} {mid = mid} {new = new} {m = m} next now later bytes i h some part =
+breaks_in_tick {image = image} {devices = devices} {lines = lines} {n = n} {left = left} {old = old} {mid = mid} {m = m} new next now later bytes i h some part =
     let rest = left - 1 in
     let more : left ≡ suc rest = omega (arith, some) in
     let whole : text_to image devices n ≡ text_to image devices m.standing.now ++ (bytes ++ text_on image later rest next.standing) =
     ap (text_to image devices) (sym i.count)
     ∙ i.ahead left
-    ∙ ap (λ (text : List ℕ). text_to image devices m.standing.now ++ text) (ap (λ k. text_on image lines k m.standing) more ∙ tick_on image m next lines now later bytes rest i.image h.own h.others h.held) in
+    ∙ ap (λ (text : List ℕ). text_to image devices m.standing.now ++ text) (ap (λ k. text_on image lines k m.standing) more ∙ tick_on image m next lines now later bytes rest i.same h.own h.others h.held) in
     under_way_fails old mid new (text_to image devices n) bytes (text_on image later rest next.standing) (record { done = text_to image devices m.standing.now; taken = i.taken; left = whole }) part
 
 -- ---- the end
 
 -- nothing more is taken, and the run goes on no more
-pub breaks_between : {asked : List (List ℕ)} {image : Image} {devices lines : List DeviceLine} {n left : ℕ} {old mid new : Option (List ℕ)} {m : Machine} → IsReached asked image devices lines n left old mid m → Keeps mid new
+pub breaks_between : {asked : List (List ℕ)} {image : Image} {devices lines : List DeviceLine} {n left : ℕ} {old mid : Option (List ℕ)} {m : Machine} (new : Option (List ℕ)) → IsReached asked image devices lines n left old mid m → Keeps mid new
     → TakesBeginning old new (text_to image devices n)
-breaks_between {image = image} {devices = devices} {lines = lines} {n = n} {left = left} {old = old} {mid = mid} {new = new} {m = m} i kept =
+breaks_between {image = image} {devices = devices} {lines = lines} {n = n} {left = left} {old = old} {mid = mid} {m = m} new i kept =
     let none : 0 ≤ 0 = omega arith in
     let whole : text_to image devices n ≡ text_to image devices m.standing.now ++ ([] ++ text_on image lines left m.standing) = ap (text_to image devices) (sym i.count) ∙ i.ahead left in
     under_way_fails old mid new (text_to image devices n) [] (text_on image lines left m.standing) (record { done = text_to image devices m.standing.now; taken = i.taken; left = whole }) (0, none, Appends-kept mid mid new [] (Appends-nil mid) kept)
