@@ -11,6 +11,7 @@ use Rattle.module_meaning.specs.Module.{Plan, of_tick}
 use Rattle.module.specs.Machines.{Machine, course_of, fresh_machine}
 use Rattle.module.specs.Pieces.{LeadsTo}
 use Rattle.module.specs.Standing.{Standing, after, lines_of, ticks}
+use Rattle.module.proofs.DeviceLines.{of_tick_again}
 use Rattle.module.proofs.Machines.{ticks_are_the_trace}
 use Rattle.module.proofs.Standing.{none_down, tick_text}
 use Rattle.stopped_run.specs.Ends.{text_to}
@@ -102,36 +103,34 @@ none_later asked image devices t n u is same none k few = elim (apart k t) [
 -- ---- a tick
 
 -- the ticks from here are this one, and those behind it
-pub tick_on : (image : Image) (m next : Machine) (lines now later : List DeviceLine) (bytes : List ℕ) (k : ℕ) → m.image ≡ image
-    → of_tick m.standing.now now ≡ of_tick m.standing.now lines → ((t : ℕ) → m.standing.now < t → of_tick t later ≡ of_tick t lines) → IsHeld now m next bytes
+pub tick_on : (image : Image) (m next : Machine) (lines later : List DeviceLine) (bytes : List ℕ) (k : ℕ) → m.image ≡ image → IsHeld lines later m next bytes
     → text_on image lines (suc k) m.standing ≡ bytes ++ text_on image later k next.standing
-tick_on image m next lines now later bytes k same of_now of_later held =
+tick_on image m next lines later bytes k same held =
     let plan = (machine_module image).plan in
+    let now = of_tick m.standing.now lines in
     let course : course_of now m ≡ ticks plan now m.standing = ap (λ (i : Image). ticks (machine_module i).plan now m.standing) same in
-    tick_text plan lines now later (suc k) k m.standing next.standing refl of_now of_later (held.standing ∙ ap (λ c. after m.standing c) course)
+    tick_text plan lines now later (suc k) k m.standing next.standing refl (of_tick_again m.standing.now lines) held.others (held.standing ∙ ap (λ c. after m.standing c) course)
     ∙ ap (λ (text : List ℕ). text ++ text_on image later k next.standing) (ap (λ c. text_of c.lines) (sym course) ∙ sym held.text)
 
 -- the text behind the tick
-pub text_ticked : (image : Image) (m next : Machine) (devices lines now later : List DeviceLine) (bytes : List ℕ) → m.image ≡ image
-    → of_tick m.standing.now now ≡ of_tick m.standing.now lines → ((t : ℕ) → m.standing.now < t → of_tick t later ≡ of_tick t lines) → IsHeld now m next bytes
+pub text_ticked : (image : Image) (m next : Machine) (devices lines later : List DeviceLine) (bytes : List ℕ) → m.image ≡ image → IsHeld lines later m next bytes
     → IsAhead image devices lines m.standing → text_to image devices (m.standing.now + 1) ≡ text_to image devices m.standing.now ++ bytes
-text_ticked image m next devices lines now later bytes same of_now of_later held ahead =
-    ahead 1 ∙ ap (λ (text : List ℕ). text_to image devices m.standing.now ++ text) (tick_on image m next lines now later bytes 0 same of_now of_later held ∙ append-nil bytes)
+text_ticked image m next devices lines later bytes same held ahead =
+    ahead 1 ∙ ap (λ (text : List ℕ). text_to image devices m.standing.now ++ text) (tick_on image m next lines later bytes 0 same held ∙ append-nil bytes)
 
-pub now_ticked : {lines : List DeviceLine} {m next : Machine} {bytes : List ℕ} → IsHeld lines m next bytes → next.standing.now ≡ m.standing.now + 1
+pub now_ticked : {lines later : List DeviceLine} {m next : Machine} {bytes : List ℕ} → IsHeld lines later m next bytes → next.standing.now ≡ m.standing.now + 1
 now_ticked held = ap (λ s. s.now) held.standing
 
-pub ahead_ticked : (image : Image) (m next : Machine) (devices lines now later : List DeviceLine) (bytes : List ℕ) → m.image ≡ image
-    → of_tick m.standing.now now ≡ of_tick m.standing.now lines → ((t : ℕ) → m.standing.now < t → of_tick t later ≡ of_tick t lines) → IsHeld now m next bytes
+pub ahead_ticked : (image : Image) (m next : Machine) (devices lines later : List DeviceLine) (bytes : List ℕ) → m.image ≡ image → IsHeld lines later m next bytes
     → IsAhead image devices lines m.standing → IsAhead image devices later next.standing
-ahead_ticked image m next devices lines now later bytes same of_now of_later held ahead k =
+ahead_ticked image m next devices lines later bytes same held ahead k =
     let after = now_ticked held in
     let there : next.standing.now + k ≡ m.standing.now + suc k = omega (arith, after) in
     ap (text_to image devices) there
     ∙ ahead (suc k)
-    ∙ ap (λ (text : List ℕ). text_to image devices m.standing.now ++ text) (tick_on image m next lines now later bytes k same of_now of_later held)
+    ∙ ap (λ (text : List ℕ). text_to image devices m.standing.now ++ text) (tick_on image m next lines later bytes k same held)
     ∙ sym (append_assoc (text_to image devices m.standing.now) bytes (text_on image later k next.standing))
-    ∙ ap (λ (text : List ℕ). text ++ text_on image later k next.standing) (sym (text_ticked image m next devices lines now later bytes same of_now of_later held ahead))
+    ∙ ap (λ (text : List ℕ). text ++ text_on image later k next.standing) (sym (text_ticked image m next devices lines later bytes same held ahead))
     ∙ ap (λ j. text_to image devices j ++ text_on image later k next.standing) (sym after)
 
 -- a line came by one more tick if one came before it or in it

@@ -8,7 +8,6 @@ use Rattle.apex_types.specs.declared.device.DeviceLine.{DeviceLine}
 use Rattle.apex_types.proofs.Writing.{under_way_fails}
 use Rattle.machine_meaning.specs.Image.{Image}
 use Rattle.machine_meaning.specs.MachineMeaning.{machine_module}
-use Rattle.module_meaning.specs.Module.{of_tick}
 use Rattle.module.specs.Machines.{Machine, HasSkipped, fresh_machine}
 use Rattle.module.specs.Pieces.{LeadsTo}
 use Rattle.module.specs.Written.{AreFrom}
@@ -72,67 +71,66 @@ reached_skipped {asked = asked} {image = image} {devices = devices} {lines = lin
       taken = subst (Appends old mid) (sym (text_skipped image devices lines k k s next.standing i.ahead leads all) ∙ ap (text_to image devices) (sym now)) i.taken;
     }
 
+-- no tick is skipped
+pub reached_still : {asked : List (List ℕ)} {image : Image} {devices lines : List DeviceLine} {n left : ℕ} {old mid : Option (List ℕ)} {m : Machine} (next : Machine) (most k : ℕ) → IsReached asked image devices lines n left old mid m
+    → HasSkipped lines most m next k → AreFrom next.standing.now lines → k ≡ 0 → IsReached asked image devices lines n left old mid next
+reached_still {left = left} next most k i h order none = reached_skipped next most k left i h order (omega (arith, none))
+
 -- ---- the next tick
 
--- The machine makes the next tick, with these device lines, and the bytes are the text of its lines.
-pub record IsNext (lines now later : List DeviceLine) (m next : Machine) (bytes : List ℕ) : Type 0 where
-  pub own : of_tick m.standing.now now ≡ of_tick m.standing.now lines
-  pub others : (t : ℕ) → m.standing.now < t → of_tick t later ≡ of_tick t lines
-  pub held : IsHeld now m next bytes
+line_of_tick : {asked : List (List ℕ)} {image : Image} {devices lines : List DeviceLine} {n left : ℕ} {old mid : Option (List ℕ)} {m : Machine} (next : Machine) (later : List DeviceLine) (bytes : List ℕ)
+    → IsReached asked image devices lines n left old mid m → IsHeld lines later m next bytes → has_line asked (text_to image devices next.standing.now) ≡ has_line asked bytes
+line_of_tick {asked = asked} {image = image} {devices = devices} {lines = lines} {m = m} next later bytes i h =
+    line_ticked asked image devices m.standing.now next.standing.now bytes (now_ticked h) (text_ticked image m next devices lines later bytes i.same h i.ahead) i.none
 
-line_of_tick : {asked : List (List ℕ)} {image : Image} {devices lines : List DeviceLine} {n left : ℕ} {old mid : Option (List ℕ)} {m : Machine} (next : Machine) (now later : List DeviceLine) (bytes : List ℕ)
-    → IsReached asked image devices lines n left old mid m → IsNext lines now later m next bytes → has_line asked (text_to image devices next.standing.now) ≡ has_line asked bytes
-line_of_tick {asked = asked} {image = image} {devices = devices} {lines = lines} {m = m} next now later bytes i h =
-    line_ticked asked image devices m.standing.now next.standing.now bytes (now_ticked h.held) (text_ticked image m next devices lines now later bytes i.same h.own h.others h.held i.ahead) i.none
-
-taken_ticked : {asked : List (List ℕ)} {image : Image} {devices lines : List DeviceLine} {n left : ℕ} {old mid : Option (List ℕ)} {m : Machine} (new : Option (List ℕ)) (next : Machine) (now later : List DeviceLine) (bytes : List ℕ)
-    → IsReached asked image devices lines n left old mid m → IsNext lines now later m next bytes → Appends mid new bytes → Appends old new (text_to image devices next.standing.now)
-taken_ticked {image = image} {devices = devices} {lines = lines} {old = old} {mid = mid} {m = m} new next now later bytes i h more =
-    subst (Appends old new) (sym (text_ticked image m next devices lines now later bytes i.same h.own h.others h.held i.ahead) ∙ ap (text_to image devices) (sym (now_ticked h.held)))
+taken_ticked : {asked : List (List ℕ)} {image : Image} {devices lines : List DeviceLine} {n left : ℕ} {old mid : Option (List ℕ)} {m : Machine} (new : Option (List ℕ)) (next : Machine) (later : List DeviceLine) (bytes : List ℕ)
+    → IsReached asked image devices lines n left old mid m → IsHeld lines later m next bytes → Appends mid new bytes → Appends old new (text_to image devices next.standing.now)
+taken_ticked {image = image} {devices = devices} {lines = lines} {old = old} {mid = mid} {m = m} new next later bytes i h more =
+    subst (Appends old new) (sym (text_ticked image m next devices lines later bytes i.same h i.ahead) ∙ ap (text_to image devices) (sym (now_ticked h)))
     (Appends-trans old mid new (text_to image devices m.standing.now) bytes i.taken more)
 
 -- it has no line that is asked for
-pub reached_ticked : {asked : List (List ℕ)} {image : Image} {devices lines : List DeviceLine} {n left : ℕ} {old mid : Option (List ℕ)} {m : Machine} (new : Option (List ℕ)) (next : Machine) (now later : List DeviceLine) (bytes : List ℕ) (rest : ℕ)
-    → IsReached asked image devices lines n left old mid m → IsNext lines now later m next bytes → AreFrom next.standing.now later → left ≡ rest + 1 → Appends mid new bytes → has_line asked bytes ≡ false
+pub reached_ticked : {asked : List (List ℕ)} {image : Image} {devices lines : List DeviceLine} {n left : ℕ} {old mid : Option (List ℕ)} {m : Machine} (new : Option (List ℕ)) (next : Machine) (later : List DeviceLine) (bytes : List ℕ) (rest : ℕ)
+    → IsReached asked image devices lines n left old mid m → IsHeld lines later m next bytes → left ≡ rest + 1 → Appends mid new bytes → has_line asked bytes ≡ false
     → IsReached asked image devices later n rest old new next
-reached_ticked {asked = asked} {image = image} {devices = devices} {lines = lines} {m = m} new next now later bytes rest i h order count more without =
-    let after = now_ticked h.held in
+reached_ticked {asked = asked} {image = image} {devices = devices} {lines = lines} {m = m} new next later bytes rest i h count more without =
+    let after = now_ticked h in
     record {
-      same = h.held.image ∙ i.same;
-      sound = h.held.failed;
+      same = h.image ∙ i.same;
+      sound = h.failed;
       count = omega (arith, after, i.count, count);
-      order = order;
-      ahead = ahead_ticked image m next devices lines now later bytes i.same h.own h.others h.held i.ahead;
-      none = none_ticked asked image devices m.standing.now next.standing.now after i.none (line_of_tick next now later bytes i h ∙ without);
-      taken = taken_ticked new next now later bytes i h more;
+      order = h.order;
+      ahead = ahead_ticked image m next devices lines later bytes i.same h i.ahead;
+      none = none_ticked asked image devices m.standing.now next.standing.now after i.none (line_of_tick next later bytes i h ∙ without);
+      taken = taken_ticked new next later bytes i h more;
     }
 
 -- it has one
-pub ends_found : {asked : List (List ℕ)} {image : Image} {devices lines : List DeviceLine} {n left : ℕ} {old mid : Option (List ℕ)} {m : Machine} (new : Option (List ℕ)) (next : Machine) (now later : List DeviceLine) (bytes : List ℕ)
-    → IsReached asked image devices lines n left old mid m → IsNext lines now later m next bytes → 0 < left → Appends mid new bytes → has_line asked bytes ≡ true
+pub ends_found : {asked : List (List ℕ)} {image : Image} {devices lines : List DeviceLine} {n left : ℕ} {old mid : Option (List ℕ)} {m : Machine} (new : Option (List ℕ)) (next : Machine) (later : List DeviceLine) (bytes : List ℕ)
+    → IsReached asked image devices lines n left old mid m → IsHeld lines later m next bytes → 0 < left → Appends mid new bytes → has_line asked bytes ≡ true
     → EndsImage asked image devices n old new (Ok true)
-ends_found {asked = asked} {image = image} {devices = devices} {n = n} {m = m} new next now later bytes i h some more with =
-    let after = now_ticked h.held in (
+ends_found {asked = asked} {image = image} {devices = devices} {n = n} {m = m} new next later bytes i h some more with =
+    let after = now_ticked h in (
       next.standing.now,
       record {
         within = omega (arith, after, i.count, some);
-        last = line_of_tick next now later bytes i h ∙ with;
+        last = line_of_tick next later bytes i h ∙ with;
         none_before = λ k below. i.none k (omega (arith, below, after));
         all = λ (e : true ≡ false). absurd cc;
       },
-      taken_ticked new next now later bytes i h more,
+      taken_ticked new next later bytes i h more,
     )
 
 -- the sink fails in it
-pub breaks_in_tick : {asked : List (List ℕ)} {image : Image} {devices lines : List DeviceLine} {n left : ℕ} {old mid : Option (List ℕ)} {m : Machine} (new : Option (List ℕ)) (next : Machine) (now later : List DeviceLine) (bytes : List ℕ)
-    → IsReached asked image devices lines n left old mid m → IsNext lines now later m next bytes → 0 < left → TakesBeginning mid new bytes → TakesBeginning old new (text_to image devices n)
-breaks_in_tick {image = image} {devices = devices} {lines = lines} {n = n} {left = left} {old = old} {mid = mid} {m = m} new next now later bytes i h some part =
+pub breaks_in_tick : {asked : List (List ℕ)} {image : Image} {devices lines : List DeviceLine} {n left : ℕ} {old mid : Option (List ℕ)} {m : Machine} (new : Option (List ℕ)) (next : Machine) (later : List DeviceLine) (bytes : List ℕ)
+    → IsReached asked image devices lines n left old mid m → IsHeld lines later m next bytes → 0 < left → TakesBeginning mid new bytes → TakesBeginning old new (text_to image devices n)
+breaks_in_tick {image = image} {devices = devices} {lines = lines} {n = n} {left = left} {old = old} {mid = mid} {m = m} new next later bytes i h some part =
     let rest = left - 1 in
     let more : left ≡ suc rest = omega (arith, some) in
     let whole : text_to image devices n ≡ text_to image devices m.standing.now ++ (bytes ++ text_on image later rest next.standing) =
     ap (text_to image devices) (sym i.count)
     ∙ i.ahead left
-    ∙ ap (λ (text : List ℕ). text_to image devices m.standing.now ++ text) (ap (λ k. text_on image lines k m.standing) more ∙ tick_on image m next lines now later bytes rest i.same h.own h.others h.held) in
+    ∙ ap (λ (text : List ℕ). text_to image devices m.standing.now ++ text) (ap (λ k. text_on image lines k m.standing) more ∙ tick_on image m next lines later bytes rest i.same h) in
     under_way_fails old mid new (text_to image devices n) bytes (text_on image later rest next.standing) (record { done = text_to image devices m.standing.now; taken = i.taken; left = whole }) part
 
 -- ---- the end

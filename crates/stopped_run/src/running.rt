@@ -12,7 +12,7 @@ use crate::words::has_line;
 use apex_types::limits::MOST_TICKS;
 use apex_types::{DeviceLine, Sink, WriterSink};
 use image::load_image;
-use module::{Machine, RunFault, Watch, split_tick};
+use module::{Machine, RunFault, Watch};
 use std::alloc::Global;
 
 /// Runs the image with the device text, up to the end of the first tick with a line that has the
@@ -89,14 +89,12 @@ fn ticks_until<S: Sink, W: Watch>(
             left -= u64::from(count);
             continue;
         }
-        let (now, later) = split_tick(lines, machine.now());
-        tick_held(machine, now, &mut held)?;
+        lines = tick_held(machine, lines, &mut held)?;
         hand_on(held.writer.as_slice(), sink)?;
         if has_line(asked, held.writer.as_slice()) {
             return Ok(true);
         }
         held.writer.clear();
-        lines = later;
         left -= 1;
     }
     Ok(false)

@@ -1,41 +1,44 @@
 //! A tick of a run that waits for a line.
 
-ghost use Rattle.std.specs.Prelude.{◌≡◌, ◌<◌, ◌+◌, ◌-◌, ◌^◌, [], false, IfErr, OnErr, OnOk};
+ghost use Rattle.std.specs.Prelude.{◌≡◌, ◌<◌, ◌+◌, ◌-◌, ◌^◌, [], false, IfErr, IfOk, OnErr, OnOk};
 ghost use Rattle.std.specs.Io.KnownBytes.{Appends, Keeps};
 ghost use Rattle.apex_types.specs.Line.{TakesBeginning};
 ghost use Rattle.apex_types.specs.declared.limits.TheConstants.{MOST_TICKS};
-ghost use Rattle.module_meaning.specs.Module.{of_tick};
 ghost use Rattle.module.specs.Machines.{machine_of};
+ghost use Rattle.module.specs.Written.{AreFrom};
 ghost use Rattle.stopped_run.specs.Steps.{IsHeld};
 
 use apex_types::{DeviceLine, Sink, WriterSink, put_all};
-use module::{Machine, RunFault, Watch};
+use module::{Machine, RunFault, Watch, split_tick};
 
 /// The text of a tick.
 pub type Held = WriterSink<Vec<u8>>;
 
-/// Makes the next tick, with its device lines, and holds the text of its lines.
+/// Makes the next tick, with its device lines, and holds the text of its lines. Answers the device
+/// lines of later ticks.
 ///
 /// # Errors
 ///
 /// [`RunFault::Memory`] if there is no memory for the text.
-pub fn tick_held(
+pub fn tick_held<'a>(
     machine: &mut Machine,
-    lines: &[DeviceLine],
+    lines: &'a [DeviceLine],
     held: &mut Held,
-) -> Result<(), RunFault>
-    requires lines { of_tick (machine_of machine.old).standing.now lines.now ≡ lines.now }
+) -> Result<&'a [DeviceLine], RunFault>
+    requires order { AreFrom (machine_of machine.old).standing.now lines.now }
     requires sound { (machine_of machine.old).failed ≡ false }
     requires few { (machine_of machine.old).standing.now < MOST_TICKS }
     requires empty { held.old.writer.items ≡ [] }
     requires fresh { held.old.failures ≡ 0 }
-    ensures held { OnOk result
-        (IsHeld lines.now (machine_of machine.old) (machine_of machine.new) held.new.writer.items) }
+    ensures held { IfOk result
+        (λ left. IsHeld lines.now left.now (machine_of machine.old) (machine_of machine.new)
+        held.new.writer.items) }
     ensures fresh { OnOk result (held.new.failures ≡ 0) }
     ensures memory { IfErr result (λ fault. fault ≡ RunFault.Memory) }
 {
-    match machine.tick(lines, held) {
-        Ok(()) => Ok(()),
+    let (now, later) = split_tick(lines, machine.now());
+    match machine.tick(now, held) {
+        Ok(()) => Ok(later),
         Err(_) => Err(RunFault::Memory),
     }
 }

@@ -1,12 +1,9 @@
-use Rattle.std.proofs.Common.{rules, ◌≡◌, ◌<◌, ◌≤◌, ◌+◌, ◌-◌, ℕ, Bool, true, false, [], map, inl, inr, refl, sym, subst, ◌∙◌, arith}
+use Rattle.std.proofs.Common.{rules, ◌≡◌, ◌≤◌, ◌+◌, ◌-◌, true, false, map, inl, inr, refl, subst, arith}
 use Rattle.std.specs.Io.KnownBytes.{Appends}
 use Rattle.apex_types.specs.Line.{TakesBeginning}
-use Rattle.module_meaning.specs.Module.{of_tick}
-use Rattle.module.specs.Machines.{Machine, machine_of}
-use Rattle.module.specs.Written.{AreFrom}
+use Rattle.module.specs.Machines.{machine_of}
 use Rattle.stopped_run.specs.Words.{has_line}
-use Rattle.stopped_run.proofs.Reached.{IsNext, IsReached, breaks_between, breaks_in_tick, ends_all, ends_broken, ends_down, ends_found, reached_first, reached_kept, reached_skipped, reached_ticked}
-use Rattle.stopped_run.proofs.Ahead.{now_ticked}
+use Rattle.stopped_run.proofs.Reached.{breaks_between, breaks_in_tick, ends_all, ends_broken, ends_down, ends_found, reached_first, reached_kept, reached_skipped, reached_still, reached_ticked}
 use Rattle.stopped_run.proofs.running.ticks_until.Goals as goal
 
 pub loop-left-init : goal.loop-left-init
@@ -36,82 +33,44 @@ loop-left-preserved-then-count-gt0 g c =
       fresh = i.fresh;
     }
 
-pub returns-in_err-tick_held-clause-trace : goal.returns-in_err-tick_held-clause-trace
-returns-in_err-tick_held-clause-trace g c =
-    ends_broken _ _ _ _ _ _ c.in_err-tick_held.field-0.0 _ (search rules) (inr c.in_err-tick_held.ensures.memory)
+pub returns-in_err-lines-clause-trace : goal.returns-in_err-lines-clause-trace
+returns-in_err-lines-clause-trace g c =
+    ends_broken _ _ _ _ _ _ c.in_err-lines.field-0.0 _ (search rules) (inr c.in_err-lines.ensures.memory)
     (breaks_between (g.S.Sink.taken c.tell.new.sink) c.loop-left.invariant.reached c.in_ok-told.ensures.kept)
 
 pub returns-in_err-hand_on-clause-trace : goal.returns-in_err-hand_on-clause-trace
 returns-in_err-hand_on-clause-trace g c =
-    let i = c.loop-left.invariant in
-    let m = machine_of c.skip-count.new.self in
-    let next = machine_of c.tick_held.new.machine in
-    let lines = c.loop-left.lines.now in
-    let bytes = c.tick_held.new.held.writer.items in
-    let left = c.loop-left.left in
-    let none : left ≡ c.skip-count.result + left = omega (arith, c.if-count-gt0.false) in
-    let way = reached_skipped m c.at_once.result c.skip-count.result left (reached_kept (g.S.Sink.taken c.tell.new.sink) i.reached c.in_ok-told.ensures.kept) c.skip-count.ensures.skipped c.skip-count.ensures.order none in
-    let now = c.now-in-loop-left.ensures in
-    let own = c.split_tick.ensures in
-    let is : IsNext lines c.split_tick.result.0.now c.split_tick.result.1.now m next bytes = record {
-      own = subst (λ t. of_tick t c.split_tick.result.0.now ≡ of_tick t lines) now (own.of_tick ∙ own.own);
-      others = λ u k. own.rest u (omega (arith, k, now));
-      held = c.in_ok-tick_held.ensures.held;
-    } in
-    let part = subst (TakesBeginning (g.S.Sink.taken c.tell.new.sink) (g.S.Sink.taken c.hand_on.new.sink)) c.as_slice.ensures.value c.in_err-hand_on.ensures.beginning in
+    let mid = g.S.Sink.taken c.tell.new.sink in
+    let new = g.S.Sink.taken c.hand_on.new.sink in
+    let way = reached_still (machine_of c.skip-count.new.self) c.at_once.result c.skip-count.result (reached_kept mid c.loop-left.invariant.reached c.in_ok-told.ensures.kept) c.skip-count.ensures.skipped c.skip-count.ensures.order (omega (arith, c.if-count-gt0.false)) in
+    let part = subst (TakesBeginning mid new) c.as_slice.ensures.value c.in_err-hand_on.ensures.beginning in
     ends_broken _ _ _ _ _ _ c.in_err-hand_on.field-0.0 _ (search rules) (inl c.in_err-hand_on.ensures.write)
-    (breaks_in_tick (g.S.Sink.taken c.hand_on.new.sink) next c.split_tick.result.0.now c.split_tick.result.1.now bytes way is (omega (arith, c.loop-left-test.true)) part)
+    (breaks_in_tick new (machine_of c.tick_held.new.machine) c.in_ok-lines.lines.now c.tick_held.new.held.writer.items way c.in_ok-lines.ensures.held (omega (arith, c.loop-left-test.true)) part)
 
 pub returns-then-has_line-clause-trace : goal.returns-then-has_line-clause-trace
 returns-then-has_line-clause-trace g c =
-    let i = c.loop-left.invariant in
-    let m = machine_of c.skip-count.new.self in
-    let next = machine_of c.tick_held.new.machine in
-    let lines = c.loop-left.lines.now in
+    let mid = g.S.Sink.taken c.tell.new.sink in
+    let new = g.S.Sink.taken c.hand_on.new.sink in
     let bytes = c.tick_held.new.held.writer.items in
-    let left = c.loop-left.left in
-    let none : left ≡ c.skip-count.result + left = omega (arith, c.if-count-gt0.false) in
-    let way = reached_skipped m c.at_once.result c.skip-count.result left (reached_kept (g.S.Sink.taken c.tell.new.sink) i.reached c.in_ok-told.ensures.kept) c.skip-count.ensures.skipped c.skip-count.ensures.order none in
-    let now = c.now-in-loop-left.ensures in
-    let own = c.split_tick.ensures in
-    let is : IsNext lines c.split_tick.result.0.now c.split_tick.result.1.now m next bytes = record {
-      own = subst (λ t. of_tick t c.split_tick.result.0.now ≡ of_tick t lines) now (own.of_tick ∙ own.own);
-      others = λ u k. own.rest u (omega (arith, k, now));
-      held = c.in_ok-tick_held.ensures.held;
-    } in
-    let more = subst (Appends (g.S.Sink.taken c.tell.new.sink) (g.S.Sink.taken c.hand_on.new.sink)) c.as_slice.ensures.value c.in_ok-hand_on.ensures.taken in
-    let asked = map (λ a. a.now) c.args.asked.now in
-    let found : has_line asked bytes ≡ true = subst (λ text. has_line asked text ≡ true) c.as_slice-in-loop-left.ensures.value (search rules) in
-    ends_found (g.S.Sink.taken c.hand_on.new.sink) next c.split_tick.result.0.now c.split_tick.result.1.now bytes way is (omega (arith, c.loop-left-test.true)) more found
+    let way = reached_still (machine_of c.skip-count.new.self) c.at_once.result c.skip-count.result (reached_kept mid c.loop-left.invariant.reached c.in_ok-told.ensures.kept) c.skip-count.ensures.skipped c.skip-count.ensures.order (omega (arith, c.if-count-gt0.false)) in
+    let more = subst (Appends mid new) c.as_slice.ensures.value c.in_ok-hand_on.ensures.taken in
+    let found : has_line (map (λ a. a.now) c.args.asked.now) bytes ≡ true = subst (λ text. has_line (map (λ a. a.now) c.args.asked.now) text ≡ true) c.as_slice-in-loop-left.ensures.value (search rules) in
+    ends_found new (machine_of c.tick_held.new.machine) c.in_ok-lines.lines.now bytes way c.in_ok-lines.ensures.held (omega (arith, c.loop-left-test.true)) more found
 
 pub loop-left-preserved : goal.loop-left-preserved
 loop-left-preserved g c =
-    let i = c.loop-left.invariant in
-    let m = machine_of c.skip-count.new.self in
-    let next = machine_of c.tick_held.new.machine in
-    let lines = c.loop-left.lines.now in
-    let later = c.split_tick.result.1.now in
+    let mid = g.S.Sink.taken c.tell.new.sink in
+    let new = g.S.Sink.taken c.hand_on.new.sink in
     let bytes = c.tick_held.new.held.writer.items in
     let left = c.loop-left.left in
-    let none : left ≡ c.skip-count.result + left = omega (arith, c.if-count-gt0.false) in
-    let way = reached_skipped m c.at_once.result c.skip-count.result left (reached_kept (g.S.Sink.taken c.tell.new.sink) i.reached c.in_ok-told.ensures.kept) c.skip-count.ensures.skipped c.skip-count.ensures.order none in
-    let now = c.now-in-loop-left.ensures in
-    let own = c.split_tick.ensures in
-    let is : IsNext lines c.split_tick.result.0.now later m next bytes = record {
-      own = subst (λ t. of_tick t c.split_tick.result.0.now ≡ of_tick t lines) now (own.of_tick ∙ own.own);
-      others = λ u k. own.rest u (omega (arith, k, now));
-      held = c.in_ok-tick_held.ensures.held;
-    } in
-    let more = subst (Appends (g.S.Sink.taken c.tell.new.sink) (g.S.Sink.taken c.hand_on.new.sink)) c.as_slice.ensures.value c.in_ok-hand_on.ensures.taken in
-    let asked = map (λ a. a.now) c.args.asked.now in
-    let without : has_line asked bytes ≡ false = subst (λ text. has_line asked text ≡ false) c.as_slice-in-loop-left.ensures.value (search rules) in
-    let after : next.standing.now ≡ m.standing.now + 1 = now_ticked is.held in
-    let order : AreFrom next.standing.now later = subst (λ t. AreFrom t later) (omega (arith, now, after)) own.later in
+    let way = reached_still (machine_of c.skip-count.new.self) c.at_once.result c.skip-count.result (reached_kept mid c.loop-left.invariant.reached c.in_ok-told.ensures.kept) c.skip-count.ensures.skipped c.skip-count.ensures.order (omega (arith, c.if-count-gt0.false)) in
+    let more = subst (Appends mid new) c.as_slice.ensures.value c.in_ok-hand_on.ensures.taken in
+    let without : has_line (map (λ a. a.now) c.args.asked.now) bytes ≡ false = subst (λ text. has_line (map (λ a. a.now) c.args.asked.now) text ≡ false) c.as_slice-in-loop-left.ensures.value (search rules) in
     record {
-      reached = reached_ticked (g.S.Sink.taken c.hand_on.new.sink) next c.split_tick.result.0.now later bytes (left - 1) way is order (omega (arith, c.loop-left-test.true)) more without;
+      reached = reached_ticked new (machine_of c.tick_held.new.machine) c.in_ok-lines.lines.now bytes (left - 1) way c.in_ok-lines.ensures.held (omega (arith, c.loop-left-test.true)) more without;
       quiet = search rules;
       empty = search rules;
-      fresh = c.in_ok-tick_held.ensures.fresh;
+      fresh = c.in_ok-lines.ensures.fresh;
     }
 
 pub returns-clause-trace : goal.returns-clause-trace
