@@ -1,6 +1,6 @@
 //! Runs, of an image and of the stored module.
 
-ghost use Rattle.std.specs.Prelude.{◌≡◌, ◌≢◌, ◌-◌, ◌^◌, ◌<◌, [], map, IfOk, IfErr, OnOk};
+ghost use Rattle.std.specs.Prelude.{◌≡◌, ◌-◌, ◌^◌, ◌<◌, [], map, IfOk, IfErr, OnOk};
 ghost use Rattle.machine_meaning.specs.ImageReading.{image_at};
 ghost use Rattle.command_line.specs.Done.{IsDoneWith, IsFirstRun, IsRunDone, IsTraced, is_ok};
 ghost use Rattle.command_line.specs.Orders.{Run};
@@ -119,19 +119,41 @@ fn trace<O: Stream, W: Watch>(
         (λ f. HasFailedBy f (seen O.taken O.failures O.is_flushed out.old)
         (seen O.taken O.failures O.is_flushed out.new)) }
 {
-    let traced = if until.is_empty() {
-        trace_all(alloc, files, ticks, out, watch)
-    } else {
-        trace_until(alloc, files, ticks, until, out, watch)
-    };
+    let traced = write_trace(alloc, files, ticks, until, out, watch);
     if let Err(fault) = &traced {
         note.explain_run(alloc, files, fault);
     }
     traced
 }
 
+/// Writes the trace of an image to its end, or to a line with these words if there are any.
+fn write_trace<O: Stream, W: Watch>(
+    alloc: Global,
+    files: RunFiles<'_>,
+    ticks: u64,
+    until: &[&str],
+    out: &mut O,
+    watch: &mut W,
+) -> Result<Outcome, RunFault>
+    requires { O.failures out.old < 2 ^ 64 - 1 }
+    ensures trace { IsTraced (image_at files.entry.image.now) files.entry.text.now
+        (map (λ w. w.now) until.now) ticks (O.taken out.old) (O.taken out.new) result }
+    ensures quiet { OnOk result (O.failures out.new ≡ O.failures out.old) }
+    ensures failed { IfErr result
+        (λ f. HasFailedBy f (seen O.taken O.failures O.is_flushed out.old)
+        (seen O.taken O.failures O.is_flushed out.new)) }
+{
+    if until.is_empty() {
+        return write_whole_trace(alloc, files, ticks, out, watch);
+    }
+    match run_until(alloc, files.image, files.text, ticks, until, out, watch) {
+        Ok(came) => Ok(Outcome::of_wait(came)),
+        Err(fault) => Err(fault),
+    }
+}
+
 /// Writes the trace of an image to its end.
-fn trace_all<O: Stream, W: Watch>(
+fn write_whole_trace<O: Stream, W: Watch>(
     alloc: Global,
     files: RunFiles<'_>,
     ticks: u64,
@@ -148,30 +170,6 @@ fn trace_all<O: Stream, W: Watch>(
 {
     match module::run_watched(alloc, files.image, files.text, ticks, out, watch) {
         Ok(()) => Ok(Outcome::Usual),
-        Err(fault) => Err(fault),
-    }
-}
-
-/// Writes the trace of an image to a line with these words.
-fn trace_until<O: Stream, W: Watch>(
-    alloc: Global,
-    files: RunFiles<'_>,
-    ticks: u64,
-    until: &[&str],
-    out: &mut O,
-    watch: &mut W,
-) -> Result<Outcome, RunFault>
-    requires out { O.failures out.old < 2 ^ 64 - 1 }
-    requires words { until.now ≢ [] }
-    ensures trace { IsTraced (image_at files.entry.image.now) files.entry.text.now
-        (map (λ w. w.now) until.now) ticks (O.taken out.old) (O.taken out.new) result }
-    ensures quiet { OnOk result (O.failures out.new ≡ O.failures out.old) }
-    ensures failed { IfErr result
-        (λ f. HasFailedBy f (seen O.taken O.failures O.is_flushed out.old)
-        (seen O.taken O.failures O.is_flushed out.new)) }
-{
-    match run_until(alloc, files.image, files.text, ticks, until, out, watch) {
-        Ok(came) => Ok(Outcome::of_wait(came)),
         Err(fault) => Err(fault),
     }
 }
