@@ -1,4 +1,6 @@
 pub mod Stained
 pub mod Images
 pub mod Inputs
+pub mod Strays
+pub mod Documents
 pub mod Tables
