@@ -5,7 +5,7 @@ use Rattle.std.specs.List.{list_all, prefix_len}
 use Rattle.std.specs.Char.{is_digit, is_ascii_digit}
 use Rattle.std.specs.Str.Parse.{digits_value}
 use Rattle.std.proofs.lemmas.Bool.{and_parts, eqb-true}
-use Rattle.toml_parser.specs.Lexical.{Read, first, is_ws, is_non_eol, is_bare, is_word, starts_newline, skip_ws, skip_turn, skip_from, skip_blank}
+use Rattle.toml_parser.specs.Lexical.{Read, apostrophe, backslash, carriage_return, comma, dot, equals, hash, left_brace, left_bracket, line_feed, quote, right_brace, right_bracket, space, first, is_ws, is_non_eol, is_bare, is_word, starts_newline, skip_ws, skip_turn, skip_from, skip_blank}
 use Rattle.toml_parser.specs.Strings.{simple_escape, hex_len, is_scalar, hex_escape, escape_char, escape, is_plain, at_delims, special, prepend, after_piece, body, trim_newline, one_line, quoted, starts_string, simple_key, key_after, key, recursion_limit}
 use Rattle.toml_parser.specs.Numbers.{word_len, word_value, unquoted}
 use Rattle.toml_parser.specs.declared.scalar.Scalar.{Scalar}
@@ -13,7 +13,7 @@ use Rattle.toml.specs.Data.{Data, Items, Members, string, array, table, push_ite
 use Rattle.toml.specs.Tables.{Nodes, no_nodes, Document, Expression, std_table, key_value, close, define, put}
 use Rattle.toml.specs.Parse.{read_map, after_byte, after_element, key_equals, keyval, items, members, scalar_data, atom, val, header_key, expression, ends_line, line, lines, skip_bom, parse_document}
 use Rattle.text_beginnings.specs.Settled.{is_stray}
-use Rattle.text_beginnings.proofs.Strays.{has_stray, Passes, is_known, fine_or, fine_ws, fine_non_eol, fine_bare, fine_word, fine_hex, pass_one, pass_two, pass_three, pass_run, pass_all, Passed, PassesTo, either_so, behind, then_passes, then_goes, then_chosen, map_passes, map_goes, map_chosen}
+use Rattle.text_beginnings.proofs.Strays.{has_stray, Passes, is_known, fine_or, fine_ws, fine_non_eol, fine_bare, fine_word, fine_digit_of, pass_one, pass_two, pass_three, pass_run, pass_all, Passed, PassesTo, either_so, behind, then_passes, then_goes, then_chosen, map_passes, map_goes, map_chosen}
 
 -- ---- between tokens
 
@@ -22,21 +22,21 @@ unfolding skip_ws
 ws text = pass_run is_ws fine_ws text
 
 turn : (comments inside : Bool) (c next : ℕ) → is_some (skip_turn comments inside c next) ≡ true → is_stray c ≡ false
-turn comments inside c next = by (c == 10 || (c == 13 && next == 10)) refl inside (is_ws c) refl (is_non_eol c) refl (c == 35) refl
+turn comments inside c next = by (c == line_feed || (c == carriage_return && next == line_feed)) refl inside (is_ws c) refl (is_non_eol c) refl (c == hash) refl
   where
-    ends : (c == 10 || (c == 13 && next == 10)) ≡ true → is_stray c ≡ false
-    ends = fine_or (c == 10) (c == 13 && next == 10) (is_known c 10 refl) (λ h. is_known c 13 refl (and_parts (c == 13) (next == 10) h).0)
+    ends : (c == line_feed || (c == carriage_return && next == line_feed)) ≡ true → is_stray c ≡ false
+    ends = fine_or (c == line_feed) (c == carriage_return && next == line_feed) (is_known c line_feed refl) (λ h. is_known c carriage_return refl (and_parts (c == carriage_return) (next == line_feed) h).0)
 
     none : (t : Bool) → is_some (cond (t && false) (Some true) None) ≡ true → is_stray c ≡ false
     none true s = cc
     none false s = cc
 
-    by : (n : Bool) → (c == 10 || (c == 13 && next == 10)) ≡ n → (i w : Bool) → is_ws c ≡ w → (e : Bool) → is_non_eol c ≡ e → (h : Bool) → (c == 35) ≡ h
+    by : (n : Bool) → (c == line_feed || (c == carriage_return && next == line_feed)) ≡ n → (i w : Bool) → is_ws c ≡ w → (e : Bool) → is_non_eol c ≡ e → (h : Bool) → (c == hash) ≡ h
         → is_some (cond n (Some false) (cond (cond i e w) (Some i) (cond ((comments && not i) && h) (Some true) None))) ≡ true → is_stray c ≡ false
     by true a i w b e d h f s = ends a
     by false a true w b true d h f s = fine_non_eol c d
     by false a false true b e d h f s = fine_ws c b
-    by false a i w b e d true f s = is_known c 35 refl f
+    by false a i w b e d true f s = is_known c hash refl f
     by false a true w b false d false f s = none (comments && false) s
     by false a false false b e d false f s = none (comments && true) s
 
@@ -62,8 +62,9 @@ byte_passes byte text fine = either_so (λ rest. has_stray text ≡ has_stray re
 hex_passes : (n : ℕ) (text : List ℕ) → Passes text (hex_escape n text)
 unfolding hex_escape
 hex_passes n text =
-    either_so (Passed text) ((nat_le n (length text) && list_all (λ c. is_digit c 16) (take n text)) && is_scalar (digits_value 16 (take n text))) _ None
-    (λ h. pass_all (λ c. is_digit c 16) fine_hex n text (and_parts (nat_le n (length text)) _ (and_parts (nat_le n (length text) && list_all (λ c. is_digit c 16) (take n text)) _ h).0).1)
+    let are_hex : Bool = list_all (λ c. is_digit c 0x10) (take n text) in
+    either_so (Passed text) ((nat_le n (length text) && are_hex) && is_scalar (digits_value 0x10 (take n text))) _ None
+    (λ h. pass_all (λ c. is_digit c 0x10) (fine_digit_of 0x10 (omega arith)) n text (and_parts (nat_le n (length text)) are_hex (and_parts (nat_le n (length text) && are_hex) _ h).0).1)
     (λ _. tt)
 
 simple_passes : (text : List ℕ) → Passes text (option_map (λ (c : ℕ). (c, drop 1 text)) (simple_escape (first text)))
@@ -78,7 +79,7 @@ simple_passes text = map_chosen text (simple_escape (first text)) (λ (c : ℕ).
         either_so P (b == 0x6E) _ _ (λ h. pass (is_known b 0x6E refl h)) (λ _.
         either_so P (b == 0x72) _ _ (λ h. pass (is_known b 0x72 refl h)) (λ _.
         either_so P (b == 0x74) _ _ (λ h. pass (is_known b 0x74 refl h)) (λ _.
-        either_so P (b == 34 || b == 92) _ None (λ h. pass (fine_or (b == 34) (b == 92) (is_known b 34 refl) (is_known b 92 refl) h)) (λ _. tt)))))))
+        either_so P (b == quote || b == backslash) _ None (λ h. pass (fine_or (b == quote) (b == backslash) (is_known b quote refl) (is_known b backslash refl) h)) (λ _. tt)))))))
 
 -- the letter of an escape with hex digits
 hex_letter : (b : ℕ) → nat_lt 0 (hex_len b) ≡ true → is_stray b ≡ false
@@ -107,11 +108,11 @@ escape_passes multi text =
 
 plain : (delim : ℕ) (multi : Bool) (c : ℕ) → is_plain delim multi c ≡ true → is_stray c ≡ false
 plain delim multi c h =
-    let parts = and_parts (not (c == delim) && not (c == 92 && delim == 34)) (is_non_eol c || (multi && c == 10)) h in
-    fine_or (is_non_eol c) (multi && c == 10) (fine_non_eol c) (λ m. is_known c 10 refl (and_parts multi (c == 10) m).1) parts.1
+    let parts = and_parts (not (c == delim) && not (c == backslash && delim == quote)) (is_non_eol c || (multi && c == line_feed)) h in
+    fine_or (is_non_eol c) (multi && c == line_feed) (fine_non_eol c) (λ m. is_known c line_feed refl (and_parts multi (c == line_feed) m).1) parts.1
 
 newline : (text : List ℕ) → starts_newline text ≡ true → is_stray (first text) ≡ false
-newline text = fine_or (first text == 10) (first text == 13 && slice_index text 1 == 10) (is_known (first text) 10 refl) (λ h. is_known (first text) 13 refl (and_parts (first text == 13) (slice_index text 1 == 10) h).0)
+newline text = fine_or (first text == line_feed) (first text == carriage_return && slice_index text 1 == line_feed) (is_known (first text) line_feed refl) (λ h. is_known (first text) carriage_return refl (and_parts (first text == carriage_return) (slice_index text 1 == line_feed) h).0)
 
 three_delims : (delim : ℕ) (text : List ℕ) → is_stray delim ≡ false → (prefix_len (λ c. c == delim) text == 3) ≡ true → has_stray text ≡ has_stray (drop 3 text)
 three_delims delim text fine is =
@@ -129,8 +130,8 @@ special_passes delim multi text fine =
     let P : Option (List ℕ) × List ℕ → Type 0 = λ p. has_stray text ≡ has_stray p.1 in
     either_so P (first text == delim) _ _
     (λ at. either_so P multi _ _ (λ _. delims_pass delim text fine at) (λ _. pass_one text (is_known (first text) delim fine at)))
-    (λ _. either_so P (first text == 92) _ _
-    (λ at. behind text (drop 1 text) _ (pass_one text (is_known (first text) 92 refl at)) (map_passes (drop 1 text) (escape multi (drop 1 text)) _ (escape_passes multi (drop 1 text)) (λ p. refl)))
+    (λ _. either_so P (first text == backslash) _ _
+    (λ at. behind text (drop 1 text) _ (pass_one text (is_known (first text) backslash refl at)) (map_passes (drop 1 text) (escape multi (drop 1 text)) _ (escape_passes multi (drop 1 text)) (λ p. refl)))
     (λ _. either_so P (multi && starts_newline text) _ None (λ h. pass_one text (newline text (and_parts multi (starts_newline text) h).1)) (λ _. tt)))
 
 prepend_passes : (text front : List ℕ) (r : Read (List ℕ)) → Passes text r → Passes text (prepend front r)
@@ -150,14 +151,14 @@ body_passes delim multi (suc n) text fine =
     (λ _. then_passes text (special delim multi text) _ (special_passes delim multi text fine) (λ p. piece_passes (body delim multi n) (λ t. body_passes delim multi n t fine) p.0 p.1))
 
 delimiter : (text : List ℕ) → starts_string text ≡ true → is_stray (first text) ≡ false
-delimiter text = fine_or (first text == 34) (first text == 39) (is_known (first text) 34 refl) (is_known (first text) 39 refl)
+delimiter text = fine_or (first text == quote) (first text == apostrophe) (is_known (first text) quote refl) (is_known (first text) apostrophe refl)
 
 one_line_passes : (text : List ℕ) → starts_string text ≡ true → Passes text (one_line text)
 unfolding one_line
 one_line_passes text at = behind text (drop 1 text) _ (pass_one text (delimiter text at)) (body_passes (first text) false (length text) (drop 1 text) (delimiter text at))
 
 trimmed : (text : List ℕ) → has_stray text ≡ has_stray (trim_newline text)
-trimmed text = by (first text == 10) (is_known (first text) 10 refl) (first text == 13) (is_known (first text) 13 refl) (slice_index text 1 == 10) (is_known (slice_index text 1) 10 refl)
+trimmed text = by (first text == line_feed) (is_known (first text) line_feed refl) (first text == carriage_return) (is_known (first text) carriage_return refl) (slice_index text 1 == line_feed) (is_known (slice_index text 1) line_feed refl)
   where
     by : (a : Bool) → (a ≡ true → is_stray (first text) ≡ false) → (b : Bool) → (b ≡ true → is_stray (first text) ≡ false) → (c : Bool) → (c ≡ true → is_stray (slice_index text 1) ≡ false)
         → has_stray text ≡ has_stray (cond a (drop 1 text) (cond (a || (b && c)) (drop 2 text) text))
@@ -190,20 +191,20 @@ key_passes (suc n) path text =
     then_passes text (simple_key text) _ (simple_key_passes text) (λ part.
     let rest : List ℕ = skip_ws part.1 in
     let passed : has_stray part.1 ≡ has_stray rest = ws part.1 in
-    either_so (Passed part.1) (first rest == 46) _ _
-    (λ dot. behind part.1 (skip_ws (drop 1 rest)) _ (passed ∙ pass_one rest (is_known (first rest) 46 refl dot) ∙ ws (drop 1 rest)) (key_passes n (path ++ part.0 ∷ []) (skip_ws (drop 1 rest))))
+    either_so (Passed part.1) (first rest == dot) _ _
+    (λ is. behind part.1 (skip_ws (drop 1 rest)) _ (passed ∙ pass_one rest (is_known (first rest) dot refl is) ∙ ws (drop 1 rest)) (key_passes n (path ++ part.0 ∷ []) (skip_ws (drop 1 rest))))
     (λ _. passed))
 
 key_equals_passes : (text : List ℕ) → Passes text (key_equals text)
 unfolding key_equals
 key_equals_passes text =
-    then_passes text (key text) _ (key_passes recursion_limit [] text) (λ k. map_goes k.1 (after_byte 61 k.1) _ (byte_passes 61 k.1 refl) ws)
+    then_passes text (key text) _ (key_passes recursion_limit [] text) (λ k. map_goes k.1 (after_byte equals k.1) _ (byte_passes equals k.1 refl) ws)
 
 -- ---- values
 
 word : (text : List ℕ) → has_stray text ≡ has_stray (drop (word_len text) text)
 unfolding word_len
-word text = by (slice_index text len == 32) (is_ascii_digit (slice_index text (len + 1))) (λ h. is_known (slice_index text len) 32 refl h)
+word text = by (slice_index text len == space) (is_ascii_digit (slice_index text (len + 1))) (λ h. is_known (slice_index text len) space refl h)
   where
     len : ℕ
     len = prefix_len is_word text
@@ -249,7 +250,7 @@ unfolding after_element
 element_passes closing text =
     let rest : List ℕ = skip_blank text in
     let P : List ℕ → Type 0 = λ after. has_stray text ≡ has_stray after in
-    either_so P (first rest == 44) _ _ (λ is. blank text ∙ pass_one rest (is_known (first rest) 44 refl is))
+    either_so P (first rest == comma) _ _ (λ is. blank text ∙ pass_one rest (is_known (first rest) comma refl is))
     (λ _. either_so P (first rest == closing) _ None (λ _. blank text) (λ _. tt))
 
 module _ (value : List ℕ → Read Data) (passes : (text : List ℕ) → Passes text (value text)) where
@@ -262,31 +263,31 @@ module _ (value : List ℕ → Read Data) (passes : (text : List ℕ) → Passes
   items_pass zero found text = tt
   items_pass (suc n) found text =
       let start : List ℕ = skip_blank text in
-      either_so (Passed text) (first start == 93) _ _
-      (λ is. blank text ∙ pass_one start (is_known (first start) 93 refl is))
+      either_so (Passed text) (first start == right_bracket) _ _
+      (λ is. blank text ∙ pass_one start (is_known (first start) right_bracket refl is))
       (λ _. then_passes text (value start) _ (behind text start _ (blank text) (passes start)) (λ v.
-      then_goes v.1 (after_element 93 v.1) _ (element_passes 93 v.1) (items_pass n (push_item found v.0))))
+      then_goes v.1 (after_element right_bracket v.1) _ (element_passes right_bracket v.1) (items_pass n (push_item found v.0))))
 
   members_pass : (n : ℕ) (found : Nodes) (text : List ℕ) → Passes text (members value n found text)
   unfolding members
   members_pass zero found text = tt
   members_pass (suc n) found text =
       let start : List ℕ = skip_blank text in
-      either_so (Passed text) (first start == 125) _ _
-      (λ is. blank text ∙ pass_one start (is_known (first start) 125 refl is))
+      either_so (Passed text) (first start == right_brace) _ _
+      (λ is. blank text ∙ pass_one start (is_known (first start) right_brace refl is))
       (λ _. then_passes text (keyval value start) _ (behind text start _ (blank text) (keyval_passes start)) (λ e.
-      then_chosen e.1 (put e.0.0 e.0.1 found) _ (λ more. then_goes e.1 (after_element 125 e.1) _ (element_passes 125 e.1) (members_pass n more))))
+      then_chosen e.1 (put e.0.0 e.0.1 found) _ (λ more. then_goes e.1 (after_element right_brace e.1) _ (element_passes right_brace e.1) (members_pass n more))))
 
 value_passes : (depth : ℕ) (text : List ℕ) → Passes text (val depth text)
 unfolding val
 value_passes zero text = atom_passes text
 value_passes (suc depth) text =
     let P : Data × List ℕ → Type 0 = λ p. has_stray text ≡ has_stray p.1 in
-    either_so P (first text == 91) _ _
-    (λ is. behind text (drop 1 text) _ (pass_one text (is_known (first text) 91 refl is))
+    either_so P (first text == left_bracket) _ _
+    (λ is. behind text (drop 1 text) _ (pass_one text (is_known (first text) left_bracket refl is))
     (mapped array (drop 1 text) _ (items_pass (val depth) (λ t. value_passes depth t) (length text) no_items (drop 1 text))))
-    (λ _. either_so P (first text == 123) _ _
-    (λ is. behind text (drop 1 text) _ (pass_one text (is_known (first text) 123 refl is))
+    (λ _. either_so P (first text == left_brace) _ _
+    (λ is. behind text (drop 1 text) _ (pass_one text (is_known (first text) left_brace refl is))
     (mapped table (drop 1 text) _ (members_pass (val depth) (λ t. value_passes depth t) (length text) no_nodes (drop 1 text))))
     (λ _. atom_passes text))
 
@@ -295,18 +296,18 @@ value_passes (suc depth) text =
 header_passes : (text : List ℕ) → Passes text (header_key text)
 unfolding header_key
 header_passes text =
-    then_passes text (key (skip_ws text)) _ (behind text (skip_ws text) _ (ws text) (key_passes recursion_limit [] (skip_ws text))) (λ k. map_goes k.1 (after_byte 93 k.1) _ (byte_passes 93 k.1 refl) (λ rest. refl))
+    then_passes text (key (skip_ws text)) _ (behind text (skip_ws text) _ (ws text) (key_passes recursion_limit [] (skip_ws text))) (λ k. map_goes k.1 (after_byte right_bracket k.1) _ (byte_passes right_bracket k.1 refl) (λ rest. refl))
 
 expression_passes : (text : List ℕ) → Passes text (expression text)
 unfolding expression
 expression_passes text =
     let P : Expression × List ℕ → Type 0 = λ p. has_stray text ≡ has_stray p.1 in
-    either_so P (first text == 91 && slice_index text 1 == 91) _ _
-    (λ is. let both = and_parts (first text == 91) (slice_index text 1 == 91) is in
+    either_so P (first text == left_bracket && slice_index text 1 == left_bracket) _ _
+    (λ is. let both = and_parts (first text == left_bracket) (slice_index text 1 == left_bracket) is in
     then_passes text (header_key (drop 2 text)) _
-    (behind text (drop 2 text) _ (pass_two text (is_known (first text) 91 refl both.0) (is_known (slice_index text 1) 91 refl both.1)) (header_passes (drop 2 text))) (λ k. map_goes k.1 (after_byte 93 k.1) _ (byte_passes 93 k.1 refl) (λ rest. refl)))
-    (λ _. either_so P (first text == 91) _ _
-    (λ is. behind text (drop 1 text) _ (pass_one text (is_known (first text) 91 refl is)) (mapped (λ k. (k, std_table)) (drop 1 text) _ (header_passes (drop 1 text))))
+    (behind text (drop 2 text) _ (pass_two text (is_known (first text) left_bracket refl both.0) (is_known (slice_index text 1) left_bracket refl both.1)) (header_passes (drop 2 text))) (λ k. map_goes k.1 (after_byte right_bracket k.1) _ (byte_passes right_bracket k.1 refl) (λ rest. refl)))
+    (λ _. either_so P (first text == left_bracket) _ _
+    (λ is. behind text (drop 1 text) _ (pass_one text (is_known (first text) left_bracket refl is)) (mapped (λ k. (k, std_table)) (drop 1 text) _ (header_passes (drop 1 text))))
     (λ _. mapped (λ p. (p.0, key_value p.1)) text _ (keyval_passes (val recursion_limit) (value_passes recursion_limit) text)))
 
 line_passes : (text : List ℕ) → Passes text (line text)

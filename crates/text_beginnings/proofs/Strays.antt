@@ -1,10 +1,10 @@
 -- What a reader of the grammar passes over has no stray byte.
-use Rattle.std.proofs.Common.{◌≡◌, ◌⊎◌, inl, inr, true≢false, ℕ, zero, suc, ◌+◌, ◌-◌, ◌<◌, Bool, true, false, cond, List, [], ◌∷◌, take, drop, slice_index, Option, Some, None, IfSome, option_map, option_and_then, refl, sym, ap, ◌∙◌, arith}
+use Rattle.std.proofs.Common.{◌≡◌, ◌⊎◌, inl, inr, ℕ, zero, suc, ◌+◌, ◌<◌, ◌≤◌, Bool, true, false, cond, List, [], ◌∷◌, take, drop, slice_index, Option, Some, None, IfSome, option_map, option_and_then, refl, sym, ap, ◌∙◌, arith}
 use Rattle.std.specs.Prelude.{nat_lt, ◌||◌, ◌==◌}
 use Rattle.std.specs.List.{list_all, list_any, prefix_len}
-use Rattle.std.specs.Char.{is_digit, is_ascii_digit, is_ascii_alphanumeric}
-use Rattle.std.proofs.lemmas.Bool.{and_parts, eqb-true, false_from_ne_true, lt-ltb}
-use Rattle.toml_parser.specs.Lexical.{Read, first, is_ws, is_non_eol, is_bare, is_word}
+use Rattle.std.specs.Char.{digit_value, is_digit, is_ascii_digit, is_ascii_alphanumeric}
+use Rattle.std.proofs.lemmas.Bool.{and_parts, eqb-true, cond-true, false_from_ne_true, lt-ltb, ltb-true}
+use Rattle.toml_parser.specs.Lexical.{Read, colon, dash, dot, plus, space, tab, underscore, first, is_ws, is_non_eol, is_bare, is_word}
 use Rattle.text_beginnings.specs.Settled.{is_stray}
 
 -- one of the bytes is stray
@@ -33,7 +33,7 @@ fine_or true y left right h = left refl
 fine_or false y left right h = right h
 
 pub fine_ws : (b : ℕ) → is_ws b ≡ true → is_stray b ≡ false
-fine_ws b = fine_or (b == 32) (b == 9) (is_known b 32 refl) (is_known b 9 refl)
+fine_ws b = fine_or (b == space) (b == tab) (is_known b space refl) (is_known b tab refl)
 
 pub fine_non_eol : (b : ℕ) → is_non_eol b ≡ true → is_stray b ≡ false
 fine_non_eol b h = grind arith
@@ -45,23 +45,28 @@ fine_alphanumeric : (b : ℕ) → is_ascii_alphanumeric b ≡ true → is_stray 
 fine_alphanumeric b h = grind arith
 
 pub fine_bare : (b : ℕ) → is_bare b ≡ true → is_stray b ≡ false
-fine_bare b = fine_or (is_ascii_alphanumeric b || b == 45) (b == 95) (fine_or (is_ascii_alphanumeric b) (b == 45) (fine_alphanumeric b) (is_known b 45 refl)) (is_known b 95 refl)
+fine_bare b = fine_or (is_ascii_alphanumeric b || b == dash) (b == underscore) (fine_or (is_ascii_alphanumeric b) (b == dash) (fine_alphanumeric b) (is_known b dash refl)) (is_known b underscore refl)
 
 pub fine_word : (b : ℕ) → is_word b ≡ true → is_stray b ≡ false
 fine_word b =
-    fine_or ((is_bare b || b == 43) || b == 46) (b == 58)
-    (fine_or (is_bare b || b == 43) (b == 46) (fine_or (is_bare b) (b == 43) (fine_bare b) (is_known b 43 refl)) (is_known b 46 refl))
-    (is_known b 58 refl)
-
-no_hex : (b : ℕ) → (b < 32) ⊎ (b ≡ 127) → is_digit b 16 ≡ true → ⊥
-no_hex b (inl low) h = absurd (true≢false (sym h ∙ ap (λ t. nat_lt (cond t 36 (cond (nat_lt b 58) (b - 48) (cond (nat_lt b 65) 36 (cond (nat_lt b 91) (b - 55) (cond (nat_lt b 97) 36 (cond (nat_lt b 123) (b - 87) 36)))))) 16) (lt-ltb b 48 (omega arith))))
-no_hex b (inr is) h = absurd (true≢false (sym h ∙ ap (λ c. is_digit c 16) is))
+    fine_or ((is_bare b || b == plus) || b == dot) (b == colon)
+    (fine_or (is_bare b || b == plus) (b == dot) (fine_or (is_bare b) (b == plus) (fine_bare b) (is_known b plus refl)) (is_known b dot refl))
+    (is_known b colon refl)
 
 stray_is : (b : ℕ) → is_stray b ≡ true → (b < 32) ⊎ (b ≡ 127)
 stray_is b h = grind arith
 
-pub fine_hex : (b : ℕ) → is_digit b 16 ≡ true → is_stray b ≡ false
-fine_hex b h = false_from_ne_true (is_stray b) (λ s. no_hex b (stray_is b s) h)
+no_digit : (b radix : ℕ) → radix ≤ 36 → (b < 32) ⊎ (b ≡ 127) → is_digit b radix ≡ true → ⊥
+no_digit b radix few (inl low) h =
+    let none : digit_value b ≡ 36 = cond-true (nat_lt b 48) 36 _ (lt-ltb b 48 (omega (arith, low))) in
+    omega (arith, few, none, ltb-true (digit_value b) radix h)
+no_digit b radix few (inr is) h =
+    let none : digit_value b ≡ 36 = ap digit_value is in
+    omega (arith, few, none, ltb-true (digit_value b) radix h)
+
+-- a digit of any base
+pub fine_digit_of : (radix : ℕ) → radix ≤ 36 → (b : ℕ) → is_digit b radix ≡ true → is_stray b ≡ false
+fine_digit_of radix few b h = false_from_ne_true (is_stray b) (λ s. no_digit b radix few (stray_is b s) h)
 
 -- ---- what is passed over
 
