@@ -4,7 +4,6 @@ ghost use Rattle.std.specs.Prelude.{◌≡◌, map, Ok, IfOk, IfErr, OnOk};
 ghost use Rattle.machine_meaning.specs.ImageReading.{image_at};
 ghost use Rattle.image.specs.Views.{image_of};
 ghost use Rattle.streams.specs.Beginnings.{HoldsFrom};
-ghost use Rattle.streams.specs.Contents.{HoldAll, Holds};
 ghost use Rattle.text_beginnings.specs.Kinds.{settles};
 ghost use Rattle.text_beginnings.specs.Settled.{settles_source};
 ghost use Rattle.command_line.specs.Done.{AreCosted, IsBuilt, IsImageIn, IsUpgradedIn};
@@ -24,21 +23,6 @@ use module::{AcceptedModule, PartitionCosts, RunFault, upgrade};
 use std::alloc::{AllocError, Global};
 use streams::Files;
 use text_beginnings::TextKind;
-
-/// The bytes of the file of that name.
-pub fn read<F: Files>(alloc: Global, name: &str, files: &mut F) -> Result<Vec<u8>, Refusal>
-    ensures held { IfOk result (λ bytes. Holds (F.contents files.old) name.now bytes.items) }
-    ensures refused { IfErr result (λ r. IsUnread name.now r) }
-    ensures unchanged { F.contents files.new ≡ F.contents files.old }
-    ensures noted { OnOk result (F.failed files.new ≡ F.failed files.old) }
-    ensures named { IfErr result (λ r. IsOfFailed (F.failed files.old) (F.failed files.new) r) }
-{
-    let shown = String::from_str(alloc, name)?;
-    match files.read(alloc, name) {
-        Ok(bytes) => Ok(bytes),
-        Err(fault) => Err(Refusal::of_file(shown, fault)),
-    }
-}
 
 /// The bytes of the file of that name, as far as a text of this kind needs them.
 pub fn read_as<F: Files>(
@@ -60,28 +44,6 @@ pub fn read_as<F: Files>(
         Ok(text) => Ok(text),
         Err(fault) => Err(Refusal::of_file(told, fault)),
     }
-}
-
-/// The bytes of the files of these names, in their order.
-pub fn read_all<F: Files>(
-    alloc: Global,
-    names: &[&str],
-    files: &mut F,
-) -> Result<Vec<Vec<u8>>, Refusal>
-    ensures held { IfOk result
-        (λ texts.
-        HoldAll (F.contents files.old) (map (λ s. s.now) names.now) (texts_of texts.items)) }
-    ensures refused { IfErr result
-        (λ r. IsUnreadAmong (F.contents files.old) (map (λ s. s.now) names.now) r) }
-    ensures unchanged { F.contents files.new ≡ F.contents files.old }
-    ensures noted { OnOk result (F.failed files.new ≡ F.failed files.old) }
-    ensures named { IfErr result (λ r. IsOfFailed (F.failed files.old) (F.failed files.new) r) }
-{
-    let mut texts = Vec::new(alloc);
-    for name in names {
-        texts.push(read(alloc, name, files)?)?;
-    }
-    Ok(texts)
 }
 
 /// The bytes of the files of these names, in their order, as far as sources need them: a source that
