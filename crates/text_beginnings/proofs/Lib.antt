@@ -3,4 +3,5 @@ pub mod Images
 pub mod Inputs
 pub mod Strays
 pub mod Documents
+pub mod Ends
 pub mod Tables

@@ -1,5 +1,5 @@
 -- Beginnings of texts that settle how these are judged, whatever follows.
-use Rattle.std.specs.Prelude.{ℕ, Bool, not, ◌&&◌, ◌||◌, ◌==◌, nat_lt, nat_le, List, length, take, drop}
+use Rattle.std.specs.Prelude.{ℕ, ◌+◌, Bool, not, ◌&&◌, ◌||◌, ◌==◌, nat_lt, nat_le, if◌then◌else◌, List, [], ◌∷◌, length, take, drop}
 use Rattle.std.specs.Int.{from_le_bytes, w16}
 use Rattle.std.specs.List.{list_any}
 use Rattle.std.specs.Str.{bytes_eq}
@@ -22,6 +22,11 @@ is_stray b = (nat_lt b 32 && not ((b == 9 || b == 10) || b == 13)) || b == 127
 -- a table with a byte that stands in no TOML document
 abbrev pub settles_table : List ℕ → Bool
 settles_table bytes = list_any is_stray bytes
+
+-- how many bytes of a table there are up to the first that stands in no TOML document, with it
+abbrev pub table_end : List ℕ → ℕ
+table_end [] = 0
+table_end (b ∷ bs) = if is_stray b then 1 else 1 + table_end bs
 
 -- a source that is longer than it may be
 abbrev pub settles_source : List ℕ → Bool

@@ -2,7 +2,7 @@
 
 ghost use Rattle.std.specs.Int.{from_le_bytes, w16};
 ghost use Rattle.std.specs.Prelude.{◌≡◌, ◌≤◌, drop, length, take};
-ghost use Rattle.text_beginnings.specs.Settled.{has_other_magic, has_other_version, is_control, is_stray, is_version, settles_image, settles_inputs, settles_source, settles_table};
+ghost use Rattle.text_beginnings.specs.Settled.{has_other_magic, has_other_version, is_control, is_stray, is_version, settles_image, settles_inputs, settles_source, settles_table, table_end};
 
 use apex_types::limits::MOST_SOURCE_BYTES;
 use apex_types::{FIRST_VERSION, MAGIC, SECOND_VERSION, THIRD_VERSION};
@@ -18,6 +18,19 @@ pub fn has_stray(bytes: &[u8]) -> bool
         }
     }
     false
+}
+
+/// How many bytes of a table there are up to the first that stands in no TOML document, with it.
+#[tactic(auto, using(std::proofs::lemmas::List::drop_more))]
+pub fn table_end(bytes: &[u8]) -> usize
+    ensures { result ≡ table_end bytes.now }
+{
+    for (place, byte) in bytes.iter().enumerate() {
+        if is_stray(*byte) {
+            return place + 1;
+        }
+    }
+    bytes.len()
 }
 
 fn is_stray(byte: u8) -> bool
