@@ -33,7 +33,8 @@ use Rattle.module.specs.declared.fault.BuildFault.{BuildFault}
 use Rattle.module.specs.declared.fault.BuildFault.TheVariants as fault
 use Rattle.streams.specs.Beginnings.{HoldsFrom, IsBeginningOf}
 use Rattle.streams.specs.Contents.{Contents, HoldAll, Holds}
-use Rattle.text_beginnings.specs.Settled.{settles_source, settles_table}
+use Rattle.text_beginnings.specs.Settled.{settles_source, settles_table, table_end}
+use Rattle.text_beginnings.proofs.Ends.{all_of_table, stray_at_end}
 use Rattle.text_beginnings.proofs.Tables.{no_document, no_source}
 use Rattle.command_line.proofs.Begun.{all_of, whole_of}
 use Rattle.command_line.specs.Done.{IsBuilt, Texts}
@@ -310,20 +311,35 @@ all_begun files names i texts at before =
     drop-all [] = refl
     drop-all (x ∷ xs) = drop-all xs
 
+-- a text that is cut, where what is left of it settles what it settled
+cut_at : (suffices : List ℕ → Bool) (n : ℕ) (text bytes : List ℕ) → (suffices bytes ≡ true → suffices (take n bytes) ≡ true) → (suffices bytes ≡ false → take n bytes ≡ bytes)
+    → IsBeginningOf suffices text bytes → IsBeginningOf suffices text (take n bytes)
+cut_at suffices n text bytes enough whole (rest, begun, why) = go (suffices bytes) refl
+  where
+    go : (t : Bool) → suffices bytes ≡ t → IsBeginningOf suffices text (take n bytes)
+    go false open_end = subst (IsBeginningOf suffices text) (sym (whole open_end)) (rest, begun, why)
+    go true settled =
+        let split : text ≡ take n bytes ++ (drop n bytes ++ rest) =
+        begun ∙ ap (λ b. b ++ rest) (sym (take-append-drop n bytes)) ∙ append_assoc (take n bytes) (drop n bytes) rest in
+        (drop n bytes ++ rest, split, inr (enough settled))
+
+-- a table that is cut behind the first byte that it may not have
+pub cut_table : (files : Option Contents) (name bytes : List ℕ) (n : ℕ) → n ≡ table_end bytes → HoldsFrom settles_table files name bytes → HoldsFrom settles_table files name (take n bytes)
+cut_table None name bytes n is held = tt
+cut_table (Some files) name bytes n is (text, in_file, begun) =
+    let enough : settles_table bytes ≡ true → settles_table (take n bytes) ≡ true = λ s. ap (λ k. settles_table (take k bytes)) is ∙ stray_at_end bytes s in
+    let whole : settles_table bytes ≡ false → take n bytes ≡ bytes = λ s. ap (λ k. take k bytes) is ∙ all_of_table bytes s in
+    (text, in_file, cut_at settles_table n text bytes enough whole begun)
+
 -- a text that is cut behind so many bytes and one more
 cut_by : (most : ℕ) (text bytes : List ℕ) → IsBeginningOf (λ b. nat_lt most (length b)) text bytes → IsBeginningOf (λ b. nat_lt most (length b)) text (take (most + 1) bytes)
-cut_by most text bytes (rest, begun, why) = go (nat_lt most (length bytes)) refl
-  where
-    go : (t : Bool) → nat_lt most (length bytes) ≡ t → IsBeginningOf (λ b. nat_lt most (length b)) text (take (most + 1) bytes)
-    go false short =
-        let all : take (most + 1) bytes ≡ bytes = take_all (most + 1) bytes (omega (arith, ltb-false most (length bytes) short)) in
-        subst (IsBeginningOf (λ b. nat_lt most (length b)) text) (sym all) (rest, begun, why)
-    go true long =
-        let many : most < length bytes = ltb-true most (length bytes) long in
-        let split : text ≡ take (most + 1) bytes ++ (drop (most + 1) bytes ++ rest) =
-        begun ∙ ap (λ b. b ++ rest) (sym (take-append-drop (most + 1) bytes)) ∙ append_assoc (take (most + 1) bytes) (drop (most + 1) bytes) rest in
-        let size : length (take (most + 1) bytes) ≡ most + 1 = length-take-le (most + 1) bytes (omega (arith, many)) in
-        (drop (most + 1) bytes ++ rest, split, inr (lt-ltb most (length (take (most + 1) bytes)) (omega (arith, size))))
+cut_by most text bytes =
+    cut_at (λ b. nat_lt most (length b)) (most + 1) text bytes
+    (λ long.
+    let many : most < length bytes = ltb-true most (length bytes) long in
+    let size : length (take (most + 1) bytes) ≡ most + 1 = length-take-le (most + 1) bytes (omega (arith, many)) in
+    lt-ltb most (length (take (most + 1) bytes)) (omega (arith, size)))
+    (λ short. take_all (most + 1) bytes (omega (arith, ltb-false most (length bytes) short)))
 
 -- a source that is cut behind the first byte that it may not have
 pub cut : (files : Option Contents) (name bytes : List ℕ) → HoldsFrom settles_source files name bytes → HoldsFrom settles_source files name (take (MOST_SOURCE_BYTES + 1) bytes)

@@ -16,7 +16,7 @@ ghost use Rattle.streams.specs.States.{HasFailed, IsFlushed, seen};
 
 use crate::explaining::Note;
 use crate::outcome::Outcome;
-use crate::reading::{module_of_texts, read_as, read_sources};
+use crate::reading::{module_of_texts, read_sources, read_table};
 use crate::refusal::Refusal;
 use apex_types::{Costs, SinkFault};
 use lint::{PartitionFindings, partition_findings, write_findings};
@@ -26,7 +26,6 @@ use pal_base::parse::parse;
 use pal_base::syntax::Program;
 use std::alloc::{AllocError, Global};
 use streams::{Files, Stream};
-use text_beginnings::TextKind;
 use window_table::PartitionRow;
 
 /// An accepted module, and its sources as they are written.
@@ -108,7 +107,7 @@ fn module_named<F: Files>(
     ensures named { IfErr result (λ r. IsOfFailed (F.failed files.old) (F.failed files.new) r) }
 {
     let name = table;
-    let table = read_as(alloc, TextKind::Table, name, files)?;
+    let table = read_table(alloc, name, files)?;
     let sources = read_sources(alloc, sources, files)?;
     read_texts(alloc, name, table.as_slice(), sources.as_slice(), note)
 }

@@ -15,7 +15,7 @@ ghost use Rattle.trace_picture.specs.Page.{IsPicture};
 
 use crate::explaining::Note;
 use crate::form::Form;
-use crate::reading::{module_of_texts, read_as, read_sources};
+use crate::reading::{module_of_texts, read_sources, read_table};
 use crate::refusal::Refusal;
 use load_views::{LoadReport, PartitionBodies};
 use module::{AcceptedModule, accept_table};
@@ -23,7 +23,6 @@ use pal::Checked;
 use schedule_load::{FrameLoad, body_loads, frame_load};
 use std::alloc::{AllocError, Global};
 use streams::{Files, Stream, write_bytes};
-use text_beginnings::TextKind;
 use trace_view::ReportFault;
 use window_table::ModuleTable;
 
@@ -84,7 +83,7 @@ fn loaded_named<F: Files>(
     ensures named { IfErr result (λ r. IsOfFailed (F.failed files.old) (F.failed files.new) r) }
 {
     let name = table;
-    let table = read_as(alloc, TextKind::Table, name, files)?;
+    let table = read_table(alloc, name, files)?;
     match sources.split_first() {
         None => load_of_text(alloc, name, table.as_slice(), note),
         Some(_) => {

@@ -7,13 +7,13 @@ use Rattle.command_line.proofs.loading.loaded_named.Goals as goal
 pub returns-clause-loaded : goal.returns-clause-loaded
 returns-clause-loaded g c =
     let names = map (λ s. s.now) c.args.sources.now in
-    let sources : HoldAllFrom settles_source (g.F.Files.contents c.read_as.new.files) names (texts_of c.as_slice-in-Some-2.result.now) = search rules in
-    together (λ l. l.load) (g.F.Files.contents c.args.files.now) (g.F.Files.contents c.read_as.new.files) c.args.table.now names _ _ c.in_ok-table.table.items c.as_slice-in-Some.result.now (texts_of c.as_slice-in-Some-2.result.now) c.load_of_texts.result
+    let sources : HoldAllFrom settles_source (g.F.Files.contents c.read_table.new.files) names (texts_of c.as_slice-in-Some-2.result.now) = search rules in
+    together (λ l. l.load) (g.F.Files.contents c.args.files.now) (g.F.Files.contents c.read_table.new.files) c.args.table.now names _ _ c.in_ok-table.table.items c.as_slice-in-Some.result.now (texts_of c.as_slice-in-Some-2.result.now) c.load_of_texts.result
     (ap (map (λ s. s.now)) c.in-Some.ensures.cases.0) c.in_ok-table.ensures.unchanged c.as_slice-in-Some.ensures.value c.in_ok-table.ensures.held sources c.load_of_texts.ensures.loaded
 
 pub returns-clause-refused : goal.returns-clause-refused
 returns-clause-refused g c =
     let names = map (λ s. s.now) c.args.sources.now in
-    let sources : HoldAllFrom settles_source (g.F.Files.contents c.read_as.new.files) names (texts_of c.as_slice-in-Some-2.result.now) = search rules in
-    together_refused (g.F.Files.contents c.args.files.now) (g.F.Files.contents c.read_as.new.files) c.args.table.now names _ _ c.in_ok-table.table.items c.as_slice-in-Some.result.now (texts_of c.as_slice-in-Some-2.result.now) c.load_of_texts.result
+    let sources : HoldAllFrom settles_source (g.F.Files.contents c.read_table.new.files) names (texts_of c.as_slice-in-Some-2.result.now) = search rules in
+    together_refused (g.F.Files.contents c.args.files.now) (g.F.Files.contents c.read_table.new.files) c.args.table.now names _ _ c.in_ok-table.table.items c.as_slice-in-Some.result.now (texts_of c.as_slice-in-Some-2.result.now) c.load_of_texts.result
     (ap (map (λ s. s.now)) c.in-Some.ensures.cases.0) c.in_ok-table.ensures.unchanged c.as_slice-in-Some.ensures.value c.in_ok-table.ensures.held sources c.load_of_texts.ensures.refused
