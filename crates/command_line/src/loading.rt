@@ -15,7 +15,7 @@ ghost use Rattle.trace_picture.specs.Page.{IsPicture};
 
 use crate::explaining::Note;
 use crate::form::Form;
-use crate::reading::{module_of_texts, read, read_all};
+use crate::reading::{module_of_texts, read_sources, read_table};
 use crate::refusal::Refusal;
 use load_views::{LoadReport, PartitionBodies};
 use module::{AcceptedModule, accept_table};
@@ -83,11 +83,11 @@ fn loaded_named<F: Files>(
     ensures named { IfErr result (λ r. IsOfFailed (F.failed files.old) (F.failed files.new) r) }
 {
     let name = table;
-    let table = read(alloc, name, files)?;
+    let table = read_table(alloc, name, files)?;
     match sources.split_first() {
         None => load_of_text(alloc, name, table.as_slice(), note),
         Some(_) => {
-            let sources = read_all(alloc, sources, files)?;
+            let sources = read_sources(alloc, sources, files)?;
             load_of_texts(alloc, name, table.as_slice(), sources.as_slice(), note)
         }
     }
