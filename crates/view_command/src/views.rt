@@ -99,7 +99,7 @@ impl Shown {
                 let windows = windows_of(alloc, table, (from, to), MOST_WINDOWS)?;
                 Shown::Waves(Dump::new(alloc, from, to), windows)
             }
-            View::Page => Shown::Page(Page::new(alloc), page_windows(alloc, &table)?),
+            View::Page => Shown::Page(Page::new(alloc, to), page_windows(alloc, &table)?),
             View::Lines(filter) => Shown::Lines(Listing::new(alloc, filter)),
             View::Check(filter, limits) => Shown::Check(Check::new(alloc, filter, limits)),
         };
