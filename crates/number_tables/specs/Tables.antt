@@ -17,6 +17,9 @@ contents_of t = record { names = t.names; headings = texts_of t.headings; rows =
 abbrev pub with_row : List (List ℕ) → Contents → Contents
 with_row row t = record t { rows = t.rows ++ row ∷ [] }
 
+abbrev pub with_rows : List (List (List ℕ)) → Contents → Contents
+with_rows rows t = record t { rows = t.rows ++ rows }
+
 -- ---- the widths of its columns
 
 abbrev pub length_or_0 : Option (List ℕ) → ℕ

@@ -8,7 +8,7 @@ mod sheet;
 mod table;
 
 pub use cell::{Cell, cell_text, number_cell, share_cells};
-pub use row::Row;
+pub use row::{Row, named};
 pub use share::Share;
 pub use sheet::push_record;
 pub use table::Table;

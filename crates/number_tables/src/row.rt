@@ -1,6 +1,6 @@
 //! The rows of tables.
 
-ghost use Rattle.std.specs.Prelude.{◌≡◌, ◌++◌, ◌∷◌, [], map, replicate, OnOk};
+ghost use Rattle.std.specs.Prelude.{◌≡◌, ◌++◌, ◌∷◌, [], map, replicate, IfOk, OnOk};
 ghost use Rattle.number_tables.specs.Cells.{cell_text};
 ghost use Rattle.number_tables.specs.Rows.{texts_of};
 
@@ -99,4 +99,17 @@ impl Row {
     {
         self.texts.as_slice()
     }
+}
+
+/// A row that begins with its kind, a partition and a name.
+///
+/// # Errors
+///
+/// Memory ran out.
+pub fn named(alloc: Global, kind: &str, partition: &str, name: &str) -> Result<Row, AllocError>
+    ensures { IfOk result (λ row. texts_of row ≡ kind.now ∷ partition.now ∷ name.now ∷ []) }
+{
+    let mut row = Row::new(alloc);
+    row.push_texts(&[kind, partition, name])?;
+    Ok(row)
 }

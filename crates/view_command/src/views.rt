@@ -6,13 +6,13 @@ ghost use Rattle.view_command.specs.declared.views.ViewFault.TheVariants as faul
 
 use crate::windows::{page_windows, shares_of, windows_of};
 use apex_types::{Event, Name, Ticks};
-use std::alloc::Global;
+use std::alloc::{AllocError, Global};
 use std::io;
 use trace_filter::{Check, Filter, Limits, Listing};
 use trace_page::Page;
 use trace_picture::{Picture, PictureFault};
 use trace_shares::SharesFault;
-use trace_view::{ReportFault, Summary};
+use trace_view::Summary;
 use trace_windows::{Windows, WindowsFault};
 use wave_dump::{Dump, MemoryFull};
 use window_table::ModuleTable;
@@ -156,8 +156,8 @@ impl Shown {
     {
         let mut bytes = Vec::new(alloc);
         match self {
-            Shown::Table(summary) => summary.finish()?.write_table(alloc, &mut bytes)?,
-            Shown::Rows(summary) => summary.finish()?.write_csv(alloc, &mut bytes)?,
+            Shown::Table(summary) => bytes = summary.finish()?.tables(alloc)?,
+            Shown::Rows(summary) => bytes = summary.finish()?.sheet(alloc)?,
             Shown::Picture(picture) => picture.finish()?.write(&mut bytes)?,
             Shown::Waves(dump, windows) => write_waves(dump, windows, &mut bytes)?,
             Shown::Page(page, windows) => bytes = page.into_text(windows.as_slice())?,
@@ -208,10 +208,10 @@ impl From<io::Error> for ViewFault {
     }
 }
 
-impl From<ReportFault> for ViewFault {
+impl From<AllocError> for ViewFault {
     ghost from_gives = { λ _ f. f ≡ fault.Memory };
 
-    fn from(_: ReportFault) -> Self {
+    fn from(_: AllocError) -> Self {
         ViewFault::Memory
     }
 }
