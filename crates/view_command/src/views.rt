@@ -159,7 +159,7 @@ impl Shown {
             Shown::Table(summary) => bytes = summary.finish()?.tables(alloc)?,
             Shown::Rows(summary) => bytes = summary.finish()?.sheet(alloc)?,
             Shown::Picture(picture) => picture.finish()?.write(&mut bytes)?,
-            Shown::Waves(dump, windows) => write_waves(dump, windows, &mut bytes)?,
+            Shown::Waves(dump, windows) => write_waves(alloc, dump, windows, &mut bytes)?,
             Shown::Page(page, windows) => bytes = page.into_text(windows.as_slice())?,
             Shown::Lines(listing) => bytes = listing.into_text(),
             Shown::Check(check) => bytes = check.into_text(alloc),
@@ -178,6 +178,7 @@ fn read_windows(windows: &mut Option<Windows>, event: &Event) -> Result<(), Wind
 
 /// Writes the waves that were gathered, with the windows of the module table, if one is given.
 fn write_waves(
+    alloc: Global,
     mut dump: Dump,
     windows: Option<Windows>,
     bytes: &mut Vec<u8>,
@@ -187,7 +188,8 @@ fn write_waves(
         dump.add_windows(windows.names(), windows.stretches())?;
     }
     dump.finish()?;
-    dump.write(bytes)?;
+    let text = dump.text(alloc)?;
+    bytes.extend_from_slice(text.as_bytes())?;
     Ok(())
 }
 
