@@ -6,13 +6,13 @@ ghost use Rattle.view_command.specs.declared.views.ViewFault.TheVariants as faul
 
 use crate::windows::{page_windows, shares_of, windows_of};
 use apex_types::{Event, Name, Ticks};
-use std::alloc::Global;
+use std::alloc::{AllocError, Global};
 use std::io;
 use trace_filter::{Check, Filter, Limits, Listing};
 use trace_page::Page;
 use trace_picture::{Picture, PictureFault};
 use trace_shares::SharesFault;
-use trace_view::{ReportFault, Summary};
+use trace_view::Summary;
 use trace_windows::{Windows, WindowsFault};
 use wave_dump::{Dump, MemoryFull};
 use window_table::ModuleTable;
@@ -99,7 +99,7 @@ impl Shown {
                 let windows = windows_of(alloc, table, (from, to), MOST_WINDOWS)?;
                 Shown::Waves(Dump::new(alloc, from, to), windows)
             }
-            View::Page => Shown::Page(Page::new(alloc), page_windows(alloc, &table)?),
+            View::Page => Shown::Page(Page::new(alloc, to), page_windows(alloc, &table)?),
             View::Lines(filter) => Shown::Lines(Listing::new(alloc, filter)),
             View::Check(filter, limits) => Shown::Check(Check::new(alloc, filter, limits)),
         };
@@ -156,10 +156,10 @@ impl Shown {
     {
         let mut bytes = Vec::new(alloc);
         match self {
-            Shown::Table(summary) => summary.finish()?.write_table(alloc, &mut bytes)?,
-            Shown::Rows(summary) => summary.finish()?.write_csv(alloc, &mut bytes)?,
+            Shown::Table(summary) => bytes = summary.finish()?.tables(alloc)?,
+            Shown::Rows(summary) => bytes = summary.finish()?.sheet(alloc)?,
             Shown::Picture(picture) => picture.finish()?.write(&mut bytes)?,
-            Shown::Waves(dump, windows) => write_waves(dump, windows, &mut bytes)?,
+            Shown::Waves(dump, windows) => write_waves(alloc, dump, windows, &mut bytes)?,
             Shown::Page(page, windows) => bytes = page.into_text(windows.as_slice())?,
             Shown::Lines(listing) => bytes = listing.into_text(),
             Shown::Check(check) => bytes = check.into_text(alloc),
@@ -178,6 +178,7 @@ fn read_windows(windows: &mut Option<Windows>, event: &Event) -> Result<(), Wind
 
 /// Writes the waves that were gathered, with the windows of the module table, if one is given.
 fn write_waves(
+    alloc: Global,
     mut dump: Dump,
     windows: Option<Windows>,
     bytes: &mut Vec<u8>,
@@ -187,7 +188,8 @@ fn write_waves(
         dump.add_windows(windows.names(), windows.stretches())?;
     }
     dump.finish()?;
-    dump.write(bytes)?;
+    let text = dump.text(alloc)?;
+    bytes.extend_from_slice(text.as_bytes())?;
     Ok(())
 }
 
@@ -208,10 +210,10 @@ impl From<io::Error> for ViewFault {
     }
 }
 
-impl From<ReportFault> for ViewFault {
+impl From<AllocError> for ViewFault {
     ghost from_gives = { λ _ f. f ≡ fault.Memory };
 
-    fn from(_: ReportFault) -> Self {
+    fn from(_: AllocError) -> Self {
         ViewFault::Memory
     }
 }

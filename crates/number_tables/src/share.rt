@@ -1,28 +1,28 @@
-//! Shares of all ticks.
+//! Shares of a whole.
 
 ghost use Rattle.std.specs.Prelude.{◌≡◌};
 
 use std::fmt;
 
-/// A share of all ticks, in tenths of a percent: 0 to 1,000.
+/// A share of a whole, in tenths of a percent.
 #[derive(Clone, Copy, Debug, PartialEq, Eq)]
 pub struct Share {
     pub tenths: u64,
 }
 
 impl Share {
-    ghost use Rattle.trace_view.specs.Counting.{share_of};
+    ghost use Rattle.number_tables.specs.Shares.{share_of};
 
-    /// The share of these ticks among all: the nearest tenth of a percent, and of two that are as
-    /// near the greater one. Of no ticks each share is 0.
-    pub fn of(ticks: u64, all: u64) -> Share
-        ensures { result.tenths ≡ share_of ticks all }
+    /// The share of a part in a whole: the nearest tenth of a percent, and of two that are as near
+    /// the greater one. It is at most 1,000. Of nothing each share is 0.
+    pub fn of(part: u64, whole: u64) -> Share
+        ensures { result.tenths ≡ share_of part whole }
     {
-        if all == 0 {
+        if whole == 0 {
             return Share { tenths: 0 };
         }
-        let part = u128::from(ticks.min(all));
-        let whole = u128::from(all);
+        let part = u128::from(part.min(whole));
+        let whole = u128::from(whole);
         Share {
             tenths: ((2000 * part + whole) / (2 * whole)) as u64,
         }
@@ -31,7 +31,7 @@ impl Share {
 
 impl fmt::Display for Share {
     ghost use Rattle.std.specs.Prelude.{Some};
-    ghost use Rattle.trace_view.specs.Cells.{share_text};
+    ghost use Rattle.number_tables.specs.Shares.{share_text};
 
     ghost output = { λ share. Some (share_text share) };
 
