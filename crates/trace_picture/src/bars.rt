@@ -153,7 +153,7 @@ fn draw_mode_bar(
 }
 
 /// Draws the word of a mode on its bar, if the bar is wide enough.
-fn draw_word(
+pub fn draw_word(
     page: &mut Page,
     axis: Axis,
     top: Length,
@@ -173,7 +173,7 @@ fn draw_word(
 }
 
 /// Draws a bar with a title.
-fn draw_bar(
+pub fn draw_bar(
     page: &mut Page,
     axis: Axis,
     top: Length,

@@ -5,7 +5,7 @@ ghost use Rattle.std.specs.Io.KnownBytes.{Appends};
 ghost use Rattle.trace_picture.specs.Page.{IsPicture};
 
 use crate::axis::Axis;
-use crate::bars::{draw_mode, draw_state};
+use crate::bars::draw_mode;
 use crate::element::{Key, Tag, at, set, view};
 use crate::frame::{draw_axis, draw_legend, draw_names};
 use crate::length::Length;
@@ -14,16 +14,21 @@ use crate::page::Page;
 use crate::rows::Rows;
 use crate::shape::Shape;
 use crate::style::draw_style;
+use crate::windows::{draw_stay, draw_windows};
 use std::alloc::{AllocError, Global};
 use std::io;
 use std::io::Write;
 use trace_stays::Lanes;
+use trace_windows::Windows;
 
 /// The width of a picture.
 pub const WIDE: Length = Length(12_000);
 
 /// The height of the legend.
 const LEGEND: Length = Length(720);
+
+/// The height of its line with what windows show.
+const LEGEND_LINE: Length = Length(260);
 
 /// A picture that is ready to be drawn.
 #[derive(Drop)]
@@ -33,6 +38,8 @@ pub struct Drawing {
     pub(crate) rows: Rows,
     pub(crate) lanes: Lanes,
     pub(crate) shapes: Vec<Shape>,
+    /// The windows, if they are known.
+    pub(crate) windows: Option<Windows>,
     ghost few: { vec_len shapes ≤ 5000 },
     ghost in_order: { axis.span.from.0 ≤ axis.span.until.0 },
 }
@@ -72,7 +79,7 @@ impl Drawing {
     pub fn text(&self) -> Result<String, AllocError>
         ensures { IfOk result (λ text. ∥ IsPicture (string_bytes text) ∥₁) }
     {
-        let high = self.rows.bottom + LEGEND;
+        let high = self.rows.bottom + self.legend();
         let mut page = Page::new(
             self.alloc,
             &[
@@ -95,8 +102,16 @@ impl Drawing {
         draw_names(&mut page, &self.lanes, &self.rows)?;
         draw_axis(&mut page, self.axis, self.rows.bottom)?;
         self.draw_shapes(&mut page)?;
-        draw_legend(&mut page, self.rows.bottom)?;
+        draw_legend(&mut page, self.rows.bottom, self.windows.is_some())?;
         page.finish()
+    }
+
+    /// The height of the legend.
+    fn legend(&self) -> Length {
+        match &self.windows {
+            Some(_) => LEGEND + LEGEND_LINE,
+            None => LEGEND,
+        }
     }
 
     fn draw_title(&self, page: &mut Page) -> Result<(), AllocError> {
@@ -105,15 +120,20 @@ impl Drawing {
         page.number(self.axis.span.from.0)?;
         page.text(" to tick ")?;
         page.number(self.axis.span.until.0)?;
+        page.text(match &self.windows {
+            Some(_) => ", with the windows of its module table",
+            None => "; windows are not known",
+        })?;
         page.close()
     }
 
-    /// Draws the shapes: first the bars, then what stands on them.
+    /// Draws the shapes: first the windows and the bars, then what stands on them.
     fn draw_shapes(&self, page: &mut Page) -> Result<(), AllocError>
         ensures { OnOk result
             (string_bytes page.new.text
             ≡ string_bytes page.old.text ++ shapes_text self.now) }
     {
+        draw_windows(page, self.alloc, self.axis, &self.rows, &self.windows)?;
         self.draw_bars(page)?;
         self.draw_marks(page)
     }
@@ -123,7 +143,8 @@ impl Drawing {
         ensures { OnOk result
             (string_bytes page.new.text
             ≡ string_bytes page.old.text
-            ++ bars_text self.now.axis.span self.now.lanes self.now.rows self.now.shapes.items) }
+            ++ bars_text self.now.axis.span self.now.lanes self.now.rows self.now.windows
+            self.now.shapes.items) }
     {
         for shape in &self.shapes {
             self.draw_bar(page, shape)?;
@@ -148,13 +169,14 @@ impl Drawing {
         ensures { OnOk result
             (string_bytes page.new.text
             ≡ string_bytes page.old.text
-            ++ bar_of self.now.axis.span self.now.lanes self.now.rows shape.now) }
+            ++ bar_of self.now.axis.span self.now.lanes self.now.rows self.now.windows shape.now) }
     {
         let Drawing {
             alloc,
             axis,
             lanes,
             rows,
+            windows,
             ..
         } = self;
         match shape {
@@ -162,7 +184,7 @@ impl Drawing {
                 draw_mode(page, *alloc, *axis, lanes, rows, *partition, *stay)
             }
             Shape::State(process, stay) => {
-                draw_state(page, *alloc, *axis, lanes, rows, *process, *stay)
+                draw_stay(page, *alloc, *axis, lanes, rows, windows, (*process, *stay))
             }
             _ => Ok(()),
         }

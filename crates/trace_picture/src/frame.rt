@@ -13,6 +13,7 @@ use crate::length::Length;
 use crate::marks::{FLAG, FLAG_DOWN, REPORT, REPORT_DOWN};
 use crate::page::Page;
 use crate::rows::{ROW, Rows};
+use crate::windows::{RELEASE, RELEASE_DOWN, bar_of_window, bar_outside, word_outside};
 use apex_types::{Mode, ProcessState, Ticks};
 use std::alloc::AllocError;
 use trace_stays::{Lanes, subject_word};
@@ -38,6 +39,9 @@ const COLUMN: Length = Length(1_700);
 
 /// Draws the names of the rows, and the ground of each partition.
 pub fn draw_names(page: &mut Page, lanes: &Lanes, rows: &Rows) -> Result<(), AllocError> {
+    if let Some(top) = rows.windows {
+        draw_text(page, "partition", NAMES, top + LINE, "windows")?;
+    }
     if let Some(top) = rows.outside {
         draw_base(page, top + ROW.half())?;
         draw_text(page, "partition", NAMES, top + LINE, "outside")?;
@@ -152,8 +156,11 @@ fn draw_mark(page: &mut Page, axis: Axis, tick: Ticks, bottom: Length) -> Result
     draw_text(page, "tick", x, AXIS - Length(90), buffer.format(tick.0))
 }
 
-/// Draws the legend of the bars and marks.
-pub fn draw_legend(page: &mut Page, bottom: Length) -> Result<(), AllocError> {
+/// Draws the legend of the bars and marks, and of what the windows show, if they are known.
+pub fn draw_legend(page: &mut Page, bottom: Length, has_windows: bool) -> Result<(), AllocError> {
+    if has_windows {
+        draw_window_samples(page, bottom + Length(680))?;
+    }
     let first = bottom + Length(160);
     let second = first + Length(260);
     let states = [
@@ -173,6 +180,16 @@ pub fn draw_legend(page: &mut Page, bottom: Length) -> Result<(), AllocError> {
     draw_arrow_sample(page, second, "lost", "lost message")?;
     draw_mark_sample(page, first, FLAG_DOWN, "flag", FLAG, "error")?;
     draw_mark_sample(page, second, REPORT_DOWN, "report", REPORT, "report")
+}
+
+/// Draws the line of the legend with what windows show.
+fn draw_window_samples(page: &mut Page, top: Length) -> Result<(), AllocError> {
+    let chosen = bar_outside(ProcessState::Running);
+    draw_sample(page, 0, top, bar_of_window(), "window")?;
+    draw_sample(page, 1, top, chosen, word_outside(ProcessState::Running))?;
+    let ready = bar_outside(ProcessState::Ready);
+    draw_sample(page, 3, top, ready, word_outside(ProcessState::Ready))?;
+    draw_mark_sample(page, top, RELEASE_DOWN, "release", RELEASE, "release point")
 }
 
 /// The place where a column of the legend begins.

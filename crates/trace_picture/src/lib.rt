@@ -18,6 +18,7 @@ mod rows;
 mod shape;
 mod style;
 mod titles;
+mod windows;
 
 pub use axis::{Axis, LEFT, LONG};
 pub use bars::{Bar, bar_attributes, draw_text};

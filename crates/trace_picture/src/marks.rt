@@ -193,7 +193,7 @@ pub fn draw_report(
 }
 
 /// Draws an outline of this class, moved to a place, with a title.
-fn draw_outline(
+pub fn draw_outline(
     page: &mut Page,
     class: &str,
     outline: &str,

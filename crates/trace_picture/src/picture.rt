@@ -11,9 +11,11 @@ use crate::drawing::Drawing;
 use crate::fault::PictureFault;
 use crate::rows::Rows;
 use crate::shape::{Flag, MOST_SHAPES, Message, Owner, Report, Shape, Stop, Way};
+use crate::windows::fits;
 use apex_types::{ErrorKind, Event, EventKind, Name, Response, Subject, Ticks, Words, copied};
 use std::alloc::Global;
 use trace_stays::{Ended, Lanes, ModeStay, ShownTicks, Stay};
+use trace_windows::Windows;
 
 /// A picture of some ticks of a trace. It keeps what these ticks show, and nothing else.
 #[derive(Drop)]
@@ -70,12 +72,21 @@ impl Picture {
         Ok(())
     }
 
-    /// The picture as it is drawn. No event follows.
+    /// The tick before which the picture ends, if no line follows.
+    pub fn until(&self) -> Ticks
+        ensures { result ≡ (shown_ticks self.now.shown).until }
+    {
+        self.shown.span().until
+    }
+
+    /// The picture as it is drawn, with these windows up to its end, if they are known. No event
+    /// follows.
     ///
     /// # Errors
     ///
     /// Memory ran out, or the picture would have too many shapes.
-    pub fn finish(mut self) -> Result<Drawing, PictureFault>
+    pub fn finish(mut self, windows: Option<Windows>) -> Result<Drawing, PictureFault>
+        ensures windows { IfOk result (λ drawing. drawing.windows ≡ windows) }
         ensures span { IfOk result (λ drawing. drawing.axis.span ≡ shown_ticks self.shown) }
         ensures lanes { IfOk result (λ drawing. drawing.lanes ≡ self.lanes) }
         ensures shapes { IfOk result
@@ -90,13 +101,17 @@ impl Picture {
         self.lanes.finish(span.until, &mut ended)?;
         self.keep_stays(ended.as_slice())?;
         let axis = Axis { span };
-        let rows = Rows::new(self.alloc, &self.lanes, &self.shapes)?;
+        if !fits(&windows, self.shapes.as_slice()) {
+            return Err(PictureFault::TooMany);
+        }
+        let rows = Rows::new(self.alloc, &self.lanes, &self.shapes, windows.is_some())?;
         Ok(Drawing {
             alloc: self.alloc,
             axis,
             rows,
             lanes: self.lanes,
             shapes: self.shapes,
+            windows,
         })
     }
 

@@ -31,7 +31,7 @@ windows_fault (windows.Unknown name) = fault.Foreign name
 abbrev pub IsOfPicture : Shown → Type 0
 IsOfPicture (shown.Table summary) = ⊥
 IsOfPicture (shown.Rows summary) = ⊥
-IsOfPicture (shown.Picture picture) = Unit {0}
+IsOfPicture (shown.Picture picture windows) = Unit {0}
 IsOfPicture (shown.Waves dump windows) = Unit {0}
 IsOfPicture (shown.Page page windows) = ⊥
 IsOfPicture (shown.Lines listing) = ⊥

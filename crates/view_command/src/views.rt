@@ -10,7 +10,7 @@ use std::alloc::Global;
 use std::io;
 use trace_filter::{Check, Filter, Limits, Listing};
 use trace_page::Page;
-use trace_picture::{Picture, PictureFault};
+use trace_picture::{MOST_SHAPES, Picture, PictureFault};
 use trace_shares::SharesFault;
 use trace_view::{ReportFault, Summary};
 use trace_windows::{Windows, WindowsFault};
@@ -61,7 +61,8 @@ pub enum ViewFault {
 pub enum Shown {
     Table(Summary),
     Rows(Summary),
-    Picture(Picture),
+    /// The picture, and the windows of the module table, if one is given.
+    Picture(Picture, Option<Windows>),
     /// The dump, and the windows of the module table, if one is given.
     Waves(Dump, Option<Windows>),
     /// The page, and its windows.
@@ -94,7 +95,10 @@ impl Shown {
                 to,
                 shares_of(alloc, table, from)?,
             )),
-            View::Picture => Shown::Picture(Picture::new(alloc, from, to)),
+            View::Picture => {
+                let windows = windows_of(alloc, table, (from, to), MOST_SHAPES)?;
+                Shown::Picture(Picture::new(alloc, from, to), windows)
+            }
             View::Waves => {
                 let windows = windows_of(alloc, table, (from, to), MOST_WINDOWS)?;
                 Shown::Waves(Dump::new(alloc, from, to), windows)
@@ -128,7 +132,10 @@ impl Shown {
     {
         match self {
             Shown::Table(summary) | Shown::Rows(summary) => summary.count(event)?,
-            Shown::Picture(picture) => picture.add(event)?,
+            Shown::Picture(picture, windows) => {
+                read_windows(windows, event)?;
+                picture.add(event)?
+            }
             Shown::Waves(dump, windows) => {
                 read_windows(windows, event)?;
                 dump.add(event)?
@@ -158,7 +165,7 @@ impl Shown {
         match self {
             Shown::Table(summary) => summary.finish()?.write_table(alloc, &mut bytes)?,
             Shown::Rows(summary) => summary.finish()?.write_csv(alloc, &mut bytes)?,
-            Shown::Picture(picture) => picture.finish()?.write(&mut bytes)?,
+            Shown::Picture(picture, windows) => write_picture(picture, windows, &mut bytes)?,
             Shown::Waves(dump, windows) => write_waves(dump, windows, &mut bytes)?,
             Shown::Page(page, windows) => bytes = page.into_text(windows.as_slice())?,
             Shown::Lines(listing) => bytes = listing.into_text(),
@@ -174,6 +181,19 @@ fn read_windows(windows: &mut Option<Windows>, event: &Event) -> Result<(), Wind
         Some(windows) => windows.read(event),
         None => Ok(()),
     }
+}
+
+/// Writes the picture, with the windows of the module table, if one is given.
+fn write_picture(
+    picture: Picture,
+    mut windows: Option<Windows>,
+    bytes: &mut Vec<u8>,
+) -> Result<(), ViewFault> {
+    if let Some(windows) = &mut windows {
+        windows.pass_to(picture.until())?;
+    }
+    picture.finish(windows)?.write(bytes)?;
+    Ok(())
 }
 
 /// Writes the waves that were gathered, with the windows of the module table, if one is given.

@@ -32,7 +32,7 @@ fn picture_of(rt: &impl Abort, alloc: Global, from: u64, to: u64) -> Drawing {
             None => break,
         }
     }
-    picture.finish().expect(rt, "memory")
+    picture.finish(None).expect(rt, "memory")
 }
 
 /// A picture is empty. It begins and ends with the first tick.
