@@ -4,6 +4,7 @@ use Rattle.trace_picture.specs.Element.{path_start, titled}
 use Rattle.trace_picture.specs.Lengths.{behind}
 use Rattle.trace_picture.specs.Rows.{in_row}
 use Rattle.trace_picture.specs.Windows.{window_bar_at}
+use Rattle.trace_picture.specs.declared.axis.Axis.{Axis}
 use Rattle.trace_picture.specs.declared.element.Tag.TheVariants.{Path}
 use Rattle.trace_picture.specs.declared.length.Length.{Length}
 use Rattle.trace_stays.specs.declared.span.Span.{Span}
@@ -13,6 +14,6 @@ pub in_its_row : (row : Option Length) (top : Length) (class path : List ℕ) (x
     → titled Path (path_start class path x y) shown ≡ in_row row (λ top. titled Path (path_start class path left (behind top down)) title)
 in_its_row row top class path x left down y shown title r ex ey et = rw (r, ex, ey, et)
 
-pub window_in_row : (row : Option Length) (top : Length) (axis : Span) (name : List ℕ) (s : Span) (shown title : List ℕ) → row ≡ Some top → shown ≡ title
+pub window_in_row : (row : Option Length) (top : Length) (axis : Axis) (name : List ℕ) (s : Span) (shown title : List ℕ) → row ≡ Some top → shown ≡ title
     → window_bar_at axis top name s shown ≡ in_row row (λ top. window_bar_at axis top name s title)
 window_in_row row top axis name s shown title r et = rw (r, et)

@@ -9,5 +9,6 @@ pub mod Page
 pub mod Rows
 pub mod Titles
 pub mod Windows
+pub mod Elements
 pub mod Shapes
 pub mod Added

@@ -9,7 +9,7 @@ use std::alloc::{AllocError, Global};
 use trace_stays::Lanes;
 
 /// The top of the first row, under the axis.
-pub const FIRST_ROW: Length = Length(400);
+pub const FIRST_ROW: Length = Length(600);
 
 /// The height of a row.
 pub const ROW: Length = Length(220);

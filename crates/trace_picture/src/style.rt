@@ -10,6 +10,7 @@ const STYLE: &str = "
 text{font:12px sans-serif;fill:#1f2933}
 .paper{fill:#fff}
 .ground{fill:#f3f5f8}
+.heading{font-size:13px;font-weight:bold}
 .partition{font-weight:bold}
 .mode{font-size:10px;fill:#1f2933;stroke:#fff;stroke-width:4px;paint-order:stroke}
 .tick{font-size:11px;text-anchor:middle}

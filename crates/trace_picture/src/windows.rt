@@ -11,7 +11,6 @@ use crate::length::Length;
 use crate::marks::draw_outline;
 use crate::page::Page;
 use crate::rows::Rows;
-use crate::shape::{MOST_SHAPES, Shape};
 use crate::titles::{bar_title, process_name};
 use apex_types::{PartitionId, ProcessState, Ticks};
 use std::alloc::{AllocError, Global};
@@ -69,7 +68,7 @@ fn draw_release_mark(
 ) -> Result<(), AllocError>
     ensures { OnOk result
         (string_bytes page.new.text
-        ≡ string_bytes page.old.text ++ spec.release_mark axis.span rows.now name.now tick.0) }
+        ≡ string_bytes page.old.text ++ spec.release_mark axis rows.now name.now tick.0) }
 {
     let Some(top) = rows.windows else {
         return Ok(());
@@ -99,7 +98,7 @@ fn draw_release(
     ensures { OnOk result
         (string_bytes page.new.text
         ≡ string_bytes page.old.text
-        ++ spec.release_text is_release axis.span rows.now name.now tick.0) }
+        ++ spec.release_text is_release axis rows.now name.now tick.0) }
 {
     if is_release {
         draw_release_mark(page, alloc, axis, rows, name, tick)
@@ -119,7 +118,7 @@ fn draw_window_bar(
 ) -> Result<(), AllocError>
     ensures { OnOk result
         (string_bytes page.new.text
-        ≡ string_bytes page.old.text ++ spec.window_bar axis.span rows.now name.now span) }
+        ≡ string_bytes page.old.text ++ spec.window_bar axis rows.now name.now span) }
 {
     let Some(top) = rows.windows else {
         return Ok(());
@@ -140,13 +139,14 @@ fn draw_window_at(
     ensures { OnOk result
         (string_bytes page.new.text
         ≡ string_bytes page.old.text
-        ++ spec.window_bar_at axis.span top name.now span title.now) }
+        ++ spec.window_bar_at axis top name.now span title.now) }
 {
     draw_bar(page, axis, top, bar_of_window(), span, title)?;
     draw_word(page, axis, top, name, span)
 }
 
-/// Draws the window of a stretch, and its release point; nothing for ticks in no window.
+/// Draws the window of a stretch as far as it is shown, and its release point; nothing for ticks in
+/// no window.
 pub fn draw_window(
     page: &mut Page,
     alloc: Global,
@@ -158,22 +158,18 @@ pub fn draw_window(
     ensures { OnOk result
         (string_bytes page.new.text
         ≡ string_bytes page.old.text
-        ++ spec.window_of axis.span rows.now windows.now stretch.now) }
+        ++ spec.window_of axis rows.now windows.now stretch.now) }
 {
     let Some(owner) = stretch.owner else {
         return Ok(());
     };
+    let span = stretch.span.within(axis.span);
+    if span.ticks() == 0 {
+        return Ok(());
+    }
     let name = owner_name(windows, owner);
-    draw_window_bar(page, alloc, axis, rows, name, stretch.span)?;
-    draw_release(
-        page,
-        alloc,
-        axis,
-        rows,
-        stretch.is_release,
-        name,
-        stretch.span.from,
-    )
+    draw_window_bar(page, alloc, axis, rows, name, span)?;
+    draw_release(page, alloc, axis, rows, stretch.is_release, name, span.from)
 }
 
 /// The class of the bar of a process that is in a state outside the windows of its partition.
@@ -215,7 +211,7 @@ pub fn word_outside(state: ProcessState) -> &'static str
 }
 
 /// Returns true for the states whose bars are cut at the ends of windows.
-fn is_cut(state: ProcessState) -> bool
+pub fn is_cut(state: ProcessState) -> bool
     ensures { result ≡ spec.is_cut state }
 {
     match state {
@@ -237,7 +233,7 @@ fn draw_outside(
     ensures { OnOk result
         (string_bytes page.new.text
         ≡ string_bytes page.old.text
-        ++ spec.outside_text axis.span lanes.now rows.now process stay) }
+        ++ spec.outside_text axis lanes.now rows.now process stay) }
 {
     let Some(top) = rows.process(process) else {
         return Ok(());
@@ -294,7 +290,7 @@ fn draw_piece(
     ensures { OnOk result
         (string_bytes page.new.text
         ≡ string_bytes page.old.text
-        ++ spec.piece_in axis.span lanes.now rows.now piece.0 piece.1 piece.2 stretch.now) }
+        ++ spec.piece_in axis lanes.now rows.now piece.0 piece.1 piece.2 stretch.now) }
 {
     let (process, stay, own) = piece;
     let span = stay.span.within(stretch.span);
@@ -323,7 +319,7 @@ fn draw_pieces(
     ensures { OnOk result
         (string_bytes page.new.text
         ≡ string_bytes page.old.text
-        ++ spec.pieces_text axis.span lanes.now rows.now windows.now piece.0 piece.1) }
+        ++ spec.pieces_text axis lanes.now rows.now windows.now piece.0 piece.1) }
 {
     let (process, stay) = piece;
     let own = own_place(windows, lanes, process);
@@ -354,7 +350,7 @@ pub fn draw_stay(
     ensures { OnOk result
         (string_bytes page.new.text
         ≡ string_bytes page.old.text
-        ++ spec.stay_text axis.span lanes.now rows.now windows.now piece.0 piece.1) }
+        ++ spec.stay_text axis lanes.now rows.now windows.now piece.0 piece.1) }
 {
     let (process, stay) = piece;
     match windows {
@@ -375,7 +371,7 @@ pub fn draw_windows(
 ) -> Result<(), AllocError>
     ensures { OnOk result
         (string_bytes page.new.text
-        ≡ string_bytes page.old.text ++ spec.windows_text axis.span rows.now windows.now) }
+        ≡ string_bytes page.old.text ++ spec.windows_text axis rows.now windows.now) }
 {
     match windows {
         Some(windows) => draw_lane(page, alloc, axis, rows, windows),
@@ -393,49 +389,10 @@ fn draw_lane(
 ) -> Result<(), AllocError>
     ensures { OnOk result
         (string_bytes page.new.text
-        ≡ string_bytes page.old.text ++ spec.lane_text axis.span rows.now windows.now) }
+        ≡ string_bytes page.old.text ++ spec.lane_text axis rows.now windows.now) }
 {
     for stretch in windows.stretches() {
         draw_window(page, alloc, axis, rows, windows, stretch)?;
     }
     Ok(())
-}
-
-/// The number of stretches with which a stay has ticks in common.
-fn pieces_of(windows: &Windows, stay: Stay) -> usize {
-    let mut count: usize = 0;
-    for stretch in windows.stretches() {
-        if stay.span.within(stretch.span).ticks() > 0 {
-            count = count.saturating_add(1);
-        }
-    }
-    count
-}
-
-/// The number of elements that are drawn for a shape.
-fn elements_of(windows: &Windows, shape: &Shape) -> usize {
-    match shape {
-        Shape::State(_, stay) if is_cut(stay.state) => pieces_of(windows, *stay),
-        _ => 1,
-    }
-}
-
-/// Returns true if the picture has not too many elements with these windows.
-pub fn fits(windows: &Option<Windows>, shapes: &[Shape]) -> bool {
-    let Some(windows) = windows else {
-        return true;
-    };
-    let mut count: usize = 0;
-    for stretch in windows.stretches() {
-        if stretch.owner.is_some() {
-            count = count.saturating_add(1);
-        }
-    }
-    for shape in shapes {
-        count = count.saturating_add(elements_of(windows, shape));
-        if count > MOST_SHAPES {
-            return false;
-        }
-    }
-    true
 }

@@ -41,7 +41,7 @@ summary_app = with_rule (with_rule (run_app (codes "summary")) (option_rule (cod
 
 -- the command that draws a picture
 abbrev pub svg_app : App
-svg_app = with_rule (run_app (codes "svg")) (option_rule (codes "table"))
+svg_app = with_rule (with_rule (run_app (codes "svg")) (option_rule (codes "table"))) (option_rule (codes "width"))
 
 -- the command that writes a dump
 abbrev pub vcd_app : App

@@ -66,6 +66,12 @@ fn svg<'a>(alloc: Global) -> Result<Command<'a>, AllocError>
             "table",
             "TABLE",
             "The module table: draws its windows, and what is chosen outside of them",
+        ))?
+        .arg(option(
+            alloc,
+            "width",
+            "PIXELS",
+            "The width of the picture, from 1200 to 30000 pixels; 1200 without this word",
         ))
 }
 
