@@ -8,7 +8,7 @@ use number_tables::Share;
 use std::alloc::Global;
 use std::process::Abort;
 use streams::{NameFault, Sources, WriterStream};
-use trace_picture::{Drawing, Picture, push_escaped};
+use trace_picture::{Drawing, Picture, Width, push_escaped};
 use trace_text::TraceReader;
 use trace_view::{Report, Summary};
 use view_command::view;
@@ -32,7 +32,7 @@ fn picture_of(rt: &impl Abort, alloc: Global, from: u64, to: u64) -> Drawing {
             None => break,
         }
     }
-    picture.finish().expect(rt, "memory")
+    picture.finish(None, Width::usual()).expect(rt, "memory")
 }
 
 /// A picture is empty. It begins and ends with the first tick.
@@ -45,12 +45,12 @@ fn pictures_of_no_ticks(rt: HostRuntime) {
 
 fn expect_empty(rt: &impl Abort, alloc: Global, from: u64, to: u64) {
     let drawing = picture_of(rt, alloc, from, to);
-    assert_eq!(rt; drawing.shapes(), 0);
-    let svg = drawing.text().expect(rt, "memory");
+    assert_eq!(rt; drawing.elements(), 0);
+    let svg = drawing.text("a trace").expect(rt, "memory");
     assert_eq!(rt; svg.as_str().matches("<title>").count(), 1);
-    let title = format!(in alloc; "<title>A trace, from tick {from} to tick {from}</title>").expect(
-        rt, "memory",
-    );
+    let title = format!(in alloc;
+        "<title>a trace, from tick {from} to tick {from}; windows are not known</title>"
+    ).expect(rt, "memory");
     assert!(rt; svg.as_str().contains(title.as_str()));
 }
 

@@ -10,7 +10,7 @@ use Rattle.trace_stays.specs.declared.span.Span.{Span}
 use Rattle.trace_picture.specs.declared.shape.Shape.{Shape}
 use Rattle.trace_picture.specs.declared.shape.Way.{Way}
 use Rattle.std.specs.Prelude.{Option}
-use Rattle.trace_picture.proofs.picture.Picture.add.Goals as goal
+use Rattle.trace_picture.proofs.picture.Picture.take.Goals as goal
 
 pub returns-then-event-open-clause-added : goal.returns-then-event-open-clause-added
 returns-then-event-open-clause-added c =
