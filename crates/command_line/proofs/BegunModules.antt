@@ -13,6 +13,15 @@ use Rattle.pal_base.specs.declared.fault.Refusal.{Refusal}
 use Rattle.pal_base.specs.declared.fault.Refusal.TheVariants as source
 use Rattle.pal_meaning.specs.Grammar.{IsProgramOf, IsText}
 use Rattle.pal_meaning.specs.Program.{Program}
+use Rattle.pal_meaning.specs.Syntax as written
+use Rattle.pal_base.specs.WrittenView.{program_of}
+use Rattle.pal_base.specs.declared.checked.Checked.{Checked}
+use Rattle.schedule_load.specs.declared.load.FrameLoad.{FrameLoad}
+use Rattle.window_table.specs.Views.{table_of}
+use Rattle.module.specs.Sources.{AreSources, IsSource}
+use Rattle.command_line.specs.Linting.{AreTrees, IsReadModule}
+use Rattle.command_line.specs.Loading.{AreLoaded}
+use Rattle.command_line.specs.declared.linting.ReadModule.{ReadModule}
 use Rattle.window_table.specs.Refusals as table_refusals
 use Rattle.window_table.specs.declared.fault.TableFault.{TableFault}
 use Rattle.window_table.specs.declared.fault.TableFault.TheVariants as table
@@ -24,7 +33,8 @@ use Rattle.module.specs.declared.fault.BuildFault.{BuildFault}
 use Rattle.module.specs.declared.fault.BuildFault.TheVariants as fault
 use Rattle.streams.specs.Beginnings.{HoldsFrom, IsBeginningOf}
 use Rattle.streams.specs.Contents.{Contents, HoldAll, Holds}
-use Rattle.text_beginnings.specs.Settled.{settles_source, settles_table}
+use Rattle.text_beginnings.specs.Settled.{settles_source, settles_table, table_end}
+use Rattle.text_beginnings.proofs.Ends.{all_of_table, stray_at_end}
 use Rattle.text_beginnings.proofs.Tables.{no_document, no_source}
 use Rattle.command_line.proofs.Begun.{all_of, whole_of}
 use Rattle.command_line.specs.Done.{IsBuilt, Texts}
@@ -57,7 +67,7 @@ module _ (whole bytes : List ℕ) (begun : IsBeginningOf settles_table whole byt
   pub table_whole : (t : Table) → IsTable bytes t → IsTable whole t
   table_whole t (ms, d, judged) = (ms, document_whole ms d, judged)
 
-  table_refused : (f : TableFault) → table_refusals.IsRefused bytes f → table_refusals.IsRefused whole f
+  pub table_refused : (f : TableFault) → table_refusals.IsRefused bytes f → table_refusals.IsRefused whole f
   table_refused table.Memory h = h
   table_refused table.Document h = no_whole h
   table_refused f (ms, d, of) = (ms, document_whole ms d, of)
@@ -94,6 +104,12 @@ module _ (whole bytes : List ℕ) (begun : IsBeginningOf settles_source whole by
 
   source_accepted : (row : Partition) (p : Program) → IsAccepted row bytes p → IsAccepted row whole p
   source_accepted row p a = subst (λ w. IsAccepted row w p) (sym (exact_source a.written.0)) a
+
+  program_whole : (p : written.Program) → IsProgramOf bytes p → IsProgramOf whole p
+  program_whole p h = subst (λ w. IsProgramOf w p) (sym (exact_source h.0)) h
+
+  source_whole : (row : Partition) (a : Checked) → IsSource row bytes a → IsSource row whole a
+  source_whole row a h = subst (λ w. IsSource row w a) (sym (exact_source h.written.0)) h
 
   source_costed : (costs : Costs) (row : Partition) (c : PartitionCosts) → IsCosted costs row bytes c → IsCosted costs row whole c
   source_costed costs row c a = subst (λ w. IsCosted costs row w c) (sym (exact_source a.written.0)) a
@@ -139,6 +155,24 @@ all_costed costs (row ∷ rows) [] [] ps begun h = absurd h
 all_costed costs rows [] (b ∷ bs) ps begun h = absurd begun
 all_costed costs rows (w ∷ ws) [] ps begun h = absurd begun
 
+all_sources : (rows : List Partition) (wholes texts : List (List ℕ)) (as : List Checked) → AllBegun wholes texts → AreSources rows texts as → AreSources rows wholes as
+all_sources [] [] [] [] begun h = tt
+all_sources [] [] [] (a ∷ as) begun h = absurd h
+all_sources (row ∷ rows) (w ∷ ws) (b ∷ bs) (a ∷ as) begun h = (source_whole w b begun.0 row a h.0, all_sources rows ws bs as begun.1 h.1)
+all_sources (row ∷ rows) (w ∷ ws) (b ∷ bs) [] begun h = absurd h
+all_sources [] (w ∷ ws) (b ∷ bs) as begun h = absurd h
+all_sources (row ∷ rows) [] [] as begun h = absurd h
+all_sources rows [] (b ∷ bs) as begun h = absurd begun
+all_sources rows (w ∷ ws) [] as begun h = absurd begun
+
+all_trees : (wholes texts : List (List ℕ)) (ps : List written.Program) → AllBegun wholes texts → AreTrees texts ps → AreTrees wholes ps
+all_trees [] [] [] begun h = tt
+all_trees [] [] (p ∷ ps) begun h = absurd h
+all_trees (w ∷ ws) (b ∷ bs) (p ∷ ps) begun h = (program_whole w b begun.0 p h.0, all_trees ws bs ps begun.1 h.1)
+all_trees (w ∷ ws) (b ∷ bs) [] begun h = absurd h
+all_trees [] (b ∷ bs) ps begun h = absurd begun
+all_trees (w ∷ ws) [] ps begun h = absurd begun
+
 -- ---- a module
 
 module _ (table bytes : List ℕ) (wholes texts : List (List ℕ)) (begun : IsBeginningOf settles_table table bytes) (all : AllBegun wholes texts) where
@@ -180,6 +214,23 @@ module _ (table bytes : List ℕ) (wholes texts : List (List ℕ)) (begun : IsBe
   costs_whole : (costs : List PartitionCosts) → AreCosts bytes texts costs → AreCosts table wholes costs
   costs_whole costs h = record { rows = h.rows; accepted = table_whole table bytes begun h.rows h.accepted; costed = all_costed h.rows.costs h.rows.partitions wholes texts costs all h.costed }
 
+  module_whole : (m : ReadModule) → IsReadModule bytes texts m → IsReadModule table wholes m
+  module_whole m h =
+      let rows : Table = table_of m.accepted.table in
+      record {
+        accepted = record { accepted = table_whole table bytes begun rows h.accepted.accepted; programs = all_sources rows.partitions wholes texts m.accepted.sources.items all h.accepted.programs };
+        trees = all_trees wholes texts (map program_of m.trees.items) all h.trees;
+      }
+
+  load_whole : (load : FrameLoad) → AreLoaded bytes texts load → AreLoaded table wholes load
+  load_whole load h = record {
+    rows = h.rows;
+    accepted = table_whole table bytes begun h.rows h.accepted;
+    given = h.given;
+    programs = all_sources h.rows.partitions wholes texts h.given all h.programs;
+    loaded = h.loaded;
+  }
+
 -- the whole files
 pub wholes_of : (files : Option Contents) (names texts : List (List ℕ)) → HoldAllFrom settles_source files names texts → (wholes : List (List ℕ)) × HoldAll files names wholes × AllBegun wholes texts
 wholes_of files [] [] held = ([], tt, tt)
@@ -190,7 +241,7 @@ wholes_of files (name ∷ names) (text ∷ texts) held =
 wholes_of files [] (text ∷ texts) held = absurd held
 wholes_of files (name ∷ names) [] held = absurd held
 
--- ---- builds and costs of the files
+-- ---- what is made of the files
 
 module _ (files now : Option Contents) (table : List ℕ) (names : List (List ℕ)) (bytes given : List ℕ) (texts : List (List ℕ))
     (same : now ≡ files) (is : given ≡ bytes) (in_table : HoldsFrom settles_table files table bytes) (in_sources : HoldAllFrom settles_source now names texts)
@@ -215,6 +266,15 @@ module _ (files now : Option Contents) (table : List ℕ) (names : List (List �
     unfolding texts_of_files own_table own_sources
     costed_of_files view (Ok costs) h = record { texts = texts_of_files; costed = costs_whole own_table.0 given own_sources.0 texts own_table.2 own_sources.2 (view costs) h }
     costed_of_files view (Err e) h = tt
+
+    pub read_of_files : {E : Type 0} (answer : Result ReadModule E) → IfOk answer (λ m. IsReadModule given texts m) → IfOk answer (λ m. done.IsModuleIn files table names m)
+    unfolding texts_of_files own_table own_sources
+    read_of_files (Ok m) h = record { texts = texts_of_files; read = module_whole own_table.0 given own_sources.0 texts own_table.2 own_sources.2 m h }
+    read_of_files (Err e) h = tt
+
+    pub loaded_of_files : (load : FrameLoad) → AreLoaded given texts load → (whole : Texts files table names) × AreLoaded whole.table_text whole.source_texts load
+    unfolding texts_of_files own_table own_sources
+    loaded_of_files load h = (texts_of_files, load_whole own_table.0 given own_sources.0 texts own_table.2 own_sources.2 load h)
 
     pub refused_of_files : {A : Type 0} (answer : Result A refusal.Refusal) → IfErr answer (λ r. IsRefusedText given texts r) → IfErr answer (λ r. IsNotBuilt files table names r)
     unfolding texts_of_files own_table own_sources
@@ -251,20 +311,35 @@ all_begun files names i texts at before =
     drop-all [] = refl
     drop-all (x ∷ xs) = drop-all xs
 
+-- a text that is cut, where what is left of it settles what it settled
+cut_at : (suffices : List ℕ → Bool) (n : ℕ) (text bytes : List ℕ) → (suffices bytes ≡ true → suffices (take n bytes) ≡ true) → (suffices bytes ≡ false → take n bytes ≡ bytes)
+    → IsBeginningOf suffices text bytes → IsBeginningOf suffices text (take n bytes)
+cut_at suffices n text bytes enough whole (rest, begun, why) = go (suffices bytes) refl
+  where
+    go : (t : Bool) → suffices bytes ≡ t → IsBeginningOf suffices text (take n bytes)
+    go false open_end = subst (IsBeginningOf suffices text) (sym (whole open_end)) (rest, begun, why)
+    go true settled =
+        let split : text ≡ take n bytes ++ (drop n bytes ++ rest) =
+        begun ∙ ap (λ b. b ++ rest) (sym (take-append-drop n bytes)) ∙ append_assoc (take n bytes) (drop n bytes) rest in
+        (drop n bytes ++ rest, split, inr (enough settled))
+
+-- a table that is cut behind the first byte that it may not have
+pub cut_table : (files : Option Contents) (name bytes : List ℕ) (n : ℕ) → n ≡ table_end bytes → HoldsFrom settles_table files name bytes → HoldsFrom settles_table files name (take n bytes)
+cut_table None name bytes n is held = tt
+cut_table (Some files) name bytes n is (text, in_file, begun) =
+    let enough : settles_table bytes ≡ true → settles_table (take n bytes) ≡ true = λ s. ap (λ k. settles_table (take k bytes)) is ∙ stray_at_end bytes s in
+    let whole : settles_table bytes ≡ false → take n bytes ≡ bytes = λ s. ap (λ k. take k bytes) is ∙ all_of_table bytes s in
+    (text, in_file, cut_at settles_table n text bytes enough whole begun)
+
 -- a text that is cut behind so many bytes and one more
 cut_by : (most : ℕ) (text bytes : List ℕ) → IsBeginningOf (λ b. nat_lt most (length b)) text bytes → IsBeginningOf (λ b. nat_lt most (length b)) text (take (most + 1) bytes)
-cut_by most text bytes (rest, begun, why) = go (nat_lt most (length bytes)) refl
-  where
-    go : (t : Bool) → nat_lt most (length bytes) ≡ t → IsBeginningOf (λ b. nat_lt most (length b)) text (take (most + 1) bytes)
-    go false short =
-        let all : take (most + 1) bytes ≡ bytes = take_all (most + 1) bytes (omega (arith, ltb-false most (length bytes) short)) in
-        subst (IsBeginningOf (λ b. nat_lt most (length b)) text) (sym all) (rest, begun, why)
-    go true long =
-        let many : most < length bytes = ltb-true most (length bytes) long in
-        let split : text ≡ take (most + 1) bytes ++ (drop (most + 1) bytes ++ rest) =
-        begun ∙ ap (λ b. b ++ rest) (sym (take-append-drop (most + 1) bytes)) ∙ append_assoc (take (most + 1) bytes) (drop (most + 1) bytes) rest in
-        let size : length (take (most + 1) bytes) ≡ most + 1 = length-take-le (most + 1) bytes (omega (arith, many)) in
-        (drop (most + 1) bytes ++ rest, split, inr (lt-ltb most (length (take (most + 1) bytes)) (omega (arith, size))))
+cut_by most text bytes =
+    cut_at (λ b. nat_lt most (length b)) (most + 1) text bytes
+    (λ long.
+    let many : most < length bytes = ltb-true most (length bytes) long in
+    let size : length (take (most + 1) bytes) ≡ most + 1 = length-take-le (most + 1) bytes (omega (arith, many)) in
+    lt-ltb most (length (take (most + 1) bytes)) (omega (arith, size)))
+    (λ short. take_all (most + 1) bytes (omega (arith, ltb-false most (length bytes) short)))
 
 -- a source that is cut behind the first byte that it may not have
 pub cut : (files : Option Contents) (name bytes : List ℕ) → HoldsFrom settles_source files name bytes → HoldsFrom settles_source files name (take (MOST_SOURCE_BYTES + 1) bytes)

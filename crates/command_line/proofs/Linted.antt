@@ -14,7 +14,7 @@ use Rattle.lint.specs.declared.report.PartitionFindings.{PartitionFindings}
 use Rattle.window_table.specs.Views.{partition_view, table_of}
 use Rattle.window_table.specs.declared.table.PartitionRow.{PartitionRow}
 use Rattle.module.specs.Sources.{AreSources}
-use Rattle.streams.specs.Contents.{Contents, Holds, HoldAll}
+use Rattle.streams.specs.Contents.{Contents}
 use Rattle.streams.specs.States.{Seen}
 use Rattle.command_line.specs.Done.{AreFoundIn, IsDoneWith, IsLinted, IsModuleIn}
 use Rattle.command_line.specs.Linting.{AddsFound, AddsTrees, AreAllFound, AreFoundOf, AreFoundOfModule, AreNotShown, AreShown, AreTrees, IsFoundOf, IsReadModule}
@@ -28,13 +28,6 @@ use Rattle.command_line.specs.declared.outcome.Outcome.{Outcome}
 use Rattle.command_line.specs.declared.outcome.Outcome.TheVariants.{Usual, Remarkable}
 use Rattle.command_line.specs.declared.refusal.Refusal.{Refusal}
 use Rattle.command_line.specs.declared.refusal.Refusal.TheVariants.{Build, Run, Replay, Inputs, File, Memory, Write}
-
--- the module is that of the texts in the files
-pub read_named : {E : Type 0} (files now : Option Contents) (table : List ℕ) (sources : List (List ℕ)) (table_text : List ℕ) (texts : List (List ℕ)) (answer : Result ReadModule E)
-    → now ≡ files → Holds files table table_text → HoldAll now sources texts → IfOk answer (λ m. IsReadModule table_text texts m) → IfOk answer (λ m. IsModuleIn files table sources m)
-read_named files now table sources table_text texts (Ok m) same in_table in_sources read =
-    record { texts = record { table_text = table_text; source_texts = texts; in_table = in_table; in_sources = subst (λ f. HoldAll f sources texts) same in_sources }; read = read }
-read_named files now table sources table_text texts (Err e) same in_table in_sources read = tt
 
 -- one more tree, and one more partition with what is found of it
 pub more_trees : (text : List ℕ) (texts : List (List ℕ)) (p : tree.Program) (old mid new : List tree.Program) → mid ≡ old ++ p ∷ [] → AreTrees (text ∷ []) (program_of p ∷ []) → AddsTrees texts mid new → AddsTrees (text ∷ texts) old new

@@ -1,51 +1,75 @@
--- The load of the texts in the files that are named.
-use Rattle.std.proofs.Common.{◌≡◌, ℕ, List, [], ◌∷◌, Option, Result, Ok, Err, IfOk, IfErr, sym, subst, string_bytes}
+-- The load of the texts in the files that are named, of which a beginning was read.
+use Rattle.std.proofs.Common.{◌≡◌, ℕ, List, [], ◌∷◌, Option, Result, Ok, Err, IfOk, IfErr, sym, subst}
 use Rattle.module.specs.Building.{IsTableRefusal}
+use Rattle.module.specs.declared.fault.BuildFault.{BuildFault}
+use Rattle.module.specs.declared.fault.BuildFault.TheVariants as fault
 use Rattle.schedule_load.specs.declared.load.FrameLoad.{FrameLoad}
-use Rattle.streams.specs.Contents.{Contents, Holds, HoldAll}
+use Rattle.streams.specs.Beginnings.{HoldsFrom, IsBeginningOf}
+use Rattle.streams.specs.Contents.{Contents, Holds}
+use Rattle.text_beginnings.specs.Settled.{settles_source, settles_table}
 use Rattle.command_line.specs.Done.{IsLoadIn}
 use Rattle.command_line.specs.Loading.{AreLoaded, IsLoadOfText, IsRefusedTable}
-use Rattle.command_line.specs.Reading.{IsUncostedText}
+use Rattle.command_line.specs.Reading.{HoldAllFrom, IsUncostedText}
 use Rattle.command_line.specs.Refusals.{IsNoTableIn, IsNotLoadedFrom}
 use Rattle.command_line.specs.Told.{IsOfFailed}
 use Rattle.command_line.specs.declared.refusal.Refusal.{Refusal}
 use Rattle.command_line.specs.declared.refusal.Refusal.TheVariants.{Build, Run, Replay, Inputs, File, Memory, Write}
-use Rattle.command_line.proofs.Read.{uncosted_named}
+use Rattle.command_line.proofs.Begun.{whole_of}
+use Rattle.command_line.proofs.BegunModules.{loaded_of_files, table_refused, table_whole, uncosted_of_files}
 
--- no source is named
-pub alone : {A E : Type 0} (load : A → FrameLoad) (files : Option Contents) (table : List ℕ) (names : List (List ℕ)) (text : List ℕ) (answer : Result A E)
-    → names ≡ [] → Holds files table text → IfOk answer (λ x. IsLoadOfText text (load x)) → IfOk answer (λ x. IsLoadIn files table names (load x))
-alone load files table [] text (Ok x) none held h = (text, held, h)
-alone load files table (n ∷ names) text (Ok x) none held h = absurd cc
-alone load files table names text (Err e) none held h = tt
+-- ---- no source is named
 
-no_table : (files : Option Contents) (table text : List ℕ) (r : Refusal) → Holds files table text → IsRefusedTable text r → IsNoTableIn files table r
-no_table files table text (Build fault) held h = (text, held, h)
-no_table files table text (Run fault) held h = absurd h
-no_table files table text (Replay fault) held h = absurd h
-no_table files table text (Inputs fault) held h = absurd h
-no_table files table text (File name reason) held h = absurd h
-no_table files table text Memory held h = tt
-no_table files table text Write held h = absurd h
+module _ (files : Option Contents) (table bytes given : List ℕ) (is : given ≡ bytes) (held : HoldsFrom settles_table files table bytes) where
+  own_table : (whole : List ℕ) × Holds files table whole × IsBeginningOf settles_table whole given
+  own_table =
+      let whole = whole_of settles_table files table bytes held in
+      (whole.0, whole.1, subst (λ b. IsBeginningOf settles_table whole.0 b) (sym is) whole.2)
 
-pub alone_refused : {A : Type 0} (files : Option Contents) (table : List ℕ) (names : List (List ℕ)) (text : List ℕ) (answer : Result A Refusal)
-    → names ≡ [] → Holds files table text → IfErr answer (λ r. IsRefusedTable text r) → IfErr answer (λ r. IsNotLoadedFrom files table names r)
-alone_refused files table names text (Ok x) none held h = tt
-alone_refused files table [] text (Err r) none held h = no_table files table text r held h
-alone_refused files table (n ∷ names) text (Err r) none held h = absurd cc
+  load_in : (load : FrameLoad) → IsLoadOfText given load → IsLoadIn files table [] load
+  load_in load h =
+      let whole = own_table in
+      (whole.0, whole.1, record { rows = h.rows; accepted = table_whole whole.0 given whole.2 h.rows h.accepted; loaded = h.loaded })
 
--- sources are named
-pub together : {A E : Type 0} (load : A → FrameLoad) (files now : Option Contents) (table : List ℕ) (names : List (List ℕ)) (first : List ℕ) (rest : List (List ℕ)) (table_text : List ℕ) (texts : List (List ℕ)) (answer : Result A E)
-    → names ≡ first ∷ rest → now ≡ files → Holds files table table_text → HoldAll now names texts → IfOk answer (λ x. AreLoaded table_text texts (load x)) → IfOk answer (λ x. IsLoadIn files table names (load x))
-together load files now table [] first rest table_text texts (Ok x) some same in_table in_sources h = absurd cc
-together load files now table (n ∷ names) first rest table_text texts (Ok x) some same in_table in_sources h =
-    (record { table_text = table_text; source_texts = texts; in_table = in_table; in_sources = subst (λ f. HoldAll f (n ∷ names) texts) same in_sources }, h)
-together load files now table names first rest table_text texts (Err e) some same in_table in_sources h = tt
+  pub alone : {A E : Type 0} (load : A → FrameLoad) (names : List (List ℕ)) (answer : Result A E) → names ≡ [] → IfOk answer (λ x. IsLoadOfText given (load x)) → IfOk answer (λ x. IsLoadIn files table names (load x))
+  alone load [] (Ok x) none h = load_in (load x) h
+  alone load (n ∷ names) (Ok x) none h = absurd cc
+  alone load names (Err e) none h = tt
 
-pub together_refused : {A : Type 0} (files now : Option Contents) (table : List ℕ) (names : List (List ℕ)) (first : List ℕ) (rest : List (List ℕ)) (table_text : List ℕ) (texts : List (List ℕ)) (answer : Result A Refusal)
-    → names ≡ first ∷ rest → now ≡ files → Holds files table table_text → HoldAll now names texts → IfErr answer (λ r. IsUncostedText table_text texts r) → IfErr answer (λ r. IsNotLoadedFrom files table names r)
-together_refused files now table [] first rest table_text texts answer some same in_table in_sources h = absurd cc
-together_refused files now table (n ∷ names) first rest table_text texts answer some same in_table in_sources h = uncosted_named files now table (n ∷ names) table_text texts answer same in_table in_sources h
+  refusal_of_whole : (whole : List ℕ) → IsBeginningOf settles_table whole given → (f : BuildFault) → IsTableRefusal given f → IsTableRefusal whole f
+  refusal_of_whole whole begun (fault.Table f) h = (h.0, table_refused whole given begun f h.1)
+  refusal_of_whole whole begun fault.Sources h = absurd h
+  refusal_of_whole whole begun (fault.Pal name f) h = absurd h
+  refusal_of_whole whole begun (fault.Compile name f) h = absurd h
+  refusal_of_whole whole begun fault.Memory h = h
+
+  no_table : (r : Refusal) → IsRefusedTable given r → IsNoTableIn files table r
+  no_table (Build fault) h = let whole = own_table in (whole.0, whole.1, refusal_of_whole whole.0 whole.2 fault h)
+  no_table (Run fault) h = absurd h
+  no_table (Replay fault) h = absurd h
+  no_table (Inputs fault) h = absurd h
+  no_table (File name reason) h = absurd h
+  no_table Memory h = tt
+  no_table Write h = absurd h
+
+  pub alone_refused : {A : Type 0} (names : List (List ℕ)) (answer : Result A Refusal) → names ≡ [] → IfErr answer (λ r. IsRefusedTable given r) → IfErr answer (λ r. IsNotLoadedFrom files table names r)
+  alone_refused names (Ok x) none h = tt
+  alone_refused [] (Err r) none h = no_table r h
+  alone_refused (n ∷ names) (Err r) none h = absurd cc
+
+-- ---- sources are named
+
+pub together : {A E : Type 0} (load : A → FrameLoad) (files now : Option Contents) (table : List ℕ) (names : List (List ℕ)) (first : List ℕ) (rest : List (List ℕ)) (bytes given : List ℕ) (texts : List (List ℕ)) (answer : Result A E)
+    → names ≡ first ∷ rest → now ≡ files → given ≡ bytes → HoldsFrom settles_table files table bytes → HoldAllFrom settles_source now names texts → IfOk answer (λ x. AreLoaded given texts (load x)) → IfOk answer (λ x. IsLoadIn files table names (load x))
+together load files now table [] first rest bytes given texts (Ok x) some same is in_table in_sources h = absurd cc
+together load files now table (n ∷ names) first rest bytes given texts (Ok x) some same is in_table in_sources h =
+    loaded_of_files files now table (n ∷ names) bytes given texts same is in_table in_sources (load x) h
+together load files now table names first rest bytes given texts (Err e) some same is in_table in_sources h = tt
+
+pub together_refused : {A : Type 0} (files now : Option Contents) (table : List ℕ) (names : List (List ℕ)) (first : List ℕ) (rest : List (List ℕ)) (bytes given : List ℕ) (texts : List (List ℕ)) (answer : Result A Refusal)
+    → names ≡ first ∷ rest → now ≡ files → given ≡ bytes → HoldsFrom settles_table files table bytes → HoldAllFrom settles_source now names texts → IfErr answer (λ r. IsUncostedText given texts r) → IfErr answer (λ r. IsNotLoadedFrom files table names r)
+together_refused files now table [] first rest bytes given texts answer some same is in_table in_sources h = absurd cc
+together_refused files now table (n ∷ names) first rest bytes given texts answer some same is in_table in_sources h =
+    uncosted_of_files files now table (n ∷ names) bytes given texts same is in_table in_sources answer h
 
 -- no file is named where the text of a table is refused
 pub unnamed_table : {A : Type 0} (old new : List (List ℕ)) (text : List ℕ) (answer : Result A Refusal)

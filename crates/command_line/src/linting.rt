@@ -16,7 +16,7 @@ ghost use Rattle.streams.specs.States.{HasFailed, IsFlushed, seen};
 
 use crate::explaining::Note;
 use crate::outcome::Outcome;
-use crate::reading::{module_of_texts, read, read_all};
+use crate::reading::{module_of_texts, read_sources, read_table};
 use crate::refusal::Refusal;
 use apex_types::{Costs, SinkFault};
 use lint::{PartitionFindings, partition_findings, write_findings};
@@ -107,8 +107,8 @@ fn module_named<F: Files>(
     ensures named { IfErr result (λ r. IsOfFailed (F.failed files.old) (F.failed files.new) r) }
 {
     let name = table;
-    let table = read(alloc, name, files)?;
-    let sources = read_all(alloc, sources, files)?;
+    let table = read_table(alloc, name, files)?;
+    let sources = read_sources(alloc, sources, files)?;
     read_texts(alloc, name, table.as_slice(), sources.as_slice(), note)
 }
 

@@ -15,7 +15,7 @@ ghost use Rattle.trace_picture.specs.Page.{IsPicture};
 
 use crate::explaining::Note;
 use crate::form::Form;
-use crate::reading::{module_of_texts, read, read_all};
+use crate::reading::{module_of_texts, read_sources, read_table};
 use crate::refusal::Refusal;
 use load_views::{LoadReport, PartitionBodies};
 use module::{AcceptedModule, accept_table};
@@ -23,7 +23,6 @@ use pal::Checked;
 use schedule_load::{FrameLoad, body_loads, frame_load};
 use std::alloc::{AllocError, Global};
 use streams::{Files, Stream, write_bytes};
-use trace_view::ReportFault;
 use window_table::ModuleTable;
 
 /// The load of a module table, and of the bodies of its sources if these are given.
@@ -83,11 +82,11 @@ fn loaded_named<F: Files>(
     ensures named { IfErr result (λ r. IsOfFailed (F.failed files.old) (F.failed files.new) r) }
 {
     let name = table;
-    let table = read(alloc, name, files)?;
+    let table = read_table(alloc, name, files)?;
     match sources.split_first() {
         None => load_of_text(alloc, name, table.as_slice(), note),
         Some(_) => {
-            let sources = read_all(alloc, sources, files)?;
+            let sources = read_sources(alloc, sources, files)?;
             load_of_texts(alloc, name, table.as_slice(), sources.as_slice(), note)
         }
     }
@@ -170,24 +169,10 @@ fn shown(alloc: Global, form: Form, loaded: &Loaded) -> Result<Vec<u8>, AllocErr
         bodies: loaded.bodies.as_slice(),
     };
     match form {
-        Form::Tables => tables(alloc, &report),
-        Form::Rows => rows(alloc, &report),
+        Form::Tables => report.tables(alloc),
+        Form::Rows => report.sheet(alloc),
         Form::Picture => picture(alloc, &report),
     }
-}
-
-/// The tables of a load.
-fn tables(alloc: Global, report: &LoadReport<'_>) -> Result<Vec<u8>, AllocError> {
-    let mut text = Vec::new(alloc);
-    report.write_table(alloc, &mut text).map_err(no_memory)?;
-    Ok(text)
-}
-
-/// The comma-separated values of a load.
-fn rows(alloc: Global, report: &LoadReport<'_>) -> Result<Vec<u8>, AllocError> {
-    let mut text = Vec::new(alloc);
-    report.write_csv(alloc, &mut text).map_err(no_memory)?;
-    Ok(text)
 }
 
 /// The picture of a frame.
@@ -198,9 +183,4 @@ fn picture(alloc: Global, report: &LoadReport<'_>) -> Result<Vec<u8>, AllocError
     let mut text = Vec::new(alloc);
     text.extend_from_slice(drawn.as_bytes())?;
     Ok(text)
-}
-
-/// Bytes in memory take all that is written, unless memory runs out.
-fn no_memory(_: ReportFault) -> AllocError {
-    AllocError
 }

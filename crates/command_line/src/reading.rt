@@ -4,9 +4,8 @@ ghost use Rattle.std.specs.Prelude.{◌≡◌, map, Ok, IfOk, IfErr, OnOk};
 ghost use Rattle.machine_meaning.specs.ImageReading.{image_at};
 ghost use Rattle.image.specs.Views.{image_of};
 ghost use Rattle.streams.specs.Beginnings.{HoldsFrom};
-ghost use Rattle.streams.specs.Contents.{HoldAll, Holds};
 ghost use Rattle.text_beginnings.specs.Kinds.{settles};
-ghost use Rattle.text_beginnings.specs.Settled.{settles_source};
+ghost use Rattle.text_beginnings.specs.Settled.{settles_source, settles_table};
 ghost use Rattle.command_line.specs.Done.{AreCosted, IsBuilt, IsImageIn, IsUpgradedIn};
 ghost use Rattle.command_line.specs.Reading.{IsRefusedText, HoldAllFrom, IsHeld, IsUncostedText, IsUnread, IsUnreadAmong, texts_of};
 ghost use Rattle.module.specs.Building.{IsImageOf};
@@ -23,22 +22,7 @@ use image::{Image, load_image};
 use module::{AcceptedModule, PartitionCosts, RunFault, upgrade};
 use std::alloc::{AllocError, Global};
 use streams::Files;
-use text_beginnings::TextKind;
-
-/// The bytes of the file of that name.
-pub fn read<F: Files>(alloc: Global, name: &str, files: &mut F) -> Result<Vec<u8>, Refusal>
-    ensures held { IfOk result (λ bytes. Holds (F.contents files.old) name.now bytes.items) }
-    ensures refused { IfErr result (λ r. IsUnread name.now r) }
-    ensures unchanged { F.contents files.new ≡ F.contents files.old }
-    ensures noted { OnOk result (F.failed files.new ≡ F.failed files.old) }
-    ensures named { IfErr result (λ r. IsOfFailed (F.failed files.old) (F.failed files.new) r) }
-{
-    let shown = String::from_str(alloc, name)?;
-    match files.read(alloc, name) {
-        Ok(bytes) => Ok(bytes),
-        Err(fault) => Err(Refusal::of_file(shown, fault)),
-    }
-}
+use text_beginnings::{TextKind, table_end};
 
 /// The bytes of the file of that name, as far as a text of this kind needs them.
 pub fn read_as<F: Files>(
@@ -62,26 +46,20 @@ pub fn read_as<F: Files>(
     }
 }
 
-/// The bytes of the files of these names, in their order.
-pub fn read_all<F: Files>(
-    alloc: Global,
-    names: &[&str],
-    files: &mut F,
-) -> Result<Vec<Vec<u8>>, Refusal>
+/// The bytes of the table of that name: all of them, or those up to the first that stands in no TOML
+/// document. So what is said of it does not hang on how much was read at once.
+pub fn read_table<F: Files>(alloc: Global, name: &str, files: &mut F) -> Result<Vec<u8>, Refusal>
     ensures held { IfOk result
-        (λ texts.
-        HoldAll (F.contents files.old) (map (λ s. s.now) names.now) (texts_of texts.items)) }
-    ensures refused { IfErr result
-        (λ r. IsUnreadAmong (F.contents files.old) (map (λ s. s.now) names.now) r) }
+        (λ bytes. HoldsFrom settles_table (F.contents files.old) name.now bytes.items) }
+    ensures known { OnOk result (IsHeld (F.contents files.old) name.now) }
+    ensures refused { IfErr result (λ r. IsUnread name.now r) }
     ensures unchanged { F.contents files.new ≡ F.contents files.old }
     ensures noted { OnOk result (F.failed files.new ≡ F.failed files.old) }
     ensures named { IfErr result (λ r. IsOfFailed (F.failed files.old) (F.failed files.new) r) }
 {
-    let mut texts = Vec::new(alloc);
-    for name in names {
-        texts.push(read(alloc, name, files)?)?;
-    }
-    Ok(texts)
+    let mut bytes = read_as(alloc, TextKind::Table, name, files)?;
+    bytes.truncate(table_end(bytes.as_slice()));
+    Ok(bytes)
 }
 
 /// The bytes of the files of these names, in their order, as far as sources need them: a source that
@@ -142,7 +120,7 @@ pub fn build_named<F: Files>(
     ensures named { IfErr result (λ r. IsOfFailed (F.failed files.old) (F.failed files.new) r) }
 {
     let name = table;
-    let table = read_as(alloc, TextKind::Table, name, files)?;
+    let table = read_table(alloc, name, files)?;
     let sources = read_sources(alloc, sources, files)?;
     build_texts(alloc, name, table.as_slice(), sources.as_slice(), note)
 }
@@ -187,7 +165,7 @@ pub fn costs_named<F: Files>(
     ensures named { IfErr result (λ r. IsOfFailed (F.failed files.old) (F.failed files.new) r) }
 {
     let name = table;
-    let table = read_as(alloc, TextKind::Table, name, files)?;
+    let table = read_table(alloc, name, files)?;
     let sources = read_sources(alloc, sources, files)?;
     costs_of_texts(alloc, name, table.as_slice(), sources.as_slice(), note)
 }

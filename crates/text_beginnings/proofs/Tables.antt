@@ -1,30 +1,19 @@
--- A text whose first byte is 0 is no TOML document; a source that is too long is no text of one.
-use Rattle.std.proofs.Common.{◌≡◌, ℕ, true, false, List, [], ◌∷◌, ◌++◌, length, Some, None, refl, sym, ap, ◌∙◌, arith, length-append}
-use Rattle.std.specs.Prelude.{◌==◌}
-use Rattle.std.proofs.lemmas.Bool.{eqb-true, ltb-true, ne_eqb}
+-- A text with a stray byte is no TOML document; a source that is too long is no text of one.
+use Rattle.std.proofs.Common.{◌≡◌, ℕ, true, List, ◌++◌, length, sym, ◌∙◌, arith, length-append, true≢false}
+use Rattle.std.proofs.lemmas.Bool.{ltb-true, or_left}
+use Rattle.std.proofs.lemmas.List.Folds.{list_any-append}
 use Rattle.apex_types.specs.declared.limits.TheConstants.{MOST_SOURCE_BYTES}
 use Rattle.toml.specs.Data.{Members}
-use Rattle.toml.specs.Parse.{parse_document, lines, line, expression, key_equals, skip_bom}
-use Rattle.toml_parser.specs.Lexical.{skip_from}
-use Rattle.toml_parser.specs.Strings.{key_after, simple_key}
 use Rattle.module_meaning.specs.Accepted.{IsDocument}
 use Rattle.pal_meaning.specs.Grammar.{IsText}
-use Rattle.text_beginnings.specs.Settled.{settles_table, settles_source}
-
-nonempty : (rest : List ℕ) → (length (0 ∷ rest) == 0) ≡ false
-nonempty rest = ne_eqb (length (0 ∷ rest)) 0 (λ e. omega (arith, e))
-
-zero_is_none : (rest : List ℕ) → parse_document (0 ∷ rest) ≡ None
-unfolding parse_document lines line expression key_equals skip_bom skip_from key_after simple_key
-zero_is_none rest = rw (nonempty rest) refl
+use Rattle.text_beginnings.specs.Settled.{is_stray, settles_table, settles_source}
+use Rattle.text_beginnings.proofs.Strays.{has_stray}
+use Rattle.text_beginnings.proofs.Documents.{no_stray}
 
 pub no_document : (text rest : List ℕ) (ms : Members) → settles_table text ≡ true → IsDocument (text ++ rest) ms → ⊥
-no_document [] rest ms s d = cc
-no_document (b ∷ bs) rest ms s d =
-    let zero_first : b ≡ 0 = eqb-true b 0 s in
-    let none : parse_document (b ∷ bs ++ rest) ≡ None = ap (λ c. parse_document (c ∷ bs ++ rest)) zero_first ∙ zero_is_none (bs ++ rest) in
-    let clash : Some ms ≡ None = sym d.1 ∙ none in
-    cc
+no_document text rest ms s d =
+    let stray : has_stray (text ++ rest) ≡ true = list_any-append is_stray text rest ∙ or_left (has_stray text) (has_stray rest) s in
+    absurd (true≢false (sym stray ∙ no_stray (text ++ rest) ms d.1))
 
 pub no_source : (text rest : List ℕ) → settles_source text ≡ true → IsText (text ++ rest) → ⊥
 no_source text rest s is = omega (arith, length-append text rest, is.1, ltb-true MOST_SOURCE_BYTES (length text) s)

@@ -1,19 +1,42 @@
 //! The tests on beginnings of texts.
 
-ghost use Rattle.std.specs.Prelude.{◌≡◌};
-ghost use Rattle.text_beginnings.specs.Settled.{is_control, settles_image, settles_inputs, settles_source, settles_table};
+ghost use Rattle.std.specs.Int.{from_le_bytes, w16};
+ghost use Rattle.std.specs.Prelude.{◌≡◌, ◌≤◌, drop, length, take};
+ghost use Rattle.text_beginnings.specs.Settled.{has_other_magic, has_other_version, is_control, is_stray, is_version, settles_image, settles_inputs, settles_source, settles_table, table_end};
 
-use apex_types::MAGIC;
 use apex_types::limits::MOST_SOURCE_BYTES;
+use apex_types::{FIRST_VERSION, MAGIC, SECOND_VERSION, THIRD_VERSION};
 
-/// Returns true if the first byte is 0, which no TOML document has.
-pub fn is_zero_first(bytes: &[u8]) -> bool
+/// Returns true if one of the bytes stands in no TOML document.
+#[tactic(auto, using(std::proofs::lemmas::List::drop_more))]
+pub fn has_stray(bytes: &[u8]) -> bool
     ensures { result ≡ settles_table bytes.now }
 {
-    match bytes.split_first() {
-        Some((first, _)) => *first == 0,
-        None => false,
+    for byte in bytes {
+        if is_stray(*byte) {
+            return true;
+        }
     }
+    false
+}
+
+/// How many bytes of a table there are up to the first that stands in no TOML document, with it.
+#[tactic(auto, using(std::proofs::lemmas::List::drop_more))]
+pub fn table_end(bytes: &[u8]) -> usize
+    ensures { result ≡ table_end bytes.now }
+{
+    for (place, byte) in bytes.iter().enumerate() {
+        if is_stray(*byte) {
+            return place + 1;
+        }
+    }
+    bytes.len()
+}
+
+fn is_stray(byte: u8) -> bool
+    ensures { result ≡ is_stray byte }
+{
+    byte < 32 && !(byte == b'\t' || byte == b'\n' || byte == b'\r') || byte == 127
 }
 
 /// Returns true if there are more bytes than a source may have.
@@ -23,11 +46,39 @@ pub fn is_longer_than_a_source(bytes: &[u8]) -> bool
     bytes.len() > MOST_SOURCE_BYTES as usize
 }
 
-/// Returns true if the first eight bytes are others than those of every image.
-pub fn is_other_magic(bytes: &[u8]) -> bool
+/// Returns true if the bytes begin with another magic or version than every image.
+pub fn is_foreign(bytes: &[u8]) -> bool
     ensures { result ≡ settles_image bytes.now }
 {
+    has_other_magic(bytes) || has_other_version(bytes)
+}
+
+/// Returns true if the first eight bytes are others than those of every image.
+fn has_other_magic(bytes: &[u8]) -> bool
+    ensures { result ≡ has_other_magic bytes.now }
+{
     bytes.len() >= 8 && &bytes[..8] != MAGIC.as_slice()
+}
+
+/// Returns true if the two bytes behind the magic are the number of no version.
+fn has_other_version(bytes: &[u8]) -> bool
+    ensures { result ≡ has_other_version bytes.now }
+{
+    bytes.len() >= 10 && !is_version(version_at(bytes))
+}
+
+/// The number of the version, behind the magic.
+fn version_at(bytes: &[u8]) -> u16
+    requires { 10 ≤ length bytes.now }
+    ensures { result ≡ from_le_bytes w16 (take 2 (drop 8 bytes.now)) }
+{
+    u16::from_le_bytes([bytes[8], bytes[9]])
+}
+
+fn is_version(number: u16) -> bool
+    ensures { result ≡ is_version number }
+{
+    number == FIRST_VERSION || number == SECOND_VERSION || number == THIRD_VERSION
 }
 
 /// Returns true if one of the bytes stands in no line of a device or replay text.

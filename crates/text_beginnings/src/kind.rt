@@ -2,7 +2,7 @@
 
 ghost use Rattle.text_beginnings.specs.Kinds.{settles};
 
-use crate::beginning::{has_control, is_longer_than_a_source, is_other_magic, is_zero_first};
+use crate::beginning::{has_control, has_stray, is_foreign, is_longer_than_a_source};
 use streams::Reading;
 
 /// What a text is judged as.
@@ -20,9 +20,9 @@ impl Reading for TextKind {
 
     fn is_enough(&self, bytes: &[u8]) -> bool {
         match self {
-            TextKind::Table => is_zero_first(bytes),
+            TextKind::Table => has_stray(bytes),
             TextKind::Source => is_longer_than_a_source(bytes),
-            TextKind::Image => is_other_magic(bytes),
+            TextKind::Image => is_foreign(bytes),
             TextKind::Inputs => has_control(bytes),
         }
     }

@@ -1,13 +1,13 @@
 //! The laws: what a beginning settles stands, whatever follows.
 
-ghost use Rattle.std.specs.Prelude.{◌≡◌, ◌++◌, ℕ, true, List};
+ghost use Rattle.std.specs.Prelude.{◌≡◌, ◌++◌, ℕ, false, true, List, take};
 ghost use Rattle.isolation.specs.ReplayText.{replay_verdict};
 ghost use Rattle.machine_meaning.specs.ImageReading.{image_at};
 ghost use Rattle.module_meaning.specs.Accepted.{IsDocument};
 ghost use Rattle.module_meaning.specs.DeviceText.{verdict};
 ghost use Rattle.module_meaning.specs.Table.{Channel, Partition};
 ghost use Rattle.pal_meaning.specs.Grammar.{IsText};
-ghost use Rattle.text_beginnings.specs.Settled.{settles_image, settles_inputs, settles_source, settles_table};
+ghost use Rattle.text_beginnings.specs.Settled.{settles_image, settles_inputs, settles_source, settles_table, table_end};
 ghost use Rattle.toml.specs.Data.{Members};
 
 /// Bytes that begin so are read as these.
@@ -31,6 +31,15 @@ pub fn inputs_are_settled()
 pub fn table_is_settled()
     ensures { (bytes rest : List ℕ) (ms : Members) → settles_table bytes ≡ true
         → IsDocument (bytes ++ rest) ms → ⊥ }
+{}
+
+/// A table that is settled is so by its bytes up to its end; of another one these are all bytes.
+#[tactic(auto, using(crate::proofs::Ends::stray_at_end, crate::proofs::Ends::all_of_table))]
+pub fn cut_table_is_settled()
+    ensures settled { (bytes : List ℕ) → settles_table bytes ≡ true
+        → settles_table (take (table_end bytes) bytes) ≡ true }
+    ensures whole { (bytes : List ℕ) → settles_table bytes ≡ false
+        → take (table_end bytes) bytes ≡ bytes }
 {}
 
 /// No text that begins so is that of a source.

@@ -6,5 +6,8 @@ mod beginning;
 mod kind;
 mod laws;
 
+pub use beginning::table_end;
 pub use kind::TextKind;
-pub use laws::{image_is_settled, inputs_are_settled, source_is_settled, table_is_settled};
+pub use laws::{
+    cut_table_is_settled, image_is_settled, inputs_are_settled, source_is_settled, table_is_settled,
+};

@@ -1,9 +1,0 @@
-use Rattle.std.proofs.Common.{rules, ◌≡◌, length}
-use Rattle.command_line.specs.Reading.{texts_of}
-use Rattle.command_line.proofs.Read.{all_held}
-use Rattle.command_line.proofs.reading.read_all.Goals as goal
-
-pub returns-clause-held : goal.returns-clause-held
-returns-clause-held g c =
-    let at : c.loop-name.name-index ≡ length c.args.names.now = search rules in
-    all_held (g.F.Files.contents c.args.files.now) c.args.names.now c.loop-name.name-index (texts_of c.loop-name.texts.items) at c.loop-name.invariant.held
