@@ -4,8 +4,11 @@ ghost use Rattle.std.specs.Prelude.{◌≡◌, ◌-◌, ◌^◌, ◌<◌, map, I
 ghost use Rattle.std.specs.Io.KnownBytes.{Appends};
 ghost use Rattle.apex_types.specs.Line.{TakesBeginning};
 ghost use Rattle.lint.specs.Sentences.{findings_text};
+ghost use Rattle.pal_base.specs.WrittenView.{program_of};
+ghost use Rattle.pal_base.specs.declared.fault.Refusal.TheVariants.{Memory};
+ghost use Rattle.pal_meaning.specs.Grammar.{IsProgramOf};
 ghost use Rattle.command_line.specs.Done.{IsDoneWith, IsModuleIn};
-ghost use Rattle.command_line.specs.Linting.{AddsFound, AddsTrees, AreNotShown, AreShown, IsReadModule};
+ghost use Rattle.command_line.specs.Linting.{AddsFound, AddsTrees, AreNotShown, AreShown, HasTree, HaveTrees, IsReadModule};
 ghost use Rattle.command_line.specs.Orders.{Lint};
 ghost use Rattle.command_line.specs.Outcomes.{is_remarkable};
 ghost use Rattle.command_line.specs.Reading.{IsUncostedText, texts_of};
@@ -22,6 +25,7 @@ use apex_types::{Costs, SinkFault};
 use lint::{PartitionFindings, partition_findings, write_findings};
 use module::AcceptedModule;
 use pal::Checked;
+use pal_base::fault::PalFault;
 use pal_base::parse::parse;
 use pal_base::syntax::Program;
 use std::alloc::{AllocError, Global};
@@ -129,15 +133,28 @@ fn read_texts(
     Ok(ReadModule { accepted, trees })
 }
 
-/// Adds accepted sources as they are written.
+/// The tree of a source that has one.
+///
+/// # Errors
+///
+/// Memory ran out; there is no other.
+fn tree_of(alloc: Global, source: &[u8]) -> Result<Program, PalFault>
+    requires { HasTree source.now }
+    ensures tree { IfOk result (λ program. IsProgramOf source.now (program_of program)) }
+    ensures memory { IfErr result (λ fault. fault.refusal ≡ Memory) }
+{
+    parse(alloc, source)
+}
+
+/// Adds sources that have trees as they are written.
 fn add_trees(alloc: Global, sources: &[Vec<u8>], trees: &mut Vec<Program>) -> Result<(), AllocError>
+    requires { HaveTrees (texts_of sources.now) }
     ensures { OnOk result (AddsTrees (texts_of sources.now) trees.old.items trees.new.items) }
 {
     let Some((source, sources)) = sources.split_first() else {
         return Ok(());
     };
-    // An accepted source is the text of a program, so nothing but memory can be lacking.
-    let Ok(tree) = parse(alloc, source.as_slice()) else {
+    let Ok(tree) = tree_of(alloc, source.as_slice()) else {
         return Err(AllocError);
     };
     trees.push(tree)?;
