@@ -37,7 +37,7 @@ kept_run : (read : Result Image Fault) (devices : List ℕ) (n : ℕ) (old mid n
 kept_run read devices n old mid new (image, lines, r, out) kept = (image, lines, r, Appends-kept old mid new (text_of (machine_trace image lines n)) out kept)
 
 kept_until : (read : Result Image Fault) (devices : List ℕ) (asked : List (List ℕ)) (n : ℕ) (found : Bool) (old mid new : Option (List ℕ)) → RunsUntil read devices asked n old mid (Ok found) → Keeps mid new → RunsUntil read devices asked n old new (Ok found)
-kept_until read devices asked n found old mid new (image, lines, r, m, end, out) kept = (image, lines, r, m, end, Appends-kept old mid new (text_to image lines m) out kept)
+kept_until read devices asked n found old mid new (image, lines, r, (m, end, out)) kept = (image, lines, r, (m, end, Appends-kept old mid new (text_to image lines m) out kept))
 
 pub kept_traced : (read : Result Image Fault) (devices : List ℕ) (until : List (List ℕ)) (n : ℕ) (outcome : Outcome) (old mid new : Option (List ℕ)) → IsTraced read devices until n old mid (Ok outcome) → Keeps mid new → IsTraced read devices until n old new (Ok outcome)
 kept_traced read devices [] n Usual old mid new h kept = kept_run read devices n old mid new h kept

@@ -26,8 +26,8 @@ returns-in_err-flush-clause-refused g c =
     let same = c.in_ok-devices.ensures.unchanged ∙ c.in_ok-image.ensures.unchanged in
     told_as _ Write c.from_residual-in_err-flush.result c.from_residual-in_err-flush.ensures (
       c.in_err-flush.ensures.failed ∙ ap (λ (n : ℕ). n + 1) c.in_ok-outcome.ensures.quiet,
+      c.in_ok-outcome.outcome,
       (
-        c.in_ok-outcome.outcome,
         same,
         given.given,
         run_of_whole given until c.args.ticks (taken c.args.out.now) (taken c.flush.new.self) (Ok c.in_ok-outcome.outcome)
