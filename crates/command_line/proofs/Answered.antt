@@ -38,7 +38,7 @@ pub memory_refused : (order : Order) (s : State) → IsRefused order s s refusal
 memory_refused First s = (refl, (refl, refl))
 memory_refused (Check table sources) s = ((refl, (refl, refl)), tt)
 memory_refused (Build table image sources) s = ((refl, refl), inl (refl, tt))
-memory_refused (Run image devices ticks) s = (inr refl, (refl, (refl, refl)))
+memory_refused (Run image devices ticks until) s = (inr refl, (refl, (refl, refl)))
 memory_refused (Replay image partition text ticks) s = (inr refl, (refl, (refl, refl)))
 memory_refused (Inputs image partition devices ticks) s = (inr refl, (refl, (refl, refl)))
 memory_refused (Cost table sources) s = ((refl, (refl, refl)), tt)

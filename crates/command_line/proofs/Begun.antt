@@ -1,5 +1,5 @@
 -- Files of which a beginning was read: what it settles stands for the whole file.
-use Rattle.std.proofs.Common.{◌≡◌, ◌⊎◌, inl, inr, ℕ, ◌≤◌, ◌<◌, Bool, true, List, [], ◌∷◌, ◌++◌, Option, Some, None, Result, Ok, Err, IfOk, IfErr, refl, sym, ap, subst, ◌∙◌, append-nil}
+use Rattle.std.proofs.Common.{◌≡◌, ◌⊎◌, inl, inr, ℕ, ◌≤◌, ◌<◌, Bool, true, false, List, [], ◌∷◌, ◌++◌, Option, Some, None, Result, Ok, Err, IfOk, IfErr, refl, sym, ap, subst, ◌∙◌, append-nil}
 use Rattle.apex_types.specs.declared.device.DeviceLine.{DeviceLine}
 use Rattle.apex_types.specs.declared.device.DeviceFault.{DeviceFault}
 use Rattle.isolation.specs.ReplayText.{replay_verdict}
@@ -22,7 +22,10 @@ use Rattle.text_beginnings.proofs.Images.{no_image}
 use Rattle.text_beginnings.proofs.Inputs.{same_device_text, same_replay_text}
 use Rattle.module.specs.Running.{IsRefused}
 use Rattle.module.specs.Upgrades.{IsUpgraded}
-use Rattle.command_line.specs.Done.{AreInputsOf, ImageAndText, IsImageIn, IsReplayOf, IsRunOf, IsUpgradedIn}
+use Rattle.stopped_run.specs.Ends.{RunsUntil}
+use Rattle.command_line.specs.Done.{AreInputsOf, ImageAndText, IsImageIn, IsReplayOf, IsRunOf, IsTraced, IsUpgradedIn}
+use Rattle.command_line.specs.declared.outcome.Outcome.{Outcome}
+use Rattle.command_line.specs.declared.outcome.Outcome.TheVariants.{Usual, Remarkable}
 use Rattle.command_line.specs.Reading.{IsHeld}
 use Rattle.command_line.specs.Refusals.{IsNotLoaded}
 use Rattle.command_line.specs.declared.refusal.Refusal.TheVariants as refusal
@@ -88,10 +91,31 @@ runs_alike read devices whole n old new (Err run.Partition) same h = h
 runs_alike read devices whole n old new (Err run.Memory) same h = h
 runs_alike read devices whole n old new (Err run.Failed) same h = h
 
-pub run_of_whole : {files : Option Contents} {image devices image_read text_read : List ℕ} (g : Given files image devices image_read text_read) (n : ℕ) (old new : Option (List ℕ)) (answer : Result (Unit {0}) RunFault)
-    → Runs (image_at image_read) text_read n old new answer → IsRunOf g.given n old new answer
-run_of_whole {text_read = text_read} g n old new answer h =
-    runs_alike (image_at g.given.image_bytes) text_read g.given.text_bytes n old new answer g.same_devices (subst (λ read. Runs read text_read n old new answer) (sym g.same_image) h)
+until_alike : (read : Result Image Fault) (devices whole : List ℕ) (asked : List (List ℕ)) (n : ℕ) (old new : Option (List ℕ)) (answer : Result Bool RunFault)
+    → ((i : Image) → verdict_for i whole ≡ verdict_for i devices) → RunsUntil read devices asked n old new answer → RunsUntil read whole asked n old new answer
+until_alike read devices whole asked n old new (Ok found) same (image, lines, r, ended) = (image, lines, record { loaded = r.loaded; taken = same image ∙ r.taken; few = r.few }, ended)
+until_alike read devices whole asked n old new (Err run.Memory) same (inl kept) = inl kept
+until_alike read devices whole asked n old new (Err run.Memory) same (inr (image, lines, r, ended)) = inr (image, lines, record { loaded = r.loaded; taken = same image ∙ r.taken; few = r.few }, ended)
+until_alike read devices whole asked n old new (Err run.Write) same h = runs_alike read devices whole n old new (Err run.Write) same h
+until_alike read devices whole asked n old new (Err (run.Device f)) same h = runs_alike read devices whole n old new (Err (run.Device f)) same h
+until_alike read devices whole asked n old new (Err run.Ticks) same h = h
+until_alike read devices whole asked n old new (Err (run.Image f)) same h = h
+until_alike read devices whole asked n old new (Err run.Partition) same h = h
+until_alike read devices whole asked n old new (Err run.Failed) same h = h
+
+traced_alike : (read : Result Image Fault) (devices whole : List ℕ) (until : List (List ℕ)) (n : ℕ) (old new : Option (List ℕ)) (answer : Result Outcome RunFault)
+    → ((i : Image) → verdict_for i whole ≡ verdict_for i devices) → IsTraced read devices until n old new answer → IsTraced read whole until n old new answer
+traced_alike read devices whole [] n old new (Ok Usual) same h = runs_alike read devices whole n old new (Ok tt) same h
+traced_alike read devices whole [] n old new (Ok Remarkable) same h = absurd h
+traced_alike read devices whole [] n old new (Err fault) same h = runs_alike read devices whole n old new (Err fault) same h
+traced_alike read devices whole (word ∷ words) n old new (Ok Usual) same h = until_alike read devices whole (word ∷ words) n old new (Ok true) same h
+traced_alike read devices whole (word ∷ words) n old new (Ok Remarkable) same h = until_alike read devices whole (word ∷ words) n old new (Ok false) same h
+traced_alike read devices whole (word ∷ words) n old new (Err fault) same h = until_alike read devices whole (word ∷ words) n old new (Err fault) same h
+
+pub run_of_whole : {files : Option Contents} {image devices image_read text_read : List ℕ} (g : Given files image devices image_read text_read) (until : List (List ℕ)) (n : ℕ) (old new : Option (List ℕ)) (answer : Result Outcome RunFault)
+    → IsTraced (image_at image_read) text_read until n old new answer → IsRunOf g.given until n old new answer
+run_of_whole {text_read = text_read} g until n old new answer h =
+    traced_alike (image_at g.given.image_bytes) text_read g.given.text_bytes until n old new answer g.same_devices (subst (λ read. IsTraced read text_read until n old new answer) (sym g.same_image) h)
 
 replays_alike : (read : Result Image Fault) (name text whole : List ℕ) (n : ℕ) (old new : Option (List ℕ)) (answer : Result (Unit {0}) RunFault)
     → ((row : Partition) → replay_verdict row whole ≡ replay_verdict row text) → Replays read name text n old new answer → Replays read name whole n old new answer

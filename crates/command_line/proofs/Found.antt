@@ -54,11 +54,10 @@ build_is m name rows table image sources named found is one two three =
     order_is m name (codes "build") rows named found is
     ∙ sym (ap (λ t. Build t image sources) one ∙ ap (λ i. Build (word_at (codes "TABLE") rows) i sources) two ∙ ap (Build (word_at (codes "TABLE") rows) (word_at (codes "IMAGE") rows)) three)
 
-pub run_is : (m : ArgMatches) (name : List ℕ) (rows : List Row) (image devices ticks : List ℕ) → Some name ≡ subcommand_name_of m → Some rows ≡ option_map (λ p. p.1) (subcommand_rows_of m) → name ≡ codes "run"
-    → image ≡ word_at (codes "IMAGE") rows → devices ≡ word_at (codes "DEVICES") rows → ticks ≡ word_at (codes "TICKS") rows → order_of (subcommand_rows_of m) ≡ Run image devices ticks
-run_is m name rows image devices ticks named found is one two three =
-    order_is m name (codes "run") rows named found is
-    ∙ sym (ap (λ i. Run i devices ticks) one ∙ ap (λ d. Run (word_at (codes "IMAGE") rows) d ticks) two ∙ ap (Run (word_at (codes "IMAGE") rows) (word_at (codes "DEVICES") rows)) three)
+pub run_is : (m : ArgMatches) (name : List ℕ) (rows : List Row) (image devices ticks : List ℕ) (until : List (List ℕ)) → Some name ≡ subcommand_name_of m → Some rows ≡ option_map (λ p. p.1) (subcommand_rows_of m) → name ≡ codes "run"
+    → image ≡ word_at (codes "IMAGE") rows → devices ≡ word_at (codes "DEVICES") rows → ticks ≡ word_at (codes "TICKS") rows → until ≡ words_at (codes "until") rows → order_of (subcommand_rows_of m) ≡ Run image devices ticks until
+run_is m name rows image devices ticks until named found is one two three four =
+    order_is m name (codes "run") rows named found is ∙ sym (rw (one, two, three, four) refl)
 
 pub replay_is : (m : ArgMatches) (name : List ℕ) (rows : List Row) (image partition inputs ticks : List ℕ) → Some name ≡ subcommand_name_of m → Some rows ≡ option_map (λ p. p.1) (subcommand_rows_of m) → name ≡ codes "replay"
     → image ≡ word_at (codes "IMAGE") rows → partition ≡ word_at (codes "PARTITION") rows → inputs ≡ word_at (codes "INPUTS") rows → ticks ≡ word_at (codes "TICKS") rows → order_of (subcommand_rows_of m) ≡ Replay image partition inputs ticks

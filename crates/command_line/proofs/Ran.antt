@@ -1,5 +1,5 @@
 -- The text that runs have written.
-use Rattle.std.proofs.Common.{◌≡◌, ◌≢◌, ℕ, ◌≤◌, ◌<◌, ◌+◌, ◌-◌, ◌^◌, List, [], ◌∷◌, Option, Result, Ok, Err, refl, sym, subst, arith, min}
+use Rattle.std.proofs.Common.{◌≡◌, ◌≢◌, ◌⊎◌, inl, inr, ℕ, ◌≤◌, ◌<◌, ◌+◌, ◌-◌, ◌^◌, Bool, true, false, List, [], ◌∷◌, map, Bor, Option, Result, Ok, Err, refl, sym, subst, arith, min}
 use Rattle.std.specs.Io.KnownBytes.{Keeps}
 use Rattle.std.proofs.KnownBytes.{Appends-kept}
 use Rattle.apex_types.specs.declared.limits.TheConstants.{MOST_TICKS}
@@ -12,10 +12,16 @@ use Rattle.module.specs.Promises.{Means}
 use Rattle.module.specs.Runs.{Runs}
 use Rattle.module.specs.declared.fault.RunFault.{RunFault}
 use Rattle.module.specs.declared.fault.RunFault.TheVariants.{Ticks, Image as NoImage, Partition, Device, Memory, Write, Failed}
-use Rattle.std.specs.Prelude.{IsErr, IsErrAnd, IsErrOf, IfErr}
+use Rattle.std.specs.Prelude.{IsErr, IsErrAnd, IsErrOf, IfErr, not}
+use Rattle.std.specs.Str.Parse.{IsNumeral, digits_value}
+use Rattle.stopped_run.specs.Ends.{IsBegun, RunsUntil, text_to}
 use Rattle.machine_meaning.specs.ImageReading.{image_at}
 use Rattle.streams.specs.Contents.{Contents, Holds}
-use Rattle.command_line.specs.Done.{ImageAndText, IsRunDone, IsFirstRun, is_ok}
+use Rattle.command_line.specs.Done.{ImageAndText, IsDoneWith, IsRunDone, IsFirstRun, IsTraced, is_ok}
+use Rattle.command_line.specs.Orders.{Run}
+use Rattle.command_line.specs.Outcomes.{is_remarkable}
+use Rattle.command_line.specs.declared.outcome.Outcome.{Outcome}
+use Rattle.command_line.specs.declared.outcome.Outcome.TheVariants.{Usual, Remarkable}
 use Rattle.streams.specs.States.{Seen}
 use Rattle.module.specs.declared.fault.BuildAndRunFault.{BuildAndRunFault}
 use Rattle.module.specs.declared.fault.BuildAndRunFault.TheVariants as both
@@ -27,8 +33,17 @@ use Rattle.command_line.specs.declared.refusal.Refusal.TheVariants as refusal
 
 -- ---- what is kept by a flush
 
-pub kept_run : (read : Result Image Fault) (devices : List ℕ) (n : ℕ) (old mid new : Option (List ℕ)) → Runs read devices n old mid (Ok tt) → Keeps mid new → Runs read devices n old new (Ok tt)
+kept_run : (read : Result Image Fault) (devices : List ℕ) (n : ℕ) (old mid new : Option (List ℕ)) → Runs read devices n old mid (Ok tt) → Keeps mid new → Runs read devices n old new (Ok tt)
 kept_run read devices n old mid new (image, lines, r, out) kept = (image, lines, r, Appends-kept old mid new (text_of (machine_trace image lines n)) out kept)
+
+kept_until : (read : Result Image Fault) (devices : List ℕ) (asked : List (List ℕ)) (n : ℕ) (found : Bool) (old mid new : Option (List ℕ)) → RunsUntil read devices asked n old mid (Ok found) → Keeps mid new → RunsUntil read devices asked n old new (Ok found)
+kept_until read devices asked n found old mid new (image, lines, r, m, end, out) kept = (image, lines, r, m, end, Appends-kept old mid new (text_to image lines m) out kept)
+
+pub kept_traced : (read : Result Image Fault) (devices : List ℕ) (until : List (List ℕ)) (n : ℕ) (outcome : Outcome) (old mid new : Option (List ℕ)) → IsTraced read devices until n old mid (Ok outcome) → Keeps mid new → IsTraced read devices until n old new (Ok outcome)
+kept_traced read devices [] n Usual old mid new h kept = kept_run read devices n old mid new h kept
+kept_traced read devices [] n Remarkable old mid new h kept = absurd h
+kept_traced read devices (word ∷ words) n Usual old mid new h kept = kept_until read devices (word ∷ words) n true old mid new h kept
+kept_traced read devices (word ∷ words) n Remarkable old mid new h kept = kept_until read devices (word ∷ words) n false old mid new h kept
 
 pub kept_first : (table : List ℕ) (sources : List (List ℕ)) (devices : List ℕ) (n : ℕ) (old mid new : Option (List ℕ)) → Means table sources devices n old mid (Ok tt) → Keeps mid new → Means table sources devices n old new (Ok tt)
 kept_first table sources devices n old mid new (t, programs, lines, r, out) kept = (t, programs, lines, r, Appends-kept old mid new (text_of (source_trace t programs lines n)) out kept)
@@ -51,6 +66,43 @@ runs_by read devices n v old new (Err Partition) is h = absurd h
 runs_by read devices n v old new (Err Memory) is h = h
 runs_by read devices n v old new (Err Failed) is h = h
 
+until_by : (read : Result Image Fault) (devices : List ℕ) (asked : List (List ℕ)) (n v : ℕ) (old new : Option (List ℕ)) (answer : Result Bool RunFault) → n ≡ min v (2 ^ 64 - 1) → RunsUntil read devices asked n old new answer → RunsUntil read devices asked v old new answer
+until_by read devices asked n v old new (Ok found) is h = subst (λ k. RunsUntil read devices asked k old new (Ok found)) (few_same n v is h.2.few) h
+until_by read devices asked n v old new (Err Memory) is (inl kept) = inl kept
+until_by read devices asked n v old new (Err Memory) is (inr h) = inr (subst (λ k. IsBegun read devices asked k old new (Err Memory)) (few_same n v is h.2.few) h)
+until_by read devices asked n v old new (Err Write) is h = runs_by read devices n v old new (Err Write) is h
+until_by read devices asked n v old new (Err Ticks) is h = runs_by read devices n v old new (Err Ticks) is h
+until_by read devices asked n v old new (Err (Device f)) is h = runs_by read devices n v old new (Err (Device f)) is h
+until_by read devices asked n v old new (Err (NoImage f)) is h = runs_by read devices n v old new (Err (NoImage f)) is h
+until_by read devices asked n v old new (Err Partition) is h = absurd h
+until_by read devices asked n v old new (Err Failed) is h = absurd h
+
+traced_by : (read : Result Image Fault) (devices : List ℕ) (until : List (List ℕ)) (n v : ℕ) (old new : Option (List ℕ)) (answer : Result Outcome RunFault) → n ≡ min v (2 ^ 64 - 1) → IsTraced read devices until n old new answer → IsTraced read devices until v old new answer
+traced_by read devices [] n v old new (Ok Usual) is h = runs_by read devices n v old new (Ok tt) is h
+traced_by read devices [] n v old new (Ok Remarkable) is h = absurd h
+traced_by read devices [] n v old new (Err fault) is h = runs_by read devices n v old new (Err fault) is h
+traced_by read devices (word ∷ words) n v old new (Ok Usual) is h = until_by read devices (word ∷ words) n v old new (Ok true) is h
+traced_by read devices (word ∷ words) n v old new (Ok Remarkable) is h = until_by read devices (word ∷ words) n v old new (Ok false) is h
+traced_by read devices (word ∷ words) n v old new (Err fault) is h = until_by read devices (word ∷ words) n v old new (Err fault) is h
+
+-- ---- a run that waits for a line
+
+pub waited : (read : Result Image Fault) (devices : List ℕ) (until : List (List ℕ)) (n : ℕ) (old new : Option (List ℕ)) (came : Bool) (outcome : Outcome) → until ≢ [] → is_remarkable outcome ≡ not came → RunsUntil read devices until n old new (Ok came) → IsTraced read devices until n old new (Ok outcome)
+waited read devices [] n old new came outcome some is h = absurd (some refl)
+waited read devices (word ∷ words) n old new true Usual some is h = h
+waited read devices (word ∷ words) n old new true Remarkable some is h = absurd cc
+waited read devices (word ∷ words) n old new false Usual some is h = absurd cc
+waited read devices (word ∷ words) n old new false Remarkable some is h = h
+
+pub waited_in_vain : (read : Result Image Fault) (devices : List ℕ) (until : List (List ℕ)) (n : ℕ) (old new : Option (List ℕ)) (fault : RunFault) → until ≢ [] → RunsUntil read devices until n old new (Err fault) → IsTraced read devices until n old new (Err fault)
+waited_in_vain read devices [] n old new fault some h = absurd (some refl)
+waited_in_vain read devices (word ∷ words) n old new fault some h = h
+
+-- words that are asked for, as texts
+pub words_some : (words : List (Bor (List ℕ))) → words ≢ [] → map (λ w. w.now) words ≢ []
+words_some [] some is = some refl
+words_some (w ∷ ws) some is = cc
+
 -- ---- refusals that are handed on
 
 pub told_as : {A E : Type 0} (P : E → Type 0) (f : E) (answer : Result A E) → IsErr answer × IsErrAnd answer (λ e. e ≡ f) → P f → IfErr answer P
@@ -58,7 +110,7 @@ told_as P f (Ok x) h p = tt
 told_as P f (Err e) h p = subst P (sym h.1) p
 
 -- the number of failures of a run on its sink
-pub failed_by : (old new : Seen) (answer : Result (Unit {0}) RunFault) → (IsErrOf answer Write → new.failures ≡ old.failures + 1) → IfErr answer (λ f. f ≢ Write → new.failures ≡ old.failures) → IfErr answer (λ f. HasFailedBy f old new)
+pub failed_by : {A : Type 0} (old new : Seen) (answer : Result A RunFault) → (IsErrOf answer Write → new.failures ≡ old.failures + 1) → IfErr answer (λ f. f ≢ Write → new.failures ≡ old.failures) → IfErr answer (λ f. HasFailedBy f old new)
 failed_by old new (Ok x) write quiet = tt
 failed_by old new (Err Write) write quiet = write refl
 failed_by old new (Err Ticks) write quiet = quiet (λ e. cc)
@@ -94,16 +146,21 @@ given_of files now image text bytes read given_bytes given_text same same_bytes 
   in_text = subst (Holds files text) (sym same_text) (subst (λ f. Holds f text read) same in_text);
 }
 
-pub run_done_by : (image devices : List ℕ) (n v : ℕ) (before after : State) → n ≡ min v (2 ^ 64 - 1) → IsRunDone image devices n before after → IsRunDone image devices v before after
-run_done_by image devices n v before after is (same, given, run) =
-    (same, given, runs_by (image_at given.image_bytes) given.text_bytes n v before.out.taken after.out.taken is_ok is run)
+pub run_done_by : (image devices : List ℕ) (until : List (List ℕ)) (n v : ℕ) (outcome : Outcome) (before after : State) → n ≡ min v (2 ^ 64 - 1) → IsRunDone image devices until n outcome before after → IsRunDone image devices until v outcome before after
+run_done_by image devices until n v outcome before after is (same, given, run) =
+    (same, given, traced_by (image_at given.image_bytes) given.text_bytes until n v before.out.taken after.out.taken (Ok outcome) is run)
 
-pub run_refused_by : (image devices : List ℕ) (n v : ℕ) (before after : State) (r : Refusal) → n ≡ min v (2 ^ 64 - 1) → IsRunRefused image devices n before after r → IsRunRefused image devices v before after r
-run_refused_by image devices n v before after (refusal.File name reason) is h = h
-run_refused_by image devices n v before after (refusal.Run fault) is (failed, same, given, run) =
-    (failed, same, given, runs_by (image_at given.image_bytes) given.text_bytes n v before.out.taken after.out.taken (Err fault) is run)
-run_refused_by image devices n v before after refusal.Memory is h = h
-run_refused_by image devices n v before after refusal.Write is (failed, done) = (failed, run_done_by image devices n v before after is done)
-run_refused_by image devices n v before after (refusal.Build fault) is h = absurd h
-run_refused_by image devices n v before after (refusal.Replay fault) is h = absurd h
-run_refused_by image devices n v before after (refusal.Inputs fault) is h = absurd h
+-- a run that is done is an order that is done
+pub run_done_with : (image devices ticks : List ℕ) (until : List (List ℕ)) (outcome : Outcome) (before after : State) → IsNumeral 10 ticks → IsRunDone image devices until (digits_value 10 ticks) outcome before after → IsDoneWith outcome (Run image devices ticks until) before after
+run_done_with image devices ticks until Usual before after digits done = (digits, done)
+run_done_with image devices ticks until Remarkable before after digits done = (digits, done)
+
+pub run_refused_by : (image devices : List ℕ) (until : List (List ℕ)) (n v : ℕ) (before after : State) (r : Refusal) → n ≡ min v (2 ^ 64 - 1) → IsRunRefused image devices until n before after r → IsRunRefused image devices until v before after r
+run_refused_by image devices until n v before after (refusal.File name reason) is h = h
+run_refused_by image devices until n v before after (refusal.Run fault) is (failed, same, given, run) =
+    (failed, same, given, traced_by (image_at given.image_bytes) given.text_bytes until n v before.out.taken after.out.taken (Err fault) is run)
+run_refused_by image devices until n v before after refusal.Memory is h = h
+run_refused_by image devices until n v before after refusal.Write is (failed, outcome, done) = (failed, outcome, run_done_by image devices until n v outcome before after is done)
+run_refused_by image devices until n v before after (refusal.Build fault) is h = absurd h
+run_refused_by image devices until n v before after (refusal.Replay fault) is h = absurd h
+run_refused_by image devices until n v before after (refusal.Inputs fault) is h = absurd h

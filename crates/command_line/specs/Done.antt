@@ -1,10 +1,10 @@
 -- The effect of a command that is done.
-use Rattle.std.specs.Prelude.{◌≡◌, ℕ, Bool, true, false, List, [], ◌∷◌, ◌++◌, length, Option, Result, Ok, codes}
+use Rattle.std.specs.Prelude.{◌≡◌, ℕ, Bool, true, false, List, [], ◌∷◌, ◌++◌, length, Option, Result, Ok, Err, codes}
 use Rattle.std.specs.Fmt.{decimal}
 use Rattle.std.specs.Io.KnownBytes.{Appends}
 use Rattle.std.specs.Str.Parse.{IsNumeral, digits_value}
 use Rattle.machine_meaning.specs.Image.{Image}
-use Rattle.machine_meaning.specs.ImageReading.{image_at}
+use Rattle.machine_meaning.specs.ImageReading.{Fault, image_at}
 use Rattle.listing.specs.Code.{code_text}
 use Rattle.listing.specs.Costs.{costs_text}
 use Rattle.module.specs.Building.{IsImageOf}
@@ -19,6 +19,7 @@ use Rattle.module.specs.declared.fault.BuildAndRunFault.{BuildAndRunFault}
 use Rattle.module.specs.declared.inputs_fault.InputsFault.{InputsFault}
 use Rattle.module.specs.declared.fault.RunFault.{RunFault}
 use Rattle.streams.specs.Contents.{Contents, Holds, HoldAll, Spares}
+use Rattle.stopped_run.specs.Ends.{RunsUntil}
 use Rattle.command_line.specs.Orders.{Order, First, Check, Build, Run, Replay, Inputs, Cost, Dis, Upgrade, Load, Lint}
 use Rattle.command_line.specs.Loading.{AreLoaded, IsLoadOfText, IsShown}
 use Rattle.command_line.specs.Linting.{AreFound, IsReadModule}
@@ -97,9 +98,22 @@ size_text n = codes "built " ++ decimal n ++ codes " bytes" ++ 10 ∷ []
 abbrev pub upgraded_text : ℕ → List ℕ
 upgraded_text n = codes "upgraded " ++ decimal n ++ codes " bytes" ++ 10 ∷ []
 
--- the output of a run of n ticks with this answer
-abbrev pub IsRunOf : {files : Option Contents} {image devices : List ℕ} → ImageAndText files image devices → ℕ → Option (List ℕ) → Option (List ℕ) → Result (Unit {0}) RunFault → Type 0
-IsRunOf given n old new answer = Runs (image_at given.image_bytes) given.text_bytes n old new answer
+abbrev pub is_ok : {E : Type 0} → Result (Unit {0}) E
+is_ok = Ok tt
+
+-- The output of a run of n ticks with this answer. If it waits for a line with some words, it ends with
+-- the first tick that has one; if none comes, that is remarkable.
+abbrev pub IsTraced : Result Image Fault → List ℕ → List (List ℕ) → ℕ → Option (List ℕ) → Option (List ℕ) → Result Outcome RunFault → Type 0
+IsTraced read devices [] n old new (Ok Usual) = Runs read devices n old new is_ok
+IsTraced read devices [] n old new (Ok Remarkable) = ⊥
+IsTraced read devices [] n old new (Err fault) = Runs read devices n old new (Err fault)
+IsTraced read devices (word ∷ words) n old new (Ok Usual) = RunsUntil read devices (word ∷ words) n old new (Ok true)
+IsTraced read devices (word ∷ words) n old new (Ok Remarkable) = RunsUntil read devices (word ∷ words) n old new (Ok false)
+IsTraced read devices (word ∷ words) n old new (Err fault) = RunsUntil read devices (word ∷ words) n old new (Err fault)
+
+-- the same of an image and a device text in files
+abbrev pub IsRunOf : {files : Option Contents} {image devices : List ℕ} → ImageAndText files image devices → List (List ℕ) → ℕ → Option (List ℕ) → Option (List ℕ) → Result Outcome RunFault → Type 0
+IsRunOf given until n old new answer = IsTraced (image_at given.image_bytes) given.text_bytes until n old new answer
 
 -- the output of a replay of a partition for n ticks with this answer
 abbrev pub IsReplayOf : {files : Option Contents} {image inputs : List ℕ} → ImageAndText files image inputs → List ℕ → ℕ → Option (List ℕ) → Option (List ℕ) → Result (Unit {0}) RunFault → Type 0
@@ -115,13 +129,10 @@ IsFirstRun old new answer = Means TABLE.now (SOURCE.now ∷ []) [] TICKS old new
 
 -- ---- the commands
 
-abbrev pub is_ok : {E : Type 0} → Result (Unit {0}) E
-is_ok = Ok tt
-
--- an image was run for n ticks
-abbrev pub IsRunDone : List ℕ → List ℕ → ℕ → State → State → Type 0
-IsRunDone image devices n before after =
-    (after.files ≡ before.files) × (given : ImageAndText before.files image devices) × IsRunOf given n before.out.taken after.out.taken is_ok
+-- an image was run for n ticks, or to a line with some words
+abbrev pub IsRunDone : List ℕ → List ℕ → List (List ℕ) → ℕ → Outcome → State → State → Type 0
+IsRunDone image devices until n outcome before after =
+    (after.files ≡ before.files) × (given : ImageAndText before.files image devices) × IsRunOf given until n before.out.taken after.out.taken (Ok outcome)
 
 -- a partition of an image was replayed for n ticks
 abbrev pub IsReplayDone : List ℕ → List ℕ → List ℕ → ℕ → State → State → Type 0
@@ -146,7 +157,7 @@ IsDone (Check table sources) before after =
 IsDone (Build table name sources) before after =
     (image : List ℕ) × IsBuilt before.files table sources image × Holds after.files name image × Spares name before.files after.files
     × Appends before.out.taken after.out.taken (size_text (length image))
-IsDone (Run image devices ticks) before after = IsNumeral 10 ticks × IsRunDone image devices (digits_value 10 ticks) before after
+IsDone (Run image devices ticks until) before after = IsNumeral 10 ticks × IsRunDone image devices until (digits_value 10 ticks) Usual before after
 IsDone (Replay image partition inputs ticks) before after = IsNumeral 10 ticks × IsReplayDone image partition inputs (digits_value 10 ticks) before after
 IsDone (Inputs image partition devices ticks) before after = IsNumeral 10 ticks × AreInputsDone image partition devices (digits_value 10 ticks) before after
 IsDone (Cost table sources) before after =
@@ -161,9 +172,10 @@ IsDone (Upgrade old new) before after =
     × Appends before.out.taken after.out.taken (upgraded_text (length bytes))
 IsDone (Lint table sources) before after = IsLinted false table sources before after
 
--- with status 3 something is found
+-- with status 3 something is found, or a line that a run waits for has not come
 abbrev pub IsRemarkable : Order → State → State → Type 0
 IsRemarkable (Lint table sources) before after = IsLinted true table sources before after
+IsRemarkable (Run image devices ticks until) before after = IsNumeral 10 ticks × IsRunDone image devices until (digits_value 10 ticks) Remarkable before after
 IsRemarkable order before after = ⊥
 
 abbrev pub IsDoneWith : Outcome → Order → State → State → Type 0

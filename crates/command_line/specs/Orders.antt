@@ -6,12 +6,12 @@ use Rattle.command_words.specs.Found.{Entered, word_at, words_at}
 use Rattle.command_line.specs.declared.form.Form.{Form}
 use Rattle.command_line.specs.declared.form.Form.TheVariants.{Tables, Rows, Picture}
 
--- files and partitions are named; ticks are a word
+-- files and partitions are named; ticks are a word; a run may wait for a line with some words
 pub data Order : Type 0 where
   First : Order
   Check : (table : List ℕ) (sources : List (List ℕ)) → Order
   Build : (table : List ℕ) (image : List ℕ) (sources : List (List ℕ)) → Order
-  Run : (image : List ℕ) (devices : List ℕ) (ticks : List ℕ) → Order
+  Run : (image : List ℕ) (devices : List ℕ) (ticks : List ℕ) (until : List (List ℕ)) → Order
   Replay : (image : List ℕ) (partition : List ℕ) (inputs : List ℕ) (ticks : List ℕ) → Order
   Inputs : (image : List ℕ) (partition : List ℕ) (devices : List ℕ) (ticks : List ℕ) → Order
   Cost : (table : List ℕ) (sources : List (List ℕ)) → Order
@@ -27,7 +27,7 @@ abbrev pub build_of : List Row → Order
 build_of rows = Build (word_at (codes "TABLE") rows) (word_at (codes "IMAGE") rows) (words_at (codes "SOURCE") rows)
 
 abbrev pub run_of : List Row → Order
-run_of rows = Run (word_at (codes "IMAGE") rows) (word_at (codes "DEVICES") rows) (word_at (codes "TICKS") rows)
+run_of rows = Run (word_at (codes "IMAGE") rows) (word_at (codes "DEVICES") rows) (word_at (codes "TICKS") rows) (words_at (codes "until") rows)
 
 abbrev pub replay_of : List Row → Order
 replay_of rows = Replay (word_at (codes "IMAGE") rows) (word_at (codes "PARTITION") rows) (word_at (codes "INPUTS") rows) (word_at (codes "TICKS") rows)

@@ -28,6 +28,7 @@ use Rattle.lint.specs.Sentences.{findings_text}
 use Rattle.lint.specs.declared.report.PartitionFindings.{PartitionFindings}
 use Rattle.schedule_load.specs.declared.load.FrameLoad.{FrameLoad}
 use Rattle.command_line.specs.States.{IsSilent, IsUntouched, State}
+use Rattle.command_line.specs.declared.outcome.Outcome.{Outcome}
 use Rattle.command_line.specs.declared.refusal.Refusal.{Refusal}
 use Rattle.command_line.specs.declared.refusal.Refusal.TheVariants.{Build, Run, Replay, Inputs, File, Memory, Write}
 use Rattle.command_words.specs.declared.failure.Failure.{Failure}
@@ -120,15 +121,15 @@ IsBuildRefused table name sources before after r =
     IsSilent before.out after.out
     × (((after.files ≡ before.files) × IsNotBuilt before.files table sources r) ⊎ IsNotWritten table sources name before after r)
 
--- why a run of n ticks is refused
-abbrev pub IsRunRefused : List ℕ → List ℕ → ℕ → State → State → Refusal → Type 0
-IsRunRefused image devices n before after (File name reason) = IsUntouched before after × IsFirstUnread before.files (image ∷ devices ∷ []) (string_bytes name)
-IsRunRefused image devices n before after (Run fault) =
+-- why a run of n ticks, or to a line with some words, is refused
+abbrev pub IsRunRefused : List ℕ → List ℕ → List (List ℕ) → ℕ → State → State → Refusal → Type 0
+IsRunRefused image devices until n before after (File name reason) = IsUntouched before after × IsFirstUnread before.files (image ∷ devices ∷ []) (string_bytes name)
+IsRunRefused image devices until n before after (Run fault) =
     HasFailedBy fault before.out after.out × (after.files ≡ before.files)
-    × (given : ImageAndText before.files image devices) × IsRunOf given n before.out.taken after.out.taken (Err fault)
-IsRunRefused image devices n before after Memory = IsUntouched before after
-IsRunRefused image devices n before after Write = HasFailed before.out after.out × IsRunDone image devices n before after
-IsRunRefused image devices n before after _ = ⊥
+    × (given : ImageAndText before.files image devices) × IsRunOf given until n before.out.taken after.out.taken (Err fault)
+IsRunRefused image devices until n before after Memory = IsUntouched before after
+IsRunRefused image devices until n before after Write = HasFailed before.out after.out × (outcome : Outcome) × IsRunDone image devices until n outcome before after
+IsRunRefused image devices until n before after _ = ⊥
 
 -- why a replay of a partition for n ticks is refused
 abbrev pub IsReplayRefused : List ℕ → List ℕ → List ℕ → ℕ → State → State → Refusal → Type 0
@@ -198,8 +199,8 @@ IsRefused (load form table sources) before after r = IsLoadRefused table sources
 IsRefused (lint table sources) before after r = IsLintRefused table sources before after r
 IsRefused (dis image) before after r = IsDisRefused image before after r
 IsRefused (upgrade old new) before after r = IsUpgradeRefused old new before after r
-IsRefused (run image devices ticks) before after r =
-    (IsNumeral 10 ticks ⊎ (r ≡ Memory)) × IsRunRefused image devices (digits_value 10 ticks) before after r
+IsRefused (run image devices ticks until) before after r =
+    (IsNumeral 10 ticks ⊎ (r ≡ Memory)) × IsRunRefused image devices until (digits_value 10 ticks) before after r
 IsRefused (replay image partition text ticks) before after r =
     (IsNumeral 10 ticks ⊎ (r ≡ Memory)) × IsReplayRefused image partition text (digits_value 10 ticks) before after r
 IsRefused (inputs image partition devices ticks) before after r =
@@ -209,7 +210,7 @@ IsRefused (inputs image partition devices ticks) before after r =
 
 -- the word for the ticks is not written in digits
 abbrev pub IsWrongTicks : Order → Type 0
-IsWrongTicks (run image devices ticks) = IsNumeral 10 ticks → ⊥
+IsWrongTicks (run image devices ticks until) = IsNumeral 10 ticks → ⊥
 IsWrongTicks (replay image partition text ticks) = IsNumeral 10 ticks → ⊥
 IsWrongTicks (inputs image partition devices ticks) = IsNumeral 10 ticks → ⊥
 IsWrongTicks _ = ⊥

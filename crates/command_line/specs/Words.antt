@@ -28,8 +28,12 @@ check_app = with_rule (with_rule (explained_app (codes "check")) (word_rule (cod
 abbrev pub build_app : App
 build_app = with_rule (with_rule (with_rule (explained_app (codes "build")) (word_rule (codes "TABLE"))) (word_rule (codes "IMAGE"))) sources_rule
 
+-- the words of a line that a run waits for, one or more
+abbrev pub until_rule : Rule
+until_rule = record (new_rule (codes "until")) { long = Some (codes "until"); range = Some (record { start_inclusive = 1; end_inclusive = usize_max }); action = Some Append; value_names = 1 }
+
 abbrev pub run_flags_app : App
-run_flags_app = with_rule (explained_app (codes "run")) (flag_rule (codes "progress"))
+run_flags_app = with_rule (with_rule (explained_app (codes "run")) (flag_rule (codes "progress"))) until_rule
 
 abbrev pub run_app : App
 run_app = with_rule (with_rule (with_rule run_flags_app (word_rule (codes "IMAGE"))) (word_rule (codes "DEVICES"))) (word_rule (codes "TICKS"))

@@ -119,12 +119,14 @@ fn obey<F: Files, O: Stream, W: Watch>(
         }
         Some(("run", found)) => {
             let (image, devices) = (word(found, "IMAGE"), word(found, "DEVICES"));
+            let until = found.get_strs("until").unwrap_or(&[]);
             begin_if_asked(found, watch);
             run(
                 alloc,
                 image,
                 devices,
                 word(found, "TICKS"),
+                until,
                 files,
                 out,
                 watch,

@@ -5,7 +5,7 @@ ghost use Rattle.clap.specs.Values.{kind_of};
 ghost use Rattle.clap.specs.Walk.{rule_of};
 ghost use Rattle.clap.specs.declared.error.kind.ErrorKind.TheVariants.{ValueValidation};
 ghost use Rattle.command_words.specs.Grammar.{IsCommand};
-ghost use Rattle.command_line.specs.Words.{sources_rule, explained_app, check_app, build_app, run_app, partition_app, replay_app, inputs_app, cost_app, dis_app, upgrade_app, load_app, load_flags_app, lint_app, run_flags_app, any_sources_rule, mb_app, top_app};
+ghost use Rattle.command_line.specs.Words.{sources_rule, explained_app, check_app, build_app, run_app, partition_app, replay_app, inputs_app, cost_app, dis_app, upgrade_app, load_app, load_flags_app, lint_app, run_flags_app, until_rule, any_sources_rule, mb_app, top_app};
 
 use clap::error::ErrorKind;
 use clap::{Arg, ArgAction, Command, Error};
@@ -85,11 +85,27 @@ fn run<'a>(alloc: Global) -> Result<Command<'a>, AllocError>
 fn of_run<'a>(alloc: Global) -> Result<Command<'a>, AllocError>
     ensures { IfOk result (λ command. IsCommand command run_flags_app) }
 {
-    explained(alloc, "run")?.arg(flag(
-        alloc,
-        "progress",
-        "Tells once a second on standard error how far the run is",
-    ))
+    explained(alloc, "run")?
+        .arg(flag(
+            alloc,
+            "progress",
+            "Tells once a second on standard error how far the run is",
+        ))?
+        .arg(until(alloc))
+}
+
+fn until<'a>(alloc: Global) -> Arg<'a>
+    ensures rule { rule_of result ≡ until_rule }
+    ensures local { result.global ≡ false }
+{
+    Arg::new(alloc, "until")
+        .long("until")
+        .value_name("WORD")
+        .num_args(1..)
+        .action(ArgAction::Append)
+        .help(
+            "Ends the run with the first tick that has a line with these words behind its tick, `_` for any one; status 3 if none comes",
+        )
 }
 
 fn replay<'a>(alloc: Global) -> Result<Command<'a>, AllocError>

@@ -23,7 +23,6 @@ use pal::Checked;
 use schedule_load::{FrameLoad, body_loads, frame_load};
 use std::alloc::{AllocError, Global};
 use streams::{Files, Stream, write_bytes};
-use trace_view::ReportFault;
 use window_table::ModuleTable;
 
 /// The load of a module table, and of the bodies of its sources if these are given.
@@ -170,24 +169,10 @@ fn shown(alloc: Global, form: Form, loaded: &Loaded) -> Result<Vec<u8>, AllocErr
         bodies: loaded.bodies.as_slice(),
     };
     match form {
-        Form::Tables => tables(alloc, &report),
-        Form::Rows => rows(alloc, &report),
+        Form::Tables => report.tables(alloc),
+        Form::Rows => report.sheet(alloc),
         Form::Picture => picture(alloc, &report),
     }
-}
-
-/// The tables of a load.
-fn tables(alloc: Global, report: &LoadReport<'_>) -> Result<Vec<u8>, AllocError> {
-    let mut text = Vec::new(alloc);
-    report.write_table(alloc, &mut text).map_err(no_memory)?;
-    Ok(text)
-}
-
-/// The comma-separated values of a load.
-fn rows(alloc: Global, report: &LoadReport<'_>) -> Result<Vec<u8>, AllocError> {
-    let mut text = Vec::new(alloc);
-    report.write_csv(alloc, &mut text).map_err(no_memory)?;
-    Ok(text)
 }
 
 /// The picture of a frame.
@@ -198,9 +183,4 @@ fn picture(alloc: Global, report: &LoadReport<'_>) -> Result<Vec<u8>, AllocError
     let mut text = Vec::new(alloc);
     text.extend_from_slice(drawn.as_bytes())?;
     Ok(text)
-}
-
-/// Bytes in memory take all that is written, unless memory runs out.
-fn no_memory(_: ReportFault) -> AllocError {
-    AllocError
 }

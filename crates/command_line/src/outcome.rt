@@ -1,6 +1,6 @@
 //! How a command that is done has ended.
 
-ghost use Rattle.std.specs.Prelude.{◌≡◌};
+ghost use Rattle.std.specs.Prelude.{◌≡◌, not};
 ghost use Rattle.command_line.specs.Outcomes.{is_remarkable, status_of};
 ghost use Rattle.lint.specs.Sentences.{have_findings};
 
@@ -11,7 +11,7 @@ use lint::{PartitionFindings, have_findings};
 pub enum Outcome {
     /// As usual.
     Usual,
-    /// Something is found that is probably not meant.
+    /// Something is found that is probably not meant, or a line that a run waits for has not come.
     Remarkable,
 }
 
@@ -23,6 +23,17 @@ impl Outcome {
         match self {
             Outcome::Usual => 0,
             Outcome::Remarkable => 3,
+        }
+    }
+
+    /// The outcome of a run that waits for a line.
+    pub fn of_wait(came: bool) -> Outcome
+        ensures { is_remarkable result ≡ not came }
+    {
+        if came {
+            Outcome::Usual
+        } else {
+            Outcome::Remarkable
         }
     }
 

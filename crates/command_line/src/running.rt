@@ -1,9 +1,8 @@
 //! Runs, of an image and of the stored module.
 
-ghost use Rattle.std.specs.Prelude.{◌≡◌, ◌-◌, ◌^◌, ◌<◌, IfOk, IfErr, OnOk};
+ghost use Rattle.std.specs.Prelude.{◌≡◌, ◌-◌, ◌^◌, ◌<◌, [], map, IfOk, IfErr, OnOk};
 ghost use Rattle.machine_meaning.specs.ImageReading.{image_at};
-ghost use Rattle.module.specs.Runs.{Runs};
-ghost use Rattle.command_line.specs.Done.{IsDoneWith, IsFirstRun, IsRunDone, is_ok};
+ghost use Rattle.command_line.specs.Done.{IsDoneWith, IsFirstRun, IsRunDone, IsTraced, is_ok};
 ghost use Rattle.command_line.specs.Orders.{Run};
 ghost use Rattle.command_line.specs.Refusals.{HasFailedBy, HasFailedByBoth, IsFailure, IsRunRefused, IsStoredRefused};
 ghost use Rattle.command_line.specs.States.{state};
@@ -19,15 +18,18 @@ use crate::refusal::Refusal;
 use command_words::{Failure, number_of};
 use module::{BuildAndRunFault, RunFault, Watch};
 use std::alloc::Global;
+use stopped_run::run_until;
 use streams::{Files, Stream};
 use text_beginnings::TextKind;
 
-/// Runs an image for the ticks of a word, and tells a watcher how far it is.
+/// Runs an image for the ticks of a word, and tells a watcher how far it is. With words in `until`
+/// the run ends with the first tick that has a line with them; it is remarkable if none comes.
 pub fn run<F: Files, O: Stream, W: Watch>(
     alloc: Global,
     image: &str,
     devices: &str,
     ticks: &str,
+    until: &[&str],
     files: &mut F,
     out: &mut O,
     watch: &mut W,
@@ -36,14 +38,14 @@ pub fn run<F: Files, O: Stream, W: Watch>(
     requires { O.failures out.old < 2 ^ 64 - 1 }
     ensures done { IfOk result
         (λ outcome.
-        IsDoneWith outcome (Run image.now devices.now ticks.now)
+        IsDoneWith outcome (Run image.now devices.now ticks.now (map (λ w. w.now) until.now))
         (state (F.contents files.old) (seen O.taken O.failures O.is_flushed out.old))
         (state (F.contents files.new) (seen O.taken O.failures O.is_flushed out.new))) }
     ensures flushed { OnOk result
         (IsFlushed (seen O.taken O.failures O.is_flushed out.old)
         (seen O.taken O.failures O.is_flushed out.new)) }
     ensures failed { IfErr result
-        (λ f. IsFailure (Run image.now devices.now ticks.now)
+        (λ f. IsFailure (Run image.now devices.now ticks.now (map (λ w. w.now) until.now))
         (state (F.contents files.old) (seen O.taken O.failures O.is_flushed out.old))
         (state (F.contents files.new) (seen O.taken O.failures O.is_flushed out.new)) f) }
     ensures noted { OnOk result (F.failed files.new ≡ F.failed files.old) }
@@ -52,31 +54,34 @@ pub fn run<F: Files, O: Stream, W: Watch>(
     let Some(number) = number_of(ticks) else {
         return Err(Failure::Usage(bad_ticks(alloc, "run", ticks)?));
     };
-    run_named(alloc, image, devices, number, files, out, watch, note)?;
-    Ok(Outcome::Usual)
+    let outcome = run_named(
+        alloc, image, devices, number, until, files, out, watch, note,
+    )?;
+    Ok(outcome)
 }
 
-/// Runs an image for `ticks` ticks.
+/// Runs an image for `ticks` ticks, or to a line.
 fn run_named<F: Files, O: Stream, W: Watch>(
     alloc: Global,
     image: &str,
     devices: &str,
     ticks: u64,
+    until: &[&str],
     files: &mut F,
     out: &mut O,
     watch: &mut W,
     note: &mut Note,
-) -> Result<(), Refusal>
+) -> Result<Outcome, Refusal>
     requires { O.failures out.old < 2 ^ 64 - 1 }
-    ensures done { OnOk result
-        (IsRunDone image.now devices.now ticks
+    ensures done { IfOk result
+        (λ outcome. IsRunDone image.now devices.now (map (λ w. w.now) until.now) ticks outcome
         (state (F.contents files.old) (seen O.taken O.failures O.is_flushed out.old))
         (state (F.contents files.new) (seen O.taken O.failures O.is_flushed out.new))) }
     ensures flushed { OnOk result
         (IsFlushed (seen O.taken O.failures O.is_flushed out.old)
         (seen O.taken O.failures O.is_flushed out.new)) }
     ensures refused { IfErr result
-        (λ r. IsRunRefused image.now devices.now ticks
+        (λ r. IsRunRefused image.now devices.now (map (λ w. w.now) until.now) ticks
         (state (F.contents files.old) (seen O.taken O.failures O.is_flushed out.old))
         (state (F.contents files.new) (seen O.taken O.failures O.is_flushed out.new)) r) }
     ensures noted { OnOk result (F.failed files.new ≡ F.failed files.old) }
@@ -91,8 +96,9 @@ fn run_named<F: Files, O: Stream, W: Watch>(
         text_name,
         text: devices.as_slice(),
     };
-    trace(alloc, run_files, ticks, out, watch, note)?;
-    Ok(out.flush()?)
+    let outcome = trace(alloc, run_files, ticks, until, out, watch, note)?;
+    out.flush()?;
+    Ok(outcome)
 }
 
 /// Writes the trace of an image. A refusal of the image or of the device text is explained in `note`.
@@ -100,23 +106,72 @@ fn trace<O: Stream, W: Watch>(
     alloc: Global,
     files: RunFiles<'_>,
     ticks: u64,
+    until: &[&str],
     out: &mut O,
     watch: &mut W,
     note: &mut Note,
-) -> Result<(), RunFault>
+) -> Result<Outcome, RunFault>
     requires { O.failures out.old < 2 ^ 64 - 1 }
-    ensures trace { Runs (image_at files.entry.image.now) files.entry.text.now ticks
+    ensures trace { IsTraced (image_at files.entry.image.now) files.entry.text.now
+        (map (λ w. w.now) until.now) ticks (O.taken out.old) (O.taken out.new) result }
+    ensures quiet { OnOk result (O.failures out.new ≡ O.failures out.old) }
+    ensures failed { IfErr result
+        (λ f. HasFailedBy f (seen O.taken O.failures O.is_flushed out.old)
+        (seen O.taken O.failures O.is_flushed out.new)) }
+{
+    let traced = write_trace(alloc, files, ticks, until, out, watch);
+    if let Err(fault) = &traced {
+        note.explain_run(alloc, files, fault);
+    }
+    traced
+}
+
+/// Writes the trace of an image to its end, or to a line with these words if there are any.
+fn write_trace<O: Stream, W: Watch>(
+    alloc: Global,
+    files: RunFiles<'_>,
+    ticks: u64,
+    until: &[&str],
+    out: &mut O,
+    watch: &mut W,
+) -> Result<Outcome, RunFault>
+    requires { O.failures out.old < 2 ^ 64 - 1 }
+    ensures trace { IsTraced (image_at files.entry.image.now) files.entry.text.now
+        (map (λ w. w.now) until.now) ticks (O.taken out.old) (O.taken out.new) result }
+    ensures quiet { OnOk result (O.failures out.new ≡ O.failures out.old) }
+    ensures failed { IfErr result
+        (λ f. HasFailedBy f (seen O.taken O.failures O.is_flushed out.old)
+        (seen O.taken O.failures O.is_flushed out.new)) }
+{
+    if until.is_empty() {
+        return write_whole_trace(alloc, files, ticks, out, watch);
+    }
+    match run_until(alloc, files.image, files.text, ticks, until, out, watch) {
+        Ok(came) => Ok(Outcome::of_wait(came)),
+        Err(fault) => Err(fault),
+    }
+}
+
+/// Writes the trace of an image to its end.
+fn write_whole_trace<O: Stream, W: Watch>(
+    alloc: Global,
+    files: RunFiles<'_>,
+    ticks: u64,
+    out: &mut O,
+    watch: &mut W,
+) -> Result<Outcome, RunFault>
+    requires { O.failures out.old < 2 ^ 64 - 1 }
+    ensures trace { IsTraced (image_at files.entry.image.now) files.entry.text.now [] ticks
         (O.taken out.old) (O.taken out.new) result }
     ensures quiet { OnOk result (O.failures out.new ≡ O.failures out.old) }
     ensures failed { IfErr result
         (λ f. HasFailedBy f (seen O.taken O.failures O.is_flushed out.old)
         (seen O.taken O.failures O.is_flushed out.new)) }
 {
-    let traced = module::run_watched(alloc, files.image, files.text, ticks, out, watch);
-    if let Err(fault) = &traced {
-        note.explain_run(alloc, files, fault);
+    match module::run_watched(alloc, files.image, files.text, ticks, out, watch) {
+        Ok(()) => Ok(Outcome::Usual),
+        Err(fault) => Err(fault),
     }
-    traced
 }
 
 /// Runs the stored module.

@@ -2,29 +2,22 @@
 
 use crate::report::LoadReport;
 use apex_types::{PartitionId, WindowRow};
+use number_tables::{Cell, number_cell};
 use pal::BodyName;
 use schedule_load::{BodyLoad, FrameLoad, Gap, PartitionLoad, Share};
-use trace_view::Cell;
 
 fn number(number: u32) -> Cell {
     Cell::Number(u64::from(number))
 }
 
 fn share_cell(share: Share) -> Cell {
-    Cell::Share(trace_view::Share {
+    Cell::Share(number_tables::Share {
         tenths: share.tenths,
     })
 }
 
 fn share_of(part: u32, whole: u32) -> Cell {
     share_cell(Share::of(u64::from(part), u64::from(whole)))
-}
-
-fn optional(number: Option<u64>) -> Cell {
-    match number {
-        Some(number) => Cell::Number(number),
-        None => Cell::Absent,
-    }
 }
 
 /// The ticks of the frame; those that partitions own, and their share; those that nobody owns, and
@@ -80,8 +73,8 @@ pub fn gap_cells(gap: &Gap) -> [Cell; 3] {
 pub fn body_cells(body: &BodyLoad) -> [Cell; 4] {
     [
         Cell::Number(body.cost),
-        optional(body.period),
-        optional(body.capacity),
+        number_cell(body.period),
+        number_cell(body.capacity),
         match body.share {
             Some(part) => share_cell(part),
             None => Cell::Absent,

@@ -7,8 +7,8 @@ use crate::report::LoadReport;
 use apex_types::{PartitionId, Ticks, WindowRow};
 use std::alloc::{AllocError, Global};
 use trace_picture::{
-    Axis, Bar, FIRST_ROW, Key, LEFT, LONG, Length, Page, REPORT, ROW, Tag, WIDE, at,
-    bar_attributes, draw_axis, draw_style, draw_text, moved, set, view,
+    Axis, Bar, FIRST_ROW, Key, LEFT, LONG, Length, Page, REPORT, ROW, Tag, at, bar_attributes,
+    draw_axis, draw_heading, draw_style, draw_text, moved, set, view,
 };
 use trace_stays::Span;
 
@@ -49,27 +49,32 @@ pub fn draw(alloc: Global, report: &LoadReport<'_>) -> Result<String, AllocError
             from: Ticks(0),
             until: Ticks(u64::from(report.load.frame)),
         },
+        long: LONG,
     };
+    let wide = axis.wide();
     let mut page = Page::new(
         alloc,
         &[
             set(Key::Xmlns, "http://www.w3.org/2000/svg"),
-            at(Key::Width, WIDE),
+            at(Key::Width, wide),
             at(Key::Height, high),
-            view(WIDE, high),
+            view(wide, high),
         ],
     )?;
-    draw_title(&mut page, report)?;
+    let frame = report.load.frame;
+    let heading = format!(in alloc; "A frame of {frame} ticks")?;
+    draw_title(&mut page, heading.as_str())?;
     draw_style(&mut page)?;
     page.empty(
         Tag::Rect,
         &[
             set(Key::Class, "paper"),
-            at(Key::Width, WIDE),
+            at(Key::Width, wide),
             at(Key::Height, high),
         ],
     )?;
-    draw_lanes(&mut page, report)?;
+    draw_heading(&mut page, heading.as_str())?;
+    draw_lanes(&mut page, axis, report)?;
     draw_axis(&mut page, axis, bottom)?;
     for window in report.windows {
         draw_window(&mut page, axis, report, window)?;
@@ -81,16 +86,15 @@ pub fn draw(alloc: Global, report: &LoadReport<'_>) -> Result<String, AllocError
     page.finish()
 }
 
-fn draw_title(page: &mut Page, report: &LoadReport<'_>) -> Result<(), AllocError> {
+/// Writes the title that a browser shows of a page.
+fn draw_title(page: &mut Page, title: &str) -> Result<(), AllocError> {
     page.open(Tag::Title, &[])?;
-    page.text("A frame of ")?;
-    page.number(u64::from(report.load.frame))?;
-    page.text(" ticks")?;
+    page.text(title)?;
     page.close()
 }
 
 /// Draws the name and the line of each partition's lane.
-fn draw_lanes(page: &mut Page, report: &LoadReport<'_>) -> Result<(), AllocError> {
+fn draw_lanes(page: &mut Page, axis: Axis, report: &LoadReport<'_>) -> Result<(), AllocError> {
     let mut number: u8 = 0;
     for load in &report.load.partitions {
         number = number.saturating_add(1);
@@ -103,7 +107,7 @@ fn draw_lanes(page: &mut Page, report: &LoadReport<'_>) -> Result<(), AllocError
                 set(Key::Class, "grid"),
                 at(Key::X1, Length(LEFT)),
                 at(Key::Y1, height),
-                at(Key::X2, Length(LEFT + LONG)),
+                at(Key::X2, axis.end()),
                 at(Key::Y2, height),
             ],
         )?;

@@ -8,8 +8,6 @@ use crate::{picture, sheet, tables};
 use apex_types::{Name, PartitionId, WindowRow};
 use schedule_load::{BodyLoad, FrameLoad};
 use std::alloc::{AllocError, Global};
-use std::io::Write;
-use trace_view::ReportFault;
 
 /// The bodies of a partition's source.
 #[derive(Drop)]
@@ -27,22 +25,26 @@ pub struct LoadReport<'a> {
 }
 
 impl<'a> LoadReport<'a> {
-    /// Writes the load as tables, each with a line that says what it shows, and a line of headings.
+    /// The load as tables, each with a line that says what it shows, and a line of headings.
     ///
     /// # Errors
     ///
-    /// Memory ran out, or the writer failed; then a beginning of the text is out.
-    pub fn write_table<W: Write>(&self, alloc: Global, out: &mut W) -> Result<(), ReportFault> {
-        tables::write_tables(alloc, self, out)
+    /// Memory ran out.
+    pub fn tables(&self, alloc: Global) -> Result<Vec<u8>, AllocError> {
+        let mut text = Vec::new(alloc);
+        tables::write_tables(alloc, self, &mut text)?;
+        Ok(text)
     }
 
-    /// Writes the load as one table of comma-separated values, with a line of headings.
+    /// The load as one table of comma-separated values, with a line of headings.
     ///
     /// # Errors
     ///
-    /// Memory ran out, or the writer failed; then a beginning of the text is out.
-    pub fn write_csv<W: Write>(&self, alloc: Global, out: &mut W) -> Result<(), ReportFault> {
-        sheet::write_sheet(alloc, self, out)
+    /// Memory ran out.
+    pub fn sheet(&self, alloc: Global) -> Result<Vec<u8>, AllocError> {
+        let mut text = Vec::new(alloc);
+        sheet::write_sheet(alloc, self, &mut text)?;
+        Ok(text)
     }
 
     /// The frame as a picture in SVG: a lane for each partition with its windows, and a mark at each

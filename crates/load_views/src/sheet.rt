@@ -5,10 +5,8 @@ use crate::cells::{
 };
 use crate::report::LoadReport;
 use apex_types::PartitionId;
-use csv::{Writer, WriterBuilder};
-use std::alloc::Global;
-use std::io::Write;
-use trace_view::{Cell, ReportFault, cell_text};
+use number_tables::{Row, named, push_record};
+use std::alloc::{AllocError, Global};
 
 /// The columns. Each row has the first three, and those of its own group.
 static HEADINGS: [&str; 23] = [
@@ -37,103 +35,65 @@ static HEADINGS: [&str; 23] = [
     "capacity_percent",
 ];
 
-/// Writes the row of headings, a row of the frame, and a row of each partition, window, gap and body.
-pub fn write_sheet<W: Write>(
+/// Appends the row of headings, a row of the frame, and a row of each partition, window, gap and body.
+pub fn write_sheet(
     alloc: Global,
     report: &LoadReport<'_>,
-    out: &mut W,
-) -> Result<(), ReportFault> {
-    let mut sheet = Sheet {
-        alloc,
-        writer: WriterBuilder::new().from_writer(out),
-    };
-    for heading in &HEADINGS {
-        sheet.text(heading)?;
-    }
-    sheet.end()?;
-    sheet.schedule(report)?;
+    text: &mut Vec<u8>,
+) -> Result<(), AllocError> {
+    let mut headings = Row::new(alloc);
+    headings.push_texts(&HEADINGS)?;
+    push_record(alloc, &headings, text)?;
+    write_schedule(alloc, report, text)?;
     for partition in report.bodies {
         for body in &partition.bodies {
-            sheet.names("body", partition.partition.as_str(), body_text(&body.name))?;
-            sheet.blanks(16)?;
-            sheet.cells(&body_cells(body))?;
-            sheet.end()?;
+            let mut row = named(
+                alloc,
+                "body",
+                partition.partition.as_str(),
+                body_text(&body.name),
+            )?;
+            row.push_blanks(16)?;
+            row.push_cells(&body_cells(body), "")?;
+            push_record(alloc, &row, text)?;
         }
     }
-    sheet.writer.flush()?;
     Ok(())
 }
 
-/// A sheet that is being written.
-#[derive(Drop)]
-struct Sheet<'a, W: Write> {
+/// Appends the rows of the frame, of the partitions, of the windows and of the gaps.
+fn write_schedule(
     alloc: Global,
-    writer: Writer<&'a mut W>,
-}
-
-impl<'a, W: Write> Sheet<'a, W> {
-    /// The rows of the frame, of the partitions, of the windows and of the gaps.
-    fn schedule(&mut self, report: &LoadReport<'_>) -> Result<(), ReportFault> {
-        self.names("frame", "", "")?;
-        self.cells(&frame_cells(report.load))?;
-        self.blanks(15)?;
-        self.end()?;
-        let mut number: u8 = 0;
-        for load in &report.load.partitions {
-            number = number.saturating_add(1);
-            self.names("partition", load.name.as_str(), "")?;
-            self.blanks(5)?;
-            self.cells(&partition_cells(report, PartitionId(number), load))?;
-            self.blanks(8)?;
-            self.end()?;
-        }
-        for window in report.windows {
-            self.names("window", report.name_of(window.partition), "")?;
-            self.blanks(12)?;
-            self.cells(&window_cells(window))?;
-            self.text(release_text(window))?;
-            self.blanks(4)?;
-            self.end()?;
-        }
-        for gap in &report.load.gaps {
-            self.names("gap", "", "")?;
-            self.blanks(12)?;
-            self.cells(&gap_cells(gap))?;
-            self.blanks(5)?;
-            self.end()?;
-        }
-        Ok(())
+    report: &LoadReport<'_>,
+    text: &mut Vec<u8>,
+) -> Result<(), AllocError> {
+    let mut row = named(alloc, "frame", "", "")?;
+    row.push_cells(&frame_cells(report.load), "")?;
+    row.push_blanks(15)?;
+    push_record(alloc, &row, text)?;
+    let mut number: u8 = 0;
+    for load in &report.load.partitions {
+        number = number.saturating_add(1);
+        let mut row = named(alloc, "partition", load.name.as_str(), "")?;
+        row.push_blanks(5)?;
+        row.push_cells(&partition_cells(report, PartitionId(number), load), "")?;
+        row.push_blanks(8)?;
+        push_record(alloc, &row, text)?;
     }
-
-    fn names(&mut self, kind: &str, partition: &str, name: &str) -> Result<(), ReportFault> {
-        self.text(kind)?;
-        self.text(partition)?;
-        self.text(name)
+    for window in report.windows {
+        let mut row = named(alloc, "window", report.name_of(window.partition), "")?;
+        row.push_blanks(12)?;
+        row.push_cells(&window_cells(window), "")?;
+        row.push_text(release_text(window))?;
+        row.push_blanks(4)?;
+        push_record(alloc, &row, text)?;
     }
-
-    fn cells(&mut self, cells: &[Cell]) -> Result<(), ReportFault> {
-        for cell in cells {
-            let text = cell_text(self.alloc, *cell, "")?;
-            self.text(text.as_str())?;
-        }
-        Ok(())
+    for gap in &report.load.gaps {
+        let mut row = named(alloc, "gap", "", "")?;
+        row.push_blanks(12)?;
+        row.push_cells(&gap_cells(gap), "")?;
+        row.push_blanks(5)?;
+        push_record(alloc, &row, text)?;
     }
-
-    /// Columns that do not apply to the row.
-    fn blanks(&mut self, count: usize) -> Result<(), ReportFault> {
-        for _ in 0..count {
-            self.text("")?;
-        }
-        Ok(())
-    }
-
-    fn text(&mut self, text: &str) -> Result<(), ReportFault> {
-        self.writer.write_field(text.as_bytes())?;
-        Ok(())
-    }
-
-    fn end(&mut self) -> Result<(), ReportFault> {
-        self.writer.end_record()?;
-        Ok(())
-    }
+    Ok(())
 }

@@ -5,42 +5,41 @@ use crate::cells::{
 };
 use crate::report::LoadReport;
 use apex_types::PartitionId;
-use std::alloc::Global;
-use std::io::Write;
-use trace_view::{ReportFault, Table};
+use number_tables::Table;
+use std::alloc::{AllocError, Global};
 
-/// Writes the tables, with an empty line between two of them. A table without rows is left out.
-pub fn write_tables<W: Write>(
+/// Appends the tables, with an empty line between two of them. A table without rows is left out.
+pub fn write_tables(
     alloc: Global,
     report: &LoadReport<'_>,
-    out: &mut W,
-) -> Result<(), ReportFault> {
-    write_frame(alloc, report, out)?;
-    write_partitions(alloc, report, out)?;
-    write_windows(alloc, report, out)?;
-    write_gaps(alloc, report, out)?;
-    write_bodies(alloc, report, out)
+    text: &mut Vec<u8>,
+) -> Result<(), AllocError> {
+    write_frame(alloc, report, text)?;
+    write_partitions(alloc, report, text)?;
+    write_windows(alloc, report, text)?;
+    write_gaps(alloc, report, text)?;
+    write_bodies(alloc, report, text)
 }
 
-fn write_frame<W: Write>(
+fn write_frame(
     alloc: Global,
     report: &LoadReport<'_>,
-    out: &mut W,
-) -> Result<(), ReportFault> {
+    text: &mut Vec<u8>,
+) -> Result<(), AllocError> {
     let numbers = ["ticks", "owned", "%", "unowned", "%"];
     let mut table = Table::new(alloc, &[], &numbers)?;
     table.add(&[], &frame_cells(report.load))?;
     table.write(
         "The frame: its ticks, those that partitions own, and those that nobody owns",
-        out,
+        text,
     )
 }
 
-fn write_partitions<W: Write>(
+fn write_partitions(
     alloc: Global,
     report: &LoadReport<'_>,
-    out: &mut W,
-) -> Result<(), ReportFault> {
+    text: &mut Vec<u8>,
+) -> Result<(), AllocError> {
     let numbers = [
         "windows",
         "ticks",
@@ -59,15 +58,15 @@ fn write_partitions<W: Write>(
     }
     table.write(
         "\nPartitions: windows, ticks of a frame and their share, and ticks of a period",
-        out,
+        text,
     )
 }
 
-fn write_windows<'x, W: Write>(
+fn write_windows<'x>(
     alloc: Global,
     report: &'x LoadReport<'x>,
-    out: &mut W,
-) -> Result<(), ReportFault> {
+    text: &mut Vec<u8>,
+) -> Result<(), AllocError> {
     let mut table = Table::new(
         alloc,
         &["partition", "release point"],
@@ -77,26 +76,26 @@ fn write_windows<'x, W: Write>(
         let names = [report.name_of(window.partition), release_text(window)];
         table.add(&names, &window_cells(window))?;
     }
-    table.write("\nWindows: the ticks of the frame that each has", out)
+    table.write("\nWindows: the ticks of the frame that each has", text)
 }
 
-fn write_gaps<W: Write>(
+fn write_gaps(
     alloc: Global,
     report: &LoadReport<'_>,
-    out: &mut W,
-) -> Result<(), ReportFault> {
+    text: &mut Vec<u8>,
+) -> Result<(), AllocError> {
     let mut table = Table::new(alloc, &[], &["from", "until", "ticks"])?;
     for gap in &report.load.gaps {
         table.add(&[], &gap_cells(gap))?;
     }
-    table.write("\nGaps: ticks of the frame that nobody owns", out)
+    table.write("\nGaps: ticks of the frame that nobody owns", text)
 }
 
-fn write_bodies<W: Write>(
+fn write_bodies(
     alloc: Global,
     report: &LoadReport<'_>,
-    out: &mut W,
-) -> Result<(), ReportFault> {
+    text: &mut Vec<u8>,
+) -> Result<(), AllocError> {
     let numbers = ["cost", "period", "capacity", "%"];
     let mut table = Table::new(alloc, &["partition", "body"], &numbers)?;
     for partition in report.bodies {
@@ -107,6 +106,6 @@ fn write_bodies<W: Write>(
     }
     table.write(
         "\nBodies: ticks of their constructs, each once, and the share in the time capacity",
-        out,
+        text,
     )
 }

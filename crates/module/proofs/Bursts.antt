@@ -20,7 +20,7 @@ use Rattle.bursts.proofs.Quiet.{jump}
 use Rattle.bursts.proofs.Pieces.{IsAlone, piece, HasNobody, empty_piece}
 use Rattle.lone_partition.proofs.Outputs.{nothing_sent}
 use Rattle.lone_partition.specs.Sent.{Sent}
-use Rattle.module.specs.Pieces.{LeadsTo, HasPassedSome, HasRun, IsBrokenOff, HasMoved, HasMovedWritten}
+use Rattle.module.specs.Pieces.{LeadsTo, HasPassedSome, HasSkippedSome, HasRun, IsBrokenOff, HasMoved, HasMovedWritten}
 use Rattle.module.specs.Standing.{Standing, lines_of}
 use Rattle.module.specs.Written.{AreFrom}
 use Rattle.module.proofs.DeviceLines.{none_before}
@@ -185,6 +185,18 @@ pub run_still : {C : Type 0} (plan : Plan) (lines : List DeviceLine) (k t origin
 run_still plan lines k t origin s sent here from begun order still =
     let all : k ≤ k = omega arith in
     (all, refl, record { told = []; leads = lift plan lines k t origin s [] s.members here from (leads_still plan lines k t origin s.members begun order still); sent = nothing_sent sent })
+
+pub skip_nothing : {C : Type 0} (plan : Plan) (lines : List DeviceLine) (k : ℕ) (s : Standing C) → HasSkippedSome plan lines k s s 0
+skip_nothing plan lines k s =
+    let none : 0 ≤ k = omega arith in
+    let same : s.now ≡ s.now + 0 = omega arith in
+    (none, same, leads_nowhere plan lines s)
+
+pub skip_ticks : {C : Type 0} (plan : Plan) (lines : List DeviceLine) (k n t origin : ℕ) (s : Standing C) → t ≡ s.now → s.origin ≡ Some origin → n ≤ k
+    → 0 < t → AreFrom (t + n) lines → AreStill origin t (t + n) s.members
+    → HasSkippedSome plan lines k s (record { members = s.members; now = s.now + n; origin = s.origin }) n
+skip_ticks plan lines k n t origin s here from few begun order still =
+    (few, refl, lift plan lines n t origin s [] s.members here from (leads_still plan lines n t origin s.members begun order still))
 
 pub run_empty : {C : Type 0} (plan : Plan) (lines : List DeviceLine) (k t origin : ℕ) (s : Standing C) (sent : Sent) → t ≡ s.now → s.origin ≡ Some origin
     → 0 < t → AreFrom (t + k) lines

@@ -11,7 +11,7 @@ use Rattle.module_meaning.specs.Module.{Course, of_tick}
 use Rattle.machine_meaning.specs.MachineMeaning.{machine_module}
 use Rattle.image.specs.Views.{image_of}
 use Rattle.partition_base.specs.contracts.machine.PartitionProcessorExecutor.TheImpl.{ghosts as executor}
-use Rattle.module.specs.Pieces.{HasRun, IsBrokenOff}
+use Rattle.module.specs.Pieces.{HasRun, HasSkippedSome, IsBrokenOff}
 use Rattle.module.specs.Standing.{Standing, at_first, after, ticks}
 use Rattle.module.specs.Views.{standing_of}
 use Rattle.module.specs.declared.fault.RunFault.{RunFault}
@@ -79,3 +79,8 @@ HasRunOn lines most m next old new before now (Ok n) =
     (next.image ≡ m.image) × (next.failed ≡ false) × (n ≤ most) × (next.standing.now ≡ m.standing.now + n) × HasRun (machine_module m.image).plan lines n m.standing next.standing old new before now
 HasRunOn lines most m next old new before now (Err fault.Write) = IsBrokenOff (machine_module m.image).plan lines most m.standing old new before now
 HasRunOn lines most m next old new before now (Err _) = ⊥
+
+-- Of `most` ticks, n were made at once, and they have no lines.
+abbrev pub HasSkipped : List DeviceLine → ℕ → Machine → Machine → ℕ → Type 0
+HasSkipped lines most m next n =
+    (next.image ≡ m.image) × (next.failed ≡ m.failed) × HasSkippedSome (machine_module m.image).plan lines most m.standing next.standing n

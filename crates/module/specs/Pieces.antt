@@ -26,6 +26,10 @@ pub record HasPassed {C : Type 0} (plan : Plan) (lines : List DeviceLine) (n : �
 abbrev pub HasPassedSome : {C : Type 0} → Plan → List DeviceLine → ℕ → Standing C → Standing C → Sent → Sent → ℕ → Type 0
 HasPassedSome plan lines k s next old new n = (n ≤ k) × (next.now ≡ s.now + n) × HasPassed plan lines n s next old new
 
+-- Of k ticks, n were made, and they have no lines.
+abbrev pub HasSkippedSome : {C : Type 0} → Plan → List DeviceLine → ℕ → Standing C → Standing C → ℕ → Type 0
+HasSkippedSome plan lines k s next n = (n ≤ k) × (next.now ≡ s.now + n) × LeadsTo plan lines n s [] next
+
 -- n ticks were made, and their lines were written.
 pub record HasRun {C : Type 0} (plan : Plan) (lines : List DeviceLine) (n : ℕ) (s next : Standing C) (old new : Option (List ℕ)) (before after : ℕ) : Type 0 where
   pub told : List Event

@@ -10,7 +10,7 @@ ghost use Rattle.machine_meaning.specs.ImageLimits.{IsLawful};
 ghost use Rattle.machine_meaning.specs.MachineMeaning.{machine_module, machine_trace};
 ghost use Rattle.module.specs.Isolated.{WritesAlone};
 ghost use Rattle.module.specs.Machines as machines;
-ghost use Rattle.module.specs.Machines.{HasRunOn, HasTicked, HaveTicked, fresh_machine, machine_of};
+ghost use Rattle.module.specs.Machines.{HasRunOn, HasSkipped, HasTicked, HaveTicked, fresh_machine, machine_of};
 ghost use Rattle.module.specs.Standing.{lines_of};
 ghost use Rattle.module.specs.Running.{AreRefused, RunsImage};
 ghost use Rattle.module.specs.Written.{AreFrom};
@@ -121,6 +121,19 @@ impl Machine {
             return Err(RunFault::Write);
         }
         Ok(count)
+    }
+
+    /// Skips some of `most` ticks in which nothing happens, all of them before the first of these
+    /// device lines, which are of the next tick or later; returns how many. If it returns 0, the
+    /// next tick has to be made.
+    pub fn skip(&mut self, lines: &[DeviceLine], most: u32) -> u32
+        requires soon { (machine_of self.old).standing.now + most ≤ MOST_TICKS }
+        requires order { AreFrom (machine_of self.old).standing.now lines.now }
+        ensures order { AreFrom (machine_of self.new).standing.now lines.now }
+        ensures skipped { HasSkipped lines.now most (machine_of self.old) (machine_of self.new)
+            result }
+    {
+        self.module.skip_still(lines, most)
     }
 
     /// Makes the next tick, with its device lines in their order. The lines of its trace go into

@@ -6,7 +6,7 @@ ghost use Rattle.apex_types.specs.declared.device.DeviceLine.{DeviceLine};
 ghost use Rattle.kernel_meaning.specs.Windows.{tick_from, owner, ended};
 ghost use Rattle.bursts.specs.Quiet.{AreStill};
 ghost use Rattle.lone_partition.specs.Outputs.{sent_of};
-ghost use Rattle.module.specs.Pieces.{HasMovedWritten, HasPassedSome};
+ghost use Rattle.module.specs.Pieces.{HasMovedWritten, HasPassedSome, HasSkippedSome};
 ghost use Rattle.module.specs.Standing.{ticks_in};
 ghost use Rattle.module.specs.Views.{members_in, plan_of, standing_of};
 ghost use Rattle.module.specs.Written.{AreFrom};
@@ -214,6 +214,31 @@ impl<E: Executor<Mem = PartitionMem>> Module<E> {
                 None => 0,
             },
         }
+    }
+
+    /// Skips some of `most` ticks in which nothing happens, all of them before the first of these
+    /// device lines; returns how many.
+    pub fn skip_still(&mut self, lines: &[DeviceLine], most: u32) -> u32
+        requires soon { self.old.now.0 + most ≤ MOST_TICKS }
+        requires order { AreFrom self.old.now.0 lines.now }
+        ensures image { self.new.image ≡ self.old.image }
+        ensures order { AreFrom self.new.now.0 lines.now }
+        ensures skipped { HasSkippedSome (plan_of self.old.image) lines.now most
+            (standing_of E.Executor self.old) (standing_of E.Executor self.new) result }
+    {
+        let Some(moment) = self.moment() else {
+            return 0;
+        };
+        if self.now.0 == 0 {
+            return 0;
+        }
+        let quiet = until_line(lines, self.now, most);
+        let idle = self.members.still_ticks(moment, quiet);
+        if idle > 0 {
+            self.skip(idle);
+            return idle;
+        }
+        0
     }
 
     /// Executes some of `most` ticks at once, all of them before the first of these device lines;

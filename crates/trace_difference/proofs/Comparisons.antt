@@ -7,12 +7,13 @@ use Rattle.std.proofs.lemmas.List.Elements.{filter-append}
 use Rattle.apex_types.specs.declared.event.Event.{Event}
 use Rattle.engine_meaning.specs.Digits.{same}
 use Rattle.trace_difference.specs.Comparisons.{AreDifferences, AreFinished, AreParts, IsFinishedAs, IsNoneOf, IsPlaceOf, others, told_of}
-use Rattle.trace_difference.specs.Parts.{AreOther, IsAlone, IsFirst, IsJudged, IsPart, IsSettled, IsStep, first_line, first_with, is_same_partition, part, second_with}
+use Rattle.trace_difference.specs.Parts.{AreOther, IsAlone, IsFirst, IsJudged, IsPart, IsSettled, IsStep, first_line, first_with, part, second_with}
 use Rattle.trace_difference.specs.declared.part.Apart.{Apart}
 use Rattle.trace_difference.specs.declared.part.Difference.{Difference}
 use Rattle.trace_difference.specs.declared.part.Part.{Part}
 use Rattle.trace_difference.specs.declared.side.Side.{Side}
 use Rattle.trace_difference.specs.declared.side.Side.TheVariants as side
+use Rattle.trace_stays.specs.Same.{is_same_partition}
 
 -- ---- names
 

@@ -2,9 +2,10 @@
 use Rattle.std.specs.Prelude.{◌≡◌, ℕ, ◌<◌, Bool, true, false, not, List, [], ◌∷◌, ◌++◌, Option, Some, None, IfSome, filter, slice_get, if◌then◌else◌}
 use Rattle.std.specs.Option.{option_to_list}
 use Rattle.apex_types.specs.declared.event.Event.{Event}
-use Rattle.trace_difference.specs.Parts.{IsJudged, IsPart, IsSettled, is_same_partition, part}
+use Rattle.trace_difference.specs.Parts.{IsJudged, IsPart, IsSettled, part}
 use Rattle.trace_difference.specs.declared.part.Difference.{Difference}
 use Rattle.trace_difference.specs.declared.part.Part.{Part}
+use Rattle.trace_stays.specs.Same.{is_same_partition}
 
 -- the lines of the other partitions
 abbrev pub others : Option (List ℕ) → List Event → List Event

@@ -8,13 +8,9 @@ use Rattle.trace_difference.specs.declared.part.Difference.{Difference}
 use Rattle.trace_difference.specs.declared.rest.Rest.{Rest}
 use Rattle.trace_difference.specs.declared.side.Side.{Side}
 use Rattle.trace_difference.specs.declared.side.Side.TheVariants as side
+use Rattle.trace_stays.specs.Same.{is_same_partition}
 
 -- ---- partitions
-
-abbrev pub is_same_partition : Option (List ℕ) → Option (List ℕ) → Bool
-is_same_partition None None = true
-is_same_partition (Some one) (Some other) = same one other
-is_same_partition _ _ = false
 
 -- the lines of a partition, in their order
 abbrev pub part : Option (List ℕ) → List Event → List Event

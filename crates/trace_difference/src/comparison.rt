@@ -6,11 +6,10 @@ ghost use Rattle.trace_difference.specs.Comparisons.{AreDifferences, AreFinished
 ghost use Rattle.trace_difference.specs.Parts.{first_with, second_with};
 
 use crate::part::{Difference, Part};
-use crate::same::is_same_partition;
 use crate::side::Side;
 use apex_types::{Event, Name};
 use std::alloc::Global;
-use trace_stays::MemoryFull;
+use trace_stays::{MemoryFull, is_same_partition};
 
 /// The lines of two traces as far as they were read, each partition for itself, in the order of their
 /// first lines.

@@ -2,12 +2,12 @@
 
 ghost use Rattle.std.specs.Prelude.{◌≡◌, ◌↔◌, IsTrue};
 ghost use Rattle.apex_types.specs.declared.event.EventKind.TheVariants as event;
-ghost use Rattle.trace_difference.specs.Parts.{is_same_partition};
 
 use apex_types::{
     ErrorKind, Event, EventKind, Mode, Name, ProcessState, Response, ReturnCode, Service, Subject,
     Words,
 };
+use trace_stays::is_same_partition;
 
 /// Returns true if both are the same line.
 pub fn is_same(one: &Event, other: &Event) -> bool
@@ -16,18 +16,6 @@ pub fn is_same(one: &Event, other: &Event) -> bool
     one.tick.0 == other.tick.0
         && is_same_partition(&one.partition, &other.partition)
         && is_same_kind(&one.kind, &other.kind)
-}
-
-/// Returns true if both are the same partition, or the module itself.
-pub fn is_same_partition(one: &Option<Name>, other: &Option<Name>) -> bool
-    ensures same { IsTrue result ↔ (one.now ≡ other.now) }
-    ensures value { result ≡ is_same_partition one.now other.now }
-{
-    match (one, other) {
-        (Some(one), Some(other)) => one.as_bytes() == other.as_bytes(),
-        (None, None) => true,
-        _ => false,
-    }
 }
 
 /// Returns true if both tell the same.

@@ -8,8 +8,9 @@ mod escaping;
 pub mod laws;
 mod page;
 mod text;
+mod ticks;
 mod windows;
 
 pub use page::Page;
-pub use text::{BACK, BETWEEN, FRONT};
+pub use text::{BACK, BEHIND_WINDOWS, BETWEEN, FRONT};
 pub use windows::{NOT_KNOWN, windows_text};

@@ -2,10 +2,12 @@
 
 ghost use Rattle.std.specs.Prelude.{◌≡◌, ◌++◌, [], IfOk, OnErr, OnOk};
 ghost use Rattle.trace_page.specs.Escaping.{escaped_line};
+ghost use Rattle.trace_page.specs.Ticks.{ticks_text};
 
 use crate::escaping::push_escaped;
-use crate::text::{BACK, BETWEEN, FRONT};
-use apex_types::Event;
+use crate::text::{BACK, BEHIND_WINDOWS, BETWEEN, FRONT};
+use crate::ticks::ticks_text;
+use apex_types::{Event, Ticks};
 use std::alloc::Global;
 use trace_filter::line_of;
 use trace_stays::MemoryFull;
@@ -16,16 +18,21 @@ pub struct Page {
     alloc: Global,
     /// The lines so far, as they stand in the string of the script.
     data: Vec<u8>,
+    /// For how many ticks the module ran, if that is known.
+    ran: Option<Ticks>,
 }
 
 impl Page {
-    /// A page without lines.
-    pub fn new(alloc: Global) -> Page
-        ensures { result.data.items ≡ [] }
+    /// A page without lines, of a run of so many ticks, if that is known. Without them it ends behind
+    /// its last line.
+    pub fn new(alloc: Global, ran: Option<Ticks>) -> Page
+        ensures data { result.data.items ≡ [] }
+        ensures ran { result.ran ≡ ran }
     {
         Page {
             alloc,
             data: Vec::new(alloc),
+            ran,
         }
     }
 
@@ -35,8 +42,9 @@ impl Page {
     ///
     /// Memory ran out.
     pub fn add(&mut self, event: &Event) -> Result<(), MemoryFull>
-        ensures { OnOk result
+        ensures data { OnOk result
             (self.new.data.items ≡ self.old.data.items ++ escaped_line event.now) }
+        ensures ran { self.new.ran ≡ self.old.ran }
     {
         let line = line_of(self.alloc, event)?;
         push_escaped(&mut self.data, line.as_slice())?;
@@ -52,13 +60,17 @@ impl Page {
     pub fn into_text(self, windows: &[u8]) -> Result<Vec<u8>, MemoryFull>
         ensures { IfOk result
             (λ text. text.items
-            ≡ FRONT.now ++ self.data.items ++ BETWEEN.now ++ windows.now ++ BACK.now) }
+            ≡ FRONT.now ++ self.data.items ++ BETWEEN.now ++ windows.now ++ BEHIND_WINDOWS.now
+            ++ ticks_text self.ran ++ BACK.now) }
     {
+        let ticks = ticks_text(self.alloc, self.ran)?;
         let mut text = Vec::new(self.alloc);
         text.extend_from_slice(FRONT.as_bytes())?;
         text.extend_from_slice(self.data.as_slice())?;
         text.extend_from_slice(BETWEEN.as_bytes())?;
         text.extend_from_slice(windows)?;
+        text.extend_from_slice(BEHIND_WINDOWS.as_bytes())?;
+        text.extend_from_slice(ticks.as_bytes())?;
         text.extend_from_slice(BACK.as_bytes())?;
         Ok(text)
     }

@@ -58,9 +58,12 @@ const TRACE = \"";
 pub const BETWEEN: &str = "\";
 const WINDOWS = ";
 
-/// What stands behind these.
+/// What stands between these and the ticks of the run.
+pub const BEHIND_WINDOWS: &str = ";
+const TICKS = ";
+
+/// What stands behind all.
 pub const BACK: &str = ";
-const TICKS = null;
 </script>
 <script>
 \"use strict\";

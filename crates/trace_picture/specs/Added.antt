@@ -4,8 +4,8 @@ use Rattle.apex_types.specs.declared.event.Event.{Event}
 use Rattle.trace_picture.specs.Marked.{bars_of_stays, marks_of, way_behind}
 use Rattle.trace_picture.specs.declared.picture.Picture.{Picture}
 use Rattle.trace_picture.specs.declared.shape.Shape.{Shape}
-use Rattle.trace_stays.specs.Following.{AreKept, HasFollowed}
-use Rattle.trace_stays.specs.Shown.{is_before_end, open_ticks}
+use Rattle.trace_stays.specs.Following.{AreKept, HasFollowed, modes_left, states_left}
+use Rattle.trace_stays.specs.Shown.{is_before_end, open_ticks, shown_ticks}
 use Rattle.trace_stays.specs.declared.lanes.Ended.{Ended}
 use Rattle.trace_stays.specs.declared.lanes.Lanes.{Lanes}
 
@@ -38,3 +38,12 @@ IsAddedIf true e old new =
 
 abbrev pub IsAdded : Event → Picture → Picture → Type 0
 IsAdded e old new = IsAddedIf (is_before_end old.shown.to e.tick.0) e old new
+
+-- ---- the end
+
+-- the shapes of a picture behind the last line: those that are kept, and the bars of the stays that end with it
+abbrev pub all_shapes : Picture → List Shape
+all_shapes p =
+    p.shapes.items
+    ++ bars_of_stays (open_ticks p.shown)
+    (modes_left 0 (shown_ticks p.shown).until.0 p.lanes.partitions.items ++ states_left 0 (shown_ticks p.shown).until.0 p.lanes.processes.items)

@@ -10,6 +10,7 @@ use Rattle.trace_picture.specs.Element.{rect_start, text_element, titled}
 use Rattle.trace_picture.specs.Lengths.{before, behind, tenths, times_of}
 use Rattle.trace_picture.specs.Rows.{in_row, row_of_partition, row_of_process}
 use Rattle.trace_picture.specs.Titles.{bar_title, partition_name, process_name}
+use Rattle.trace_picture.specs.declared.axis.Axis.{Axis}
 use Rattle.trace_picture.specs.declared.bars.Bar.{Bar}
 use Rattle.trace_picture.specs.declared.element.Attribute.{Attribute}
 use Rattle.trace_picture.specs.declared.element.Key.TheVariants as key
@@ -22,12 +23,12 @@ use Rattle.trace_stays.specs.declared.span.Span.{Span}
 use Rattle.trace_stays.specs.declared.stay.ModeStay.{ModeStay}
 use Rattle.trace_stays.specs.declared.stay.Stay.{Stay}
 
--- the place where the bar of a stay begins, on the axis of the first span
-abbrev pub left_of : Span → Span → Length
+-- the place where the bar of a stay begins
+abbrev pub left_of : Axis → Span → Length
 left_of axis stay = tenths (place axis stay.from.0)
 
 -- the width of the bar: as far as the axis has the stay's ticks, and at least a pixel
-abbrev pub width_of : Span → Span → Length
+abbrev pub width_of : Axis → Span → Length
 width_of axis stay = tenths (max (place axis stay.until.0 - place axis stay.from.0) 10)
 
 -- the tag of a bar in the row with this top
@@ -64,29 +65,29 @@ class_of_mode mode.WarmStart = codes "warm"
 class_of_mode mode.Normal = codes "normal"
 
 -- a bar of this class, so far below the top of its row and so high, with its title
-abbrev pub bar_text : Span → List ℕ → Length → Length → Length → List ℕ → List ℕ → Span → List ℕ
+abbrev pub bar_text : Axis → List ℕ → Length → Length → Length → List ℕ → List ℕ → Span → List ℕ
 bar_text axis class top down high name word stay =
     titled tag.Rect (rect_start class (left_of axis stay) (behind top down) (width_of axis stay) high) (bar_title name word stay)
 
 -- A stay in a state is a bar in the row of its process.
-abbrev pub state_text : Span → Lanes → Rows → ℕ → Stay → List ℕ
+abbrev pub state_text : Axis → Lanes → Rows → ℕ → Stay → List ℕ
 state_text axis l rows process stay =
     in_row (row_of_process rows process)
     (λ top. bar_text axis (class_of_state stay.state) top (down_of_state stay.state) (high_of_state stay.state) (process_name l process) (state_word stay.state) stay.span)
 
 -- the word of a mode, on its bar if it is wide enough
-abbrev pub word_text : Span → Length → List ℕ → Span → List ℕ
+abbrev pub word_text : Axis → Length → List ℕ → Span → List ℕ
 word_text axis top word stay =
     if nat_lt (before (tenths (place axis stay.until.0)) (left_of axis stay)).0 (times_of (tenths 75) (length word)).0 then [] else
     text_element (codes "mode") (behind (left_of axis stay) (tenths 50)) (behind top (tenths 145)) word
 
-abbrev pub mode_bar : Span → Length → ModeStay → List ℕ → List ℕ
+abbrev pub mode_bar : Axis → Length → ModeStay → List ℕ → List ℕ
 mode_bar axis top stay title =
     titled tag.Rect (rect_start (class_of_mode stay.mode) (left_of axis stay.span) (behind top (tenths 40)) (width_of axis stay.span) (tenths 140)) title
     ++ word_text axis top (mode_word stay.mode) stay.span
 
 -- A stay in a mode is a bar in the row of its partition.
-abbrev pub mode_text : Span → Lanes → Rows → ℕ → ModeStay → List ℕ
+abbrev pub mode_text : Axis → Lanes → Rows → ℕ → ModeStay → List ℕ
 mode_text axis l rows partition stay =
     in_row (row_of_partition rows partition)
     (λ top. mode_bar axis top stay (bar_title (partition_name l partition) (mode_word stay.mode) stay.span))

@@ -8,5 +8,7 @@ pub mod Marks
 pub mod Page
 pub mod Rows
 pub mod Titles
+pub mod Windows
+pub mod Elements
 pub mod Shapes
 pub mod Added

@@ -7,6 +7,7 @@ use Rattle.trace_picture.specs.Element.{line_tag, path_start, text_element, titl
 use Rattle.trace_picture.specs.Lengths.{before, behind, tenths, times_of}
 use Rattle.trace_picture.specs.Rows.{in_row, row_of_owner, row_of_process, row_of_stop}
 use Rattle.trace_picture.specs.Titles.{flag_title, message_title, process_name, report_title}
+use Rattle.trace_picture.specs.declared.axis.Axis.{Axis}
 use Rattle.trace_picture.specs.declared.element.Tag.TheVariants as tag
 use Rattle.trace_picture.specs.declared.length.Length.{Length}
 use Rattle.trace_picture.specs.declared.marks.TheConstants.{FLAG, REPORT}
@@ -17,24 +18,23 @@ use Rattle.trace_picture.specs.declared.shape.Owner.{Owner}
 use Rattle.trace_picture.specs.declared.shape.Owner.TheVariants as owner
 use Rattle.trace_picture.specs.declared.shape.Report.{Report}
 use Rattle.trace_stays.specs.declared.lanes.Lanes.{Lanes}
-use Rattle.trace_stays.specs.declared.span.Span.{Span}
 
 -- ---- the axis
 
 -- the mark of a tick: a line down to the last row, and the number
-abbrev pub mark_text : Span → Length → ℕ → List ℕ
+abbrev pub mark_text : Axis → Length → ℕ → List ℕ
 mark_text axis bottom t =
-    line_tag (codes "grid") (tenths (place axis t)) (tenths 260) (tenths (place axis t)) (behind bottom (tenths 40)) ++ codes "/>\n"
-    ++ text_element (codes "tick") (tenths (place axis t)) (tenths 210) (decimal t)
+    line_tag (codes "grid") (tenths (place axis t)) (tenths 460) (tenths (place axis t)) (behind bottom (tenths 40)) ++ codes "/>\n"
+    ++ text_element (codes "tick") (tenths (place axis t)) (tenths 410) (decimal t)
 
 -- something is drawn, and behind it the mark of each multiple of the step among the ticks of the axis, and no other
-abbrev pub HasMarks : Span → Length → ℕ → List ℕ → List ℕ → Type 0
-HasMarks axis bottom step before after = (front : List ℕ) × (after ≡ before ++ front ++ flat_map (mark_text axis bottom) (multiples_in step axis))
+abbrev pub HasMarks : Axis → Length → ℕ → List ℕ → List ℕ → Type 0
+HasMarks axis bottom step before after = (front : List ℕ) × (after ≡ before ++ front ++ flat_map (mark_text axis bottom) (multiples_in step axis.span))
 
 -- ---- messages
 
 -- The arrow of a message stands at its tick.
-abbrev pub message_place : Span → Message → Length
+abbrev pub message_place : Axis → Message → Length
 message_place axis m = tenths (place axis m.tick.0)
 
 -- Arrows of one tick end below one another within the row: four places follow one another.
@@ -53,17 +53,17 @@ abbrev pub message_class : Bool → List ℕ
 message_class true = codes "lost"
 message_class false = codes "message"
 
-abbrev pub arrow_start : Span → Message → Length → Length → List ℕ
+abbrev pub arrow_start : Axis → Message → Length → Length → List ℕ
 arrow_start axis m from to =
     line_tag (message_class m.lost) (message_place axis m) (start_of from to) (message_place axis m) (end_of from to (fan_of m)) ++ codes ">"
 
-abbrev pub arrow_between : Span → Lanes → Message → Option Length → Option Length → List ℕ
+abbrev pub arrow_between : Axis → Lanes → Message → Option Length → Option Length → List ℕ
 arrow_between axis l m (Some from) (Some to) = titled tag.Line (arrow_start axis m from to) (message_title l m)
 arrow_between axis l m (Some from) None = []
 arrow_between axis l m None to = []
 
 -- A message is an arrow from the row where it begins to the row where it ends.
-abbrev pub message_text : Span → Lanes → Rows → Message → List ℕ
+abbrev pub message_text : Axis → Lanes → Rows → Message → List ℕ
 message_text axis l rows m = arrow_between axis l m (row_of_stop rows m.from) (row_of_stop rows m.to)
 
 -- ---- errors and reports
@@ -75,13 +75,13 @@ flag_down (owner.Partition place) = tenths 50
 flag_down (owner.Process place) = tenths 200
 
 -- An error is a flag at its tick, in the row of its owner.
-abbrev pub flag_text : Span → Rows → Flag → List ℕ
+abbrev pub flag_text : Axis → Rows → Flag → List ℕ
 flag_text axis rows f =
     in_row (row_of_owner rows f.owner)
     (λ top. titled tag.Path (path_start (codes "flag") FLAG.now (tenths (place axis f.tick.0)) (behind top (flag_down f.owner))) (flag_title f))
 
 -- An application message is a mark at its tick, in the row of its process.
-abbrev pub report_text : Span → Lanes → Rows → Report → List ℕ
+abbrev pub report_text : Axis → Lanes → Rows → Report → List ℕ
 report_text axis l rows r =
     in_row (row_of_process rows r.process)
     (λ top. titled tag.Path (path_start (codes "report") REPORT.now (tenths (place axis r.tick.0)) (behind top (tenths 110)))

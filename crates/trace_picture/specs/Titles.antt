@@ -3,6 +3,8 @@ use Rattle.std.specs.Prelude.{ℕ, ◌-◌, List, [], ◌++◌, Bool, true, fals
 use Rattle.std.specs.Fmt.{decimal}
 use Rattle.apex_types.specs.CodeWords.{action_word, error_word, level_of_response, level_word}
 use Rattle.apex_types.specs.Line.{culprit_text, subject_text, words_text}
+use Rattle.trace_picture.specs.Element.{text_element}
+use Rattle.trace_picture.specs.Lengths.{tenths}
 use Rattle.trace_picture.specs.declared.shape.Flag.{Flag}
 use Rattle.trace_picture.specs.declared.shape.Message.{Message}
 use Rattle.trace_picture.specs.declared.shape.Report.{Report}
@@ -31,6 +33,19 @@ abbrev pub process_name : Lanes → ℕ → List ℕ
 process_name l place = word_in (slice_get l.processes.items place)
 
 -- ---- titles
+
+-- the title of a picture, above all else
+abbrev pub heading_text : List ℕ → List ℕ
+heading_text shown = text_element (codes "heading") (tenths 160) (tenths 160) shown
+
+-- whether the windows are known
+abbrev pub windows_known : Bool → List ℕ
+windows_known true = codes ", with the windows of its module table"
+windows_known false = codes "; windows are not known"
+
+-- the title of a picture: the name of the trace, and its ticks
+abbrev pub heading : List ℕ → Span → Bool → List ℕ
+heading name s has_windows = name ++ (codes ", from tick " ++ (decimal s.from.0 ++ (codes " to tick " ++ (decimal s.until.0 ++ windows_known has_windows))))
 
 -- who, in what, for which ticks
 abbrev pub bar_title : List ℕ → List ℕ → Span → List ℕ

@@ -1,6 +1,6 @@
 //! The time axis.
 
-ghost use Rattle.std.specs.Prelude.{◌≡◌, ◌<◌, ◌≤◌, ◌/◌};
+ghost use Rattle.std.specs.Prelude.{◌≡◌, ◌+◌, ◌<◌, ◌≤◌, ◌/◌};
 ghost use Rattle.trace_stays.specs.Stays.{ticks_of};
 ghost use Rattle.trace_picture.specs.Axis.{place};
 
@@ -11,8 +11,11 @@ use trace_stays::Span;
 /// The place where the axis begins, in tenths of a pixel from the left.
 pub const LEFT: u64 = 1_500;
 
-/// The length of the axis, in tenths of a pixel.
-pub const LONG: u64 = 10_200;
+/// The room behind the axis, in tenths of a pixel.
+const RIGHT: u64 = 300;
+
+/// The length of the axis of a picture of the usual width, in tenths of a pixel.
+pub const LONG: u32 = 10_200;
 
 /// The most marks with numbers.
 const MOST_MARKS: u64 = 10;
@@ -44,20 +47,36 @@ static POWERS: [u64; 19] = [
 #[derive(Clone, Copy, Debug, PartialEq, Eq)]
 pub struct Axis {
     pub span: Span,
+    /// The length of the axis, in tenths of a pixel.
+    pub long: u32,
 }
 
 impl Axis {
     /// The place where a tick begins. A tick before the first stands at the left end, and one
     /// behind the last at the right end.
     pub fn place(self, tick: Ticks) -> Length
-        ensures { result.0 ≡ place self.span tick.0 }
+        ensures { result.0 ≡ place self tick.0 }
     {
         let passed = tick
             .0
             .min(self.span.until.0)
             .saturating_sub(self.span.from.0);
         let all = u128::from(self.span.ticks().max(1));
-        Length(LEFT + (u128::from(passed) * u128::from(LONG) / all) as u64)
+        Length(LEFT + (u128::from(passed) * u128::from(self.long) / all) as u64)
+    }
+
+    /// The place where the axis ends.
+    pub fn end(self) -> Length
+        ensures { result.0 ≡ 1500 + self.long }
+    {
+        Length(LEFT + u64::from(self.long))
+    }
+
+    /// The width of a picture with this axis.
+    pub fn wide(self) -> Length
+        ensures { result.0 ≡ 1800 + self.long }
+    {
+        Length(LEFT + u64::from(self.long) + RIGHT)
     }
 
     /// The number of ticks between two marks: 1, 2 or 5 times a power of ten, the smallest that

@@ -93,7 +93,7 @@ pub fn draw_state(
 ) -> Result<(), AllocError>
     ensures { OnOk result
         (string_bytes page.new.text
-        ≡ string_bytes page.old.text ++ state_text axis.span lanes.now rows.now process stay) }
+        ≡ string_bytes page.old.text ++ state_text axis lanes.now rows.now process stay) }
 {
     let Some(top) = rows.process(process) else {
         return Ok(());
@@ -126,7 +126,7 @@ pub fn draw_mode(
 ) -> Result<(), AllocError>
     ensures { OnOk result
         (string_bytes page.new.text
-        ≡ string_bytes page.old.text ++ mode_text axis.span lanes.now rows.now partition stay) }
+        ≡ string_bytes page.old.text ++ mode_text axis lanes.now rows.now partition stay) }
 {
     let Some(top) = rows.partition(partition) else {
         return Ok(());
@@ -146,14 +146,14 @@ fn draw_mode_bar(
 ) -> Result<(), AllocError>
     ensures { OnOk result
         (string_bytes page.new.text
-        ≡ string_bytes page.old.text ++ mode_bar axis.span top stay title.now) }
+        ≡ string_bytes page.old.text ++ mode_bar axis top stay title.now) }
 {
     draw_bar(page, axis, top, bar_of_mode(stay.mode), stay.span, title)?;
     draw_word(page, axis, top, stay.mode.word(), stay.span)
 }
 
 /// Draws the word of a mode on its bar, if the bar is wide enough.
-fn draw_word(
+pub fn draw_word(
     page: &mut Page,
     axis: Axis,
     top: Length,
@@ -162,7 +162,7 @@ fn draw_word(
 ) -> Result<(), AllocError>
     ensures { OnOk result
         (string_bytes page.new.text
-        ≡ string_bytes page.old.text ++ word_text axis.span top word.now span) }
+        ≡ string_bytes page.old.text ++ word_text axis top word.now span) }
 {
     let left = axis.place(span.from);
     let wide = axis.place(span.until) - left;
@@ -173,7 +173,7 @@ fn draw_word(
 }
 
 /// Draws a bar with a title.
-fn draw_bar(
+pub fn draw_bar(
     page: &mut Page,
     axis: Axis,
     top: Length,
@@ -185,8 +185,8 @@ fn draw_bar(
         (string_bytes page.new.text
         ≡ string_bytes page.old.text
         ++ titled Tag.Rect
-        (rect_start bar.class.now (left_of axis.span span) (behind top bar.down)
-        (width_of axis.span span) bar.high) title.now) }
+        (rect_start bar.class.now (left_of axis span) (behind top bar.down)
+        (width_of axis span) bar.high) title.now) }
 {
     let left = axis.place(span.from);
     let wide = axis.place(span.until) - left;

@@ -1,29 +1,33 @@
 //! A picture as it is drawn.
 
-ghost use Rattle.std.specs.Prelude.{◌≡◌, ◌≤◌, ℕ, List, string_bytes, vec_len, IfOk, OnOk};
+ghost use Rattle.std.specs.Prelude.{◌≡◌, ◌≤◌, ℕ, List, length, string_bytes, IfOk, OnOk};
 ghost use Rattle.std.specs.Io.KnownBytes.{Appends};
-ghost use Rattle.trace_picture.specs.Page.{IsPicture};
+ghost use Rattle.trace_picture.specs.Elements.{beginnings};
+ghost use Rattle.trace_picture.specs.Page.{HasWithin, IsPicture};
 
 use crate::axis::Axis;
-use crate::bars::{draw_mode, draw_state};
+use crate::bars::draw_mode;
 use crate::element::{Key, Tag, at, set, view};
-use crate::frame::{draw_axis, draw_legend, draw_names};
+use crate::frame::{draw_axis, draw_heading, draw_legend, draw_names};
 use crate::length::Length;
 use crate::marks::{draw_flag, draw_message, draw_report};
 use crate::page::Page;
 use crate::rows::Rows;
 use crate::shape::Shape;
 use crate::style::draw_style;
+use crate::titles::heading;
+use crate::windows::{draw_stay, draw_windows};
 use std::alloc::{AllocError, Global};
 use std::io;
 use std::io::Write;
 use trace_stays::Lanes;
-
-/// The width of a picture.
-pub const WIDE: Length = Length(12_000);
+use trace_windows::Windows;
 
 /// The height of the legend.
 const LEGEND: Length = Length(720);
+
+/// The height of its line with what windows show.
+const LEGEND_LINE: Length = Length(260);
 
 /// A picture that is ready to be drawn.
 #[derive(Drop)]
@@ -33,87 +37,107 @@ pub struct Drawing {
     pub(crate) rows: Rows,
     pub(crate) lanes: Lanes,
     pub(crate) shapes: Vec<Shape>,
-    ghost few: { vec_len shapes ≤ 5000 },
+    /// The windows, if they are known.
+    pub(crate) windows: Option<Windows>,
+    /// The number of elements.
+    pub(crate) elements: usize,
+    ghost counted: { elements ≡ length (beginnings axis.span windows shapes.items) },
+    ghost few: { elements ≤ 5000 },
     ghost in_order: { axis.span.from.0 ≤ axis.span.until.0 },
 }
 
 impl Drawing {
     ghost use Rattle.std.specs.Prelude.{◌++◌};
-    ghost use Rattle.trace_picture.specs.Shapes.{bar_of, bars_text, mark_of, marks_text, shapes_text};
+    ghost use Rattle.trace_picture.specs.Shapes.{bar_of, bars_text, mark_of, marks_text, picture_text, shapes_text};
 
-    /// The number of bars, arrows, flags and marks of the picture.
-    pub fn shapes(&self) -> usize
-        ensures value { result ≡ vec_len self.now.shapes }
+    /// The number of windows, bars, arrows, flags and marks of the picture. A stay that is cut at the
+    /// ends of windows has a bar for each piece.
+    pub fn elements(&self) -> usize
+        ensures value { result
+            ≡ length
+            (beginnings self.now.axis.span self.now.windows self.now.shapes.items) }
         ensures few { result ≤ 5000 }
     {
-        self.shapes.len()
+        self.elements
     }
 
-    /// Writes the picture as SVG.
+    /// Writes the picture as SVG, with the name of its trace.
     ///
     /// # Errors
     ///
     /// Memory ran out, or the writer failed.
-    pub fn write<W: Write>(&self, out: &mut W) -> io::Result<()>
+    pub fn write<W: Write>(&self, name: &str, out: &mut W) -> io::Result<()>
         ensures { OnOk result
             ((text : List ℕ)
-            × (∥ IsPicture text ∥₁ × Appends (W.contents out.old) (W.contents out.new) text)) }
+            × (∥ IsPicture text ∥₁ × HasWithin (picture_text name.now self.now) text
+            × Appends (W.contents out.old) (W.contents out.new) text)) }
     {
-        let text = self.text()?;
+        let text = self.text(name)?;
         out.write_all(text.as_bytes())?;
         Ok(())
     }
 
-    /// The picture as SVG.
+    /// The picture as SVG, with the name of its trace.
     ///
     /// # Errors
     ///
     /// Memory ran out.
-    pub fn text(&self) -> Result<String, AllocError>
-        ensures { IfOk result (λ text. ∥ IsPicture (string_bytes text) ∥₁) }
+    pub fn text(&self, name: &str) -> Result<String, AllocError>
+        ensures picture { IfOk result (λ text. ∥ IsPicture (string_bytes text) ∥₁) }
+        ensures shapes { IfOk result
+            (λ text. HasWithin (picture_text name.now self.now) (string_bytes text)) }
     {
-        let high = self.rows.bottom + LEGEND;
+        let heading = heading(self.alloc, name, self.axis.span, self.windows.is_some())?;
+        let mut page = self.frame(heading.as_str())?;
+        draw_heading(&mut page, heading.as_str())?;
+        self.draw_shapes(&mut page)?;
+        page.finish()
+    }
+
+    /// The page with this title, and with what stands below and around the shapes.
+    fn frame(&self, heading: &str) -> Result<Page, AllocError> {
+        let wide = self.axis.wide();
+        let high = self.rows.bottom + self.legend();
         let mut page = Page::new(
             self.alloc,
             &[
                 set(Key::Xmlns, "http://www.w3.org/2000/svg"),
-                at(Key::Width, WIDE),
+                at(Key::Width, wide),
                 at(Key::Height, high),
-                view(WIDE, high),
+                view(wide, high),
             ],
         )?;
-        self.draw_title(&mut page)?;
+        draw_title(&mut page, heading)?;
         draw_style(&mut page)?;
         page.empty(
             Tag::Rect,
             &[
                 set(Key::Class, "paper"),
-                at(Key::Width, WIDE),
+                at(Key::Width, wide),
                 at(Key::Height, high),
             ],
         )?;
-        draw_names(&mut page, &self.lanes, &self.rows)?;
+        draw_names(&mut page, self.axis, &self.lanes, &self.rows)?;
         draw_axis(&mut page, self.axis, self.rows.bottom)?;
-        self.draw_shapes(&mut page)?;
-        draw_legend(&mut page, self.rows.bottom)?;
-        page.finish()
+        draw_legend(&mut page, self.rows.bottom, self.windows.is_some())?;
+        Ok(page)
     }
 
-    fn draw_title(&self, page: &mut Page) -> Result<(), AllocError> {
-        page.open(Tag::Title, &[])?;
-        page.text("A trace, from tick ")?;
-        page.number(self.axis.span.from.0)?;
-        page.text(" to tick ")?;
-        page.number(self.axis.span.until.0)?;
-        page.close()
+    /// The height of the legend.
+    fn legend(&self) -> Length {
+        match &self.windows {
+            Some(_) => LEGEND + LEGEND_LINE,
+            None => LEGEND,
+        }
     }
 
-    /// Draws the shapes: first the bars, then what stands on them.
+    /// Draws the shapes: first the windows and the bars, then what stands on them.
     fn draw_shapes(&self, page: &mut Page) -> Result<(), AllocError>
         ensures { OnOk result
             (string_bytes page.new.text
             ≡ string_bytes page.old.text ++ shapes_text self.now) }
     {
+        draw_windows(page, self.alloc, self.axis, &self.rows, &self.windows)?;
         self.draw_bars(page)?;
         self.draw_marks(page)
     }
@@ -123,7 +147,8 @@ impl Drawing {
         ensures { OnOk result
             (string_bytes page.new.text
             ≡ string_bytes page.old.text
-            ++ bars_text self.now.axis.span self.now.lanes self.now.rows self.now.shapes.items) }
+            ++ bars_text self.now.axis self.now.lanes self.now.rows self.now.windows
+            self.now.shapes.items) }
     {
         for shape in &self.shapes {
             self.draw_bar(page, shape)?;
@@ -136,7 +161,7 @@ impl Drawing {
         ensures { OnOk result
             (string_bytes page.new.text
             ≡ string_bytes page.old.text
-            ++ marks_text self.now.axis.span self.now.lanes self.now.rows self.now.shapes.items) }
+            ++ marks_text self.now.axis self.now.lanes self.now.rows self.now.shapes.items) }
     {
         for shape in &self.shapes {
             self.draw_mark(page, shape)?;
@@ -148,13 +173,14 @@ impl Drawing {
         ensures { OnOk result
             (string_bytes page.new.text
             ≡ string_bytes page.old.text
-            ++ bar_of self.now.axis.span self.now.lanes self.now.rows shape.now) }
+            ++ bar_of self.now.axis self.now.lanes self.now.rows self.now.windows shape.now) }
     {
         let Drawing {
             alloc,
             axis,
             lanes,
             rows,
+            windows,
             ..
         } = self;
         match shape {
@@ -162,7 +188,7 @@ impl Drawing {
                 draw_mode(page, *alloc, *axis, lanes, rows, *partition, *stay)
             }
             Shape::State(process, stay) => {
-                draw_state(page, *alloc, *axis, lanes, rows, *process, *stay)
+                draw_stay(page, *alloc, *axis, lanes, rows, windows, (*process, *stay))
             }
             _ => Ok(()),
         }
@@ -172,7 +198,7 @@ impl Drawing {
         ensures { OnOk result
             (string_bytes page.new.text
             ≡ string_bytes page.old.text
-            ++ mark_of self.now.axis.span self.now.lanes self.now.rows shape.now) }
+            ++ mark_of self.now.axis self.now.lanes self.now.rows shape.now) }
     {
         let Drawing {
             alloc,
@@ -188,4 +214,11 @@ impl Drawing {
             _ => Ok(()),
         }
     }
+}
+
+/// Writes the title that a browser shows of a page.
+fn draw_title(page: &mut Page, title: &str) -> Result<(), AllocError> {
+    page.open(Tag::Title, &[])?;
+    page.text(title)?;
+    page.close()
 }

@@ -3,6 +3,7 @@
 ghost use Rattle.trace_picture.specs.declared.fault.PictureFault.TheVariants as fault;
 ghost use Rattle.std.specs.Prelude.{◌≡◌};
 
+use crate::excess::Excess;
 use std::alloc::{AllocError, AllocFailed};
 use std::error::Error;
 use std::fmt;
@@ -14,14 +15,14 @@ pub enum PictureFault {
     /// Memory ran out.
     Memory,
     /// The picture would have more than `MOST_SHAPES` bars, arrows, flags and marks.
-    TooMany,
+    Crowded(Excess),
 }
 
 impl fmt::Display for PictureFault {
     fn fmt<W: fmt::Write>(&self, f: &mut fmt::Formatter<W>) -> fmt::Result {
         match self {
             PictureFault::Memory => write!(f, "memory"),
-            PictureFault::TooMany => write!(f, "too many shapes"),
+            PictureFault::Crowded(_) => write!(f, "too many shapes"),
         }
     }
 }

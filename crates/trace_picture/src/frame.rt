@@ -3,16 +3,17 @@
 ghost use Rattle.std.specs.Prelude.{◌≡◌, ◌<◌, ◌≤◌, ◌/◌, ◌++◌, ℕ, OnOk, flat_map, string_bytes};
 ghost use Rattle.trace_picture.specs.Axis.{multiples_in};
 ghost use Rattle.trace_picture.specs.Marks.{HasMarks, mark_text};
+ghost use Rattle.trace_picture.specs.Titles.{heading_text};
 ghost use Rattle.trace_stays.specs.Stays.{ticks_of};
 
-use crate::axis::{Axis, LEFT, LONG};
+use crate::axis::{Axis, LEFT};
 use crate::bars::{Bar, bar_attributes, bar_of_mode, bar_of_state, draw_text};
-use crate::drawing::WIDE;
 use crate::element::{Key, Tag, at, moved, set};
 use crate::length::Length;
 use crate::marks::{FLAG, FLAG_DOWN, REPORT, REPORT_DOWN};
 use crate::page::Page;
 use crate::rows::{ROW, Rows};
+use crate::windows::{RELEASE, RELEASE_DOWN, bar_of_window, bar_outside, word_outside};
 use apex_types::{Mode, ProcessState, Ticks};
 use std::alloc::AllocError;
 use trace_stays::{Lanes, subject_word};
@@ -31,24 +32,40 @@ const INDENT: Length = Length(120);
 const LINE: Length = Length(160);
 
 /// The place of the axis.
-const AXIS: Length = Length(300);
+const AXIS: Length = Length(500);
 
 /// The columns of the legend.
 const COLUMN: Length = Length(1_700);
 
+/// Draws the title of a picture.
+pub fn draw_heading(page: &mut Page, heading: &str) -> Result<(), AllocError>
+    ensures { OnOk result
+        (string_bytes page.new.text ≡ string_bytes page.old.text ++ heading_text heading.now) }
+{
+    draw_text(page, "heading", NAMES, NAMES, heading)
+}
+
 /// Draws the names of the rows, and the ground of each partition.
-pub fn draw_names(page: &mut Page, lanes: &Lanes, rows: &Rows) -> Result<(), AllocError> {
+pub fn draw_names(
+    page: &mut Page,
+    axis: Axis,
+    lanes: &Lanes,
+    rows: &Rows,
+) -> Result<(), AllocError> {
+    if let Some(top) = rows.windows {
+        draw_text(page, "partition", NAMES, top + LINE, "windows")?;
+    }
     if let Some(top) = rows.outside {
-        draw_base(page, top + ROW.half())?;
+        draw_base(page, axis, top + ROW.half())?;
         draw_text(page, "partition", NAMES, top + LINE, "outside")?;
     }
     if let Some(top) = rows.module {
-        draw_base(page, top + ROW.half())?;
+        draw_base(page, axis, top + ROW.half())?;
         draw_text(page, "partition", NAMES, top + LINE, "module")?;
     }
     for (partition, lane) in lanes.partitions().iter().enumerate() {
         if let Some(top) = rows.partition(partition) {
-            draw_ground(page, top, rows.end_of(lanes, partition))?;
+            draw_ground(page, axis, top, rows.end_of(lanes, partition))?;
             draw_text(page, "partition", NAMES, top + LINE, lane.name.as_str())?;
         }
     }
@@ -62,28 +79,28 @@ pub fn draw_names(page: &mut Page, lanes: &Lanes, rows: &Rows) -> Result<(), All
 }
 
 /// Draws a line through the row of what is outside, or of the module itself.
-fn draw_base(page: &mut Page, height: Length) -> Result<(), AllocError> {
+fn draw_base(page: &mut Page, axis: Axis, height: Length) -> Result<(), AllocError> {
     page.empty(
         Tag::Line,
         &[
             set(Key::Class, "base"),
             at(Key::X1, Length(LEFT)),
             at(Key::Y1, height),
-            at(Key::X2, Length(LEFT + LONG)),
+            at(Key::X2, axis.end()),
             at(Key::Y2, height),
         ],
     )
 }
 
 /// Draws the ground of a partition.
-fn draw_ground(page: &mut Page, top: Length, bottom: Length) -> Result<(), AllocError> {
+fn draw_ground(page: &mut Page, axis: Axis, top: Length, bottom: Length) -> Result<(), AllocError> {
     page.empty(
         Tag::Rect,
         &[
             set(Key::Class, "ground"),
             at(Key::X, MARGIN),
             at(Key::Y, top),
-            at(Key::Width, WIDE - MARGIN - MARGIN),
+            at(Key::Width, axis.wide() - MARGIN - MARGIN),
             at(Key::Height, bottom - top + MARGIN),
         ],
     )
@@ -94,7 +111,7 @@ pub fn draw_axis(page: &mut Page, axis: Axis, bottom: Length) -> Result<(), Allo
     ensures { OnOk result
         ((step : ℕ)
         × ((0 < step) × (ticks_of axis.span / step ≤ 10)
-        × HasMarks axis.span bottom step (string_bytes page.old.text)
+        × HasMarks axis bottom step (string_bytes page.old.text)
         (string_bytes page.new.text))) }
 {
     page.empty(
@@ -103,7 +120,7 @@ pub fn draw_axis(page: &mut Page, axis: Axis, bottom: Length) -> Result<(), Allo
             set(Key::Class, "axis"),
             at(Key::X1, Length(LEFT)),
             at(Key::Y1, AXIS),
-            at(Key::X2, Length(LEFT + LONG)),
+            at(Key::X2, axis.end()),
             at(Key::Y2, AXIS),
         ],
     )?;
@@ -118,7 +135,7 @@ fn draw_marks(page: &mut Page, axis: Axis, step: u64, bottom: Length) -> Result<
     ensures { OnOk result
         (string_bytes page.new.text
         ≡ string_bytes page.old.text
-        ++ flat_map (mark_text axis.span bottom) (multiples_in step axis.span)) }
+        ++ flat_map (mark_text axis bottom) (multiples_in step axis.span)) }
 {
     let first = axis.span.from.0.div_ceil(step);
     let last = axis.span.until.0 / step;
@@ -135,7 +152,7 @@ fn draw_marks(page: &mut Page, axis: Axis, step: u64, bottom: Length) -> Result<
 fn draw_mark(page: &mut Page, axis: Axis, tick: Ticks, bottom: Length) -> Result<(), AllocError>
     ensures { OnOk result
         (string_bytes page.new.text
-        ≡ string_bytes page.old.text ++ mark_text axis.span bottom tick.0) }
+        ≡ string_bytes page.old.text ++ mark_text axis bottom tick.0) }
 {
     let x = axis.place(tick);
     page.empty(
@@ -152,8 +169,11 @@ fn draw_mark(page: &mut Page, axis: Axis, tick: Ticks, bottom: Length) -> Result
     draw_text(page, "tick", x, AXIS - Length(90), buffer.format(tick.0))
 }
 
-/// Draws the legend of the bars and marks.
-pub fn draw_legend(page: &mut Page, bottom: Length) -> Result<(), AllocError> {
+/// Draws the legend of the bars and marks, and of what the windows show, if they are known.
+pub fn draw_legend(page: &mut Page, bottom: Length, has_windows: bool) -> Result<(), AllocError> {
+    if has_windows {
+        draw_window_samples(page, bottom + Length(680))?;
+    }
     let first = bottom + Length(160);
     let second = first + Length(260);
     let states = [
@@ -173,6 +193,16 @@ pub fn draw_legend(page: &mut Page, bottom: Length) -> Result<(), AllocError> {
     draw_arrow_sample(page, second, "lost", "lost message")?;
     draw_mark_sample(page, first, FLAG_DOWN, "flag", FLAG, "error")?;
     draw_mark_sample(page, second, REPORT_DOWN, "report", REPORT, "report")
+}
+
+/// Draws the line of the legend with what windows show.
+fn draw_window_samples(page: &mut Page, top: Length) -> Result<(), AllocError> {
+    let chosen = bar_outside(ProcessState::Running);
+    draw_sample(page, 0, top, bar_of_window(), "window")?;
+    draw_sample(page, 1, top, chosen, word_outside(ProcessState::Running))?;
+    let ready = bar_outside(ProcessState::Ready);
+    draw_sample(page, 3, top, ready, word_outside(ProcessState::Ready))?;
+    draw_mark_sample(page, top, RELEASE_DOWN, "release", RELEASE, "release point")
 }
 
 /// The place where a column of the legend begins.

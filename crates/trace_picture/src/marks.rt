@@ -50,7 +50,7 @@ pub fn draw_message(
 ) -> Result<(), AllocError>
     ensures { OnOk result
         (string_bytes page.new.text
-        ≡ string_bytes page.old.text ++ message_text axis.span lanes.now rows.now message.now) }
+        ≡ string_bytes page.old.text ++ message_text axis lanes.now rows.now message.now) }
 {
     let Some(from) = rows.stop(message.from) else {
         return Ok(());
@@ -110,7 +110,7 @@ fn draw_arrow(
     ensures { OnOk result
         (string_bytes page.new.text
         ≡ string_bytes page.old.text
-        ++ titled Tag.Line (arrow_start axis.span message.now from to) title.now) }
+        ++ titled Tag.Line (arrow_start axis message.now from to) title.now) }
 {
     let x = axis.place(message.tick);
     page.titled(
@@ -147,7 +147,7 @@ pub fn draw_flag(
 ) -> Result<(), AllocError>
     ensures { OnOk result
         (string_bytes page.new.text
-        ≡ string_bytes page.old.text ++ flag_text axis.span rows.now flag.now) }
+        ≡ string_bytes page.old.text ++ flag_text axis rows.now flag.now) }
 {
     let Some(top) = rows.owner(flag.owner) else {
         return Ok(());
@@ -175,7 +175,7 @@ pub fn draw_report(
 ) -> Result<(), AllocError>
     ensures { OnOk result
         (string_bytes page.new.text
-        ≡ string_bytes page.old.text ++ report_text axis.span lanes.now rows.now report.now) }
+        ≡ string_bytes page.old.text ++ report_text axis lanes.now rows.now report.now) }
 {
     let Some(top) = rows.process(report.process) else {
         return Ok(());
@@ -193,7 +193,7 @@ pub fn draw_report(
 }
 
 /// Draws an outline of this class, moved to a place, with a title.
-fn draw_outline(
+pub fn draw_outline(
     page: &mut Page,
     class: &str,
     outline: &str,

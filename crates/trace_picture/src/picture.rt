@@ -1,19 +1,23 @@
 //! The events in the ticks of a picture.
 
-ghost use Rattle.std.specs.Prelude.{◌≡◌, ◌+◌, ◌<◌, ◌≤◌, ◌↔◌, ◌++◌, ◌∷◌, [], vec_len, IfOk, IsErrOf, OnErr, OnOk, Some};
+ghost use Rattle.std.specs.Prelude.{◌≡◌, ◌*◌, ◌-◌, ◌<◌, ◌≤◌, ◌++◌, ◌∷◌, [], vec_len, IfErr, IfOk, OnErr, OnOk, Some};
 ghost use Rattle.apex_types.specs.Line.{subject_text};
+ghost use Rattle.trace_picture.specs.Elements.{IsCrowded, beginnings};
 ghost use Rattle.trace_picture.specs.Marked.{bar_of_stay, bars_of_stays, beside, flag_at, is_port, is_under_way, marks_in, marks_of_module, message_at, one_of, owner_in, report_at, way_from, way_in, way_to};
-ghost use Rattle.trace_stays.specs.Following.{AreKept, modes_left, process_at, states_left};
+ghost use Rattle.trace_stays.specs.Following.{AreKept, process_at};
 ghost use Rattle.trace_stays.specs.Shown.{open_ticks};
 
 use crate::axis::Axis;
 use crate::drawing::Drawing;
+use crate::elements::{beginnings, excess_of};
 use crate::fault::PictureFault;
 use crate::rows::Rows;
 use crate::shape::{Flag, MOST_SHAPES, Message, Owner, Report, Shape, Stop, Way};
+use crate::width::Width;
 use apex_types::{ErrorKind, Event, EventKind, Name, Response, Subject, Ticks, Words, copied};
 use std::alloc::Global;
-use trace_stays::{Ended, Lanes, ModeStay, ShownTicks, Stay};
+use trace_stays::{Ended, Lanes, MemoryFull, ModeStay, ShownTicks, Stay};
+use trace_windows::Windows;
 
 /// A picture of some ticks of a trace. It keeps what these ticks show, and nothing else.
 #[derive(Drop)]
@@ -25,11 +29,10 @@ pub struct Picture {
     shapes: Vec<Shape>,
     /// The way of the message that moved last.
     way: Option<Way>,
-    ghost few: { vec_len shapes ≤ 5000 },
 }
 
 impl Picture {
-    ghost use Rattle.trace_picture.specs.Added.{IsAdded, IsLike, IsLikeButLanes, IsMarked};
+    ghost use Rattle.trace_picture.specs.Added.{IsAdded, IsLike, IsLikeButLanes, IsMarked, all_shapes};
     ghost use Rattle.trace_stays.specs.Shown.{shown_from, shown_ticks, with_read};
 
     /// A picture of the ticks from the first one on and before the second; with none, up to the tick
@@ -47,13 +50,27 @@ impl Picture {
         }
     }
 
-    /// Adds an event. The events come in the order of their lines.
+    /// Adds an event. The events come in the order of their lines. A picture that has too many shapes
+    /// already takes no more: nothing that follows changes that.
     ///
     /// # Errors
     ///
-    /// Memory ran out, or the picture would have too many shapes.
-    pub fn add(&mut self, event: &Event) -> Result<(), PictureFault>
-        ensures many { IsErrOf result PictureFault.TooMany → vec_len self.new.shapes ≡ 5000 }
+    /// Memory ran out.
+    pub fn add(&mut self, event: &Event) -> Result<(), MemoryFull>
+        ensures full { 5000 < vec_len self.old.shapes → self.new ≡ self.old }
+        ensures shown { vec_len self.old.shapes ≤ 5000
+            → self.new.shown ≡ with_read event.now.tick.0 self.old.shown }
+        ensures added { OnOk result
+            (vec_len self.old.shapes ≤ 5000 → IsAdded event.now self.old self.new) }
+    {
+        if self.shapes.len() > MOST_SHAPES {
+            return Ok(());
+        }
+        self.take(event)
+    }
+
+    /// Adds an event to what the picture has so far.
+    fn take(&mut self, event: &Event) -> Result<(), MemoryFull>
         ensures shown { self.new.shown ≡ with_read event.now.tick.0 self.old.shown }
         ensures added { OnOk result (IsAdded event.now self.old self.new) }
     {
@@ -70,54 +87,74 @@ impl Picture {
         Ok(())
     }
 
-    /// The picture as it is drawn. No event follows.
+    /// The tick before which the picture ends, if no line follows.
+    pub fn until(&self) -> Ticks
+        ensures { result ≡ (shown_ticks self.now.shown).until }
+    {
+        self.shown.span().until
+    }
+
+    /// The picture as it is drawn, so wide, with these windows up to its end, if they are known. No
+    /// event follows.
     ///
     /// # Errors
     ///
-    /// Memory ran out, or the picture would have too many shapes.
-    pub fn finish(mut self) -> Result<Drawing, PictureFault>
+    /// Memory ran out, or the picture would have too many elements.
+    pub fn finish(mut self, windows: Option<Windows>, width: Width) -> Result<Drawing, PictureFault>
+        ensures windows { IfOk result (λ drawing. drawing.windows ≡ windows) }
+        ensures wide { IfOk result (λ drawing. drawing.axis.long ≡ width.pixels * 10 - 1800) }
+        ensures refused { IfErr result
+            (IsCrowded (shown_ticks self.shown)
+            (beginnings (shown_ticks self.shown) windows (all_shapes self))) }
         ensures span { IfOk result (λ drawing. drawing.axis.span ≡ shown_ticks self.shown) }
         ensures lanes { IfOk result (λ drawing. drawing.lanes ≡ self.lanes) }
-        ensures shapes { IfOk result
-            (λ drawing. drawing.shapes.items
-            ≡ self.shapes.items
-            ++ bars_of_stays (open_ticks self.shown)
-            (modes_left 0 (shown_ticks self.shown).until.0 self.lanes.partitions.items
-            ++ states_left 0 (shown_ticks self.shown).until.0 self.lanes.processes.items)) }
+        ensures shapes { IfOk result (λ drawing. drawing.shapes.items ≡ all_shapes self) }
     {
         let span = self.shown.span();
-        let mut ended = Vec::new(self.alloc);
-        self.lanes.finish(span.until, &mut ended)?;
-        self.keep_stays(ended.as_slice())?;
-        let axis = Axis { span };
-        let rows = Rows::new(self.alloc, &self.lanes, &self.shapes)?;
+        self.keep_rest(span.until)?;
+        let begun = beginnings(self.alloc, span, &windows, self.shapes.as_slice())?;
+        if begun.len() > MOST_SHAPES {
+            return Err(PictureFault::Crowded(excess_of(span, begun.as_slice())));
+        }
+        let rows = Rows::new(self.alloc, &self.lanes, &self.shapes, windows.is_some())?;
         Ok(Drawing {
             alloc: self.alloc,
-            axis,
+            axis: Axis {
+                span,
+                long: width.axis(),
+            },
             rows,
             lanes: self.lanes,
             shapes: self.shapes,
+            windows,
+            elements: begun.len(),
         })
     }
 
-    /// Keeps a shape, if there are not too many.
-    fn keep(&mut self, shape: Shape) -> Result<(), PictureFault>
-        ensures many { IsErrOf result PictureFault.TooMany ↔ (5000 ≤ vec_len self.old.shapes) }
+    /// Keeps the bars of the stays that end with the picture.
+    fn keep_rest(&mut self, until: Ticks) -> Result<(), MemoryFull>
+        requires { until ≡ (shown_ticks self.now.shown).until }
+        ensures kept { OnOk result (self.new.shapes.items ≡ all_shapes self.old) }
+        ensures others { IsLike self.old self.new }
+    {
+        let mut ended = Vec::new(self.alloc);
+        self.lanes.finish(until, &mut ended)?;
+        self.keep_stays(ended.as_slice())
+    }
+
+    /// Keeps a shape.
+    fn keep(&mut self, shape: Shape) -> Result<(), MemoryFull>
         ensures kept { OnOk result (self.new.shapes.items ≡ self.old.shapes.items ++ shape ∷ []) }
         ensures refused { OnErr result (self.new.shapes.items ≡ self.old.shapes.items) }
         ensures others { IsLike self.old self.new }
     {
-        if self.shapes.len() >= MOST_SHAPES {
-            return Err(PictureFault::TooMany);
-        }
         self.shapes.push(shape)?;
         Ok(())
     }
 
     /// Keeps the bars of stays that are over.
     #[tactic(auto, using(std::proofs::lemmas::List::drop_more))]
-    fn keep_stays(&mut self, ended: &[Ended]) -> Result<(), PictureFault>
-        ensures many { IsErrOf result PictureFault.TooMany → vec_len self.new.shapes ≡ 5000 }
+    fn keep_stays(&mut self, ended: &[Ended]) -> Result<(), MemoryFull>
         ensures kept { OnOk result
             (self.new.shapes.items
             ≡ self.old.shapes.items ++ bars_of_stays (open_ticks self.old.shown) ended.now) }
@@ -130,8 +167,7 @@ impl Picture {
     }
 
     /// Keeps the bar of a stay, if some of its ticks are shown.
-    fn keep_stay(&mut self, ended: Ended) -> Result<(), PictureFault>
-        ensures many { IsErrOf result PictureFault.TooMany → vec_len self.new.shapes ≡ 5000 }
+    fn keep_stay(&mut self, ended: Ended) -> Result<(), MemoryFull>
         ensures kept { OnOk result
             (self.new.shapes.items
             ≡ self.old.shapes.items ++ bar_of_stay (open_ticks self.old.shown) ended) }
@@ -155,8 +191,7 @@ impl Picture {
     }
 
     /// Keeps what an event of these ticks shows beside states and modes.
-    fn mark(&mut self, event: &Event) -> Result<(), PictureFault>
-        ensures many { IsErrOf result PictureFault.TooMany → vec_len self.new.shapes ≡ 5000 }
+    fn mark(&mut self, event: &Event) -> Result<(), MemoryFull>
         ensures shown { self.new.shown ≡ self.old.shown }
         ensures marked { OnOk result (IsMarked event.now self.old self.new) }
     {
@@ -167,8 +202,7 @@ impl Picture {
     }
 
     /// Keeps what an event of the partition with this name shows.
-    fn mark_in(&mut self, name: &Name, kind: &EventKind, tick: Ticks) -> Result<(), PictureFault>
-        ensures many { IsErrOf result PictureFault.TooMany → vec_len self.new.shapes ≡ 5000 }
+    fn mark_in(&mut self, name: &Name, kind: &EventKind, tick: Ticks) -> Result<(), MemoryFull>
         ensures shown { self.new.shown ≡ self.old.shown }
         ensures kept { OnOk result (AreKept self.old.lanes self.new.lanes) }
         ensures marks { OnOk result
@@ -204,8 +238,7 @@ impl Picture {
     }
 
     /// Keeps what an event of the module itself shows.
-    fn mark_module(&mut self, kind: &EventKind, tick: Ticks) -> Result<(), PictureFault>
-        ensures many { IsErrOf result PictureFault.TooMany → vec_len self.new.shapes ≡ 5000 }
+    fn mark_module(&mut self, kind: &EventKind, tick: Ticks) -> Result<(), MemoryFull>
         ensures marks { OnOk result
             (self.new.shapes.items ≡ self.old.shapes.items ++ marks_of_module tick.0 kind.now) }
         ensures others { IsLike self.old self.new }
@@ -219,8 +252,7 @@ impl Picture {
     }
 
     /// The owner of an error in the partition with this name.
-    fn owner(&mut self, partition: &Name, who: &Option<Subject>) -> Result<Owner, PictureFault>
-        ensures many { IsErrOf result PictureFault.TooMany → ⊥ }
+    fn owner(&mut self, partition: &Name, who: &Option<Subject>) -> Result<Owner, MemoryFull>
         ensures owner { IfOk result
             (λ o. owner_in partition.now who.now self.new.lanes ≡ Some o) }
         ensures kept { OnOk result (AreKept self.old.lanes self.new.lanes) }
@@ -239,8 +271,7 @@ impl Picture {
         error: ErrorKind,
         who: &Option<Subject>,
         response: Response,
-    ) -> Result<(), PictureFault>
-        ensures many { IsErrOf result PictureFault.TooMany → vec_len self.new.shapes ≡ 5000 }
+    ) -> Result<(), MemoryFull>
         ensures kept { OnOk result
             (self.new.shapes.items
             ≡ self.old.shapes.items ++ flag_at tick.0 error who.now response owner ∷ []) }
@@ -262,8 +293,7 @@ impl Picture {
         who: &Subject,
         words: &Words,
         tick: Ticks,
-    ) -> Result<(), PictureFault>
-        ensures many { IsErrOf result PictureFault.TooMany → vec_len self.new.shapes ≡ 5000 }
+    ) -> Result<(), MemoryFull>
         ensures lanes { OnOk result (AreKept self.old.lanes self.new.lanes) }
         ensures kept { OnOk result
             (self.new.shapes.items
@@ -288,8 +318,7 @@ impl Picture {
         to: Stop,
         lost: bool,
         words: &Words,
-    ) -> Result<(), PictureFault>
-        ensures many { IsErrOf result PictureFault.TooMany → vec_len self.new.shapes ≡ 5000 }
+    ) -> Result<(), MemoryFull>
         ensures kept { OnOk result
             (self.new.shapes.items
             ≡ self.old.shapes.items ++ message_at tick.0 self.old.way to lost words.now ∷ []) }

@@ -9,7 +9,7 @@ use std::alloc::{AllocError, Global};
 use trace_stays::Lanes;
 
 /// The top of the first row, under the axis.
-pub const FIRST_ROW: Length = Length(400);
+pub const FIRST_ROW: Length = Length(600);
 
 /// The height of a row.
 pub const ROW: Length = Length(220);
@@ -20,6 +20,8 @@ pub const GAP: Length = Length(180);
 /// The tops of the rows. A lane with nothing to show has no row.
 #[derive(Drop)]
 pub struct Rows {
+    /// The lane of windows, if they are known.
+    pub windows: Option<Length>,
     pub outside: Option<Length>,
     pub module: Option<Length>,
     partitions: Vec<Option<Length>>,
@@ -100,24 +102,34 @@ impl Shown {
 }
 
 impl Rows {
-    /// The rows for these shapes: outside and the module first, then each partition with its
-    /// processes, in the order of their first lines.
+    /// The rows for these shapes: the lane of windows, if there is one, outside and the module first,
+    /// then each partition with its processes, in the order of their first lines.
     ///
     /// # Errors
     ///
     /// Memory ran out.
-    pub fn new(alloc: Global, lanes: &Lanes, shapes: &[Shape]) -> Result<Rows, AllocError> {
+    pub fn new(
+        alloc: Global,
+        lanes: &Lanes,
+        shapes: &[Shape],
+        has_windows: bool,
+    ) -> Result<Rows, AllocError> {
         let mut shown = Shown::nobody(alloc, lanes)?;
         for shape in shapes {
             shown.show(lanes, shape);
         }
         let mut rows = Rows {
+            windows: None,
             outside: None,
             module: None,
             partitions: Vec::new(alloc),
             processes: Vec::new(alloc),
             bottom: FIRST_ROW,
         };
+        if has_windows {
+            rows.windows = Some(rows.take_row());
+            rows.bottom = rows.bottom + GAP.half();
+        }
         if shown.outside {
             rows.outside = Some(rows.take_row());
         }

@@ -10,6 +10,7 @@ const STYLE: &str = "
 text{font:12px sans-serif;fill:#1f2933}
 .paper{fill:#fff}
 .ground{fill:#f3f5f8}
+.heading{font-size:13px;font-weight:bold}
 .partition{font-weight:bold}
 .mode{font-size:10px;fill:#1f2933;stroke:#fff;stroke-width:4px;paint-order:stroke}
 .tick{font-size:11px;text-anchor:middle}
@@ -17,6 +18,10 @@ text{font:12px sans-serif;fill:#1f2933}
 .grid{stroke:#cbd2d9}
 .base{stroke:#7b8794;stroke-dasharray:6 4}
 .running{fill:#4b86b8;stroke:#1f4b6e;stroke-width:.6}
+.window{fill:#d9e2ec;stroke:#52606d;stroke-width:.8}
+.release{fill:#1f2933}
+.chosen{fill:#dbe8f3;stroke:#4b86b8;stroke-width:.6;stroke-dasharray:3 2}
+.ready-outside{fill:#fdf6e3;stroke:#b7791f;stroke-width:.6;stroke-dasharray:3 2}
 .ready{fill:url(#ready);stroke:#8a5a00;stroke-width:.6}
 .waiting{fill:#7b8794}
 .dormant{fill:url(#dormant)}
@@ -28,7 +33,7 @@ text{font:12px sans-serif;fill:#1f2933}
 .lost{stroke:#b42318;stroke-width:1.3;stroke-dasharray:4 2;marker-end:url(#cross)}
 .flag{fill:#d64545;stroke:#5c0a0a;stroke-width:1.2}
 .ready-ink{stroke:#b7791f;stroke-width:1.7}
-.cold-ink{stroke:#7b8794;stroke-width:2.4}
+.cold-ink{stroke:#b8c2cc;stroke-width:1.6}
 .warm-ink{stroke:#9aa5b1;stroke-width:1}
 .dormant-ink{stroke:#7b8794;stroke-width:5}
 .head-ink{fill:#1f2933}

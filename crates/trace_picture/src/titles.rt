@@ -29,6 +29,33 @@ pub fn process_name(lanes: &Lanes, place: usize) -> &str
     }
 }
 
+/// Whether the windows are known.
+fn windows_known(has_windows: bool) -> &'static str
+    ensures { result.now ≡ spec.windows_known has_windows }
+{
+    if has_windows {
+        ", with the windows of its module table"
+    } else {
+        "; windows are not known"
+    }
+}
+
+/// The title of a picture of the trace of this name.
+pub fn heading(
+    alloc: Global,
+    name: &str,
+    span: Span,
+    has_windows: bool,
+) -> Result<String, AllocError>
+    ensures { IfOk result
+        (λ text. string_bytes text ≡ spec.heading name.now span has_windows) }
+{
+    let from = span.from.0;
+    let until = span.until.0;
+    let known = windows_known(has_windows);
+    format!(in alloc; "{name}, from tick {from} to tick {until}{known}")
+}
+
 /// The title of a bar.
 pub fn bar_title(alloc: Global, name: &str, word: &str, span: Span) -> Result<String, AllocError>
     ensures { IfOk result (λ text. string_bytes text ≡ spec.bar_title name.now word.now span) }

@@ -10,11 +10,11 @@ use crate::counted::Counted;
 use crate::fault::SharesFault;
 use crate::owner::{Owner, Stop};
 use crate::shares::Shares;
-use crate::usage::is_same_subject;
 use apex_types::{
     Event, EventKind, Mode, ModuleAction, Name, ProcessState, Response, Subject, Ticks,
 };
 use std::alloc::Global;
+use trace_stays::is_same_subject;
 use window_table::Schedule;
 
 impl Shares {

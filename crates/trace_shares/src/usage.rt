@@ -1,11 +1,9 @@
 //! What the processor did in a tick.
 
 ghost use Rattle.std.specs.Prelude.{◌≡◌};
-ghost use Rattle.apex_types.specs.Line.{subject_text};
-ghost use Rattle.engine_meaning.specs.Digits.{same};
 
 use apex_types::{PartitionId, Subject};
-use trace_stays::subject_word;
+use trace_stays::is_same_subject;
 
 /// What the processor did in a tick.
 #[derive(Clone, Copy, Debug, PartialEq, Eq)]
@@ -61,11 +59,4 @@ impl Use {
             _ => false,
         }
     }
-}
-
-/// Returns true if both stand in a line with the same words.
-pub fn is_same_subject(one: &Subject, other: &Subject) -> bool
-    ensures { result ≡ same (subject_text one.now) (subject_text other.now) }
-{
-    subject_word(one).as_bytes() == subject_word(other).as_bytes()
 }

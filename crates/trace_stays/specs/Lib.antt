@@ -1,4 +1,5 @@
 pub mod Shown
 pub mod Stays
 pub mod Following
+pub mod Same
 pub mod Within

@@ -3,14 +3,13 @@
 ghost use Rattle.std.specs.Prelude.{◌≡◌, ◌≤◌, ◌++◌, length, map, slice_get, IfOk, OnErr, OnOk, Some};
 ghost use Rattle.apex_types.specs.Line.{subject_text};
 ghost use Rattle.apex_types.specs.declared.event.EventKind.TheVariants as event;
-ghost use Rattle.engine_meaning.specs.Digits.{same};
 ghost use Rattle.trace_stays.specs.Following.{AreKept, HasFollowed, HasPartition, HasProcess, HasRead, change_at, entered, gone_from, mode_over, mode_over_at, modes_left, over_at, over_with, partition_at, process_at, process_in, starts_again, state_over, states_left, turned};
 ghost use Rattle.trace_stays.specs.Stays.{mode_ended, stay_ended};
 
 use crate::fault::MemoryFull;
 use crate::lanes::{Ended, Lanes, PartitionLane, ProcessLane};
+use crate::same::is_same_subject;
 use crate::stay::{ModeStay, ModeWatch, StateWatch, Stay};
-use crate::words::subject_word;
 use apex_types::{Event, EventKind, Mode, Name, ProcessState, Subject, Ticks};
 
 impl Lanes {
@@ -197,13 +196,6 @@ fn known_process(lanes: &[ProcessLane], partition: usize, who: &Subject) -> Opti
         }
     }
     None
-}
-
-/// Returns true if both stand in a line with the same word.
-fn is_same_subject(one: &Subject, other: &Subject) -> bool
-    ensures { result ≡ same (subject_text one.now) (subject_text other.now) }
-{
-    subject_word(one).as_bytes() == subject_word(other).as_bytes()
 }
 
 /// Adds the stay of the process at this place, if one is over.

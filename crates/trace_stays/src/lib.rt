@@ -8,6 +8,7 @@
 mod fault;
 mod following;
 mod lanes;
+mod same;
 mod shown;
 mod span;
 mod stay;
@@ -15,6 +16,7 @@ mod words;
 
 pub use fault::MemoryFull;
 pub use lanes::{Ended, Lanes, PartitionLane, ProcessLane};
+pub use same::{is_same_partition, is_same_subject};
 pub use shown::ShownTicks;
 pub use span::Span;
 pub use stay::{ModeStay, ModeWatch, StateWatch, Stay};

@@ -1,37 +1,19 @@
 -- The contents of the cells of tables.
-use Rattle.std.specs.Prelude.{ℕ, ◌/◌, ◌%◌, List, [], ◌∷◌, ◌++◌, codes, Option, Some, None}
-use Rattle.std.specs.Fmt.{decimal}
+use Rattle.std.specs.Prelude.{ℕ, List, [], ◌∷◌, Option, Some, None}
 use Rattle.apex_types.specs.declared.identity.Ticks.{Ticks}
+use Rattle.number_tables.specs.Cells.{number_cell, share_cell}
+use Rattle.number_tables.specs.declared.cell.Cell.{Cell}
+use Rattle.number_tables.specs.declared.cell.Cell.TheVariants as cell
 use Rattle.trace_stays.specs.Stays.{ticks_of}
-use Rattle.trace_view.specs.Counting.{share_of}
-use Rattle.trace_view.specs.declared.cell.Cell.{Cell}
-use Rattle.trace_view.specs.declared.cell.Cell.TheVariants as cell
+use Rattle.trace_view.specs.declared.conditions.Conditions.{Conditions}
 use Rattle.trace_view.specs.declared.extent.Extent.{Extent}
 use Rattle.trace_view.specs.declared.extremes.Extremes.{Extremes}
 use Rattle.trace_view.specs.declared.messages.Messages.{Messages}
 use Rattle.trace_view.specs.declared.modes.ModeTicks.{ModeTicks}
 use Rattle.trace_view.specs.declared.responses.ResponseSpreads.{ResponseSpreads}
-use Rattle.trace_view.specs.declared.share.Share.{Share}
 use Rattle.trace_view.specs.declared.starts.Starts.{Starts}
 use Rattle.trace_view.specs.declared.states.StateTicks.{StateTicks}
 use Rattle.trace_view.specs.declared.tally.Tally.{Tally}
-
--- ---- texts
-
--- percents with one decimal
-abbrev pub share_text : Share → List ℕ
-share_text share = decimal (share.tenths / 10) ++ codes "." ++ decimal (share.tenths % 10)
-
--- the text of a cell, with `absent` for a number that is not there
-abbrev pub cell_text : List ℕ → Cell → List ℕ
-cell_text absent (cell.Number n) = decimal n
-cell_text absent (cell.Share share) = share_text share
-cell_text absent cell.Absent = absent
-
--- ---- cells
-
-abbrev pub share_cell : ℕ → ℕ → Cell
-share_cell ticks all = cell.Share (record { tenths = share_of ticks all })
 
 abbrev pub tick_cell : Option Ticks → Cell
 tick_cell None = cell.Absent
@@ -56,14 +38,6 @@ state_cells t all =
     cell.Number t.running ∷ share_cell t.running all ∷ cell.Number t.ready ∷ share_cell t.ready all
     ∷ cell.Number t.waiting ∷ share_cell t.waiting all ∷ cell.Number t.dormant ∷ share_cell t.dormant all ∷ []
 
--- ticks, and their share
-abbrev pub share_cells : ℕ → ℕ → List Cell
-share_cells ticks all = cell.Number ticks ∷ share_cell ticks all ∷ []
-
-abbrev pub number_cell : Option ℕ → Cell
-number_cell None = cell.Absent
-number_cell (Some n) = cell.Number n
-
 -- activations, their times, and missed deadlines
 abbrev pub time_cells : Tally → ResponseSpreads → List Cell
 time_cells t s =
@@ -83,6 +57,11 @@ service_cells t =
 abbrev pub mode_cells : ModeTicks → Starts → List Cell
 mode_cells m s =
     cell.Number m.normal ∷ cell.Number m.cold_start ∷ cell.Number m.warm_start ∷ cell.Number m.idle ∷ cell.Number s.cold ∷ cell.Number s.warm ∷ []
+
+-- the starts by their conditions
+abbrev pub condition_cells : Conditions → List Cell
+condition_cells c =
+    cell.Number c.normal_start ∷ cell.Number c.partition_restart ∷ cell.Number c.hm_module_restart ∷ cell.Number c.hm_partition_restart ∷ []
 
 -- the messages of a port
 abbrev pub port_cells : Messages → List Cell

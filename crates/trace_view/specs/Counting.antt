@@ -1,4 +1,4 @@
--- Counts and sums, times, and shares.
+-- Counts and sums, and times.
 use Rattle.std.specs.Prelude.{ℕ, ◌+◌, ◌-◌, ◌*◌, ◌/◌, ◌^◌, max, min, ◌==◌, if◌then◌else◌, List, [], ◌∷◌, Option, Some, None}
 use Rattle.apex_types.specs.declared.codes.Mode.{Mode}
 use Rattle.apex_types.specs.declared.codes.Mode.TheVariants as mode
@@ -18,7 +18,6 @@ use Rattle.trace_view.specs.declared.messages.Route.{Route}
 use Rattle.trace_view.specs.declared.messages.Route.TheVariants as route
 use Rattle.trace_view.specs.declared.modes.ModeTicks.{ModeTicks}
 use Rattle.trace_view.specs.declared.refusals.Refusals.{Refusals}
-use Rattle.trace_view.specs.declared.starts.Starts.{Starts}
 use Rattle.trace_view.specs.declared.states.StateTicks.{StateTicks}
 
 -- ---- numbers
@@ -26,11 +25,6 @@ use Rattle.trace_view.specs.declared.states.StateTicks.{StateTicks}
 -- a count or a sum; the greatest number of 64 bits stays
 abbrev pub capped : ℕ → ℕ
 capped n = min n (2 ^ 64 - 1)
-
--- The share of these ticks among all, in tenths of a percent: the nearest one, and of two that are as near the
--- greater. Of no ticks each share is 0.
-abbrev pub share_of : ℕ → ℕ → ℕ
-share_of ticks all = if all == 0 then 0 else (2000 * min ticks all + all) / (2 * all)
 
 -- ---- ticks
 
@@ -59,13 +53,6 @@ with_mode_ticks mode.Idle n t = record t { idle = capped (t.idle + n) }
 -- the ticks in each mode, with those of one more stay
 abbrev pub with_mode_stay : Span → ModeStay → ModeTicks → ModeTicks
 with_mode_stay window stay t = with_mode_ticks stay.mode (ticks_in window stay.span) t
-
--- one more start, if the mode is that of a start
-abbrev pub with_start : Mode → Starts → Starts
-with_start mode.Normal s = s
-with_start mode.Idle s = s
-with_start mode.ColdStart s = record s { cold = capped (s.cold + 1) }
-with_start mode.WarmStart s = record s { warm = capped (s.warm + 1) }
 
 -- ---- services and messages
 

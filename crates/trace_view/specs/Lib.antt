@@ -1,8 +1,11 @@
 pub mod Cells
 pub mod Counting
 pub mod Extents
+pub mod Starts
+pub mod Tables
 pub mod Tallies
 pub mod Traffic
 pub mod Turns
-pub mod Errors
 pub mod Percentiles
+pub mod Errors
+pub mod Records

@@ -1,43 +1,19 @@
 //! The cells of tables.
 
-ghost use Rattle.std.specs.Prelude.{◌≡◌, IfOk, string_bytes};
-ghost use Rattle.trace_view.specs.Cells.{cell_text, extent_cells, greatest_cell, least_cell, mode_cells, number_cell, port_cells, service_cells, share_cells, state_cells, tick_cell, time_cells};
+ghost use Rattle.std.specs.Prelude.{◌≡◌};
+ghost use Rattle.trace_view.specs.Cells.{condition_cells, extent_cells, greatest_cell, least_cell, mode_cells, port_cells, service_cells, state_cells, tick_cell, time_cells};
 
+use crate::conditions::Conditions;
 use crate::extent::Extent;
 use crate::extremes::Extremes;
 use crate::messages::Messages;
 use crate::modes::ModeTicks;
 use crate::responses::ResponseSpreads;
-use crate::share::Share;
 use crate::starts::Starts;
 use crate::states::StateTicks;
 use crate::tally::Tally;
 use apex_types::Ticks;
-use std::alloc::{AllocError, Global};
-
-/// The contents of a cell beside names.
-#[derive(Clone, Copy, Debug, PartialEq, Eq)]
-pub enum Cell {
-    Number(u64),
-    Share(Share),
-    /// There is no such number.
-    Absent,
-}
-
-/// The text of a cell, with the given one for a number that is not there.
-///
-/// # Errors
-///
-/// Memory ran out.
-pub fn cell_text(alloc: Global, cell: Cell, absent: &str) -> Result<String, AllocError>
-    ensures { IfOk result (λ text. string_bytes text ≡ cell_text absent.now cell) }
-{
-    match cell {
-        Cell::Number(number) => format!(in alloc; "{number}"),
-        Cell::Share(share) => format!(in alloc; "{share}"),
-        Cell::Absent => String::from_str(alloc, absent),
-    }
-}
+use number_tables::{Cell, Share, number_cell};
 
 fn tick_cell(tick: Option<Ticks>) -> Cell
     ensures { result ≡ tick_cell tick }
@@ -97,22 +73,6 @@ pub fn state_cells(ticks: StateTicks, all: u64) -> [Cell; 8]
     ]
 }
 
-/// Ticks, and their share of all.
-pub fn share_cells(ticks: u64, all: u64) -> [Cell; 2]
-    ensures { result ≡ share_cells ticks all }
-{
-    [Cell::Number(ticks), Cell::Share(Share::of(ticks, all))]
-}
-
-fn number_cell(number: Option<u64>) -> Cell
-    ensures { result ≡ number_cell number }
-{
-    match number {
-        Some(number) => Cell::Number(number),
-        None => Cell::Absent,
-    }
-}
-
 /// Activations; the least time to RUNNING, the median, the 95th percentile and the greatest one; the
 /// same to the end; missed deadlines.
 pub fn time_cells(tally: &Tally, spreads: ResponseSpreads) -> [Cell; 10]
@@ -159,6 +119,19 @@ pub fn mode_cells(modes: ModeTicks, starts: Starts) -> [Cell; 6]
         Cell::Number(modes.idle),
         Cell::Number(starts.cold),
         Cell::Number(starts.warm),
+    ]
+}
+
+/// The starts by their conditions: NORMAL_START, PARTITION_RESTART, HM_MODULE_RESTART and
+/// HM_PARTITION_RESTART.
+pub fn condition_cells(conditions: Conditions) -> [Cell; 4]
+    ensures { result ≡ condition_cells conditions }
+{
+    [
+        Cell::Number(conditions.normal_start),
+        Cell::Number(conditions.partition_restart),
+        Cell::Number(conditions.hm_module_restart),
+        Cell::Number(conditions.hm_partition_restart),
     ]
 }
 

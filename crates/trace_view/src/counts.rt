@@ -13,7 +13,8 @@ use crate::starts::Starts;
 use crate::tally::{Tally, Turn};
 use crate::traffic::Traffic;
 use apex_types::{
-    ErrorKind, Event, EventKind, Mode, Name, ProcessState, ReturnCode, Subject, Ticks,
+    ErrorKind, Event, EventKind, Mode, Name, ProcessState, ReturnCode, StartCondition, Subject,
+    Ticks,
 };
 use std::alloc::Global;
 use trace_stays::{Ended, Lanes, MemoryFull, Span};
@@ -53,12 +54,18 @@ impl Counts {
         }
     }
 
-    /// Counts the next event. An event before the window only determines how the window begins.
+    /// Counts the next event; a start in it has the condition that was told. An event before the window
+    /// only determines how the window begins.
     ///
     /// # Errors
     ///
     /// Memory ran out.
-    pub fn count(&mut self, event: &Event, window: Span) -> Result<(), MemoryFull> {
+    pub fn count(
+        &mut self,
+        event: &Event,
+        window: Span,
+        told: Option<StartCondition>,
+    ) -> Result<(), MemoryFull> {
         self.ended.clear();
         self.lanes.follow(event, &mut self.ended)?;
         self.make_room()?;
@@ -68,7 +75,7 @@ impl Counts {
             _ => {}
         }
         if has_tick(window, event.tick) {
-            self.count_kind(event)?;
+            self.count_kind(event, told)?;
         }
         Ok(())
     }
@@ -205,7 +212,11 @@ impl Counts {
     }
 
     /// Counts the parts of a line besides states and modes.
-    fn count_kind(&mut self, event: &Event) -> Result<(), MemoryFull> {
+    fn count_kind(
+        &mut self,
+        event: &Event,
+        told: Option<StartCondition>,
+    ) -> Result<(), MemoryFull> {
         if let EventKind::Error(error, _, response) = &event.kind {
             self.errors.count(&event.partition, *error, *response)?;
         }
@@ -216,7 +227,7 @@ impl Counts {
             EventKind::Return(who, _, code) => self.answer(name, who, *code),
             EventKind::Error(ErrorKind::DeadlineMissed, Some(who), _) => self.miss(name, who),
             EventKind::Report(who, _) => self.report(name, who),
-            EventKind::Mode(mode) => self.start(name, *mode),
+            EventKind::Mode(mode) => self.start(name, *mode, told),
             kind => match route_of(kind) {
                 Some(route) => self.pass(name, route, kind),
                 None => Ok(()),
@@ -254,11 +265,16 @@ impl Counts {
     }
 
     /// Counts the start of a partition, if it enters the mode of one.
-    fn start(&mut self, partition: &Name, mode: Mode) -> Result<(), MemoryFull> {
+    fn start(
+        &mut self,
+        partition: &Name,
+        mode: Mode,
+        told: Option<StartCondition>,
+    ) -> Result<(), MemoryFull> {
         let place = self.lanes.partition_place(partition)?;
         self.make_room()?;
         if let Some(starts) = self.starts.get_mut(place) {
-            starts.count(mode);
+            starts.count(mode, told);
         }
         Ok(())
     }

@@ -6,7 +6,7 @@ ghost use Rattle.trace_view.specs.declared.errors.ErrorTotal.{ErrorTotal};
 
 use apex_types::{ErrorKind, Name, Response};
 use std::alloc::Global;
-use trace_stays::MemoryFull;
+use trace_stays::{MemoryFull, is_same_partition};
 
 /// The errors of one kind that were answered alike, of one partition or of the module.
 #[derive(Clone, Copy, Debug)]
@@ -69,17 +69,6 @@ impl ErrorTotal {
         ensures { self.new ≡ record self.old { lines = capped (self.old.lines + 1) } }
     {
         self.lines = self.lines.saturating_add(1);
-    }
-}
-
-/// Returns true if both are the same partition, or the module itself.
-fn is_same_partition(one: &Option<Name>, other: &Option<Name>) -> bool
-    ensures { IsTrue result ↔ (one.now ≡ other.now) }
-{
-    match (one, other) {
-        (Some(one), Some(other)) => one.as_bytes() == other.as_bytes(),
-        (None, None) => true,
-        _ => false,
     }
 }
 

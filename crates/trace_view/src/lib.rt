@@ -7,43 +7,38 @@
 #![tactic(auto)]
 
 mod cell;
+mod conditions;
 mod counts;
 mod errors;
 mod extent;
 mod extremes;
-mod fault;
 pub mod laws;
 mod messages;
 mod modes;
 mod refusals;
 mod report;
 mod responses;
-mod share;
 mod sheet;
 mod starts;
 mod states;
 mod summary;
-mod table;
 mod tally;
 mod times;
 mod traffic;
 mod usage;
 mod writing;
 
-pub use cell::{Cell, cell_text};
+pub use conditions::{Conditions, told_behind};
 pub use errors::ErrorTotal;
 pub use extent::Extent;
 pub use extremes::Extremes;
-pub use fault::ReportFault;
 pub use messages::{Messages, Route};
 pub use modes::ModeTicks;
 pub use refusals::Refusals;
 pub use report::{PartitionTotal, ProcessTotal, Report, RouteTotal};
 pub use responses::ResponseSpreads;
-pub use share::Share;
 pub use starts::Starts;
 pub use states::StateTicks;
 pub use summary::Summary;
-pub use table::Table;
 pub use tally::{Measured, Tally, Turn};
 pub use times::{Percentile, Spread, Times};

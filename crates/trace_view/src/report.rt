@@ -2,7 +2,6 @@
 
 use crate::errors::ErrorTotal;
 use crate::extent::Extent;
-use crate::fault::ReportFault;
 use crate::messages::{Messages, Route};
 use crate::modes::ModeTicks;
 use crate::responses::ResponseSpreads;
@@ -10,8 +9,7 @@ use crate::starts::Starts;
 use crate::tally::Tally;
 use crate::{sheet, writing};
 use apex_types::{Name, Subject};
-use std::alloc::Global;
-use std::io::Write;
+use std::alloc::{AllocError, Global};
 use trace_shares::Shares;
 
 /// The numbers of a partition.
@@ -55,22 +53,33 @@ pub struct Report {
 }
 
 impl Report {
-    /// Writes the numbers as tables, each with a line that says what it shows, and a line of
-    /// headings.
+    ghost use Rattle.std.specs.Prelude.{◌≡◌, IfOk};
+    ghost use Rattle.trace_view.specs.Records.{all_records};
+    ghost use Rattle.trace_view.specs.Tables.{tables_text};
+
+    /// The numbers as tables, each with a line that says what it shows, and a line of headings.
     ///
     /// # Errors
     ///
-    /// Memory ran out, or the writer failed; then a beginning of the text is out.
-    pub fn write_table<W: Write>(&self, alloc: Global, out: &mut W) -> Result<(), ReportFault> {
-        writing::write_tables(alloc, self, out)
+    /// Memory ran out.
+    pub fn tables(&self, alloc: Global) -> Result<Vec<u8>, AllocError>
+        ensures { IfOk result (λ text. text.items ≡ tables_text self.now) }
+    {
+        let mut text = Vec::new(alloc);
+        writing::write_tables(alloc, self, &mut text)?;
+        Ok(text)
     }
 
-    /// Writes the numbers as one table of comma-separated values, with a line of headings.
+    /// The numbers as one table of comma-separated values, with a line of headings.
     ///
     /// # Errors
     ///
-    /// Memory ran out, or the writer failed; then a beginning of the text is out.
-    pub fn write_csv<W: Write>(&self, alloc: Global, out: &mut W) -> Result<(), ReportFault> {
-        sheet::write_sheet(alloc, self, out)
+    /// Memory ran out.
+    pub fn sheet(&self, alloc: Global) -> Result<Vec<u8>, AllocError>
+        ensures { IfOk result (λ text. text.items ≡ all_records self.now) }
+    {
+        let mut text = Vec::new(alloc);
+        sheet::write_sheet(alloc, self, &mut text)?;
+        Ok(text)
     }
 }

@@ -1,19 +1,21 @@
 //! A report as comma-separated values.
 
+ghost use Rattle.std.specs.Prelude.{◌≡◌, ◌++◌, IfOk, OnOk};
+ghost use Rattle.number_tables.specs.Rows.{texts_of};
+ghost use Rattle.trace_view.specs.Records.{all_records, error_record, error_records, heading_record, partition_record, partition_records, process_record, process_records, route_record, route_records, trace_record};
+
 use crate::cell::{
-    Cell, cell_text, extent_cells, mode_cells, port_cells, service_cells, state_cells, time_cells,
+    condition_cells, extent_cells, mode_cells, port_cells, service_cells, state_cells, time_cells,
 };
 use crate::errors::ErrorTotal;
-use crate::fault::ReportFault;
 use crate::messages::Route;
 use crate::report::{PartitionTotal, ProcessTotal, Report, RouteTotal};
-use csv::{Writer, WriterBuilder};
-use std::alloc::Global;
-use std::io::Write;
+use number_tables::{Cell, Row, named, push_record};
+use std::alloc::{AllocError, Global};
 use trace_stays::subject_word;
 
 /// The columns. Each row has the first three, and those of its own group.
-static HEADINGS: [&str; 47] = [
+pub const HEADINGS: [&str; 51] = [
     "kind",
     "partition",
     "name",
@@ -54,6 +56,10 @@ static HEADINGS: [&str; 47] = [
     "idle",
     "cold_starts",
     "warm_starts",
+    "normal_starts",
+    "partition_restarts",
+    "hm_module_restarts",
+    "hm_partition_restarts",
     "moved",
     "arrived",
     "lost",
@@ -63,128 +69,133 @@ static HEADINGS: [&str; 47] = [
     "errors",
 ];
 
-/// Writes the row of headings, a row of the trace, and a row of each partition, process, port and
-/// channel.
-pub fn write_sheet<W: Write>(
-    alloc: Global,
-    report: &Report,
-    out: &mut W,
-) -> Result<(), ReportFault> {
-    let mut sheet = Sheet {
-        alloc,
-        writer: WriterBuilder::new().from_writer(out),
-    };
-    for heading in &HEADINGS {
-        sheet.text(heading)?;
+/// Appends the row of headings, a row of the trace, and a row of each partition, process, port and
+/// channel, and of the errors of each kind.
+pub fn write_sheet(alloc: Global, report: &Report, text: &mut Vec<u8>) -> Result<(), AllocError>
+    ensures { OnOk result (text.new.items ≡ text.old.items ++ all_records report.now) }
+{
+    write_headings(alloc, text)?;
+    push_record(alloc, &trace(alloc, report)?, text)?;
+    write_partitions(alloc, report, text)?;
+    write_processes(alloc, report, text)?;
+    write_routes(alloc, report, text)?;
+    write_errors(alloc, report, text)
+}
+
+fn write_headings(alloc: Global, text: &mut Vec<u8>) -> Result<(), AllocError>
+    ensures { OnOk result (text.new.items ≡ text.old.items ++ heading_record) }
+{
+    let mut row = Row::new(alloc);
+    row.push_texts(&HEADINGS)?;
+    push_record(alloc, &row, text)
+}
+
+#[tactic(auto, using(std::proofs::lemmas::List::drop_more))]
+fn write_partitions(alloc: Global, report: &Report, text: &mut Vec<u8>) -> Result<(), AllocError>
+    ensures { OnOk result (text.new.items ≡ text.old.items ++ partition_records report.now) }
+{
+    for total in &report.partitions {
+        push_record(alloc, &partition(alloc, total)?, text)?;
     }
-    sheet.end()?;
-    sheet.trace(report)?;
-    for partition in &report.partitions {
-        sheet.partition(partition)?;
-    }
-    for process in &report.processes {
-        sheet.process(process, report.extent.window.ticks())?;
-    }
-    for total in &report.routes {
-        sheet.route(total)?;
-    }
-    for total in &report.errors {
-        sheet.error(total)?;
-    }
-    sheet.writer.flush()?;
     Ok(())
 }
 
-/// A sheet that is being written.
-#[derive(Drop)]
-struct Sheet<'a, W: Write> {
-    alloc: Global,
-    writer: Writer<&'a mut W>,
+#[tactic(auto, using(std::proofs::lemmas::List::drop_more))]
+fn write_processes(alloc: Global, report: &Report, text: &mut Vec<u8>) -> Result<(), AllocError>
+    ensures { OnOk result (text.new.items ≡ text.old.items ++ process_records report.now) }
+{
+    let all = report.extent.window.ticks();
+    for total in &report.processes {
+        push_record(alloc, &process(alloc, total, all)?, text)?;
+    }
+    Ok(())
 }
 
-impl<'a, W: Write> Sheet<'a, W> {
-    fn trace(&mut self, report: &Report) -> Result<(), ReportFault> {
-        self.names("trace", "", "")?;
-        self.cells(&extent_cells(&report.extent))?;
-        self.blanks(38)?;
-        self.end()
+#[tactic(auto, using(std::proofs::lemmas::List::drop_more))]
+fn write_routes(alloc: Global, report: &Report, text: &mut Vec<u8>) -> Result<(), AllocError>
+    ensures { OnOk result (text.new.items ≡ text.old.items ++ route_records report.now) }
+{
+    for total in &report.routes {
+        push_record(alloc, &route(alloc, total)?, text)?;
     }
+    Ok(())
+}
 
-    fn partition(&mut self, partition: &PartitionTotal) -> Result<(), ReportFault> {
-        self.names("partition", partition.name.as_str(), "")?;
-        self.blanks(31)?;
-        self.cells(&mode_cells(partition.modes, partition.starts))?;
-        self.blanks(7)?;
-        self.end()
+#[tactic(auto, using(std::proofs::lemmas::List::drop_more))]
+fn write_errors(alloc: Global, report: &Report, text: &mut Vec<u8>) -> Result<(), AllocError>
+    ensures { OnOk result (text.new.items ≡ text.old.items ++ error_records report.now) }
+{
+    for total in &report.errors {
+        push_record(alloc, &error(alloc, total)?, text)?;
     }
+    Ok(())
+}
 
-    fn process(&mut self, process: &ProcessTotal, all: u64) -> Result<(), ReportFault> {
-        let who = subject_word(&process.who);
-        self.names("process", process.partition.as_str(), who)?;
-        self.blanks(6)?;
-        self.cells(&state_cells(process.tally.ticks, all))?;
-        self.cells(&time_cells(&process.tally, process.spreads))?;
-        self.cells(&service_cells(&process.tally))?;
-        self.blanks(13)?;
-        self.end()
-    }
+/// The row of the trace.
+fn trace(alloc: Global, report: &Report) -> Result<Row, AllocError>
+    ensures { IfOk result (λ row. texts_of row ≡ trace_record report.now) }
+{
+    let mut row = named(alloc, "trace", "", "")?;
+    row.push_cells(&extent_cells(&report.extent), "")?;
+    row.push_blanks(42)?;
+    Ok(row)
+}
 
-    fn route(&mut self, total: &RouteTotal) -> Result<(), ReportFault> {
-        match &total.route {
-            Route::Port(port) => {
-                self.names("port", total.partition.as_str(), port.as_str())?;
-                self.blanks(37)?;
-                self.cells(&port_cells(total.messages))?;
-                self.blanks(4)?;
-            }
-            Route::Channel(channel) => {
-                self.names("channel", total.partition.as_str(), channel.as_str())?;
-                self.blanks(40)?;
-                self.cells(&[Cell::Number(total.messages.out)])?;
-                self.blanks(3)?;
-            }
+/// The row of a partition.
+fn partition(alloc: Global, total: &PartitionTotal) -> Result<Row, AllocError>
+    ensures { IfOk result (λ row. texts_of row ≡ partition_record total.now) }
+{
+    let mut row = named(alloc, "partition", total.name.as_str(), "")?;
+    row.push_blanks(31)?;
+    row.push_cells(&mode_cells(total.modes, total.starts), "")?;
+    row.push_cells(&condition_cells(total.starts.conditions), "")?;
+    row.push_blanks(7)?;
+    Ok(row)
+}
+
+/// The row of a process, among so many ticks.
+fn process(alloc: Global, total: &ProcessTotal, all: u64) -> Result<Row, AllocError>
+    ensures { IfOk result (λ row. texts_of row ≡ process_record all total.now) }
+{
+    let who = subject_word(&total.who);
+    let mut row = named(alloc, "process", total.partition.as_str(), who)?;
+    row.push_blanks(6)?;
+    row.push_cells(&state_cells(total.tally.ticks, all), "")?;
+    row.push_cells(&time_cells(&total.tally, total.spreads), "")?;
+    row.push_cells(&service_cells(&total.tally), "")?;
+    row.push_blanks(17)?;
+    Ok(row)
+}
+
+/// The row of a port or a channel.
+fn route(alloc: Global, total: &RouteTotal) -> Result<Row, AllocError>
+    ensures { IfOk result (λ row. texts_of row ≡ route_record total.now total.now.route) }
+{
+    match &total.route {
+        Route::Port(port) => {
+            let mut row = named(alloc, "port", total.partition.as_str(), port.as_str())?;
+            row.push_blanks(41)?;
+            row.push_cells(&port_cells(total.messages), "")?;
+            row.push_blanks(4)?;
+            Ok(row)
         }
-        self.end()
-    }
-
-    fn error(&mut self, total: &ErrorTotal) -> Result<(), ReportFault> {
-        self.names("error", total.partition_word(), total.error_word())?;
-        self.blanks(41)?;
-        self.text(total.level_word())?;
-        self.text(total.action_word())?;
-        self.cells(&[Cell::Number(total.lines)])?;
-        self.end()
-    }
-
-    fn names(&mut self, kind: &str, partition: &str, name: &str) -> Result<(), ReportFault> {
-        self.text(kind)?;
-        self.text(partition)?;
-        self.text(name)
-    }
-
-    fn cells(&mut self, cells: &[Cell]) -> Result<(), ReportFault> {
-        for cell in cells {
-            let text = cell_text(self.alloc, *cell, "")?;
-            self.text(text.as_str())?;
+        Route::Channel(channel) => {
+            let mut row = named(alloc, "channel", total.partition.as_str(), channel.as_str())?;
+            row.push_blanks(44)?;
+            row.push_cells(&[Cell::Number(total.messages.out)], "")?;
+            row.push_blanks(3)?;
+            Ok(row)
         }
-        Ok(())
     }
+}
 
-    /// Columns that do not apply to the row.
-    fn blanks(&mut self, count: usize) -> Result<(), ReportFault> {
-        for _ in 0..count {
-            self.text("")?;
-        }
-        Ok(())
-    }
-
-    fn text(&mut self, text: &str) -> Result<(), ReportFault> {
-        self.writer.write_field(text.as_bytes())?;
-        Ok(())
-    }
-
-    fn end(&mut self) -> Result<(), ReportFault> {
-        self.writer.end_record()?;
-        Ok(())
-    }
+/// The row of the errors of a kind.
+fn error(alloc: Global, total: &ErrorTotal) -> Result<Row, AllocError>
+    ensures { IfOk result (λ row. texts_of row ≡ error_record total.now) }
+{
+    let mut row = named(alloc, "error", total.partition_word(), total.error_word())?;
+    row.push_blanks(45)?;
+    row.push_texts(&[total.level_word(), total.action_word()])?;
+    row.push_cells(&[Cell::Number(total.lines)], "")?;
+    Ok(row)
 }

@@ -2,10 +2,11 @@
 
 ghost use Rattle.std.specs.Prelude.{◌≡◌, IfOk};
 
+use crate::conditions::told_behind;
 use crate::counts::Counts;
 use crate::extent::Extent;
 use crate::report::Report;
-use apex_types::{Event, Ticks};
+use apex_types::{Event, StartCondition, Ticks};
 use std::alloc::Global;
 use trace_shares::{Shares, SharesFault};
 
@@ -17,23 +18,29 @@ pub struct Summary {
     /// The lines so far. Until all are counted, a window without an end stays open.
     extent: Extent,
     counts: Counts,
+    /// The condition of a start in the next line, if the lines so far tell it.
+    told: Option<StartCondition>,
     /// What the processor did, if the windows are known.
     shares: Option<Shares>,
 }
 
 impl Summary {
     ghost use Rattle.trace_view.specs.Extents.{closed, opened, with_line};
+    ghost use Rattle.trace_view.specs.Starts.{told_behind, told_first};
 
     /// Nothing is counted yet. The ticks `from` and later will count: those before `to`, or, with
     /// `None`, those up to the last line. `shares` counts what the processor does in them.
     pub fn new(alloc: Global, from: Ticks, to: Option<Ticks>, shares: Option<Shares>) -> Summary
         ensures to { result.to ≡ to }
         ensures extent { result.extent ≡ opened from to }
+        ensures told { result.told ≡ told_first }
+        ensures shares { result.shares ≡ shares }
     {
         Summary {
             to,
             extent: Extent::new(from, to),
             counts: Counts::new(alloc),
+            told: Some(StartCondition::NormalStart),
             shares,
         }
     }
@@ -46,11 +53,14 @@ impl Summary {
     pub fn count(&mut self, event: &Event) -> Result<(), SharesFault>
         ensures to { self.new.to ≡ self.old.to }
         ensures extent { self.new.extent ≡ with_line event.now.tick self.old.extent }
+        ensures told { self.new.told ≡ told_behind self.old.told event.now.kind }
     {
+        let told = self.told;
+        self.told = told_behind(told, &event.kind);
         self.extent.count(event.tick);
         let window = self.extent.window;
         if event.tick.0 < window.until.0 {
-            self.counts.count(event, window)?;
+            self.counts.count(event, window, told)?;
             if let Some(shares) = &mut self.shares {
                 shares.follow(event)?;
             }
@@ -58,8 +68,8 @@ impl Summary {
         Ok(())
     }
 
-    /// Passes over the next event of the trace: its line does not count. What the processor does is
-    /// counted by all lines.
+    /// Passes over the next event of the trace: its line does not count. What the processor does and
+    /// why partitions start is read in all lines.
     ///
     /// # Errors
     ///
@@ -68,7 +78,9 @@ impl Summary {
         ensures to { self.new.to ≡ self.old.to }
         ensures extent { self.new.extent ≡ self.old.extent }
         ensures counts { self.new.counts ≡ self.old.counts }
+        ensures told { self.new.told ≡ told_behind self.old.told event.now.kind }
     {
+        self.told = told_behind(self.told, &event.kind);
         if event.tick.0 < self.extent.window.until.0 {
             if let Some(shares) = &mut self.shares {
                 shares.follow(event)?;
@@ -90,6 +102,7 @@ impl Summary {
             mut extent,
             counts,
             mut shares,
+            ..
         } = self;
         extent.close(to);
         if let Some(shares) = &mut shares {

@@ -1,45 +1,70 @@
 //! The tables of a report.
 
+ghost use Rattle.std.specs.Prelude.{◌≡◌, ◌++◌, OnOk};
+ghost use Rattle.number_tables.specs.Tables.{contents_of, with_row, with_rows};
+ghost use Rattle.trace_view.specs.Tables.{channel_row, channels_table, conditions_table, error_row, errors_table, extent_table, message_tables, modes_table, partition_tables, port_row, ports_table, process_tables, services_table, states_table, tables_text, times_table};
+
 use crate::cell::{
-    Cell, extent_cells, mode_cells, port_cells, service_cells, state_cells, time_cells,
+    condition_cells, extent_cells, mode_cells, port_cells, service_cells, state_cells, time_cells,
 };
 use crate::errors::ErrorTotal;
-use crate::fault::ReportFault;
 use crate::messages::Route;
-use crate::report::Report;
-use crate::table::Table;
+use crate::report::{Report, RouteTotal};
 use crate::usage::write_usage;
+use number_tables::{Cell, Table};
 use std::alloc::{AllocError, Global};
-use std::io::Write;
 use trace_stays::subject_word;
 
-/// Writes the tables, with an empty line between two of them. A table without rows is left out.
-pub fn write_tables<W: Write>(
-    alloc: Global,
-    report: &Report,
-    out: &mut W,
-) -> Result<(), ReportFault> {
-    write_extent(alloc, report, out)?;
-    write_states(alloc, report, out)?;
-    if let Some(shares) = &report.shares {
-        write_usage(alloc, shares, report.extent.window.ticks(), out)?;
-    }
-    write_times(alloc, report, out)?;
-    write_services(alloc, report, out)?;
-    write_modes(alloc, report, out)?;
-    write_errors(alloc, report, out)?;
-    write_ports(alloc, report, out)?;
-    write_channels(alloc, report, out)
+/// Appends the tables, with an empty line between two of them. A table without rows is left out.
+pub fn write_tables(alloc: Global, report: &Report, text: &mut Vec<u8>) -> Result<(), AllocError>
+    ensures { OnOk result (text.new.items ≡ text.old.items ++ tables_text report.now) }
+{
+    write_extent(alloc, report, text)?;
+    write_processes(alloc, report, text)?;
+    write_partitions(alloc, report, text)?;
+    write_messages(alloc, report, text)
 }
 
-fn write_extent<W: Write>(alloc: Global, report: &Report, out: &mut W) -> Result<(), ReportFault> {
+/// The tables with rows of processes, among them those of what the processor did.
+fn write_processes(alloc: Global, report: &Report, text: &mut Vec<u8>) -> Result<(), AllocError>
+    ensures { OnOk result (text.new.items ≡ text.old.items ++ process_tables report.now) }
+{
+    write_states(alloc, report, text)?;
+    if let Some(shares) = &report.shares {
+        write_usage(alloc, shares, report.extent.window.ticks(), text)?;
+    }
+    write_times(alloc, report, text)?;
+    write_services(alloc, report, text)
+}
+
+fn write_partitions(alloc: Global, report: &Report, text: &mut Vec<u8>) -> Result<(), AllocError>
+    ensures { OnOk result (text.new.items ≡ text.old.items ++ partition_tables report.now) }
+{
+    write_modes(alloc, report, text)?;
+    write_conditions(alloc, report, text)?;
+    write_errors(alloc, report, text)
+}
+
+fn write_messages(alloc: Global, report: &Report, text: &mut Vec<u8>) -> Result<(), AllocError>
+    ensures { OnOk result (text.new.items ≡ text.old.items ++ message_tables report.now) }
+{
+    write_ports(alloc, report, text)?;
+    write_channels(alloc, report, text)
+}
+
+fn write_extent(alloc: Global, report: &Report, text: &mut Vec<u8>) -> Result<(), AllocError>
+    ensures { OnOk result (text.new.items ≡ text.old.items ++ extent_table report.now) }
+{
     let numbers = ["lines", "first tick", "last tick", "from", "to", "ticks"];
     let mut table = Table::new(alloc, &[], &numbers)?;
     table.add(&[], &extent_cells(&report.extent))?;
-    table.write("The trace: its lines, and the ticks that count", out)
+    table.write("The trace: its lines, and the ticks that count", text)
 }
 
-fn write_states<W: Write>(alloc: Global, report: &Report, out: &mut W) -> Result<(), ReportFault> {
+#[tactic(auto, using(std::proofs::lemmas::List::drop_more))]
+fn write_states(alloc: Global, report: &Report, text: &mut Vec<u8>) -> Result<(), AllocError>
+    ensures { OnOk result (text.new.items ≡ text.old.items ++ states_table report.now) }
+{
     let numbers = ["RUNNING", "%", "READY", "%", "WAITING", "%", "DORMANT", "%"];
     let mut table = Table::new(alloc, &["partition", "process"], &numbers)?;
     let all = report.extent.window.ticks();
@@ -49,11 +74,14 @@ fn write_states<W: Write>(alloc: Global, report: &Report, out: &mut W) -> Result
     }
     table.write(
         "\nProcesses: ticks in each state, and their share of all ticks",
-        out,
+        text,
     )
 }
 
-fn write_times<W: Write>(alloc: Global, report: &Report, out: &mut W) -> Result<(), ReportFault> {
+#[tactic(auto, using(std::proofs::lemmas::List::drop_more))]
+fn write_times(alloc: Global, report: &Report, text: &mut Vec<u8>) -> Result<(), AllocError>
+    ensures { OnOk result (text.new.items ≡ text.old.items ++ times_table report.now) }
+{
     let numbers = [
         "activations",
         "least to RUNNING",
@@ -73,15 +101,14 @@ fn write_times<W: Write>(alloc: Global, report: &Report, out: &mut W) -> Result<
     }
     table.write(
         "\nProcesses: activations, and ticks from READY to RUNNING and to the end",
-        out,
+        text,
     )
 }
 
-fn write_services<W: Write>(
-    alloc: Global,
-    report: &Report,
-    out: &mut W,
-) -> Result<(), ReportFault> {
+#[tactic(auto, using(std::proofs::lemmas::List::drop_more))]
+fn write_services(alloc: Global, report: &Report, text: &mut Vec<u8>) -> Result<(), AllocError>
+    ensures { OnOk result (text.new.items ≡ text.old.items ++ services_table report.now) }
+{
     let numbers = [
         "NO_ACTION",
         "NOT_AVAILABLE",
@@ -98,11 +125,14 @@ fn write_services<W: Write>(
     }
     table.write(
         "\nProcesses: services refused, by their codes, and application messages",
-        out,
+        text,
     )
 }
 
-fn write_modes<W: Write>(alloc: Global, report: &Report, out: &mut W) -> Result<(), ReportFault> {
+#[tactic(auto, using(std::proofs::lemmas::List::drop_more))]
+fn write_modes(alloc: Global, report: &Report, text: &mut Vec<u8>) -> Result<(), AllocError>
+    ensures { OnOk result (text.new.items ≡ text.old.items ++ modes_table report.now) }
+{
     let numbers = [
         "NORMAL",
         "COLD_START",
@@ -116,19 +146,43 @@ fn write_modes<W: Write>(alloc: Global, report: &Report, out: &mut W) -> Result<
         let cells = mode_cells(partition.modes, partition.starts);
         table.add(&[partition.name.as_str()], &cells)?;
     }
-    table.write("\nPartitions: ticks in each mode, and starts", out)
+    table.write("\nPartitions: ticks in each mode, and starts", text)
 }
 
-fn write_errors<W: Write>(alloc: Global, report: &Report, out: &mut W) -> Result<(), ReportFault> {
+#[tactic(auto, using(std::proofs::lemmas::List::drop_more))]
+fn write_conditions(alloc: Global, report: &Report, text: &mut Vec<u8>) -> Result<(), AllocError>
+    ensures { OnOk result (text.new.items ≡ text.old.items ++ conditions_table report.now) }
+{
+    let numbers = [
+        "NORMAL_START",
+        "PARTITION_RESTART",
+        "HM_MODULE_RESTART",
+        "HM_PARTITION_RESTART",
+    ];
+    let mut table = Table::new(alloc, &["partition"], &numbers)?;
+    for partition in &report.partitions {
+        let cells = condition_cells(partition.starts.conditions);
+        table.add(&[partition.name.as_str()], &cells)?;
+    }
+    table.write("\nPartitions: starts, by their conditions", text)
+}
+
+#[tactic(auto, using(std::proofs::lemmas::List::drop_more))]
+fn write_errors(alloc: Global, report: &Report, text: &mut Vec<u8>) -> Result<(), AllocError>
+    ensures { OnOk result (text.new.items ≡ text.old.items ++ errors_table report.now) }
+{
     let names = ["partition", "error", "level", "action"];
     let mut table = Table::new(alloc, &names, &["lines"])?;
     for total in &report.errors {
         add_error(total, &mut table)?;
     }
-    table.write("\nErrors, by their level and the action on them", out)
+    table.write("\nErrors, by their level and the action on them", text)
 }
 
-fn add_error(total: &ErrorTotal, table: &mut Table) -> Result<(), AllocError> {
+fn add_error(total: &ErrorTotal, table: &mut Table) -> Result<(), AllocError>
+    ensures { OnOk result
+        (contents_of table.new ≡ with_row (error_row total.now) (contents_of table.old)) }
+{
     let names = [
         total.partition_word(),
         total.error_word(),
@@ -138,29 +192,55 @@ fn add_error(total: &ErrorTotal, table: &mut Table) -> Result<(), AllocError> {
     table.add(&names, &[Cell::Number(total.lines)])
 }
 
-fn write_ports<W: Write>(alloc: Global, report: &Report, out: &mut W) -> Result<(), ReportFault> {
+#[tactic(auto, using(std::proofs::lemmas::List::drop_more))]
+fn write_ports(alloc: Global, report: &Report, text: &mut Vec<u8>) -> Result<(), AllocError>
+    ensures { OnOk result (text.new.items ≡ text.old.items ++ ports_table report.now) }
+{
     let numbers = ["moved", "arrived", "lost"];
     let mut table = Table::new(alloc, &["partition", "port"], &numbers)?;
     for total in &report.routes {
-        if let Route::Port(port) = &total.route {
-            let names = [total.partition.as_str(), port.as_str()];
-            table.add(&names, &port_cells(total.messages))?;
-        }
+        add_port(total, &mut table)?;
     }
-    table.write("\nPorts: messages", out)
+    table.write("\nPorts: messages", text)
 }
 
-fn write_channels<W: Write>(
-    alloc: Global,
-    report: &Report,
-    out: &mut W,
-) -> Result<(), ReportFault> {
+/// Adds the row of a port.
+fn add_port(total: &RouteTotal, table: &mut Table) -> Result<(), AllocError>
+    ensures { OnOk result
+        (contents_of table.new
+        ≡ with_rows (port_row total.now total.now.route) (contents_of table.old)) }
+{
+    match &total.route {
+        Route::Port(port) => {
+            let names = [total.partition.as_str(), port.as_str()];
+            table.add(&names, &port_cells(total.messages))
+        }
+        Route::Channel(_) => Ok(()),
+    }
+}
+
+#[tactic(auto, using(std::proofs::lemmas::List::drop_more))]
+fn write_channels(alloc: Global, report: &Report, text: &mut Vec<u8>) -> Result<(), AllocError>
+    ensures { OnOk result (text.new.items ≡ text.old.items ++ channels_table report.now) }
+{
     let mut table = Table::new(alloc, &["partition", "channel"], &["out"])?;
     for total in &report.routes {
-        if let Route::Channel(channel) = &total.route {
+        add_channel(total, &mut table)?;
+    }
+    table.write("\nChannels: messages that left the module", text)
+}
+
+/// Adds the row of a channel.
+fn add_channel(total: &RouteTotal, table: &mut Table) -> Result<(), AllocError>
+    ensures { OnOk result
+        (contents_of table.new
+        ≡ with_rows (channel_row total.now total.now.route) (contents_of table.old)) }
+{
+    match &total.route {
+        Route::Port(_) => Ok(()),
+        Route::Channel(channel) => {
             let names = [total.partition.as_str(), channel.as_str()];
-            table.add(&names, &[Cell::Number(total.messages.out)])?;
+            table.add(&names, &[Cell::Number(total.messages.out)])
         }
     }
-    table.write("\nChannels: messages that left the module", out)
 }

@@ -9,7 +9,7 @@ use Rattle.streams.specs.Contents.{Contents}
 use Rattle.streams.specs.States.{HasFailed, IsFlushed, IsWritten, Seen, TakesLine}
 use Rattle.view_command.specs.Lines.{called, line_of}
 use Rattle.clap.specs.Walk.{Row}
-use Rattle.view_command.specs.Orders.{AreWrongWords, AsksForNothing, EndsBefore, IsDiff, IsNoKind, IsNoLimit, IsNoRun, IsNoTick, other_of, ran_of, table_of, trace_of}
+use Rattle.view_command.specs.Orders.{AreWrongWords, AsksForNothing, EndsBefore, IsDiff, IsNoKind, IsNoLimit, IsNoRun, IsNoTick, IsNoWidth, other_of, ran_of, table_of, trace_of}
 use Rattle.view_command.specs.States.{IsUntouched, State}
 use Rattle.view_command.specs.Texts.{IsLateIn, IsLateLine, IsRefusedIn, IsRefusedLine, IsRefusedTableIn, IsTableAsked, IsTraceIn}
 use Rattle.command_words.specs.declared.failure.Failure.{Failure}
@@ -17,7 +17,7 @@ use Rattle.command_words.specs.declared.failure.Failure.TheVariants.{Refused, Us
 use Rattle.view_command.specs.declared.views.Outcome.{Outcome}
 use Rattle.view_command.specs.declared.views.Outcome.TheVariants.{Shown, Found}
 use Rattle.view_command.specs.declared.refusal.Refusal.{Refusal}
-use Rattle.view_command.specs.declared.refusal.Refusal.TheVariants.{Open, Read, Line, Late, TooMany, Table, Foreign, Memory, Write}
+use Rattle.view_command.specs.declared.refusal.Refusal.TheVariants.{Open, Read, Line, Late, TooMany, Crowded, Table, Foreign, Memory, Write}
 
 -- ---- why a trace is not shown; memory may run out at every step
 
@@ -27,6 +27,7 @@ IsUnread text ran name (Read shown) = string_bytes shown ≡ name
 IsUnread text ran name (Line number shown) = (string_bytes shown ≡ name) × IsRefusedLine text number
 IsUnread text ran name (Late number shown) = (string_bytes shown ≡ name) × IsLateLine text ran number
 IsUnread text ran name TooMany = Unit {0}
+IsUnread text ran name (Crowded excess) = Unit {0}
 IsUnread text ran name (Foreign partition) = Unit {0}
 IsUnread text ran name Memory = Unit {0}
 IsUnread text ran name _ = ⊥
@@ -41,6 +42,7 @@ IsRefused texts ran name before after (Read shown) = IsUntouched before after ×
 IsRefused texts ran name before after (Line number shown) = IsUntouched before after × (string_bytes shown ≡ called name) × IsRefusedIn texts name number
 IsRefused texts ran name before after (Late number shown) = IsUntouched before after × (string_bytes shown ≡ called name) × IsLateIn texts ran name number
 IsRefused texts ran name before after TooMany = IsUntouched before after
+IsRefused texts ran name before after (Crowded excess) = IsUntouched before after
 IsRefused texts ran name before after (Foreign partition) = IsUntouched before after
 IsRefused texts ran name before after (Table fault shown) = ⊥
 IsRefused texts ran name before after Memory = IsUntouched before after
@@ -104,6 +106,12 @@ abbrev pub IsKindFailure : Option (List ℕ) → Failure Refusal → Type 0
 IsKindFailure word (Refused Memory) = Unit {0}
 IsKindFailure word (Refused _) = ⊥
 IsKindFailure word (Usage error) = IsNoKind word × IsMistake (kind_of error)
+
+-- the word for the width of a picture is none, or memory ran out
+abbrev pub IsWidthFailure : Option (List ℕ) → Failure Refusal → Type 0
+IsWidthFailure word (Refused Memory) = Unit {0}
+IsWidthFailure word (Refused _) = ⊥
+IsWidthFailure word (Usage error) = IsNoWidth word × IsMistake (kind_of error)
 
 -- the words of a limit are none, or memory ran out
 abbrev pub IsLimitFailure : List (List ℕ) → Failure Refusal → Type 0

@@ -4,7 +4,7 @@ use Rattle.std.specs.declared.alloc.Global.{Global}
 use Rattle.trace_text.specs.declared.stream.StreamFault.{StreamFault}
 use Rattle.trace_text.specs.declared.stream.StreamFault.TheVariants as stream
 use Rattle.view_command.specs.declared.refusal.Refusal.{Refusal}
-use Rattle.view_command.specs.declared.refusal.Refusal.TheVariants.{Open, Read, Line, TooMany, Foreign, Memory}
+use Rattle.view_command.specs.declared.refusal.Refusal.TheVariants.{Open, Read, Line, TooMany, Crowded, Foreign, Memory}
 use Rattle.streams.specs.declared.names.NameFault.{NameFault}
 use Rattle.streams.specs.declared.names.NameFault.TheVariants as source
 use Rattle.view_command.specs.declared.views.ViewFault.{ViewFault}
@@ -25,4 +25,5 @@ of_stream called stream.Memory = Memory
 abbrev pub of_view : ViewFault → Refusal
 of_view view.Memory = Memory
 of_view view.TooMany = TooMany
+of_view (view.Crowded excess) = Crowded excess
 of_view (view.Foreign partition) = Foreign partition

@@ -1,5 +1,5 @@
 -- The request in the words.
-use Rattle.std.specs.Prelude.{◌≡◌, ◌≢◌, ◌⊎◌, ℕ, ◌<◌, ◌≤◌, min, List, [], ◌∷◌, Option, Some, None, option_map, codes, string_bytes}
+use Rattle.std.specs.Prelude.{◌≡◌, ◌≢◌, ◌⊎◌, ℕ, ◌<◌, ◌≤◌, ◌&&◌, false, nat_le, min, List, [], ◌∷◌, Option, Some, None, option_map, codes, string_bytes}
 use Rattle.std.specs.Str.Parse.{IsNumeral}
 use Rattle.std.specs.declared.alloc.Global.{Global}
 use Rattle.std.specs.declared.string.String.{String}
@@ -129,9 +129,23 @@ abbrev pub IsBeyond : Option ℕ → Type 0
 IsBeyond None = ⊥
 IsBeyond (Some ticks) = MOST_TICKS < ticks
 
+-- a picture is not so wide
+abbrev pub IsNoPixels : Option ℕ → Type 0
+IsNoPixels None = ⊥
+IsNoPixels (Some pixels) = nat_le 1200 pixels && nat_le pixels 30000 ≡ false
+
+-- the width of a picture, in pixels
+abbrev pub width_in : Option (List ℕ) → ℕ
+width_in None = 1200
+width_in (Some word) = number_in word
+
 -- the word is there, and is no such number
 abbrev pub IsNoRun : Option (List ℕ) → Type 0
 IsNoRun word = IsNoTick word ⊎ IsBeyond (option_map number_in word)
+
+-- the word is there, and is no number of pixels that a picture may be wide
+abbrev pub IsNoWidth : Option (List ℕ) → Type 0
+IsNoWidth word = IsNoTick word ⊎ IsNoPixels (option_map number_in word)
 
 -- the words for ticks are no ticks, or leave none
 abbrev pub AreWrongTicks : List Row → Type 0
@@ -162,7 +176,7 @@ abbrev pub AreWrongWords : List Row → Type 0
 AreWrongWords rows =
     AreWrongTicks rows
     ⊎ IsNoKind (first_of (codes "kind") rows) ⊎ IsNoKind (first_of (codes "no") rows)
-    ⊎ IsNoLimit (words_at (codes "at-most") rows) ⊎ IsNoTick (first_of (codes "missed") rows)
+    ⊎ IsNoLimit (words_at (codes "at-most") rows) ⊎ IsNoTick (first_of (codes "missed") rows) ⊎ IsNoWidth (first_of (codes "width") rows)
 
 -- the command has none of these names
 abbrev pub IsNoCommand : List ℕ → Type 0

@@ -16,7 +16,7 @@ use Rattle.view_command.specs.declared.views.ViewFault.TheVariants as fault
 -- each fault of a picture is the fault of the same name
 abbrev pub view_fault : PictureFault → ViewFault
 view_fault picture.Memory = fault.Memory
-view_fault picture.TooMany = fault.TooMany
+view_fault (picture.Crowded excess) = fault.Crowded excess
 
 abbrev pub shares_fault : SharesFault → ViewFault
 shares_fault shares.Memory = fault.Memory
@@ -31,7 +31,7 @@ windows_fault (windows.Unknown name) = fault.Foreign name
 abbrev pub IsOfPicture : Shown → Type 0
 IsOfPicture (shown.Table summary) = ⊥
 IsOfPicture (shown.Rows summary) = ⊥
-IsOfPicture (shown.Picture picture) = Unit {0}
+IsOfPicture (shown.Picture picture width windows) = Unit {0}
 IsOfPicture (shown.Waves dump windows) = Unit {0}
 IsOfPicture (shown.Page page windows) = ⊥
 IsOfPicture (shown.Lines listing) = ⊥

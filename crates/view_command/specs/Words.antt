@@ -39,6 +39,10 @@ run_app name = with_rule (lines_app name) (option_rule (codes "ticks"))
 abbrev pub summary_app : App
 summary_app = with_rule (with_rule (run_app (codes "summary")) (option_rule (codes "table"))) csv_rule
 
+-- the command that draws a picture
+abbrev pub svg_app : App
+svg_app = with_rule (with_rule (run_app (codes "svg")) (option_rule (codes "table"))) (option_rule (codes "width"))
+
 -- the command that writes a dump
 abbrev pub vcd_app : App
 vcd_app = with_rule (run_app (codes "vcd")) (option_rule (codes "table"))
@@ -68,7 +72,7 @@ top_app = on_top (λ s. record s { subcommand_required = true }) (versioned (new
 
 -- the program, with the commands that sum up or draw a trace
 abbrev pub pictures_app : App
-pictures_app = with_subcommand (with_subcommand (with_subcommand top_app summary_app.top) (run_app (codes "svg")).top) vcd_app.top
+pictures_app = with_subcommand (with_subcommand (with_subcommand top_app summary_app.top) svg_app.top) vcd_app.top
 
 abbrev pub view_app : App
 view_app = with_subcommand (with_subcommand (with_subcommand (with_subcommand pictures_app list_app.top) check_app.top) diff_app.top) html_app.top

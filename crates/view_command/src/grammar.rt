@@ -5,7 +5,7 @@ ghost use Rattle.clap.specs.Values.{kind_of};
 ghost use Rattle.clap.specs.Walk.{rule_of};
 ghost use Rattle.clap.specs.declared.error.kind.ErrorKind.TheVariants.{MissingSubcommand, ValueValidation};
 ghost use Rattle.command_words.specs.Grammar.{IsCommand};
-ghost use Rattle.view_command.specs.Words.{check_app, diff_app, html_app, lines_app, list_app, of_partition_app, option_rule, page_app, page_lines_app, pair_rule, pictures_app, run_app, shown_app, summary_app, vcd_app, view_app};
+ghost use Rattle.view_command.specs.Words.{check_app, diff_app, html_app, lines_app, list_app, of_partition_app, option_rule, page_app, page_lines_app, pair_rule, pictures_app, run_app, shown_app, summary_app, svg_app, vcd_app, view_app};
 
 use clap::error::ErrorKind;
 use clap::{Arg, ArgAction, Command, Error};
@@ -56,13 +56,23 @@ fn summary<'a>(alloc: Global) -> Result<Command<'a>, AllocError>
 }
 
 fn svg<'a>(alloc: Global) -> Result<Command<'a>, AllocError>
-    ensures { IfOk result (λ command. IsCommand command (run_app (codes "svg"))) }
+    ensures { IfOk result (λ command. IsCommand command svg_app) }
 {
-    Ok(
-        run(alloc, "svg")?
-            .about("Writes a picture of the trace, an SVG")
-            .after_help("Example: mbview svg trace.txt --from 0 --to 500"),
-    )
+    run(alloc, "svg")?
+        .about("Writes a picture of the trace, an SVG")
+        .after_help("Example: mbview svg trace.txt --from 0 --to 500 --table table.toml")
+        .arg(option(
+            alloc,
+            "table",
+            "TABLE",
+            "The module table: draws its windows, and what is chosen outside of them",
+        ))?
+        .arg(option(
+            alloc,
+            "width",
+            "PIXELS",
+            "The width of the picture, from 1200 to 30000 pixels; 1200 without this word",
+        ))
 }
 
 fn vcd<'a>(alloc: Global) -> Result<Command<'a>, AllocError>

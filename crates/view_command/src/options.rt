@@ -5,8 +5,8 @@ ghost use Rattle.clap.specs.Matches.{found_of};
 ghost use Rattle.clap.specs.Walk.{first_of, rows_of};
 ghost use Rattle.command_words.specs.Found.{words_at};
 ghost use Rattle.command_words.specs.Numbers.{number_in};
-ghost use Rattle.view_command.specs.Answers.{IsEndFailure, IsKindFailure, IsLimitFailure, IsRunFailure, IsTickFailure, IsWordsFailure};
-ghost use Rattle.view_command.specs.Orders.{AreKindsIn, AreNamesIn, AreTicksIn, IsBeyond, IsTickOf, asked_text, end_of, from_in, number_of, ran_in};
+ghost use Rattle.view_command.specs.Answers.{IsEndFailure, IsKindFailure, IsLimitFailure, IsRunFailure, IsTickFailure, IsWidthFailure, IsWordsFailure};
+ghost use Rattle.view_command.specs.Orders.{AreKindsIn, AreNamesIn, AreTicksIn, IsBeyond, IsTickOf, asked_text, end_of, from_in, number_of, ran_in, width_in};
 
 use crate::grammar::{bad_value, no_ticks};
 use crate::refusal::Refusal;
@@ -17,6 +17,7 @@ use clap::ArgMatches;
 use command_words::{Failure, number_of};
 use std::alloc::{AllocError, Global};
 use trace_filter::{Counted, Filter, Kinds, Limit, Limits};
+use trace_picture::Width;
 
 /// The ticks that are asked for.
 #[derive(Clone, Copy, Debug, PartialEq, Eq)]
@@ -86,6 +87,25 @@ fn is_beyond(ticks: Option<u64>) -> bool
     match ticks {
         Some(ticks) => MOST_TICKS < ticks,
         None => false,
+    }
+}
+
+/// The width of a picture.
+pub fn width(alloc: Global, found: &ArgMatches<'_>) -> Result<Width, Failure<Refusal>>
+    ensures width { IfOk result
+        (λ w. w.pixels ≡ width_in (first_of (codes "width") (rows_of (found_of found.now)))) }
+    ensures failed { IfErr result
+        (λ f. IsWidthFailure (first_of (codes "width") (rows_of (found_of found.now))) f) }
+{
+    let Some(pixels) = number(alloc, found, "width", "PIXELS")? else {
+        return Ok(Width::usual());
+    };
+    match Width::new(pixels) {
+        Some(width) => Ok(width),
+        None => {
+            let word = found.get_str("width").unwrap_or("");
+            Err(Failure::Usage(bad_value(alloc, "width", "PIXELS", word)?))
+        }
     }
 }
 

@@ -8,6 +8,7 @@ use apex_types::{Name, SinkFault};
 use command_words::WantOfMemory;
 use std::alloc::{AllocError, AllocFailed};
 use std::fmt;
+use trace_picture::Excess;
 use trace_stays::MemoryFull;
 use window_table::TableFault;
 
@@ -22,8 +23,10 @@ pub enum Refusal {
     Line { number: u64, trace: String },
     /// The line of that number in the text of that name is of a tick that the run did not have.
     Late { number: u64, trace: String },
-    /// The picture or the dump would have too many elements.
+    /// The picture or the dump would have too many windows.
     TooMany,
+    /// The picture would have too many elements.
+    Crowded(Excess),
     /// The text of that name breaks a rule of a module table.
     Table { fault: TableFault, table: String },
     /// The module table has no partition of this name, and the trace has.
@@ -54,7 +57,17 @@ impl fmt::Display for Refusal {
             ),
             Refusal::TooMany => write!(
                 f,
-                "mbview: the view would have too many elements; choose fewer ticks with --from and --to"
+                "mbview: the view would have too many windows; choose fewer ticks with --from and --to"
+            ),
+            Refusal::Crowded(excess) if excess.until.0 <= excess.from.0 => write!(
+                f,
+                "mbview: tick {} alone has more than 5000 elements, the most of a picture",
+                excess.from.0
+            ),
+            Refusal::Crowded(excess) => write!(
+                f,
+                "mbview: with tick {} the picture would have more than 5000 elements; --from {} --to {} has {}",
+                excess.until.0, excess.from.0, excess.until.0, excess.elements
             ),
             Refusal::Table { fault, table } => write!(
                 f,

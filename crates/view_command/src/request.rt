@@ -11,7 +11,7 @@ ghost use Rattle.view_command.specs.Words.{view_app};
 
 use crate::comparing::Pair;
 use crate::grammar::{grammar, no_command};
-use crate::options::{checked, chosen, named, text, ticks};
+use crate::options::{checked, chosen, named, text, ticks, width};
 use crate::refusal::Refusal;
 use crate::views::View;
 use apex_types::Ticks;
@@ -68,7 +68,7 @@ fn requested(alloc: Global, matches: &ArgMatches<'_>) -> Result<Request, Failure
 {
     match matches.subcommand() {
         Some(("summary", found)) => shown(alloc, table_or_rows(found), found),
-        Some(("svg", found)) => shown(alloc, View::Picture, found),
+        Some(("svg", found)) => shown(alloc, View::Picture(width(alloc, found)?), found),
         Some(("vcd", found)) => shown(alloc, View::Waves, found),
         Some(("html", found)) => shown(alloc, View::Page, found),
         Some(("list", found)) => shown(alloc, View::Lines(chosen(alloc, found)?), found),

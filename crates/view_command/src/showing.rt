@@ -64,7 +64,7 @@ pub fn show<F: Sources, O: Stream>(
     };
     read_all(alloc, name, reader, ran, &kept, &mut shown)?;
     let outcome = shown.outcome();
-    let bytes = match shown.into_bytes(alloc) {
+    let bytes = match shown.into_bytes(alloc, called(trace.as_str())) {
         Ok(bytes) => bytes,
         Err(fault) => return Err(of_view(fault)),
     };
@@ -150,6 +150,7 @@ fn of_view(fault: ViewFault) -> Refusal
     match fault {
         ViewFault::Memory => Refusal::Memory,
         ViewFault::TooMany => Refusal::TooMany,
+        ViewFault::Crowded(excess) => Refusal::Crowded(excess),
         ViewFault::Foreign(partition) => Refusal::Foreign(partition),
     }
 }

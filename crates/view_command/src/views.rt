@@ -6,19 +6,22 @@ ghost use Rattle.view_command.specs.declared.views.ViewFault.TheVariants as faul
 
 use crate::windows::{page_windows, shares_of, windows_of};
 use apex_types::{Event, Name, Ticks};
-use std::alloc::Global;
+use std::alloc::{AllocError, Global};
 use std::io;
 use trace_filter::{Check, Filter, Limits, Listing};
 use trace_page::Page;
-use trace_picture::{Picture, PictureFault};
+use trace_picture::{Excess, Picture, PictureFault, Width};
 use trace_shares::SharesFault;
-use trace_view::{ReportFault, Summary};
+use trace_view::Summary;
 use trace_windows::{Windows, WindowsFault};
 use wave_dump::{Dump, MemoryFull};
 use window_table::ModuleTable;
 
 /// The most windows, and ticks between them, of a dump.
 const MOST_WINDOWS: usize = 100_000;
+
+/// The most windows, and ticks between them, of a picture, which counts its elements by itself.
+const MOST_OF_PICTURE: usize = 20_000;
 
 /// How a trace is shown.
 #[derive(Drop)]
@@ -27,7 +30,8 @@ pub enum View {
     Table,
     /// The same as comma-separated values.
     Rows,
-    Picture,
+    /// A picture of this width.
+    Picture(Width),
     Waves,
     /// A page for a browser.
     Page,
@@ -50,8 +54,10 @@ pub enum Outcome {
 #[derive(Clone, Copy, Debug, PartialEq, Eq)]
 pub enum ViewFault {
     Memory,
-    /// The picture or the dump would have too many elements.
+    /// The picture or the dump would have too many windows.
     TooMany,
+    /// The picture would have too many elements.
+    Crowded(Excess),
     /// The module table has no partition of this name.
     Foreign(Name),
 }
@@ -61,7 +67,8 @@ pub enum ViewFault {
 pub enum Shown {
     Table(Summary),
     Rows(Summary),
-    Picture(Picture),
+    /// The picture and its width, and the windows of the module table, if one is given.
+    Picture(Picture, Width, Option<Windows>),
     /// The dump, and the windows of the module table, if one is given.
     Waves(Dump, Option<Windows>),
     /// The page, and its windows.
@@ -94,12 +101,15 @@ impl Shown {
                 to,
                 shares_of(alloc, table, from)?,
             )),
-            View::Picture => Shown::Picture(Picture::new(alloc, from, to)),
+            View::Picture(width) => {
+                let windows = windows_of(alloc, table, (from, to), MOST_OF_PICTURE)?;
+                Shown::Picture(Picture::new(alloc, from, to), width, windows)
+            }
             View::Waves => {
                 let windows = windows_of(alloc, table, (from, to), MOST_WINDOWS)?;
                 Shown::Waves(Dump::new(alloc, from, to), windows)
             }
-            View::Page => Shown::Page(Page::new(alloc), page_windows(alloc, &table)?),
+            View::Page => Shown::Page(Page::new(alloc, to), page_windows(alloc, &table)?),
             View::Lines(filter) => Shown::Lines(Listing::new(alloc, filter)),
             View::Check(filter, limits) => Shown::Check(Check::new(alloc, filter, limits)),
         };
@@ -107,7 +117,7 @@ impl Shown {
     }
 
     /// Reads the next event, if the filter lets it through. Only what the processor did and the
-    /// windows of a dump go by all lines.
+    /// windows of a picture or a dump go by all lines.
     pub fn read(&mut self, kept: &Filter, event: &Event) -> Result<(), ViewFault>
         ensures { IsErrOf result ViewFault.TooMany → IsOfPicture self.old }
     {
@@ -116,7 +126,9 @@ impl Shown {
         }
         match self {
             Shown::Table(summary) | Shown::Rows(summary) => summary.pass(event)?,
-            Shown::Waves(_, windows) => read_windows(windows, event)?,
+            Shown::Waves(_, windows) | Shown::Picture(_, _, windows) => {
+                read_windows(windows, event)?
+            }
             _ => {}
         }
         Ok(())
@@ -128,7 +140,10 @@ impl Shown {
     {
         match self {
             Shown::Table(summary) | Shown::Rows(summary) => summary.count(event)?,
-            Shown::Picture(picture) => picture.add(event)?,
+            Shown::Picture(picture, _, windows) => {
+                read_windows(windows, event)?;
+                picture.add(event)?
+            }
             Shown::Waves(dump, windows) => {
                 read_windows(windows, event)?;
                 dump.add(event)?
@@ -150,16 +165,18 @@ impl Shown {
         }
     }
 
-    /// The report of all events, as the bytes to write.
-    pub fn into_bytes(self, alloc: Global) -> Result<Vec<u8>, ViewFault>
+    /// The report of all events of the trace of this name, as the bytes to write.
+    pub fn into_bytes(self, alloc: Global, name: &str) -> Result<Vec<u8>, ViewFault>
         ensures { IsErrOf result ViewFault.TooMany → IsOfPicture self }
     {
         let mut bytes = Vec::new(alloc);
         match self {
-            Shown::Table(summary) => summary.finish()?.write_table(alloc, &mut bytes)?,
-            Shown::Rows(summary) => summary.finish()?.write_csv(alloc, &mut bytes)?,
-            Shown::Picture(picture) => picture.finish()?.write(&mut bytes)?,
-            Shown::Waves(dump, windows) => write_waves(dump, windows, &mut bytes)?,
+            Shown::Table(summary) => bytes = summary.finish()?.tables(alloc)?,
+            Shown::Rows(summary) => bytes = summary.finish()?.sheet(alloc)?,
+            Shown::Picture(picture, width, windows) => {
+                bytes = picture_text(picture, width, windows, name)?
+            }
+            Shown::Waves(dump, windows) => write_waves(alloc, dump, windows, &mut bytes)?,
             Shown::Page(page, windows) => bytes = page.into_text(windows.as_slice())?,
             Shown::Lines(listing) => bytes = listing.into_text(),
             Shown::Check(check) => bytes = check.into_text(alloc),
@@ -176,8 +193,23 @@ fn read_windows(windows: &mut Option<Windows>, event: &Event) -> Result<(), Wind
     }
 }
 
+/// The picture of the trace of this name, with the windows of the module table, if one is given.
+fn picture_text(
+    picture: Picture,
+    width: Width,
+    mut windows: Option<Windows>,
+    name: &str,
+) -> Result<Vec<u8>, ViewFault> {
+    if let Some(windows) = &mut windows {
+        windows.pass_to(picture.until())?;
+    }
+    let text = picture.finish(windows, width)?.text(name)?;
+    Ok(text.into_bytes())
+}
+
 /// Writes the waves that were gathered, with the windows of the module table, if one is given.
 fn write_waves(
+    alloc: Global,
     mut dump: Dump,
     windows: Option<Windows>,
     bytes: &mut Vec<u8>,
@@ -187,7 +219,8 @@ fn write_waves(
         dump.add_windows(windows.names(), windows.stretches())?;
     }
     dump.finish()?;
-    dump.write(bytes)?;
+    let text = dump.text(alloc)?;
+    bytes.extend_from_slice(text.as_bytes())?;
     Ok(())
 }
 
@@ -208,10 +241,10 @@ impl From<io::Error> for ViewFault {
     }
 }
 
-impl From<ReportFault> for ViewFault {
+impl From<AllocError> for ViewFault {
     ghost from_gives = { λ _ f. f ≡ fault.Memory };
 
-    fn from(_: ReportFault) -> Self {
+    fn from(_: AllocError) -> Self {
         ViewFault::Memory
     }
 }
@@ -245,7 +278,7 @@ impl From<PictureFault> for ViewFault {
     fn from(fault: PictureFault) -> Self {
         match fault {
             PictureFault::Memory => ViewFault::Memory,
-            PictureFault::TooMany => ViewFault::TooMany,
+            PictureFault::Crowded(excess) => ViewFault::Crowded(excess),
         }
     }
 }

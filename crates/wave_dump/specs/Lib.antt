@@ -1,2 +1,4 @@
 pub mod Dumps
+pub mod Headers
 pub mod Names
+pub mod Texts

@@ -81,10 +81,10 @@ code_of (variable.Word place) = codes "v" ++ decimal place
 code_of (variable.Window number) = codes "w" ++ decimal number
 
 -- a value before the code of its variable; of a word the 64 bits, without those in front of the first 1
-abbrev pub value_text : Value → Option (List ℕ)
-value_text value.Low = Some (codes "0")
-value_text value.High = Some (codes "1")
-value_text (value.State s) = Some (codes "s" ++ state_word s ++ codes " ")
-value_text (value.Mode m) = Some (codes "s" ++ mode_word m ++ codes " ")
-value_text value.Nothing = Some (codes "s- ")
-value_text (value.Word w) = Some (codes "b" ++ digits 2 false (cast_unsigned w64 w) ++ codes " ")
+abbrev pub value_text : Value → List ℕ
+value_text value.Low = codes "0"
+value_text value.High = codes "1"
+value_text (value.State s) = codes "s" ++ state_word s ++ codes " "
+value_text (value.Mode m) = codes "s" ++ mode_word m ++ codes " "
+value_text value.Nothing = codes "s- "
+value_text (value.Word w) = codes "b" ++ digits 2 false (cast_unsigned w64 w) ++ codes " "

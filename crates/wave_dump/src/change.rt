@@ -24,9 +24,10 @@ pub enum Value {
 /// Displays as it stands in a dump before the code of its variable: a digit, a word that viewers show
 /// by its name, or the 64 bits of a number without those in front of the first 1.
 impl Display for Value {
+    ghost use Rattle.std.specs.Prelude.{Some};
     ghost use Rattle.wave_dump.specs.Names.{value_text};
 
-    ghost output = { λ value. value_text value };
+    ghost output = { λ value. Some (value_text value) };
 
     fn fmt<W: Write>(&self, f: &mut Formatter<W>) -> fmt::Result {
         match self {

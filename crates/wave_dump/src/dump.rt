@@ -1,16 +1,16 @@
 //! The changes of a trace, gathered event by event.
 
-ghost use Rattle.std.specs.Prelude.{◌≡◌, ◌++◌, [], OnOk};
+ghost use Rattle.std.specs.Prelude.{◌≡◌, ◌++◌, [], IfOk, OnOk, string_bytes};
 ghost use Rattle.std.specs.List.Sorted.{IsNonDecreasingBy};
 ghost use Rattle.wave_dump.specs.Dumps.{changes_in, changes_of, names_of, pulse_at, window_changes, word_at};
 
 use crate::change::{Change, Value};
-use crate::header::{Header, write_header};
+use crate::header::{Header, push_header};
 use crate::pulse::{Pulse, PulseLane};
+use crate::text::push_changes;
 use crate::variable::Variable;
 use apex_types::{Event, Name, Ticks};
-use std::alloc::Global;
-use std::io::{self, Write};
+use std::alloc::{AllocError, Global};
 use trace_stays::{Ended, Lanes, MemoryFull, ShownTicks, Span};
 use trace_windows::Stretch;
 
@@ -146,6 +146,7 @@ pub struct Dump {
 
 impl Dump {
     ghost use Rattle.trace_stays.specs.Shown.{shown_from, shown_ticks, with_read};
+    ghost use Rattle.wave_dump.specs.Texts.{dump_text};
 
     /// A dump of the ticks from `from` on and before `to`; without it, all to the end of the trace.
     pub fn new(alloc: Global, from: Ticks, to: Option<Ticks>) -> Dump
@@ -218,34 +219,24 @@ impl Dump {
         in_order(&mut self.changes)
     }
 
-    /// Writes the dump.
+    /// The text of the dump.
     ///
     /// # Errors
     ///
-    /// The writer failed; then a beginning of the dump is out.
-    pub fn write<W: Write>(&self, out: &mut W) -> io::Result<()> {
+    /// Memory ran out.
+    pub fn text(&self, alloc: Global) -> Result<String, AllocError>
+        ensures { IfOk result (λ text. string_bytes text ≡ dump_text self.now) }
+    {
         let span = self.shown.span();
-        write_header(
-            span,
-            Header {
-                lanes: &self.lanes,
-                pulses: self.pulses.as_slice(),
-                names: self.names.as_slice(),
-            },
-            out,
-        )?;
-        let mut now = span.from;
-        for change in &self.changes {
-            if change.tick != now {
-                writeln!(out, "#{}", change.tick.0)?;
-                now = change.tick;
-            }
-            writeln!(out, "{}{}", change.value, change.variable)?;
-        }
-        if now != span.until {
-            writeln!(out, "#{}", span.until.0)?;
-        }
-        Ok(())
+        let header = Header {
+            lanes: &self.lanes,
+            pulses: self.pulses.as_slice(),
+            names: self.names.as_slice(),
+        };
+        let mut text = String::new(alloc);
+        push_header(alloc, span.from, header, &mut text)?;
+        push_changes(self.changes.as_slice(), span, &mut text)?;
+        Ok(text)
     }
 
     /// Makes changes of the stays that are over.

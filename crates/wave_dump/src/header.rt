@@ -1,10 +1,14 @@
 //! The beginning of a dump: its variables, and their first values.
 
-use crate::pulse::{GROUPS, Group, PulseLane};
-use crate::variable::{MODES, STATES, Variable};
-use apex_types::Name;
-use std::io::{self, Write};
-use trace_stays::{Lanes, Span, subject_word};
+ghost use Rattle.std.specs.Prelude.{◌≡◌, ◌++◌, OnOk, Some, string_bytes};
+ghost use Rattle.wave_dump.specs.Headers.{begin_text, end_text, first_values, group_text, groups_text, has_lane, header_text, is_in, is_same_group, is_same_owner, low_modes, low_modes_from, low_states, low_states_from, low_text, low_windows_behind, module_text, modes_text, next_number, nothing_text, number_behind, others_behind, partition_text, partitions_from, process_text, processes_from, pulse_text, pulses_from, scope_text, string_text, window_text, wire_text, word_text};
+
+use crate::pulse::{Group, Pulse, PulseLane};
+use crate::variable::Variable;
+use apex_types::{Mode, Name, ProcessState, Ticks};
+use std::alloc::{AllocError, Global};
+use std::fmt::Write;
+use trace_stays::{Lanes, PartitionLane, ProcessLane, subject_word};
 
 /// What has variables in a dump.
 #[derive(Clone, Copy)]
@@ -15,82 +19,174 @@ pub struct Header<'a> {
     pub names: &'a [Name],
 }
 
-/// Writes the part before the changes.
-pub fn write_header<W: Write>(span: Span, header: Header<'_>, out: &mut W) -> io::Result<()> {
-    let Header {
-        lanes,
-        pulses,
-        names,
-    } = header;
-    writeln!(out, "$version mbview $end")?;
-    writeln!(
-        out,
-        "$comment One time unit stands for a tick of the processor. $end"
+/// Appends the part before the changes, of a dump that begins with this tick.
+///
+/// # Errors
+///
+/// Memory ran out. Then a beginning of it may be there.
+pub fn push_header(
+    alloc: Global,
+    from: Ticks,
+    header: Header<'_>,
+    text: &mut String,
+) -> Result<(), AllocError>
+    ensures { OnOk result
+        (string_bytes text.new
+        ≡ string_bytes text.old
+        ++ header_text from.0 header.lanes.now.partitions.items
+        header.lanes.now.processes.items header.pulses.now header.names.now) }
+{
+    let partitions = header.lanes.partitions();
+    text.push_str(
+        "$version mbview $end\n$comment One time unit stands for a tick of the processor. $end\n$timescale 1 ns $end\n",
     )?;
-    writeln!(out, "$timescale 1 ns $end")?;
-    for place in 0..lanes.partitions().len() {
-        write_partition(place, header, out)?;
-    }
-    write_others(lanes, names, out)?;
-    write_module(pulses, out)?;
-    writeln!(out, "$enddefinitions $end")?;
-    writeln!(out, "#{}", span.from.0)?;
-    write_first_values(lanes, names, out)
+    push_partitions(alloc, header, text)?;
+    push_others(partitions, header.names, text)?;
+    push_module(alloc, header.pulses, text)?;
+    write!(text, "$enddefinitions $end\n#{}\n", from.0)?;
+    push_first_values(partitions, header.lanes.processes(), header.names, text)
 }
 
-/// The scope of a partition: its windows, its modes, its processes, its pulses.
-fn write_partition<W: Write>(place: usize, header: Header<'_>, out: &mut W) -> io::Result<()> {
-    let Header {
-        lanes,
-        pulses,
-        names,
-    } = header;
-    let Some(partition) = lanes.partitions().get(place) else {
-        return Ok(());
-    };
-    begin_scope(partition.name.as_str(), out)?;
-    if let Some(number) = number_of(names, &partition.name) {
-        write_wire(Variable::Window(number), "WINDOW", out)?;
+/// Appends the scopes of the partitions that have a line.
+#[tactic(auto, using(std::proofs::lemmas::List::drop_more))]
+fn push_partitions(alloc: Global, header: Header<'_>, text: &mut String) -> Result<(), AllocError>
+    ensures { OnOk result
+        (string_bytes text.new
+        ≡ string_bytes text.old
+        ++ partitions_from 0 header.lanes.now.processes.items header.pulses.now header.names.now
+        header.lanes.now.partitions.items) }
+{
+    let partitions = header.lanes.partitions();
+    for (place, lane) in partitions.iter().enumerate() {
+        push_partition(alloc, place, lane, header, text)?;
     }
-    begin_scope("MODE", out)?;
-    for mode in MODES {
-        write_wire(Variable::Mode(place, mode), mode.word(), out)?;
-    }
-    write_name(Variable::ModeName(place), "MODE", out)?;
-    end_scope(out)?;
-    for (process, lane) in lanes.processes().iter().enumerate() {
-        if lane.partition == place {
-            begin_scope(subject_word(&lane.who), out)?;
-            for state in STATES {
-                write_wire(Variable::State(process, state), state.word(), out)?;
-            }
-            write_name(Variable::StateName(process), "STATE", out)?;
-            end_scope(out)?;
-        }
-    }
-    for group in GROUPS {
-        write_group(group, Some(place), pulses, out)?;
-    }
-    end_scope(out)
+    Ok(())
 }
 
-/// The scopes of the partitions that have windows and no line.
-fn write_others<W: Write>(lanes: &Lanes, names: &[Name], out: &mut W) -> io::Result<()> {
-    let mut number: u8 = 0;
-    for name in names {
-        number = number.saturating_add(1);
-        if !has_lane(lanes, name) {
-            begin_scope(name.as_str(), out)?;
-            write_wire(Variable::Window(number), "WINDOW", out)?;
-            end_scope(out)?;
+/// Appends the scope of a partition: its windows, its modes, its processes, its pulses.
+fn push_partition(
+    alloc: Global,
+    place: usize,
+    lane: &PartitionLane,
+    header: Header<'_>,
+    text: &mut String,
+) -> Result<(), AllocError>
+    ensures { OnOk result
+        (string_bytes text.new
+        ≡ string_bytes text.old
+        ++ partition_text place header.lanes.now.processes.items header.pulses.now
+        header.names.now lane.now) }
+{
+    begin_scope(lane.name.as_str(), text)?;
+    push_window(number_of(header.names, &lane.name), text)?;
+    push_modes(place, text)?;
+    push_processes(place, header.lanes.processes(), text)?;
+    push_groups(alloc, place, header.pulses, text)?;
+    end_scope(text)
+}
+
+/// Appends the wire of the windows of a partition, if it has a number in the module table.
+fn push_window(number: Option<u8>, text: &mut String) -> Result<(), AllocError>
+    ensures { OnOk result (string_bytes text.new ≡ string_bytes text.old ++ window_text number) }
+{
+    match number {
+        Some(number) => push_wire(Variable::Window(number), "WINDOW", text),
+        None => Ok(()),
+    }
+}
+
+/// Appends the scope of the modes of the partition at this place.
+fn push_modes(place: usize, text: &mut String) -> Result<(), AllocError>
+    ensures { OnOk result (string_bytes text.new ≡ string_bytes text.old ++ modes_text place) }
+{
+    begin_scope("MODE", text)?;
+    push_wire(Variable::Mode(place, Mode::Idle), "IDLE", text)?;
+    push_wire(Variable::Mode(place, Mode::ColdStart), "COLD_START", text)?;
+    push_wire(Variable::Mode(place, Mode::WarmStart), "WARM_START", text)?;
+    push_wire(Variable::Mode(place, Mode::Normal), "NORMAL", text)?;
+    push_name(Variable::ModeName(place), "MODE", text)?;
+    end_scope(text)
+}
+
+/// Appends the scopes of the processes of the partition at this place.
+#[tactic(auto, using(std::proofs::lemmas::List::drop_more))]
+fn push_processes(
+    partition: usize,
+    processes: &[ProcessLane],
+    text: &mut String,
+) -> Result<(), AllocError>
+    ensures { OnOk result
+        (string_bytes text.new
+        ≡ string_bytes text.old ++ processes_from 0 partition processes.now) }
+{
+    for (place, lane) in processes.iter().enumerate() {
+        if lane.partition == partition {
+            push_process(place, lane, text)?;
         }
     }
     Ok(())
 }
 
+/// Appends the scope of the process at this place.
+fn push_process(place: usize, lane: &ProcessLane, text: &mut String) -> Result<(), AllocError>
+    ensures { OnOk result
+        (string_bytes text.new ≡ string_bytes text.old ++ process_text place lane.now) }
+{
+    begin_scope(subject_word(&lane.who), text)?;
+    push_wire(
+        Variable::State(place, ProcessState::Dormant),
+        "DORMANT",
+        text,
+    )?;
+    push_wire(Variable::State(place, ProcessState::Ready), "READY", text)?;
+    push_wire(
+        Variable::State(place, ProcessState::Running),
+        "RUNNING",
+        text,
+    )?;
+    push_wire(
+        Variable::State(place, ProcessState::Waiting),
+        "WAITING",
+        text,
+    )?;
+    push_name(Variable::StateName(place), "STATE", text)?;
+    end_scope(text)
+}
+
+/// Appends the scopes of the partitions that have windows and no line.
+#[tactic(auto, using(std::proofs::lemmas::List::drop_more))]
+fn push_others(lanes: &[PartitionLane], names: &[Name], text: &mut String) -> Result<(), AllocError>
+    ensures { OnOk result
+        (string_bytes text.new ≡ string_bytes text.old ++ others_behind 0 lanes.now names.now) }
+{
+    let mut number: u8 = 0;
+    for name in names {
+        number = number.saturating_add(1);
+        if !has_lane(lanes, name) {
+            push_other(number, name, text)?;
+        }
+    }
+    Ok(())
+}
+
+/// Appends the scope of a partition that has windows and no line.
+fn push_other(number: u8, name: &Name, text: &mut String) -> Result<(), AllocError>
+    ensures { OnOk result
+        (string_bytes text.new
+        ≡ string_bytes text.old
+        ++ (begin_text name.now ++ window_text (Some number) ++ end_text)) }
+{
+    begin_scope(name.as_str(), text)?;
+    push_window(Some(number), text)?;
+    end_scope(text)
+}
+
 /// Returns true if the partition with this name has a line.
-fn has_lane(lanes: &Lanes, name: &Name) -> bool {
-    for lane in lanes.partitions() {
+#[tactic(auto, using(std::proofs::lemmas::List::drop_more))]
+fn has_lane(lanes: &[PartitionLane], name: &Name) -> bool
+    ensures { result ≡ has_lane lanes.now name.now }
+{
+    for lane in lanes {
         if lane.name.as_bytes() == name.as_bytes() {
             return true;
         }
@@ -99,7 +195,10 @@ fn has_lane(lanes: &Lanes, name: &Name) -> bool {
 }
 
 /// The number of a partition in the module table, from 1; `None` without a table.
-fn number_of(names: &[Name], name: &Name) -> Option<u8> {
+#[tactic(auto, using(std::proofs::lemmas::List::drop_more))]
+fn number_of(names: &[Name], name: &Name) -> Option<u8>
+    ensures { result ≡ number_behind 0 names.now name.now }
+{
     let mut number: u8 = 0;
     for known in names {
         number = number.saturating_add(1);
@@ -110,85 +209,239 @@ fn number_of(names: &[Name], name: &Name) -> Option<u8> {
     None
 }
 
-/// The scope of the module's own errors, if it has any.
-fn write_module<W: Write>(pulses: &[PulseLane], out: &mut W) -> io::Result<()> {
-    if pulses.iter().any(|lane| lane.partition.is_none()) {
-        begin_scope("MODULE", out)?;
-        write_group(Group::Errors, None, pulses, out)?;
-        end_scope(out)?;
+/// Appends the scope of the module's own errors, if it has any.
+fn push_module(alloc: Global, pulses: &[PulseLane], text: &mut String) -> Result<(), AllocError>
+    ensures { OnOk result
+        (string_bytes text.new ≡ string_bytes text.old ++ module_text pulses.now) }
+{
+    let mut errors = String::new(alloc);
+    push_group(alloc, Group::Errors, None, pulses, &mut errors)?;
+    push_scope("MODULE", errors.as_str(), text)
+}
+
+/// Appends the groups of pulses of the partition at this place.
+fn push_groups(
+    alloc: Global,
+    place: usize,
+    pulses: &[PulseLane],
+    text: &mut String,
+) -> Result<(), AllocError>
+    ensures { OnOk result
+        (string_bytes text.new ≡ string_bytes text.old ++ groups_text place pulses.now) }
+{
+    push_group(alloc, Group::Messages, Some(place), pulses, text)?;
+    push_group(alloc, Group::Reports, Some(place), pulses, text)?;
+    push_group(alloc, Group::Errors, Some(place), pulses, text)
+}
+
+/// Appends the scope of one group of pulses, if the group has any.
+fn push_group(
+    alloc: Global,
+    group: Group,
+    owner: Option<usize>,
+    pulses: &[PulseLane],
+    text: &mut String,
+) -> Result<(), AllocError>
+    ensures { OnOk result
+        (string_bytes text.new ≡ string_bytes text.old ++ group_text group owner pulses.now) }
+{
+    let mut variables = String::new(alloc);
+    push_pulses(group, owner, pulses, &mut variables)?;
+    push_scope(group.word(), variables.as_str(), text)
+}
+
+/// Appends the pulses of a group.
+#[tactic(auto, using(std::proofs::lemmas::List::drop_more))]
+fn push_pulses(
+    group: Group,
+    owner: Option<usize>,
+    pulses: &[PulseLane],
+    text: &mut String,
+) -> Result<(), AllocError>
+    ensures { OnOk result
+        (string_bytes text.new ≡ string_bytes text.old ++ pulses_from 0 group owner pulses.now) }
+{
+    for (place, lane) in pulses.iter().enumerate() {
+        if is_in(group, owner, lane) {
+            push_pulse(place, &lane.pulse, text)?;
+        }
     }
     Ok(())
 }
 
-/// Writes the scope of one group of pulses, if the group has any.
-fn write_group<W: Write>(
-    group: Group,
-    partition: Option<usize>,
-    pulses: &[PulseLane],
-    out: &mut W,
-) -> io::Result<()> {
-    let mut is_begun = false;
-    for (place, lane) in pulses.iter().enumerate() {
-        if lane.partition == partition && lane.pulse.group() == group {
-            if !is_begun {
-                begin_scope(group.word(), out)?;
-                is_begun = true;
-            }
-            writeln!(
-                out,
-                "$var event 1 {} {} $end",
-                Variable::Pulse(place),
-                lane.pulse
-            )?;
-            if group != Group::Errors {
-                writeln!(
-                    out,
-                    "$var reg 64 {} {}_WORD $end",
-                    Variable::Word(place),
-                    lane.pulse
-                )?;
-            }
-        }
+/// Returns true if these are pulses of this group and of this owner, a partition or the module.
+fn is_in(group: Group, owner: Option<usize>, lane: &PulseLane) -> bool
+    ensures { result ≡ is_in group owner lane.now }
+{
+    is_same_owner(lane.partition, owner) && is_same_group(lane.pulse.group(), group)
+}
+
+fn is_same_owner(one: Option<usize>, other: Option<usize>) -> bool
+    ensures { result ≡ is_same_owner one other }
+{
+    match (one, other) {
+        (Some(one), Some(other)) => one == other,
+        (None, None) => true,
+        _ => false,
     }
-    if is_begun { end_scope(out) } else { Ok(()) }
 }
 
-fn begin_scope<W: Write>(name: &str, out: &mut W) -> io::Result<()> {
-    writeln!(out, "$scope module {} $end", name)
+fn is_same_group(one: Group, other: Group) -> bool
+    ensures { result ≡ is_same_group one other }
+{
+    match (one, other) {
+        (Group::Messages, Group::Messages) => true,
+        (Group::Reports, Group::Reports) => true,
+        (Group::Errors, Group::Errors) => true,
+        _ => false,
+    }
 }
 
-fn end_scope<W: Write>(out: &mut W) -> io::Result<()> {
-    writeln!(out, "$upscope $end")
+/// Appends the variables of a pulse: its event, and the first word of its message.
+fn push_pulse(place: usize, pulse: &Pulse, text: &mut String) -> Result<(), AllocError>
+    ensures { OnOk result
+        (string_bytes text.new ≡ string_bytes text.old ++ pulse_text place pulse.now) }
+{
+    write!(
+        text,
+        "$var event 1 {} {} $end\n",
+        Variable::Pulse(place),
+        *pulse
+    )?;
+    match pulse.group() {
+        Group::Messages | Group::Reports => {
+            write!(
+                text,
+                "$var reg 64 {} {}_WORD $end\n",
+                Variable::Word(place),
+                *pulse
+            )
+        }
+        Group::Errors => Ok(()),
+    }
 }
 
-fn write_wire<W: Write>(variable: Variable, name: &str, out: &mut W) -> io::Result<()> {
-    writeln!(out, "$var wire 1 {} {} $end", variable, name)
+/// Appends a scope with these contents; nothing if it is empty.
+fn push_scope(name: &str, inner: &str, text: &mut String) -> Result<(), AllocError>
+    ensures { OnOk result
+        (string_bytes text.new ≡ string_bytes text.old ++ scope_text name.now inner.now) }
+{
+    if inner.is_empty() {
+        return Ok(());
+    }
+    begin_scope(name, text)?;
+    text.push_str(inner)?;
+    end_scope(text)
+}
+
+fn begin_scope(name: &str, text: &mut String) -> Result<(), AllocError>
+    ensures { OnOk result (string_bytes text.new ≡ string_bytes text.old ++ begin_text name.now) }
+{
+    write!(text, "$scope module {} $end\n", name)
+}
+
+fn end_scope(text: &mut String) -> Result<(), AllocError>
+    ensures { OnOk result (string_bytes text.new ≡ string_bytes text.old ++ end_text) }
+{
+    text.push_str("$upscope $end\n")
+}
+
+fn push_wire(variable: Variable, name: &str, text: &mut String) -> Result<(), AllocError>
+    ensures { OnOk result
+        (string_bytes text.new ≡ string_bytes text.old ++ wire_text variable name.now) }
+{
+    write!(text, "$var wire 1 {} {} $end\n", variable, name)
 }
 
 /// A variable that shows names.
-fn write_name<W: Write>(variable: Variable, name: &str, out: &mut W) -> io::Result<()> {
-    writeln!(out, "$var string 1 {} {} $end", variable, name)
+fn push_name(variable: Variable, name: &str, text: &mut String) -> Result<(), AllocError>
+    ensures { OnOk result
+        (string_bytes text.new ≡ string_bytes text.old ++ string_text variable name.now) }
+{
+    write!(text, "$var string 1 {} {} $end\n", variable, name)
 }
 
-/// All wires are 0 before the first changes, and no name is shown.
-fn write_first_values<W: Write>(lanes: &Lanes, names: &[Name], out: &mut W) -> io::Result<()> {
-    writeln!(out, "$dumpvars")?;
+/// Appends that all wires are 0 before the first changes, and no name is shown.
+fn push_first_values(
+    partitions: &[PartitionLane],
+    processes: &[ProcessLane],
+    names: &[Name],
+    text: &mut String,
+) -> Result<(), AllocError>
+    ensures { OnOk result
+        (string_bytes text.new
+        ≡ string_bytes text.old ++ first_values partitions.now processes.now names.now) }
+{
+    text.push_str("$dumpvars\n")?;
+    push_low_windows(names, text)?;
+    push_low_modes(partitions, text)?;
+    push_low_states(processes, text)?;
+    text.push_str("$end\n")
+}
+
+#[tactic(auto, using(std::proofs::lemmas::List::drop_more))]
+fn push_low_windows(names: &[Name], text: &mut String) -> Result<(), AllocError>
+    ensures { OnOk result
+        (string_bytes text.new ≡ string_bytes text.old ++ low_windows_behind 0 names.now) }
+{
     let mut number: u8 = 0;
     for _ in names {
         number = number.saturating_add(1);
-        writeln!(out, "0{}", Variable::Window(number))?;
+        push_low(Variable::Window(number), text)?;
     }
-    for place in 0..lanes.partitions().len() {
-        for mode in MODES {
-            writeln!(out, "0{}", Variable::Mode(place, mode))?;
-        }
-        writeln!(out, "s- {}", Variable::ModeName(place))?;
+    Ok(())
+}
+
+#[tactic(auto, using(std::proofs::lemmas::List::drop_more))]
+fn push_low_modes(partitions: &[PartitionLane], text: &mut String) -> Result<(), AllocError>
+    ensures { OnOk result
+        (string_bytes text.new ≡ string_bytes text.old ++ low_modes_from 0 partitions.now) }
+{
+    for (place, _) in partitions.iter().enumerate() {
+        push_no_mode(place, text)?;
     }
-    for place in 0..lanes.processes().len() {
-        for state in STATES {
-            writeln!(out, "0{}", Variable::State(place, state))?;
-        }
-        writeln!(out, "s- {}", Variable::StateName(place))?;
+    Ok(())
+}
+
+fn push_no_mode(place: usize, text: &mut String) -> Result<(), AllocError>
+    ensures { OnOk result (string_bytes text.new ≡ string_bytes text.old ++ low_modes place) }
+{
+    push_low(Variable::Mode(place, Mode::Idle), text)?;
+    push_low(Variable::Mode(place, Mode::ColdStart), text)?;
+    push_low(Variable::Mode(place, Mode::WarmStart), text)?;
+    push_low(Variable::Mode(place, Mode::Normal), text)?;
+    push_nothing(Variable::ModeName(place), text)
+}
+
+#[tactic(auto, using(std::proofs::lemmas::List::drop_more))]
+fn push_low_states(processes: &[ProcessLane], text: &mut String) -> Result<(), AllocError>
+    ensures { OnOk result
+        (string_bytes text.new ≡ string_bytes text.old ++ low_states_from 0 processes.now) }
+{
+    for (place, _) in processes.iter().enumerate() {
+        push_no_state(place, text)?;
     }
-    writeln!(out, "$end")
+    Ok(())
+}
+
+fn push_no_state(place: usize, text: &mut String) -> Result<(), AllocError>
+    ensures { OnOk result (string_bytes text.new ≡ string_bytes text.old ++ low_states place) }
+{
+    push_low(Variable::State(place, ProcessState::Dormant), text)?;
+    push_low(Variable::State(place, ProcessState::Ready), text)?;
+    push_low(Variable::State(place, ProcessState::Running), text)?;
+    push_low(Variable::State(place, ProcessState::Waiting), text)?;
+    push_nothing(Variable::StateName(place), text)
+}
+
+fn push_low(variable: Variable, text: &mut String) -> Result<(), AllocError>
+    ensures { OnOk result (string_bytes text.new ≡ string_bytes text.old ++ low_text variable) }
+{
+    write!(text, "0{}\n", variable)
+}
+
+fn push_nothing(variable: Variable, text: &mut String) -> Result<(), AllocError>
+    ensures { OnOk result (string_bytes text.new ≡ string_bytes text.old ++ nothing_text variable) }
+{
+    write!(text, "s- {}\n", variable)
 }

@@ -8,6 +8,7 @@ mod change;
 mod dump;
 mod header;
 mod pulse;
+mod text;
 mod variable;
 
 pub use dump::Dump;

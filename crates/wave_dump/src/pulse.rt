@@ -24,16 +24,13 @@ pub enum Pulse {
     Error(ErrorKind),
 }
 
-/// The groups in which viewers list pulses.
+/// The groups in which viewers list pulses, in the order in which a dump lists them.
 #[derive(Clone, Copy, Debug, PartialEq, Eq)]
 pub enum Group {
     Messages,
     Reports,
     Errors,
 }
-
-/// The groups, in the order in which a dump lists them.
-pub static GROUPS: [Group; 3] = [Group::Messages, Group::Reports, Group::Errors];
 
 impl Group {
     /// The name of the group's scope. Names of a trace have lower-case letters, so none is like it.

@@ -22,17 +22,6 @@ pub enum Variable {
     Window(u8),
 }
 
-/// The states of a process, in the order of their numbers.
-pub static STATES: [ProcessState; 4] = [
-    ProcessState::Dormant,
-    ProcessState::Ready,
-    ProcessState::Running,
-    ProcessState::Waiting,
-];
-
-/// The modes of a partition, in the order of their numbers.
-pub static MODES: [Mode; 4] = [Mode::Idle, Mode::ColdStart, Mode::WarmStart, Mode::Normal];
-
 impl Display for Variable {
     ghost use Rattle.std.specs.Prelude.{Some};
     ghost use Rattle.wave_dump.specs.Names.{code_of};

@@ -1,16 +1,16 @@
-//! What no command of `mbview` reaches: ticks that end where they begin, writers that fail, a name for
-//! which there is no memory, shares, and texts that are escaped. `tests/views` tries the commands.
+//! What no command of `mbview` reaches: ticks that end where they begin, a name for which there is no
+//! memory, shares, and texts that are escaped. `tests/views` tries the commands.
 
 ghost use Rattle.std.specs.Prelude.{[]};
 
 use apex_types::Ticks;
+use number_tables::Share;
 use std::alloc::Global;
-use std::io::{self, ErrorKind, Write};
 use std::process::Abort;
 use streams::{NameFault, Sources, WriterStream};
-use trace_picture::{Drawing, Picture, push_escaped};
+use trace_picture::{Drawing, Picture, Width, push_escaped};
 use trace_text::TraceReader;
-use trace_view::{Report, ReportFault, Share, Summary};
+use trace_view::{Report, Summary};
 use view_command::view;
 use wave_dump::Dump;
 
@@ -32,7 +32,7 @@ fn picture_of(rt: &impl Abort, alloc: Global, from: u64, to: u64) -> Drawing {
             None => break,
         }
     }
-    picture.finish().expect(rt, "memory")
+    picture.finish(None, Width::usual()).expect(rt, "memory")
 }
 
 /// A picture is empty. It begins and ends with the first tick.
@@ -45,12 +45,12 @@ fn pictures_of_no_ticks(rt: HostRuntime) {
 
 fn expect_empty(rt: &impl Abort, alloc: Global, from: u64, to: u64) {
     let drawing = picture_of(rt, alloc, from, to);
-    assert_eq!(rt; drawing.shapes(), 0);
-    let svg = drawing.text().expect(rt, "memory");
+    assert_eq!(rt; drawing.elements(), 0);
+    let svg = drawing.text("a trace").expect(rt, "memory");
     assert_eq!(rt; svg.as_str().matches("<title>").count(), 1);
-    let title = format!(in alloc; "<title>A trace, from tick {from} to tick {from}</title>").expect(
-        rt, "memory",
-    );
+    let title = format!(in alloc;
+        "<title>a trace, from tick {from} to tick {from}; windows are not known</title>"
+    ).expect(rt, "memory");
     assert!(rt; svg.as_str().contains(title.as_str()));
 }
 
@@ -76,7 +76,7 @@ fn summaries_of_no_ticks(rt: HostRuntime) {
     }
 }
 
-fn dump_of(rt: &impl Abort, alloc: Global, from: u64, to: u64) -> Vec<u8> {
+fn dump_of(rt: &impl Abort, alloc: Global, from: u64, to: u64) -> String {
     let mut dump = Dump::new(alloc, Ticks(from), Some(Ticks(to)));
     let mut reader = TraceReader::new(TRACE.as_bytes());
     for _ in 0..u64::MAX {
@@ -86,9 +86,7 @@ fn dump_of(rt: &impl Abort, alloc: Global, from: u64, to: u64) -> Vec<u8> {
         }
     }
     dump.finish().expect(rt, "memory");
-    let mut out = Vec::new(alloc);
-    dump.write(&mut out).expect(rt, "memory");
-    out
+    dump.text(alloc).expect(rt, "memory")
 }
 
 /// A dump has the tick where it begins and no other, and nothing changes behind the first values.
@@ -101,55 +99,11 @@ fn dumps_of_no_ticks(rt: HostRuntime) {
 
 fn expect_unchanged(rt: &impl Abort, alloc: Global, from: u64, to: u64) {
     let dump = dump_of(rt, alloc, from, to);
-    let shown = std::str::from_utf8(dump.as_slice()).unwrap_or("no text");
+    let shown = dump.as_str();
     let time = format!(in alloc; "\n#{from}\n$dumpvars\n").expect(rt, "memory");
     assert!(rt; shown.contains(time.as_str()));
     assert_eq!(rt; shown.matches("#").count(), 1);
     assert!(rt; shown.ends_with("\n$end\n"));
-}
-
-/// A writer that takes `room` bytes, and then fails.
-#[derive(Drop)]
-struct Narrow {
-    room: usize,
-}
-
-impl Write for Narrow {
-    fn write(&mut self, bytes: &[u8]) -> io::Result<usize> {
-        if self.room == 0 {
-            return Err(io::Error::from(ErrorKind::Other));
-        }
-        let taken = bytes.len().min(self.room);
-        self.room -= taken;
-        Ok(taken)
-    }
-
-    fn flush(&mut self) -> io::Result<()> {
-        Ok(())
-    }
-}
-
-/// The lengths of the tables and of the sheet of the trace.
-fn lengths(rt: &impl Abort, alloc: Global, report: &Report) -> (usize, usize) {
-    let mut table = Vec::new(alloc);
-    report.write_table(alloc, &mut table).expect(rt, "memory");
-    let mut sheet = Vec::new(alloc);
-    report.write_csv(alloc, &mut sheet).expect(rt, "memory");
-    (table.len(), sheet.len())
-}
-
-#[test]
-fn a_writer_that_fails(rt: HostRuntime) {
-    let report = report_of(&rt, rt.alloc(), 0, None);
-    let (table, sheet) = lengths(&rt, rt.alloc(), &report);
-    for room in [0, 1, 400, table.saturating_sub(1)] {
-        let answer = report.write_table(rt.alloc(), &mut Narrow { room });
-        assert_eq!(rt; answer, Err(ReportFault::Write));
-    }
-    for room in [0, 1, sheet.saturating_sub(1)] {
-        let answer = report.write_csv(rt.alloc(), &mut Narrow { room });
-        assert_eq!(rt; answer, Err(ReportFault::Write));
-    }
 }
 
 /// Texts for whose names there is no memory.

@@ -6,4 +6,4 @@ use Rattle.trace_picture.proofs.frame.draw_marks.Given as goal
 
 -- the marks so far are drawn
 abbrev pub invariant-loop-place : goal.invariant-loop-place
-invariant-loop-place l = string_bytes l.page.text ≡ string_bytes l.initial.page.text ++ flat_map (mark_text l.axis.span l.bottom) (so_many l.step l.first (l.place - l.first))
+invariant-loop-place l = string_bytes l.page.text ≡ string_bytes l.initial.page.text ++ flat_map (mark_text l.axis l.bottom) (so_many l.step l.first (l.place - l.first))

@@ -1,9 +1,10 @@
 use Rattle.std.proofs.Common.{◌≡◌, List, Option, Some, None, true, ap, sym, ◌∙◌, subst}
 use Rattle.trace_difference.specs.Comparisons.{AreParts}
-use Rattle.trace_difference.specs.Parts.{IsSettled, first_with, is_same_partition, second_with}
+use Rattle.trace_difference.specs.Parts.{IsSettled, first_with, second_with}
 use Rattle.trace_difference.specs.declared.part.Apart.{Apart}
 use Rattle.trace_difference.specs.declared.part.Part.{Part}
 use Rattle.trace_difference.proofs.Comparisons.{on_ok, read_at, read_first, read_is}
+use Rattle.trace_stays.specs.Same.{is_same_partition}
 use Rattle.trace_difference.proofs.comparison.Comparison.add.Goals as goal
 
 pub returns-in-Some : goal.returns-in-Some

@@ -1,7 +1,7 @@
 use Rattle.std.proofs.Common.{◌≡◌, ◌<◌, ℕ, false, Some}
 use Rattle.std.specs.Prelude.{slice_get}
-use Rattle.trace_difference.specs.Parts.{is_same_partition}
 use Rattle.trace_difference.specs.declared.part.Part.{Part}
+use Rattle.trace_stays.specs.Same.{is_same_partition}
 use Rattle.trace_difference.proofs.comparison.Comparison.place_of.Given as goal
 
 -- none so far

@@ -1,0 +1,13 @@
+pub mod Bodies
+pub mod Explained
+pub mod Frames
+pub mod Judged
+pub mod Phrases
+pub mod Roles
+pub mod Tally
+pub mod Texts
+pub mod Unfit
+pub mod Views
+pub mod Walk
+pub mod Wanted
+pub mod What

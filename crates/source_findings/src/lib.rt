@@ -1,0 +1,25 @@
+//! What is wrong with a refused source, rule by rule: each place where the rule is broken, what was
+//! found there, and what to do.
+//!
+//! A program is walked through word by word, beside its tree, which says what each word is.
+#![tactic(auto)]
+
+mod bodies;
+mod choices;
+mod declarations;
+mod explain;
+mod finding;
+mod frames;
+mod judge;
+mod phrases;
+mod roles;
+mod sought;
+mod tally;
+#[cfg(test)]
+mod tests;
+mod texts;
+mod unfit;
+mod walk;
+mod words;
+
+pub use explain::explain_source;

@@ -1,0 +1,441 @@
+//! The walk through the words of expressions and statements, beside their tree.
+
+ghost use Rattle.std.specs.Prelude.{◌≡◌, ◌<◌, length, map, true, OnOk, option_map};
+ghost use Rattle.pal_base.specs.View as view;
+ghost use Rattle.pal_base.specs.View.{block_of, expr_of, exprs_of, links_of, name_of};
+ghost use Rattle.source_findings.specs.Views.{judge_of, names_of, state_of, what_of};
+ghost use Rattle.source_findings.specs.Walk as spec;
+ghost use Rattle.source_findings.specs.What as state;
+
+use crate::finding::{Thing, What, Wrong};
+use crate::judge::{
+    Judge, arguments_wrong, name_wrong, no_name_wrong, number_wrong, outside_wrong, return_wrong,
+    targets_wrong, value_of,
+};
+use crate::roles::{Role, text_of};
+use apex_types::limits::MOST_WORK_TICKS;
+use apex_types::{ArgumentKind, Service};
+use pal_base::syntax::{Expr, Identifier, Link, Stmt, StmtKind};
+use source_places::next_word;
+use std::alloc::{AllocError, Global};
+
+/// No more findings than these are kept.
+const MOST_FINDINGS: usize = 20;
+
+/// A walk through the words of a program: the text from the next word on, and what was found before
+/// it.
+#[derive(Drop)]
+pub struct Walk<'a> {
+    pub text: &'a [u8],
+    pub found: Vec<Wrong<'a>>,
+}
+
+impl<'a> Walk<'a> {
+    /// Goes behind the next word.
+    pub fn step(&mut self)
+        ensures { state_of self.new ≡ state.step (state_of self.old) }
+    {
+        self.text = next_word(self.text);
+    }
+
+    /// Notes what is wrong at the next word, unless enough was found before.
+    pub fn note(&mut self, what: Option<What<'a>>) -> Result<(), AllocError>
+        ensures { OnOk result
+            (state_of self.new ≡ state.noted (option_map what_of what.entry) (state_of self.old)) }
+    {
+        if self.found.len() < MOST_FINDINGS {
+            self.push(what)?;
+        }
+        Ok(())
+    }
+
+    fn push(&mut self, what: Option<What<'a>>) -> Result<(), AllocError>
+        ensures { OnOk result
+            (state_of self.new ≡ state.pushed (option_map what_of what.entry) (state_of self.old)) }
+    {
+        if let Some(what) = what {
+            self.found.push(Wrong {
+                left: self.text.len(),
+                what,
+            })?;
+        }
+        Ok(())
+    }
+
+    /// Notes what is wrong at the next word, and goes behind it.
+    pub fn judge(&mut self, what: Option<What<'a>>) -> Result<(), AllocError>
+        ensures { OnOk result
+            (state_of self.new ≡ state.judged (option_map what_of what.entry) (state_of self.old)) }
+    {
+        self.note(what)?;
+        self.step();
+        Ok(())
+    }
+
+    /// Goes behind a comma, but there is none before the first.
+    pub fn comma(&mut self, is_first: bool)
+        ensures { state_of self.new ≡ spec.comma is_first (state_of self.old) }
+    {
+        if !is_first {
+            self.step();
+        }
+    }
+}
+
+/// Goes behind a name that is used, and says what is wanted there.
+pub fn used<'a>(
+    alloc: Global,
+    judge: &Judge<'_, 'a>,
+    walk: &mut Walk<'a>,
+    wanted: Role,
+    name: Identifier,
+) -> Result<(), AllocError>
+    ensures { OnOk result
+        (state_of walk.new
+        ≡ spec.used (judge_of judge.now) wanted (name_of (names_of judge.now) name) (state_of walk.old)) }
+{
+    if walk.found.len() < MOST_FINDINGS {
+        walk.push(name_wrong(alloc, judge, text_of(judge.names, name), wanted)?)?;
+    }
+    walk.step();
+    Ok(())
+}
+
+/// Goes behind an expression.
+#[cycle(walk_expression)]
+pub fn expression<'a>(
+    alloc: Global,
+    judge: &Judge<'_, 'a>,
+    walk: &mut Walk<'a>,
+    expr: &Expr,
+) -> Result<(), AllocError>
+    ensures { OnOk result
+        (state_of walk.new
+        ≡ spec.expr (judge_of judge.now) (expr_of (names_of judge.now) expr.now) (state_of walk.old)) }
+{
+    match expr {
+        Expr::Number(number) => walk.judge(number_wrong(judge.rule, value_of(number))),
+        Expr::Name(name) => used(alloc, judge, walk, Role::Variable, *name),
+        Expr::Element(array, index) => element(alloc, judge, walk, *array, index),
+        Expr::Apply(procedure, arguments) => {
+            apply(alloc, judge, walk, *procedure, arguments.as_slice())
+        }
+        Expr::Parenthesis(inside) => {
+            walk.step();
+            expression(alloc, judge, walk, inside)?;
+            walk.step();
+            Ok(())
+        }
+        Expr::Unary(_, operand) => {
+            walk.step();
+            expression(alloc, judge, walk, operand)
+        }
+        Expr::Chain(first, rest) => {
+            expression(alloc, judge, walk, first)?;
+            links(alloc, judge, walk, rest.as_slice())
+        }
+    }
+}
+
+/// Goes behind a name, and an expression in brackets.
+#[cycle(walk_expression)]
+fn element<'a>(
+    alloc: Global,
+    judge: &Judge<'_, 'a>,
+    walk: &mut Walk<'a>,
+    array: Identifier,
+    index: &Expr,
+) -> Result<(), AllocError>
+    ensures { OnOk result
+        (state_of walk.new
+        ≡ spec.element (judge_of judge.now) (name_of (names_of judge.now) array)
+        (expr_of (names_of judge.now) index.now) (state_of walk.old)) }
+{
+    used(alloc, judge, walk, Role::Array, array)?;
+    walk.step();
+    expression(alloc, judge, walk, index)?;
+    walk.step();
+    Ok(())
+}
+
+/// Goes behind the name of a procedure, and its arguments.
+#[cycle(walk_expression)]
+fn apply<'a>(
+    alloc: Global,
+    judge: &Judge<'_, 'a>,
+    walk: &mut Walk<'a>,
+    procedure: Identifier,
+    arguments: &[Expr],
+) -> Result<(), AllocError>
+    ensures { OnOk result
+        (state_of walk.new
+        ≡ spec.apply (judge_of judge.now) (name_of (names_of judge.now) procedure)
+        (exprs_of (names_of judge.now) arguments.now) (state_of walk.old)) }
+{
+    let wanted = Role::Procedure(arguments.len());
+    used(alloc, judge, walk, wanted, procedure)?;
+    walk.step();
+    expressions(alloc, judge, walk, arguments)?;
+    walk.step();
+    Ok(())
+}
+
+/// Goes behind operators and their right operands.
+#[cycle(walk_expression)]
+fn links<'a>(
+    alloc: Global,
+    judge: &Judge<'_, 'a>,
+    walk: &mut Walk<'a>,
+    links: &[Link],
+) -> Result<(), AllocError>
+    ensures { OnOk result
+        (state_of walk.new
+        ≡ spec.links (judge_of judge.now) (links_of (names_of judge.now) links.now) (state_of walk.old)) }
+{
+    for link in links {
+        walk.step();
+        expression(alloc, judge, walk, &link.operand)?;
+    }
+    Ok(())
+}
+
+/// Goes behind expressions with commas between them.
+#[cycle(walk_expression)]
+fn expressions<'a>(
+    alloc: Global,
+    judge: &Judge<'_, 'a>,
+    walk: &mut Walk<'a>,
+    exprs: &[Expr],
+) -> Result<(), AllocError>
+    ensures { OnOk result
+        (state_of walk.new
+        ≡ spec.exprs (judge_of judge.now) (exprs_of (names_of judge.now) exprs.now) true
+        (state_of walk.old)) }
+{
+    let mut is_first = true;
+    for expr in exprs {
+        walk.comma(is_first);
+        expression(alloc, judge, walk, expr)?;
+        is_first = false;
+    }
+    Ok(())
+}
+
+/// Goes behind an argument where the name of something is wanted.
+fn named<'a>(
+    alloc: Global,
+    judge: &Judge<'_, 'a>,
+    walk: &mut Walk<'a>,
+    wanted: Role,
+    expr: &Expr,
+) -> Result<(), AllocError>
+    ensures { OnOk result
+        (state_of walk.new
+        ≡ spec.named (judge_of judge.now) wanted (expr_of (names_of judge.now) expr.now)
+        (state_of walk.old)) }
+{
+    match expr {
+        Expr::Name(name) => used(alloc, judge, walk, wanted, *name),
+        _ => {
+            walk.note(no_name_wrong(judge.rule, wanted))?;
+            expression(alloc, judge, walk, expr)
+        }
+    }
+}
+
+/// Goes behind an argument of a service.
+fn given<'a>(
+    alloc: Global,
+    judge: &Judge<'_, 'a>,
+    walk: &mut Walk<'a>,
+    kind: ArgumentKind,
+    expr: &Expr,
+) -> Result<(), AllocError>
+    ensures { OnOk result
+        (state_of walk.new
+        ≡ spec.given (judge_of judge.now) kind (expr_of (names_of judge.now) expr.now)
+        (state_of walk.old)) }
+{
+    match kind {
+        ArgumentKind::Word => expression(alloc, judge, walk, expr),
+        ArgumentKind::Array => named(alloc, judge, walk, Role::Array, expr),
+        ArgumentKind::Object(kind) => named(alloc, judge, walk, Role::Object(kind), expr),
+    }
+}
+
+/// Goes behind the arguments of a service, which takes those of these kinds.
+fn all_given<'a>(
+    alloc: Global,
+    judge: &Judge<'_, 'a>,
+    walk: &mut Walk<'a>,
+    kinds: &[ArgumentKind],
+    exprs: &[Expr],
+) -> Result<(), AllocError>
+    ensures { OnOk result
+        (state_of walk.new
+        ≡ spec.all_given (judge_of judge.now) kinds.now (exprs_of (names_of judge.now) exprs.now) true
+        (state_of walk.old)) }
+{
+    let mut kinds = kinds;
+    let mut is_first = true;
+    for expr in exprs {
+        walk.comma(is_first);
+        if let Some((kind, others)) = kinds.split_first() {
+            given(alloc, judge, walk, *kind, expr)?;
+            kinds = others;
+        } else {
+            expression(alloc, judge, walk, expr)?;
+        }
+        is_first = false;
+    }
+    Ok(())
+}
+
+/// Goes behind the targets of a service, each behind an arrow or a comma.
+fn targets<'a>(
+    alloc: Global,
+    judge: &Judge<'_, 'a>,
+    walk: &mut Walk<'a>,
+    names: &[Identifier],
+) -> Result<(), AllocError>
+    ensures { OnOk result
+        (state_of walk.new
+        ≡ spec.targets (judge_of judge.now) (map (name_of (names_of judge.now)) names.now)
+        (state_of walk.old)) }
+{
+    for name in names {
+        walk.step();
+        used(alloc, judge, walk, Role::Variable, *name)?;
+    }
+    Ok(())
+}
+
+/// Goes behind a service, its arguments and its targets.
+fn service_call<'a>(
+    alloc: Global,
+    judge: &Judge<'_, 'a>,
+    walk: &mut Walk<'a>,
+    service: Service,
+    arguments: &[Expr],
+    names: &[Identifier],
+) -> Result<(), AllocError>
+    ensures { OnOk result
+        (state_of walk.new
+        ≡ spec.service_call (judge_of judge.now) service (exprs_of (names_of judge.now) arguments.now)
+        (map (name_of (names_of judge.now)) names.now) (state_of walk.old)) }
+{
+    walk.note(arguments_wrong(judge.rule, service, arguments.len()))?;
+    walk.judge(targets_wrong(judge.rule, service, names.len()))?;
+    walk.step();
+    all_given(alloc, judge, walk, service.arguments(), arguments)?;
+    walk.step();
+    targets(alloc, judge, walk, names)?;
+    walk.step();
+    Ok(())
+}
+
+/// Goes behind statements.
+#[cycle(walk_statement)]
+pub fn block<'a>(
+    alloc: Global,
+    judge: &Judge<'_, 'a>,
+    walk: &mut Walk<'a>,
+    returns: bool,
+    block: &[Stmt],
+) -> Result<(), AllocError>
+    ensures { OnOk result
+        (state_of walk.new
+        ≡ spec.block (judge_of judge.now) returns (block_of (names_of judge.now) block.now)
+        (state_of walk.old)) }
+{
+    for stmt in block {
+        statement(alloc, judge, walk, returns, &stmt.kind)?;
+    }
+    Ok(())
+}
+
+/// Goes behind a statement. Whether a body may return is whether it is a procedure's.
+#[cycle(walk_statement)]
+fn statement<'a>(
+    alloc: Global,
+    judge: &Judge<'_, 'a>,
+    walk: &mut Walk<'a>,
+    returns: bool,
+    stmt: &StmtKind,
+) -> Result<(), AllocError>
+    ensures { OnOk result
+        (state_of walk.new
+        ≡ spec.stmt (judge_of judge.now) returns (view.kind_of (names_of judge.now) stmt.now)
+        (state_of walk.old)) }
+{
+    match stmt {
+        StmtKind::Assign(target, value) => {
+            used(alloc, judge, walk, Role::Variable, *target)?;
+            walk.step();
+            expression(alloc, judge, walk, value)?;
+        }
+        StmtKind::AssignElement(array, index, value) => {
+            element(alloc, judge, walk, *array, index)?;
+            walk.step();
+            expression(alloc, judge, walk, value)?;
+        }
+        StmtKind::If(test, inside) | StmtKind::While(test, inside) => {
+            branch(alloc, judge, walk, returns, test, inside.as_slice())?;
+        }
+        StmtKind::IfElse(test, inside, other) => {
+            branch(alloc, judge, walk, returns, test, inside.as_slice())?;
+            walk.step();
+            walk.step();
+            walk.step();
+            block(alloc, judge, walk, returns, other.as_slice())?;
+        }
+        StmtKind::Work(ticks) => {
+            walk.step();
+            let ticks = value_of(ticks);
+            walk.judge(outside_wrong(
+                judge.rule,
+                Thing::Work,
+                1,
+                u64::from(MOST_WORK_TICKS),
+                ticks,
+            ))?;
+        }
+        StmtKind::Return(value) => {
+            walk.judge(return_wrong(judge.rule, returns))?;
+            expression(alloc, judge, walk, value)?;
+        }
+        StmtKind::CallService(service, arguments, names) => {
+            return service_call(
+                alloc,
+                judge,
+                walk,
+                *service,
+                arguments.as_slice(),
+                names.as_slice(),
+            );
+        }
+    }
+    walk.step();
+    Ok(())
+}
+
+/// Goes behind a test and the statements in braces, but for the closing brace.
+#[cycle(walk_statement)]
+fn branch<'a>(
+    alloc: Global,
+    judge: &Judge<'_, 'a>,
+    walk: &mut Walk<'a>,
+    returns: bool,
+    test: &Expr,
+    inside: &[Stmt],
+) -> Result<(), AllocError>
+    ensures { OnOk result
+        (state_of walk.new
+        ≡ spec.branch (judge_of judge.now) returns (expr_of (names_of judge.now) test.now)
+        (block_of (names_of judge.now) inside.now) (state_of walk.old)) }
+{
+    walk.step();
+    expression(alloc, judge, walk, test)?;
+    walk.step();
+    block(alloc, judge, walk, returns, inside)
+}

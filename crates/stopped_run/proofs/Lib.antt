@@ -1,0 +1,3 @@
+pub mod WholeLines
+pub mod Ahead
+pub mod Reached

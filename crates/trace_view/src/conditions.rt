@@ -1,0 +1,91 @@
+//! Why partitions start.
+
+ghost use Rattle.std.specs.Prelude.{◌≡◌};
+ghost use Rattle.trace_view.specs.Starts.{told_behind, told_by_error, told_by_service};
+
+use apex_types::{EventKind, ModuleAction, Response, Service, StartCondition};
+
+/// How often a partition has started, by the condition of the start.
+#[derive(Clone, Copy, Debug, PartialEq, Eq)]
+pub struct Conditions {
+    pub normal_start: u64,
+    pub partition_restart: u64,
+    pub hm_module_restart: u64,
+    pub hm_partition_restart: u64,
+}
+
+impl Conditions {
+    ghost use Rattle.trace_view.specs.Starts.{with_condition};
+
+    /// No starts.
+    pub fn new() -> Conditions
+        ensures { result
+            ≡ record {
+              normal_start = 0;
+              partition_restart = 0;
+              hm_module_restart = 0;
+              hm_partition_restart = 0;
+            } }
+    {
+        Conditions {
+            normal_start: 0,
+            partition_restart: 0,
+            hm_module_restart: 0,
+            hm_partition_restart: 0,
+        }
+    }
+
+    /// Counts a start with this condition. One that no line tells counts in none.
+    pub fn count(&mut self, told: Option<StartCondition>)
+        ensures { self.new ≡ with_condition told self.old }
+    {
+        match told {
+            Some(StartCondition::NormalStart) => {
+                self.normal_start = self.normal_start.saturating_add(1);
+            }
+            Some(StartCondition::PartitionRestart) => {
+                self.partition_restart = self.partition_restart.saturating_add(1);
+            }
+            Some(StartCondition::HmModuleRestart) => {
+                self.hm_module_restart = self.hm_module_restart.saturating_add(1);
+            }
+            Some(StartCondition::HmPartitionRestart) => {
+                self.hm_partition_restart = self.hm_partition_restart.saturating_add(1);
+            }
+            None => {}
+        }
+    }
+}
+
+/// The condition of a start in the line behind this one, if the lines tell it.
+pub fn told_behind(told: Option<StartCondition>, kind: &EventKind) -> Option<StartCondition>
+    ensures { result ≡ told_behind told kind.now }
+{
+    match kind {
+        EventKind::Mode(_) => told,
+        EventKind::Return(_, service, _) => told_by_service(*service),
+        EventKind::Error(_, _, response) => told_by_error(*response),
+        _ => None,
+    }
+}
+
+/// What the line of a service tells.
+fn told_by_service(service: Service) -> Option<StartCondition>
+    ensures { result ≡ told_by_service service }
+{
+    match service {
+        Service::SetPartitionMode => Some(StartCondition::PartitionRestart),
+        _ => None,
+    }
+}
+
+/// What the line of an error tells.
+fn told_by_error(response: Response) -> Option<StartCondition>
+    ensures { result ≡ told_by_error response }
+{
+    match response {
+        Response::Partition(_) => Some(StartCondition::HmPartitionRestart),
+        Response::Module(ModuleAction::Reset) => Some(StartCondition::HmModuleRestart),
+        Response::Module(_) | Response::Handler => None,
+    }
+}
