@@ -11,10 +11,10 @@ use crate::report::{PartitionTotal, ProcessTotal, Report, RouteTotal};
 use crate::responses::Responses;
 use crate::starts::Starts;
 use crate::tally::{Tally, Turn};
+use crate::told::Told;
 use crate::traffic::Traffic;
 use apex_types::{
-    ErrorKind, Event, EventKind, Mode, Name, ProcessState, ReturnCode, StartCondition, Subject,
-    Ticks,
+    ErrorKind, Event, EventKind, Mode, Name, ProcessState, ReturnCode, Subject, Ticks,
 };
 use std::alloc::Global;
 use trace_stays::{Ended, Lanes, MemoryFull, Span};
@@ -60,12 +60,7 @@ impl Counts {
     /// # Errors
     ///
     /// Memory ran out.
-    pub fn count(
-        &mut self,
-        event: &Event,
-        window: Span,
-        told: Option<StartCondition>,
-    ) -> Result<(), MemoryFull> {
+    pub fn count(&mut self, event: &Event, window: Span, told: &Told) -> Result<(), MemoryFull> {
         self.ended.clear();
         self.lanes.follow(event, &mut self.ended)?;
         self.make_room()?;
@@ -212,11 +207,7 @@ impl Counts {
     }
 
     /// Counts the parts of a line besides states and modes.
-    fn count_kind(
-        &mut self,
-        event: &Event,
-        told: Option<StartCondition>,
-    ) -> Result<(), MemoryFull> {
+    fn count_kind(&mut self, event: &Event, told: &Told) -> Result<(), MemoryFull> {
         if let EventKind::Error(error, _, response) = &event.kind {
             self.errors.count(&event.partition, *error, *response)?;
         }
@@ -265,16 +256,11 @@ impl Counts {
     }
 
     /// Counts the start of a partition, if it enters the mode of one.
-    fn start(
-        &mut self,
-        partition: &Name,
-        mode: Mode,
-        told: Option<StartCondition>,
-    ) -> Result<(), MemoryFull> {
+    fn start(&mut self, partition: &Name, mode: Mode, told: &Told) -> Result<(), MemoryFull> {
         let place = self.lanes.partition_place(partition)?;
         self.make_room()?;
         if let Some(starts) = self.starts.get_mut(place) {
-            starts.count(mode, told);
+            starts.count(mode, told.condition_for(partition));
         }
         Ok(())
     }
