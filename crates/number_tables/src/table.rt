@@ -3,7 +3,7 @@
 ghost use Rattle.std.specs.Prelude.{◌≡◌, ◌++◌, ◌∷◌, [], map, length, replicate, slice_get, codes, string_bytes, IfOk, OnOk};
 ghost use Rattle.number_tables.specs.Cells.{cell_text};
 ghost use Rattle.number_tables.specs.Rows.{texts_of};
-ghost use Rattle.number_tables.specs.Tables.{aligned, contents_of, length_or_0, line, table_text, texts_text, width, widths_from, with_row};
+ghost use Rattle.number_tables.specs.Tables.{aligned, blank, contents_of, length_or_0, line, table_text, texts_text, width, widths_from, with_row};
 
 use crate::cell::Cell;
 use crate::row::Row;
@@ -184,7 +184,7 @@ fn push_aligned(is_name: bool, text: &str, wide: usize, out: &mut Vec<u8>) -> Re
 /// Appends so many blanks.
 #[tactic(auto, using(std::proofs::lemmas::List::replicate_more))]
 fn push_blanks(count: usize, out: &mut Vec<u8>) -> Result<(), AllocError>
-    ensures { OnOk result (out.new.items ≡ out.old.items ++ replicate count 32) }
+    ensures { OnOk result (out.new.items ≡ out.old.items ++ replicate count blank) }
 {
     for _ in 0..count {
         out.push(b' ')?;
