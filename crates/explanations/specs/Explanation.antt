@@ -1,6 +1,7 @@
 -- The explanations of a refused source and of a refused table.
 use Rattle.std.specs.Prelude.{◌≡◌, ℕ, List, [], ◌∷◌, ◌++◌, codes}
 use Rattle.std.specs.Fmt.{decimal}
+use Rattle.finding_lines.specs.Reports.{Form, Report, json, plain}
 use Rattle.pal_base.specs.declared.fault.PalFault.{PalFault}
 use Rattle.pal_base.specs.declared.fault.Refusal.{Refusal}
 use Rattle.pal_base.specs.declared.fault.Refusal.TheVariants.{Memory}
@@ -27,9 +28,14 @@ abbrev pub IsExplanation : List ℕ → ℕ → List ℕ → Refusal → Type 0
 IsExplanation source number text Memory = text ≡ sentence_line Memory
 IsExplanation source number text refusal = (sought : Sought) × IsLookedFor source refusal sought × (text ≡ sentence_line refusal ++ place_line source number sought)
 
+-- a sentence on a line of its own, and the lines behind it; the objects of findings stand alone
+abbrev pub explanation : Form → List ℕ → List ℕ → List ℕ
+explanation plain sentence lines = sentence ++ (codes "\n" ++ lines)
+explanation (json rule) sentence lines = lines
+
 -- the text explains the refusal of a table by this rule: the sentence, and what is wrong with this table
-abbrev pub IsTableExplanation : List ℕ → List ℕ → TableFault → List ℕ → Type 0
-IsTableExplanation file table fault text = (lines : List ℕ) × table_findings.IsExplanation file table fault lines × (text ≡ table_sentence fault ++ 10 ∷ lines)
+abbrev pub IsTableExplanation : Report → List ℕ → TableFault → List ℕ → Type 0
+IsTableExplanation r table fault text = (lines : List ℕ) × table_findings.IsExplanation r table fault lines × (text ≡ explanation r.form (table_sentence fault) lines)
 
 abbrev pub IsExplanationOf : List ℕ → PalFault → List ℕ → Type 0
 IsExplanationOf source fault text = IsExplanation source fault.line text fault.refusal

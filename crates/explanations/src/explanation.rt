@@ -2,11 +2,14 @@
 
 ghost use Rattle.std.specs.Prelude.{◌≡◌, IfOk, IfSome, string_bytes};
 ghost use Rattle.explanations.specs.Explanation.{IsExplanationOf, IsTableExplanation, place_line, sentence_line};
+ghost use Rattle.finding_lines.specs.Reports.{report_of};
 
 use crate::lines::{refused_line, shown};
 use crate::looking::looked_for;
+use crate::report::explanation;
 use crate::sentences::{source_sentence, table_sentence};
 use crate::sought::Sought;
+use finding_lines::Report;
 use pal_base::fault::{PalFault, Refusal};
 use std::alloc::{AllocError, Global};
 use window_table::TableFault;
@@ -33,14 +36,19 @@ pub fn explain_source(alloc: Global, source: &[u8], fault: PalFault) -> Result<S
 }
 
 /// The explanation of a refusal of that table: a line with the sentence of the rule, and the lines of
-/// what is wrong with it. `file` is its name. There is none if memory runs out.
-pub fn explain_table(alloc: Global, file: &str, table: &[u8], fault: TableFault) -> Option<String>
+/// what is wrong with it. There is none if memory runs out.
+pub fn explain_table(
+    alloc: Global,
+    report: Report<'_>,
+    table: &[u8],
+    fault: TableFault,
+) -> Option<String>
     ensures { IfSome result
-        (λ text. IsTableExplanation file.now table.now fault (string_bytes text)) }
+        (λ text.
+        IsTableExplanation (report_of report.entry) table.now fault (string_bytes text)) }
 {
-    let lines = table_findings::explain_table(alloc, file, table, fault)?;
-    let (sentence, lines) = (table_sentence(fault), lines.as_str());
-    format!(in alloc; "{sentence}\n{lines}").ok()
+    let lines = table_findings::explain_table(alloc, report, table, fault)?;
+    explanation(alloc, report.form, table_sentence(fault), lines.as_str())
 }
 
 /// The sentence of the rule, on a line of its own.

@@ -7,6 +7,7 @@ mod explanation;
 mod files;
 mod lines;
 mod looking;
+mod report;
 mod sentences;
 mod sought;
 mod words;
