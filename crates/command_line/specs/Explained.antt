@@ -2,7 +2,7 @@
 use Rattle.std.specs.Prelude.{◌≡◌, ℕ, Bool, true, false, List, [], ◌∷◌, ◌++◌, if◌then◌else◌, Option, Some, None, string_bytes}
 use Rattle.std.specs.Str.{bytes_eq}
 use Rattle.module_meaning.specs.Table.{Partition, Table}
-use Rattle.explanations.specs.Explanation.{IsExplanationOf, IsTableExplanation}
+use Rattle.explanations.specs.Explanation.{IsSourceExplanation, IsTableExplanation}
 use Rattle.explanations.specs.Files.{IsDeviceExplanation, IsImageExplanation, IsReplayExplanation}
 use Rattle.explanations.specs.Sentences.{command_sentence, device_sentence, file_sentence, image_sentence, replay_sentence, source_sentence, table_sentence}
 use Rattle.explanations.specs.declared.sentences.CommandFault.TheVariants as command
@@ -16,6 +16,7 @@ use Rattle.module.specs.declared.fault.RunFault.TheVariants as run
 use Rattle.pal_base.specs.declared.fault.PalFault.{PalFault}
 use Rattle.command_line.specs.Lines.{line_of}
 use Rattle.command_line.specs.declared.explaining.RunFiles.{RunFiles}
+use Rattle.command_line.specs.declared.explaining.SourceFile.{SourceFile}
 use Rattle.command_line.specs.declared.explaining.Note.{Note}
 use Rattle.command_line.specs.declared.explaining.Note.TheVariants.{Unwanted, Wanted, Explained}
 use Rattle.command_line.specs.declared.refusal.Refusal.{Refusal}
@@ -71,29 +72,40 @@ told_text true r (Explained text) = line_of r ++ 10 ∷ string_bytes text
 
 -- ---- the note on a refused source or table
 
+-- a source: the name of its file, its text, and the period of its partition
+pub record Source : Type 0 where
+  pub file : List ℕ
+  pub text : List ℕ
+  pub period : ℕ
+
+abbrev pub source_file : SourceFile → Source
+source_file s = record { file = s.file.now; text = s.text.now; period = s.period }
+
 -- the source of the partition of this name, one source standing for each partition
-abbrev pub source_of : List Partition → List (List ℕ) → List ℕ → Option (List ℕ)
-source_of (row ∷ rows) (source ∷ sources) name = if bytes_eq row.name name then Some source else source_of rows sources name
-source_of _ _ name = None
+abbrev pub source_of : List Partition → List (List ℕ) → List (List ℕ) → List ℕ → Option Source
+source_of (row ∷ rows) (file ∷ files) (text ∷ texts) name =
+    if bytes_eq row.name name then Some (record { file = file; text = text; period = row.period }) else source_of rows files texts name
+source_of _ _ _ name = None
 
 -- with this table the text explains the refusal of the source of the partition of this name
-abbrev pub IsExplainedWith : Table → List (List ℕ) → List ℕ → PalFault → List ℕ → Type 0
-IsExplainedWith t sources name fault text = (source : List ℕ) × (source_of t.partitions sources name ≡ Some source) × IsExplanationOf source fault text
+abbrev pub IsExplainedWith : Table → List (List ℕ) → List (List ℕ) → List ℕ → PalFault → List ℕ → Type 0
+IsExplainedWith t files sources name fault text =
+    (source : Source) × (source_of t.partitions files sources name ≡ Some source) × IsSourceExplanation source.file source.period source.text fault.refusal text
 
 -- the text explains it with the table of this text, which is accepted
-abbrev pub IsExplained : List ℕ → List (List ℕ) → List ℕ → PalFault → List ℕ → Type 0
-IsExplained table sources name fault text = (t : Table) × IsTable table t × IsExplainedWith t sources name fault text
+abbrev pub IsExplained : List ℕ → List (List ℕ) → List (List ℕ) → List ℕ → PalFault → List ℕ → Type 0
+IsExplained table files sources name fault text = (t : Table) × IsTable table t × IsExplainedWith t files sources name fault text
 
 -- the text explains the refusal of a table, which is that of this file, or of the source of the partition that the fault names
-abbrev pub IsNoted : List ℕ → List ℕ → List (List ℕ) → BuildFault → List ℕ → Type 0
-IsNoted file table sources (build.Table fault) text = IsTableExplanation file table fault text
-IsNoted file table sources (build.Pal name fault) text = IsExplained table sources name fault text
-IsNoted file table sources fault text = ⊥
+abbrev pub IsNoted : List ℕ → List ℕ → List (List ℕ) → List (List ℕ) → BuildFault → List ℕ → Type 0
+IsNoted file table files sources (build.Table fault) text = IsTableExplanation file table fault text
+IsNoted file table files sources (build.Pal name fault) text = IsExplained table files sources name fault text
+IsNoted file table files sources fault text = ⊥
 
 -- If an explanation was wanted, the refused table or source may be explained.
-abbrev pub IsNoteOf : List ℕ → List ℕ → List (List ℕ) → BuildFault → Note → Note → Type 0
-IsNoteOf file table sources fault Wanted (Explained text) = IsNoted file table sources fault (string_bytes text)
-IsNoteOf file table sources fault old new = new ≡ old
+abbrev pub IsNoteOf : List ℕ → List ℕ → List (List ℕ) → List (List ℕ) → BuildFault → Note → Note → Type 0
+IsNoteOf file table files sources fault Wanted (Explained text) = IsNoted file table files sources fault (string_bytes text)
+IsNoteOf file table files sources fault old new = new ≡ old
 
 -- ---- the note on a refused image, device text or replay text
 

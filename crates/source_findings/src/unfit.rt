@@ -1,6 +1,6 @@
 //! The place where a text leaves the grammar.
 
-ghost use Rattle.std.specs.Prelude.{◌≡◌, length, take, IfOk, OnOk, string_bytes, option_copied, []};
+ghost use Rattle.std.specs.Prelude.{◌≡◌, length, IfOk, OnOk, string_bytes, option_copied, []};
 ghost use Rattle.pal_meaning.specs.Lines.{from_word};
 ghost use Rattle.source_findings.specs.Unfit as spec;
 
@@ -161,6 +161,7 @@ fn open_brace(alloc: Global, text: &[u8], place: usize) -> Result<Option<usize>,
 }
 
 /// The braces that are open behind so many words of a text that begins with a word.
+#[tactic(auto, unfolding(crate::specs::Unfit::open_braces))]
 fn open_braces(alloc: Global, text: &[u8], place: usize) -> Result<Vec<usize>, AllocError>
     ensures { IfOk result (λ opened. opened.items ≡ spec.open_braces place text.now []) }
 {
