@@ -7,7 +7,7 @@ use Rattle.finding_lines.specs.Lines.{rule_line}
 use Rattle.finding_lines.specs.Reports.{Form, Report, json, plain}
 use Rattle.image.specs.declared.fault.ImageFault.{ImageFault}
 use Rattle.module_meaning.specs.Table.{Partition, Table}
-use Rattle.explanations.specs.Explanation.{IsExplanationOf, IsTableExplanation}
+use Rattle.explanations.specs.Explanation.{IsSourceExplanation, IsTableExplanation}
 use Rattle.explanations.specs.Files.{IsDeviceExplanation, IsImageExplanation, IsReplayExplanation}
 use Rattle.explanations.specs.Sentences.{command_sentence, device_sentence, file_sentence, image_sentence, replay_sentence, source_sentence, table_sentence}
 use Rattle.explanations.specs.declared.sentences.CommandFault.TheVariants as command
@@ -25,6 +25,7 @@ use Rattle.command_line.specs.declared.explaining.Style.{Style}
 use Rattle.command_line.specs.declared.explaining.Style.TheVariants as styled
 use Rattle.command_line.specs.declared.outcome.Outcome.{Outcome}
 use Rattle.command_line.specs.declared.explaining.RunFiles.{RunFiles}
+use Rattle.command_line.specs.declared.explaining.SourceFile.{SourceFile}
 use Rattle.command_line.specs.declared.explaining.Note.{Note}
 use Rattle.command_line.specs.declared.explaining.Note.TheVariants.{Unwanted, Wanted, Explained}
 use Rattle.command_line.specs.declared.refusal.Refusal.{Refusal}
@@ -102,34 +103,43 @@ IsCompleted outcome old new = new ≡ old
 
 -- ---- the note on a refused source or table
 
+-- a source: the name of its file, its text, and the period of its partition
+pub record Source : Type 0 where
+  pub file : List ℕ
+  pub text : List ℕ
+  pub period : ℕ
+
+abbrev pub report_on : Form → Source → Report
+report_on form source = record { file = source.file; form = form }
+
+abbrev pub source_file : SourceFile → Source
+source_file s = record { file = s.file.now; text = s.text.now; period = s.period }
+
 -- the source of the partition of this name, one source standing for each partition
-abbrev pub source_of : List Partition → List (List ℕ) → List ℕ → Option (List ℕ)
-source_of (row ∷ rows) (source ∷ sources) name = if bytes_eq row.name name then Some source else source_of rows sources name
-source_of _ _ name = None
+abbrev pub source_of : List Partition → List (List ℕ) → List (List ℕ) → List ℕ → Option Source
+source_of (row ∷ rows) (file ∷ files) (text ∷ texts) name =
+    if bytes_eq row.name name then Some (record { file = file; text = text; period = row.period }) else source_of rows files texts name
+source_of _ _ _ name = None
 
 -- with this table the text explains the refusal of the source of the partition of this name
-abbrev pub IsExplainedWith : Table → List (List ℕ) → List ℕ → PalFault → List ℕ → Type 0
-IsExplainedWith t sources name fault text = (source : List ℕ) × (source_of t.partitions sources name ≡ Some source) × IsExplanationOf source fault text
+abbrev pub IsExplainedWith : Form → Table → List (List ℕ) → List (List ℕ) → List ℕ → PalFault → List ℕ → Type 0
+IsExplainedWith form t files sources name fault text =
+    (source : Source) × (source_of t.partitions files sources name ≡ Some source) × IsSourceExplanation (report_on form source) source.period source.text fault.refusal text
 
 -- the text explains it with the table of this text, which is accepted
-abbrev pub IsExplained : List ℕ → List (List ℕ) → List ℕ → PalFault → List ℕ → Type 0
-IsExplained table sources name fault text = (t : Table) × IsTable table t × IsExplainedWith t sources name fault text
-
--- a refused source is explained in plain words alone
-abbrev pub IsOfSource : Style → List ℕ → List (List ℕ) → List ℕ → PalFault → List ℕ → Type 0
-IsOfSource styled.Plain table sources name fault text = IsExplained table sources name fault text
-IsOfSource styled.Json table sources name fault text = ⊥
+abbrev pub IsExplained : Form → List ℕ → List (List ℕ) → List (List ℕ) → List ℕ → PalFault → List ℕ → Type 0
+IsExplained form table files sources name fault text = (t : Table) × IsTable table t × IsExplainedWith form t files sources name fault text
 
 -- the text explains the refusal of a table, which is that of this file, or of the source of the partition that the fault names
-abbrev pub IsNoted : Style → List ℕ → List ℕ → List (List ℕ) → BuildFault → List ℕ → Type 0
-IsNoted style file table sources (build.Table fault) text = IsTableExplanation (report_in style (build_line (build.Table fault)) file) table fault text
-IsNoted style file table sources (build.Pal name fault) text = IsOfSource style table sources name fault text
-IsNoted style file table sources fault text = ⊥
+abbrev pub IsNoted : Style → List ℕ → List ℕ → List (List ℕ) → List (List ℕ) → BuildFault → List ℕ → Type 0
+IsNoted style file table files sources (build.Table fault) text = IsTableExplanation (report_in style (build_line (build.Table fault)) file) table fault text
+IsNoted style file table files sources (build.Pal name fault) text = IsExplained (form_in style (build_line (build.Pal name fault))) table files sources name fault text
+IsNoted style file table files sources fault text = ⊥
 
 -- If an explanation was wanted, the refused table or source may be explained.
-abbrev pub IsNoteOf : List ℕ → List ℕ → List (List ℕ) → BuildFault → Note → Note → Type 0
-IsNoteOf file table sources fault (Wanted style) (Explained text) = IsNoted style file table sources fault (string_bytes text)
-IsNoteOf file table sources fault old new = new ≡ old
+abbrev pub IsNoteOf : List ℕ → List ℕ → List (List ℕ) → List (List ℕ) → BuildFault → Note → Note → Type 0
+IsNoteOf file table files sources fault (Wanted style) (Explained text) = IsNoted style file table files sources fault (string_bytes text)
+IsNoteOf file table files sources fault old new = new ≡ old
 
 -- ---- the note on a refused image, device text or replay text
 

@@ -4,7 +4,7 @@ ghost use Rattle.std.specs.Prelude.{◌≡◌, Some, map, option_map, string_byt
 ghost use Rattle.module_meaning.specs.Accepted.{IsTable};
 ghost use Rattle.window_table.specs.Views.{partition_view, table_of};
 ghost use Rattle.finding_lines.specs.Reports.{form_of};
-ghost use Rattle.command_line.specs.Explained.{IsCompleted, IsExplained, IsExplainedWith, IsNoted, IsNotedBy, IsNoteOf, IsOfImage, IsOfInputs, IsOfReplay, IsOfRun, IsOfSource, build_sentence, files_of, form_in, inputs_sentence, object_of, run_sentence, sentence_of, sentence_of_replay, source_of, told_text};
+ghost use Rattle.command_line.specs.Explained.{IsCompleted, IsExplained, IsExplainedWith, IsNoted, IsNotedBy, IsNoteOf, IsOfImage, IsOfInputs, IsOfReplay, IsOfRun, build_sentence, files_of, form_in, inputs_sentence, object_of, run_sentence, sentence_of, sentence_of_replay, source_file, source_of, told_text};
 
 use crate::outcome::Outcome;
 use crate::refusal::{Refusal, Rule};
@@ -82,22 +82,23 @@ impl Note {
     }
 
     /// Notes the explanation of a refused table or source, if it is wanted and there is memory for
-    /// it. `file` is the name of the table's file.
+    /// it. `file` is the name of the table's file, and `files` are those of the sources.
     pub fn explain(
         &mut self,
         alloc: Global,
         file: &str,
         table: &[u8],
+        files: &[&str],
         sources: &[&[u8]],
         fault: &BuildFault,
     )
-        ensures { IsNoteOf file.now table.now (map (λ s. s.now) sources.now) fault.now self.old
-            self.new }
+        ensures { IsNoteOf file.now table.now (map (λ s. s.now) files.now)
+            (map (λ s. s.now) sources.now) fault.now self.old self.new }
     {
         let Note::Wanted(style) = *self else {
             return;
         };
-        if let Some(text) = explanation(alloc, style, file, table, sources, fault) {
+        if let Some(text) = explanation(alloc, style, file, table, files, sources, fault) {
             *self = Note::Explained(text);
         }
     }
@@ -277,44 +278,23 @@ fn explanation(
     style: Style,
     file: &str,
     table: &[u8],
+    files: &[&str],
     sources: &[&[u8]],
     fault: &BuildFault,
 ) -> Option<String>
     ensures { IfSome result
         (λ text.
-        IsNoted style file.now table.now (map (λ s. s.now) sources.now) fault.now
-        (string_bytes text)) }
+        IsNoted style file.now table.now (map (λ s. s.now) files.now)
+        (map (λ s. s.now) sources.now) fault.now (string_bytes text)) }
 {
+    let shown = format!(in alloc; "{fault}").ok()?;
+    let form = style.form(shown.as_str());
     match fault {
-        BuildFault::Table(rule) => {
-            let shown = format!(in alloc; "{fault}").ok()?;
-            let form = style.form(shown.as_str());
-            explain_table(alloc, Report { file, form }, table, *rule)
-        }
+        BuildFault::Table(rule) => explain_table(alloc, Report { file, form }, table, *rule),
         BuildFault::Pal { partition, fault } => {
-            source_explanation(alloc, style, table, sources, partition, *fault)
+            explained(alloc, form, table, files, sources, partition, *fault)
         }
         _ => None,
-    }
-}
-
-/// The explanation of a refused source in plain words. It has no findings that could be objects.
-fn source_explanation(
-    alloc: Global,
-    style: Style,
-    table: &[u8],
-    sources: &[&[u8]],
-    partition: &Name,
-    fault: PalFault,
-) -> Option<String>
-    ensures { IfSome result
-        (λ text.
-        IsOfSource style table.now (map (λ s. s.now) sources.now) partition.now fault
-        (string_bytes text)) }
-{
-    match style {
-        Style::Plain => explained(alloc, table, sources, partition, fault),
-        Style::Json => None,
     }
 }
 
@@ -322,17 +302,20 @@ fn source_explanation(
 /// is memory for it.
 fn explained(
     alloc: Global,
+    form: Form<'_>,
     table: &[u8],
+    files: &[&str],
     sources: &[&[u8]],
     partition: &Name,
     fault: PalFault,
 ) -> Option<String>
     ensures { IfSome result
-        (λ text. IsExplained table.now (map (λ s. s.now) sources.now) partition.now fault
-        (string_bytes text)) }
+        (λ text.
+        IsExplained (form_of form.entry) table.now (map (λ s. s.now) files.now)
+        (map (λ s. s.now) sources.now) partition.now fault (string_bytes text)) }
 {
     let table = accepted(alloc, table)?;
-    explained_with(alloc, &table, sources, partition, fault)
+    explained_with(alloc, form, &table, files, sources, partition, fault)
 }
 
 /// The table of a text, if it is accepted and there is memory for it.
@@ -348,41 +331,56 @@ fn accepted(alloc: Global, text: &[u8]) -> Option<ModuleTable>
 /// The explanation of the source of the partition of that name in an accepted table.
 fn explained_with(
     alloc: Global,
+    form: Form<'_>,
     table: &ModuleTable,
+    files: &[&str],
     sources: &[&[u8]],
     partition: &Name,
     fault: PalFault,
 ) -> Option<String>
     ensures { IfSome result
         (λ text.
-        IsExplainedWith (table_of table.now) (map (λ s. s.now) sources.now) partition.now fault
-        (string_bytes text)) }
+        IsExplainedWith (form_of form.entry) (table_of table.now) (map (λ s. s.now) files.now)
+        (map (λ s. s.now) sources.now) partition.now fault (string_bytes text)) }
 {
-    let source = source_of(table.partitions.as_slice(), sources, partition)?;
-    match explain_source(alloc, source, fault) {
-        Ok(text) => Some(text),
-        Err(_) => None,
-    }
+    let source = source_of(table.partitions.as_slice(), files, sources, partition)?;
+    let report = Report {
+        file: source.file,
+        form,
+    };
+    explain_source(alloc, report, source.period, source.text, fault.refusal)
+}
+
+/// A source: the name of its file, its text, and the period of its partition.
+#[derive(Clone, Copy)]
+pub struct SourceFile<'a> {
+    pub file: &'a str,
+    pub text: &'a [u8],
+    pub period: u32,
 }
 
 /// The source of the partition of that name, one source standing for each partition.
 fn source_of<'a>(
     partitions: &[PartitionRow],
+    files: &'a [&'a str],
     sources: &'a [&'a [u8]],
     name: &Name,
-) -> Option<&'a [u8]>
-    ensures { option_map (λ s. s.now) result
-        ≡ source_of (map partition_view partitions.now) (map (λ s. s.now) sources.now) name.now }
+) -> Option<SourceFile<'a>>
+    ensures { option_map source_file result
+        ≡ source_of (map partition_view partitions.now) (map (λ s. s.now) files.now)
+        (map (λ s. s.now) sources.now) name.now }
 {
-    match (partitions.split_first(), sources.split_first()) {
-        (Some((partition, partitions)), Some((source, sources))) => {
-            if partition.name.as_bytes() == name.as_bytes() {
-                Some(*source)
-            } else {
-                source_of(partitions, sources, name)
-            }
-        }
-        _ => None,
+    let (partition, partitions) = partitions.split_first()?;
+    let (file, files) = files.split_first()?;
+    let (text, sources) = sources.split_first()?;
+    if partition.name.as_bytes() == name.as_bytes() {
+        Some(SourceFile {
+            file,
+            text,
+            period: partition.period,
+        })
+    } else {
+        source_of(partitions, files, sources, name)
     }
 }
 

@@ -1,0 +1,7 @@
+//! Laws: a source is refused by a rule if and only if a place is found where it breaks this rule. The
+//! functions do nothing, and promise a law each.
+#![tactic(auto)]
+
+mod laws;
+
+pub use laws::{kinds_are_found, limits_are_found, names_are_found, periods_are_found};
