@@ -1,3 +1,5 @@
 pub mod Clean
-pub mod Names
-pub mod Periods
+pub mod OfKinds
+pub mod OfNames
+pub mod OfPeriods
+pub mod OfRoles
