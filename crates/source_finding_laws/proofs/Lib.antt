@@ -1,5 +1,6 @@
 pub mod Clean
 pub mod OfKinds
+pub mod OfLimits
 pub mod OfNames
 pub mod OfPeriods
 pub mod OfRoles
