@@ -1,3 +1,6 @@
 pub mod Clean
-pub mod Names
-pub mod Periods
+pub mod OfKinds
+pub mod OfLimits
+pub mod OfNames
+pub mod OfPeriods
+pub mod OfRoles
