@@ -1,5 +1,5 @@
 -- Lines that are said of the partition of a name.
-use Rattle.std.proofs.Common.{◌≡◌, ◌∙◌, List, Option, Some, None, ℕ, ap, sym}
+use Rattle.std.proofs.Common.{◌≡◌, List, Option, Some, None, ℕ}
 use Rattle.std.specs.Prelude.{IfSome}
 use Rattle.machine_meaning.specs.Image.{Image}
 use Rattle.module_meaning.specs.Table.{Partition}

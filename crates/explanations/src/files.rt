@@ -76,7 +76,7 @@ fn text_lines(alloc: Global, report: Report<'_>, names: &Names<'_>, text: &[u8])
 }
 
 /// The explanation of a replay text that is refused for the partition of that name of the image of
-/// these bytes.  There is none if memory runs out.
+/// these bytes. There is none if memory runs out.
 pub fn explain_inputs(
     alloc: Global,
     report: Report<'_>,

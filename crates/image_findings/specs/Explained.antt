@@ -1,5 +1,5 @@
 -- What is said of the bytes of an image that is refused.
-use Rattle.std.specs.Prelude.{◌≡◌, ℕ, ◌+◌, ◌*◌, ◌^◌, ◌-◌, ◌==◌, min, Bool, true, false, if◌then◌else◌, List, [], ◌∷◌, ◌++◌, codes, drop, length, Option, Some, None, Err}
+use Rattle.std.specs.Prelude.{◌≡◌, ℕ, ◌+◌, ◌*◌, ◌^◌, ◌-◌, ◌==◌, min, Bool, true, false, if◌then◌else◌, List, ◌∷◌, ◌++◌, codes, drop, length, Option, Some, None, Err}
 use Rattle.std.specs.Fmt.{decimal}
 use Rattle.finding_lines.specs.Lines.{byte_lines, file_lines}
 use Rattle.finding_lines.specs.Reports.{Report}

@@ -1,5 +1,5 @@
 -- The findings of a table as `--explain` shows them.
-use Rattle.std.specs.Prelude.{ℕ, ◌-◌, Bool, true, false, if◌then◌else◌, List, [], ◌∷◌, ◌++◌, codes, drop, flat_map, length, Option, Some, None, take}
+use Rattle.std.specs.Prelude.{ℕ, ◌-◌, Bool, true, false, if◌then◌else◌, List, [], ◌∷◌, ◌++◌, flat_map, length, Option, Some, None, take}
 use Rattle.finding_lines.specs.Lines as lines
 use Rattle.finding_lines.specs.Reports.{Report}
 use Rattle.places.specs.Entries.{Entry, Path, first_at, key}

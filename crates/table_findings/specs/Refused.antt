@@ -1,5 +1,5 @@
 -- What is wrong with a table that is refused.
-use Rattle.std.specs.Prelude.{◌≡◌, ◌⊎◌, ℕ, ◌≤◌, List, [], ◌++◌, codes, drop, length, Some, None, take}
+use Rattle.std.specs.Prelude.{◌≡◌, ◌⊎◌, ℕ, ◌≤◌, List, [], codes, length, Some, None}
 use Rattle.finding_lines.specs.Lines.{lines_at}
 use Rattle.finding_lines.specs.Reports.{Report}
 use Rattle.places.specs.Entries.{Entry, entries}

@@ -1,5 +1,5 @@
-use Rattle.std.proofs.Common.{◌≡◌, ◌∙◌, Some, ap, rules, string_bytes, option_map, sym}
-use Rattle.image.specs.Items.{items_of, partition_of}
+use Rattle.std.proofs.Common.{◌≡◌, Some, rules, string_bytes}
+use Rattle.image.specs.Items.{partition_of}
 use Rattle.image.specs.Views.{image_of}
 use Rattle.explanations.specs.Files.{row_named}
 use Rattle.finding_lines.specs.Reports.{report_of}
