@@ -23,9 +23,11 @@ abbrev pub all_lines : List ℕ → List ℕ → List Wrong → List ℕ
 all_lines file text ws = flat_map (wrong_lines file text) ws
 
 -- the place where a text leaves the grammar, and what is looked for there
+abbrev pub IsUnfitAt : List ℕ → List ℕ → LookedFor → List ℕ → Type 0
+IsUnfitAt file text place lines = (sought : Sought) × (near : Option (List ℕ)) × (lines ≡ unfit_lines file text place.place place.is_too_deep (phrase sought) near)
+
 abbrev pub IsUnfit : List ℕ → List ℕ → List ℕ → Type 0
-IsUnfit file text lines =
-    (place : LookedFor) × (sought : Sought) × (near : Option (List ℕ)) × IsLookedFor text (Some place) × (lines ≡ unfit_lines file text place.place place.is_too_deep (phrase sought) near)
+IsUnfit file text lines = (place : LookedFor) × IsLookedFor text (Some place) × IsUnfitAt file text place lines
 
 -- each place where a program breaks a rule
 abbrev pub IsOfProgram : List ℕ → ℕ → List ℕ → Refusal → List ℕ → Type 0
