@@ -4,3 +4,4 @@ pub mod OfLimits
 pub mod OfNames
 pub mod OfPeriods
 pub mod OfRoles
+pub mod Words

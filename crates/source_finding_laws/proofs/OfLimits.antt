@@ -34,7 +34,7 @@ use Rattle.source_finding_laws.proofs.OfNames.{and_false, both, found_unless}
 -- ---- tests of numbers
 
 same_test : (a b c d : ℕ) → (a ≤ b → c ≤ d) → (b < a → d < c) → nat_le a b ≡ nat_le c d
-same_test a b c d yes no = elim (leb_tells a b) [ inl t ↦ t.0 ∙ sym (le-leb c d (yes t.1)) | inr f ↦ f.0 ∙ sym (lt-leb c d (no f.1)) ]
+same_test a b c d inside beyond = elim (leb_tells a b) [ inl t ↦ t.0 ∙ sym (le-leb c d (inside t.1)) | inr f ↦ f.0 ∙ sym (lt-leb c d (beyond f.1)) ]
 
 -- a number as 64 bits hold it passes the test of a limit that they hold if the number does
 held_test : (n limit : ℕ) → limit < 18446744073709551615 → nat_le (held n) limit ≡ nat_le n limit
@@ -365,17 +365,17 @@ module _ (period : ℕ) (declared : List Entry) (entries : List meant.Entry) whe
   -- the declarations behind some whose counts are within their limits
   declarations_hold : (before : List Entry) (c : Counts) (ds : List written.Declaration) → fine_declarations k before (tally_at c) ds ≡ (keeps_counts c ds && list_all (keeps_declaration entries) ds)
   declarations_hold before c [] = refl
-  declarations_hold before c (d ∷ ds) = by (after c d.kind) (tallied c d.kind)
+  declarations_hold before c (d ∷ ds) = by (after c d.kind) (tallied c d.kind) (λ next. declarations_hold (before ++ declaration_entry d ∷ []) next ds)
     where
       kept : fine_new (walk.among k before) d.name && fine_row k d.kind ≡ keeps_declaration entries d
       kept = both (found_unless (is_name d.name) _) (row_is period declared entries d.kind)
 
-      by : (o : Option Counts) → IsTallied c d.kind o
+      by : (o : Option Counts) → IsTallied c d.kind o → ((next : Counts) → fine_declarations k (before ++ declaration_entry d ∷ []) (tally_at next) ds ≡ (keeps_counts next ds && list_all (keeps_declaration entries) ds))
           → fine_declarations k before (tally_at c) (d ∷ ds) ≡ ((elim o [ None ↦ false | Some next ↦ keeps_counts next ds ]) && (keeps_declaration entries d && list_all (keeps_declaration entries) ds))
-      by None h = ap (λ b. (b && (fine_new (walk.among k before) d.name && fine_row k d.kind)) && fine_declarations k (before ++ declaration_entry d ∷ []) (counted (tally_at c) d.kind) ds) h
-      by (Some next) h =
+      by None h behind = ap (λ b. (b && (fine_new (walk.among k before) d.name && fine_row k d.kind)) && fine_declarations k (before ++ declaration_entry d ∷ []) (counted (tally_at c) d.kind) ds) h
+      by (Some next) h behind =
           both (ap (λ b. b && (fine_new (walk.among k before) d.name && fine_row k d.kind)) h.0 ∙ kept)
-          (ap (λ t. fine_declarations k (before ++ declaration_entry d ∷ []) t ds) h.1 ∙ declarations_hold (before ++ declaration_entry d ∷ []) next ds)
+          (ap (λ t. fine_declarations k (before ++ declaration_entry d ∷ []) t ds) h.1 ∙ behind next)
           ∙ rest_out true (keeps_declaration entries d) (keeps_counts next ds) (list_all (keeps_declaration entries) ds)
 
   -- ---- processes
@@ -421,8 +421,10 @@ pub limits_found : (ports : List PortRow) (period : ℕ) (text : List ℕ) (p : 
 limits_found ports period text p =
     let entries : List meant.Entry = meant.declared_entries ports p in
     let declared : List Entry = declared_entries p in
+    let all : 0 + length p.processes ≡ length p.processes = omega arith in
     sym (none_found rule.Limit period text p
     ∙ both (declarations_hold period declared entries [] no_counts p.declarations)
-    (both (stack_is period declared entries p.init.stack p.init.body) (both (handler_is period declared entries p.handler) (processes_hold period declared entries (walk.all_before [] p.declarations) 0 p.processes (omega arith))))
+    (both (stack_is period declared entries p.init.stack p.init.body) (both (handler_is period declared entries p.handler) (processes_hold period declared entries (walk.all_before [] p.declarations) 0 p.processes (omega arith)
+    ∙ ap (λ n. list_all (keeps_process entries) p.processes && nat_le n MOST_PROCESSES) all)))
     ∙ leftwards (keeps_counts no_counts p.declarations) (list_all (keeps_declaration entries) p.declarations) (keeps_stack_body entries p.init.stack p.init.body) (keeps_handler entries p.handler)
     (list_all (keeps_process entries) p.processes) (nat_le (length p.processes) MOST_PROCESSES))

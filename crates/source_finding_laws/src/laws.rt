@@ -2,10 +2,13 @@
 
 ghost use Rattle.std.specs.Prelude.{◌≡◌, ℕ, List};
 ghost use Rattle.apex_types.specs.declared.row.PortRow.{PortRow};
+ghost use Rattle.pal_base.specs.declared.fault.Refusal.{Refusal};
 ghost use Rattle.pal_base.specs.declared.fault.Refusal.TheVariants as rule;
+ghost use Rattle.pal_meaning.specs.Grammar.{IsProgramOf};
 ghost use Rattle.pal_meaning.specs.Syntax as written;
 ghost use Rattle.pal_meaning.specs.WellFormed.{kinds_hold, limits_hold, names_hold, periods_hold};
 ghost use Rattle.source_finding_laws.specs.Found.{has_none};
+ghost use Rattle.source_finding_laws.specs.Placed.{ArePlaced};
 ghost use Rattle.source_findings.specs.Bodies.{wrongs};
 
 /// Each name of a program is declared, and once, if and only if nothing is found by this rule.
@@ -31,4 +34,12 @@ pub fn limits_are_found()
 pub fn periods_are_found()
     ensures { (period : ℕ) (text : List ℕ) (p : written.Program)
         → periods_hold period p ≡ has_none (wrongs rule.Period period text p) }
+{}
+
+/// Each place that is found in the text of a program is that of one of its words, and what is said
+/// there names this word or gives its number.
+pub fn places_are_words()
+    ensures { (rule : Refusal) (period : ℕ) (text : List ℕ) (p : written.Program)
+        → IsProgramOf text p
+        → ArePlaced text (wrongs rule period text p) }
 {}

@@ -24,9 +24,11 @@ abbrev pub all_lines : Report → List ℕ → List Wrong → List ℕ
 all_lines r text ws = flat_map (wrong_lines r text) ws
 
 -- the place where a text leaves the grammar, and what is looked for there
+abbrev pub IsUnfitAt : Report → List ℕ → LookedFor → List ℕ → Type 0
+IsUnfitAt r text place lines = (sought : Sought) × (near : Option (List ℕ)) × (lines ≡ unfit_lines r text place.place place.is_too_deep (phrase sought) near)
+
 abbrev pub IsUnfit : Report → List ℕ → List ℕ → Type 0
-IsUnfit r text lines =
-    (place : LookedFor) × (sought : Sought) × (near : Option (List ℕ)) × IsLookedFor text (Some place) × (lines ≡ unfit_lines r text place.place place.is_too_deep (phrase sought) near)
+IsUnfit r text lines = (place : LookedFor) × IsLookedFor text (Some place) × IsUnfitAt r text place lines
 
 -- each place where a program breaks a rule
 abbrev pub IsOfProgram : Report → ℕ → List ℕ → Refusal → List ℕ → Type 0
