@@ -11,7 +11,7 @@ pub record Contents : Type 0 where
   pub headings : List (List ℕ)
   pub rows : List (List (List ℕ))
 
-abbrev pub contents_of : Table → Contents
+unfoldable pub contents_of : Table → Contents
 contents_of t = record { names = t.names; headings = texts_of t.headings; rows = map texts_of t.rows.items }
 
 abbrev pub with_row : List (List ℕ) → Contents → Contents
@@ -64,5 +64,5 @@ table_text_if (row ∷ rows) title t =
     let widths = widths_from 0 t.headings (t.headings ∷ t.rows) in
     (title ++ 10 ∷ []) ++ flat_map (line t.names widths) (t.headings ∷ t.rows)
 
-abbrev pub table_text : List ℕ → Contents → List ℕ
+unfoldable pub table_text : List ℕ → Contents → List ℕ
 table_text title t = table_text_if t.rows title t

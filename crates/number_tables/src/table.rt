@@ -29,6 +29,7 @@ impl Table {
     /// # Errors
     ///
     /// Memory ran out.
+    #[tactic(auto, unfolding(crate::specs::Tables::contents_of))]
     pub fn new(alloc: Global, names: &[&str], numbers: &[&str]) -> Result<Table, AllocError>
         ensures { IfOk result
             (λ table. contents_of table
@@ -54,6 +55,7 @@ impl Table {
     /// # Errors
     ///
     /// Memory ran out.
+    #[tactic(auto, unfolding(crate::specs::Tables::contents_of))]
     pub fn add(&mut self, names: &[&str], numbers: &[Cell]) -> Result<(), AllocError>
         ensures { OnOk result
             (contents_of self.new
@@ -73,7 +75,7 @@ impl Table {
     /// # Errors
     ///
     /// Memory ran out. Then a beginning of them may be there.
-    #[tactic(auto, using(std::proofs::lemmas::List::drop_more))]
+    #[tactic(auto, using(std::proofs::lemmas::List::drop_more), unfolding(crate::specs::Tables::contents_of, crate::specs::Tables::table_text))]
     pub fn write(&self, title: &str, text: &mut Vec<u8>) -> Result<(), AllocError>
         ensures { OnOk result
             (text.new.items ≡ text.old.items ++ table_text title.now (contents_of self.now)) }

@@ -69,23 +69,34 @@ impl Counts {
     pub fn count(&mut self, event: &Event, window: Span, told: &Told) -> Result<(), MemoryFull>
         ensures errors { OnOk result
             (HasErrorIf (has_tick window event.now.tick.0) event.now.partition event.now.kind
-            self.old self.new) }
+            self.old.errors self.new.errors) }
         ensures messages { OnOk result
             (HasMessageIf (has_tick window event.now.tick.0) event.now.partition event.now.kind
-            self.old self.new) }
+            self.new.lanes.partitions.items self.old.traffic self.new.traffic) }
+    {
+        self.follow(event, window)?;
+        if has_tick(window, event.tick) {
+            self.count_kind(event, told)?;
+        }
+        Ok(())
+    }
+
+    /// Counts the stays that end with an event.
+    fn follow(&mut self, event: &Event, window: Span) -> Result<(), MemoryFull>
+        ensures errors { self.new.errors ≡ self.old.errors }
+        ensures traffic { self.new.traffic ≡ self.old.traffic }
     {
         self.ended.clear();
         self.lanes.follow(event, &mut self.ended)?;
         self.make_room()?;
         match &event.kind {
-            EventKind::State(who, state) => self.turn(event, who, *state, window)?,
-            EventKind::Mode(_) => self.start_again(event.tick, window),
-            _ => {}
+            EventKind::State(who, state) => self.turn(event, who, *state, window),
+            EventKind::Mode(_) => {
+                self.start_again(event.tick, window);
+                Ok(())
+            }
+            _ => Ok(()),
         }
-        if has_tick(window, event.tick) {
-            self.count_kind(event, told)?;
-        }
-        Ok(())
     }
 
     /// The numbers, those of each partition together.
@@ -237,14 +248,36 @@ impl Counts {
     /// Counts the parts of a line besides states and modes.
     fn count_kind(&mut self, event: &Event, told: &Told) -> Result<(), MemoryFull>
         ensures errors { OnOk result
-            (HasError event.now.partition event.now.kind self.old self.new) }
+            (HasError event.now.partition event.now.kind self.old.errors self.new.errors) }
         ensures messages { OnOk result
-            (HasMessage event.now.partition (route_of event.now.kind) event.now.kind self.old
-            self.new) }
+            (HasMessage event.now.partition (route_of event.now.kind) event.now.kind
+            self.new.lanes.partitions.items self.old.traffic self.new.traffic) }
     {
-        if let EventKind::Error(error, _, response) = &event.kind {
-            self.errors.count(&event.partition, *error, *response)?;
+        self.count_error(event)?;
+        self.count_own(event, told)
+    }
+
+    /// Counts the line of an error.
+    fn count_error(&mut self, event: &Event) -> Result<(), MemoryFull>
+        ensures errors { OnOk result
+            (HasError event.now.partition event.now.kind self.old.errors self.new.errors) }
+        ensures traffic { self.new.traffic ≡ self.old.traffic }
+    {
+        match &event.kind {
+            EventKind::Error(error, _, response) => {
+                self.errors.count(&event.partition, *error, *response)
+            }
+            _ => Ok(()),
         }
+    }
+
+    /// Counts what a line says of its partition, besides its error.
+    fn count_own(&mut self, event: &Event, told: &Told) -> Result<(), MemoryFull>
+        ensures errors { self.new.errors ≡ self.old.errors }
+        ensures messages { OnOk result
+            (HasMessage event.now.partition (route_of event.now.kind) event.now.kind
+            self.new.lanes.partitions.items self.old.traffic self.new.traffic) }
+    {
         let Some(name) = &event.partition else {
             return Ok(());
         };
@@ -315,7 +348,8 @@ impl Counts {
     fn pass(&mut self, partition: &Name, route: Route, kind: &EventKind) -> Result<(), MemoryFull>
         ensures errors { self.new.errors ≡ self.old.errors }
         ensures messages { OnOk result
-            (HasMessage (Some partition.now) (Some route) kind.now self.old self.new) }
+            (HasMessage (Some partition.now) (Some route) kind.now
+            self.new.lanes.partitions.items self.old.traffic self.new.traffic) }
     {
         let partition = self.lanes.partition_place(partition)?;
         self.traffic.count(partition, &route, kind)
