@@ -4,4 +4,5 @@ pub mod OfLimits
 pub mod OfNames
 pub mod OfPeriods
 pub mod OfRoles
+pub mod OfTexts
 pub mod Words

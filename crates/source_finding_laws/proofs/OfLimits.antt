@@ -397,17 +397,17 @@ module _ (period : ℕ) (declared : List Entry) (entries : List meant.Entry) whe
   processes_hold before count [] few = sym (le-leb (count + 0) MOST_PROCESSES (omega (arith, few)))
   processes_hold before count (p ∷ ps) few = elim (leb_tells (count + 1) MOST_PROCESSES) [
     | inl t ↦
-      let next : held (count + 1) ≡ count + 1 = held_is (count + 1) MOST_PROCESSES (omega arith) t.1 in
-      let sum : count + 1 + length ps ≡ count + length (p ∷ ps) = omega arith in
-      ap (λ n. fine_process k before n p && fine_processes k (before ++ process_entry p ∷ []) n ps) next
-      ∙ both (process_is before (count + 1) p ∙ ap (λ b. b && keeps_process entries p) t.0) (processes_hold (before ++ process_entry p ∷ []) (count + 1) ps t.1)
-      ∙ sym (and_assoc (keeps_process entries p) (list_all (keeps_process entries) ps) (nat_le (count + 1 + length ps) MOST_PROCESSES))
-      ∙ ap (λ n. (keeps_process entries p && list_all (keeps_process entries) ps) && nat_le n MOST_PROCESSES) sum
+        let next : held (count + 1) ≡ count + 1 = held_is (count + 1) MOST_PROCESSES (omega arith) t.1 in
+        let sum : count + 1 + length ps ≡ count + length (p ∷ ps) = omega arith in
+        ap (λ n. fine_process k before n p && fine_processes k (before ++ process_entry p ∷ []) n ps) next
+        ∙ both (process_is before (count + 1) p ∙ ap (λ b. b && keeps_process entries p) t.0) (processes_hold (before ++ process_entry p ∷ []) (count + 1) ps t.1)
+        ∙ sym (and_assoc (keeps_process entries p) (list_all (keeps_process entries) ps) (nat_le (count + 1 + length ps) MOST_PROCESSES))
+        ∙ ap (λ n. (keeps_process entries p && list_all (keeps_process entries) ps) && nat_le n MOST_PROCESSES) sum
     | inr f ↦
-      let over : nat_le (held (count + 1)) MOST_PROCESSES ≡ false = held_test (count + 1) MOST_PROCESSES (omega arith) ∙ f.0 in
-      let many_more : MOST_PROCESSES < count + length (p ∷ ps) = omega (arith, f.1) in
-      ap (λ b. b && fine_processes k (before ++ process_entry p ∷ []) (held (count + 1)) ps) (process_is before (held (count + 1)) p ∙ ap (λ b. b && keeps_process entries p) over)
-      ∙ sym (ap (λ b. (keeps_process entries p && list_all (keeps_process entries) ps) && b) (lt-leb (count + length (p ∷ ps)) MOST_PROCESSES many_more) ∙ and_false (keeps_process entries p && list_all (keeps_process entries) ps))
+        let over : nat_le (held (count + 1)) MOST_PROCESSES ≡ false = held_test (count + 1) MOST_PROCESSES (omega arith) ∙ f.0 in
+        let many_more : MOST_PROCESSES < count + length (p ∷ ps) = omega (arith, f.1) in
+        ap (λ b. b && fine_processes k (before ++ process_entry p ∷ []) (held (count + 1)) ps) (process_is before (held (count + 1)) p ∙ ap (λ b. b && keeps_process entries p) over)
+        ∙ sym (ap (λ b. (keeps_process entries p && list_all (keeps_process entries) ps) && b) (lt-leb (count + length (p ∷ ps)) MOST_PROCESSES many_more) ∙ and_false (keeps_process entries p && list_all (keeps_process entries) ps))
   ]
 
 leftwards : (a b i h c d : Bool) → ((a && b) && (i && (h && (c && d)))) ≡ (((((a && b) && i) && h) && c) && d)

@@ -1,15 +1,21 @@
 //! A program breaks a rule if and only if something is found.
 
-ghost use Rattle.std.specs.Prelude.{◌≡◌, ℕ, List};
+ghost use Rattle.std.specs.Prelude.{◌≡◌, true, ℕ, List};
 ghost use Rattle.apex_types.specs.declared.row.PortRow.{PortRow};
 ghost use Rattle.pal_base.specs.declared.fault.Refusal.{Refusal};
 ghost use Rattle.pal_base.specs.declared.fault.Refusal.TheVariants as rule;
-ghost use Rattle.pal_meaning.specs.Grammar.{IsProgramOf};
+ghost use Rattle.pal_meaning.specs.Grammar.{IsProgramOf, IsText};
 ghost use Rattle.pal_meaning.specs.Syntax as written;
 ghost use Rattle.pal_meaning.specs.WellFormed.{kinds_hold, limits_hold, names_hold, periods_hold};
 ghost use Rattle.source_finding_laws.specs.Found.{has_none};
 ghost use Rattle.source_finding_laws.specs.Placed.{ArePlaced};
 ghost use Rattle.source_findings.specs.Bodies.{wrongs};
+ghost use Rattle.source_findings.specs.Texts.{text_wrongs};
+
+/// A text in which nothing is found by the rule on texts is ASCII, and no longer than it may be.
+pub fn texts_are_found()
+    ensures { (text : List ℕ) → has_none (text_wrongs text) ≡ true → IsText text }
+{}
 
 /// Each name of a program is declared, and once, if and only if nothing is found by this rule.
 pub fn names_are_found()

@@ -181,6 +181,7 @@ fn element<'a>(
 }
 
 /// Goes behind the name of a procedure, and its arguments.
+#[tactic(auto, using(pal::proofs::Counted::counted))]
 #[cycle(walk_expression)]
 fn apply<'a>(
     alloc: Global,
@@ -333,6 +334,7 @@ fn targets<'a>(
 }
 
 /// Goes behind a service, its arguments and its targets, but for the semicolon.
+#[tactic(auto, using(pal::proofs::Counted::counted))]
 fn service_call<'a>(
     alloc: Global,
     judge: &Judge<'_, 'a>,
