@@ -1,4 +1,4 @@
-use Rattle.std.proofs.Common.{◌≡◌, refl}
+use Rattle.std.proofs.Common.{refl}
 use Rattle.trace_view.specs.Tables.{unused_table}
 use Rattle.trace_view.proofs.usage.write_unused.Goals as goal
 

@@ -1,4 +1,4 @@
-use Rattle.std.proofs.Common.{◌≡◌, refl}
+use Rattle.std.proofs.Common.{refl}
 use Rattle.number_tables.specs.Tables.{contents_of}
 use Rattle.trace_view.specs.Tables.{windows_from, windows_table}
 use Rattle.trace_view.proofs.Rows.{rows_done}

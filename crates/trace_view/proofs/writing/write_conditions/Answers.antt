@@ -1,4 +1,4 @@
-use Rattle.std.proofs.Common.{◌≡◌, map, refl}
+use Rattle.std.proofs.Common.{map, refl}
 use Rattle.number_tables.specs.Tables.{contents_of}
 use Rattle.trace_view.specs.Tables.{conditions_row, conditions_table}
 use Rattle.trace_view.proofs.Rows.{rows_done}

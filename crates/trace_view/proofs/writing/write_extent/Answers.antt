@@ -1,4 +1,4 @@
-use Rattle.std.proofs.Common.{◌≡◌, refl}
+use Rattle.std.proofs.Common.{refl}
 use Rattle.trace_view.specs.Tables.{extent_table}
 use Rattle.trace_view.proofs.writing.write_extent.Goals as goal
 

@@ -1,4 +1,4 @@
-use Rattle.std.proofs.Common.{◌≡◌, flat_map, refl}
+use Rattle.std.proofs.Common.{flat_map, refl}
 use Rattle.number_tables.specs.Tables.{contents_of}
 use Rattle.trace_view.specs.Tables.{port_row, ports_table}
 use Rattle.trace_view.specs.declared.report.RouteTotal.{RouteTotal}
