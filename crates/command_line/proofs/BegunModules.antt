@@ -155,15 +155,15 @@ all_costed costs (row ∷ rows) [] [] ps begun h = absurd h
 all_costed costs rows [] (b ∷ bs) ps begun h = absurd begun
 all_costed costs rows (w ∷ ws) [] ps begun h = absurd begun
 
-all_sources : (rows : List Partition) (wholes texts : List (List ℕ)) (as : List Checked) → AllBegun wholes texts → AreSources rows texts as → AreSources rows wholes as
+all_sources : (rows : List Partition) (wholes texts : List (List ℕ)) (given : List Checked) → AllBegun wholes texts → AreSources rows texts given → AreSources rows wholes given
 all_sources [] [] [] [] begun h = tt
-all_sources [] [] [] (a ∷ as) begun h = absurd h
-all_sources (row ∷ rows) (w ∷ ws) (b ∷ bs) (a ∷ as) begun h = (source_whole w b begun.0 row a h.0, all_sources rows ws bs as begun.1 h.1)
+all_sources [] [] [] (a ∷ given) begun h = absurd h
+all_sources (row ∷ rows) (w ∷ ws) (b ∷ bs) (a ∷ given) begun h = (source_whole w b begun.0 row a h.0, all_sources rows ws bs given begun.1 h.1)
 all_sources (row ∷ rows) (w ∷ ws) (b ∷ bs) [] begun h = absurd h
-all_sources [] (w ∷ ws) (b ∷ bs) as begun h = absurd h
-all_sources (row ∷ rows) [] [] as begun h = absurd h
-all_sources rows [] (b ∷ bs) as begun h = absurd begun
-all_sources rows (w ∷ ws) [] as begun h = absurd begun
+all_sources [] (w ∷ ws) (b ∷ bs) given begun h = absurd h
+all_sources (row ∷ rows) [] [] given begun h = absurd h
+all_sources rows [] (b ∷ bs) given begun h = absurd begun
+all_sources rows (w ∷ ws) [] given begun h = absurd begun
 
 all_trees : (wholes texts : List (List ℕ)) (ps : List written.Program) → AllBegun wholes texts → AreTrees texts ps → AreTrees wholes ps
 all_trees [] [] [] begun h = tt

@@ -110,10 +110,17 @@ fn module_named<F: Files>(
     ensures noted { OnOk result (F.failed files.new ≡ F.failed files.old) }
     ensures named { IfErr result (λ r. IsOfFailed (F.failed files.old) (F.failed files.new) r) }
 {
-    let name = table;
+    let (name, names) = (table, sources);
     let table = read_table(alloc, name, files)?;
-    let sources = read_sources(alloc, sources, files)?;
-    read_texts(alloc, name, table.as_slice(), sources.as_slice(), note)
+    let sources = read_sources(alloc, names, files)?;
+    read_texts(
+        alloc,
+        name,
+        table.as_slice(),
+        names,
+        sources.as_slice(),
+        note,
+    )
 }
 
 /// The module of a table and its sources.
@@ -121,13 +128,14 @@ fn read_texts(
     alloc: Global,
     name: &str,
     table: &[u8],
+    names: &[&str],
     sources: &[Vec<u8>],
     note: &mut Note,
 ) -> Result<ReadModule, Refusal>
     ensures read { IfOk result (λ m. IsReadModule table.now (texts_of sources.now) m) }
     ensures refused { IfErr result (λ r. IsUncostedText table.now (texts_of sources.now) r) }
 {
-    let accepted = module_of_texts(alloc, name, table, sources, note)?;
+    let accepted = module_of_texts(alloc, name, table, names, sources, note)?;
     let mut trees = Vec::new(alloc);
     add_trees(alloc, sources, &mut trees)?;
     Ok(ReadModule { accepted, trees })

@@ -25,8 +25,8 @@ pub fn has_stray(bytes: &[u8]) -> bool
 pub fn table_end(bytes: &[u8]) -> usize
     ensures { result ≡ table_end bytes.now }
 {
-    for (place, byte) in bytes.iter().enumerate() {
-        if is_stray(*byte) {
+    for (place, &byte) in bytes.iter().enumerate() {
+        if is_stray(byte) {
             return place + 1;
         }
     }
