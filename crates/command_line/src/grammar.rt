@@ -103,9 +103,7 @@ fn until<'a>(alloc: Global) -> Arg<'a>
         .value_name("WORD")
         .num_args(1..)
         .action(ArgAction::Append)
-        .help(
-            "Ends the run with the first tick that has a line with these words behind its tick, `_` for any one; status 3 if none comes",
-        )
+        .help("Ends the run with the first tick that has a line with these words, `_` for any one")
 }
 
 fn replay<'a>(alloc: Global) -> Result<Command<'a>, AllocError>
