@@ -1,11 +1,11 @@
 use Rattle.std.proofs.Common.{rules, ◌≡◌, map, refl, sym, subst, codes}
-use Rattle.std.specs.Prelude.{IfOk}
+use Rattle.std.specs.Prelude.{IfOk, IfErr}
 use Rattle.clap.specs.Matches.{found_of}
 use Rattle.clap.specs.Simple.{subcommand_rows_of}
 use Rattle.clap.specs.Walk.{rows_of}
 use Rattle.command_line.specs.Done.{IsDone, IsDoneWith}
 use Rattle.command_line.specs.Orders.{First, order_of}
-use Rattle.command_line.specs.Refusals.{IsRefused}
+use Rattle.command_line.specs.Refusals.{IsFailure, IsRefused}
 use Rattle.streams.specs.States.{seen}
 use Rattle.command_line.specs.States.{state}
 use Rattle.command_words.specs.declared.failure.Failure.TheVariants.{Refused}
@@ -187,6 +187,18 @@ returns-in-Some-run-default-clause-done g c =
     let order = run_is c.args.matches.now arm.field-0-0.now rows c.word-image-in-Some-run-default.result.now c.word-devices.result.now c.word.result.now (map (λ s. s.now) c.unwrap_or-until.result.now) arm.ensures.name arm.ensures.rows arm.is-run
     c.word-image-in-Some-run-default.ensures c.word-devices.ensures c.word.ensures until in
     subst (λ o. IfOk c.run.result (λ u. IsDoneWith u o before after)) (sym order) c.run.ensures.done
+
+pub returns-in-Some-run-default-clause-failed : goal.returns-in-Some-run-default-clause-failed
+returns-in-Some-run-default-clause-failed g c =
+    let before = state (g.F.Files.contents c.args.files.now) (seen g.O.Sink.taken g.O.Sink.failures g.O.Stream.is_flushed c.args.out.now) in
+    let after = state (g.F.Files.contents c.run.new.files) (seen g.O.Sink.taken g.O.Sink.failures g.O.Stream.is_flushed c.run.new.out) in
+    let arm = c.in-Some-run-default in
+    let rows = rows_of (found_of arm.found.now) in
+    let until : map (λ s. s.now) c.unwrap_or-until.result.now ≡ words_at (codes "until") rows =
+    words_are (found_of arm.found.now) (codes "until") c.get_strs-in-Some-run-default.result _ c.unwrap_or-until.result c.get_strs-in-Some-run-default.ensures (search rules) c.unwrap_or-until.ensures in
+    let order = run_is c.args.matches.now arm.field-0-0.now rows c.word-image-in-Some-run-default.result.now c.word-devices.result.now c.word.result.now (map (λ s. s.now) c.unwrap_or-until.result.now) arm.ensures.name arm.ensures.rows arm.is-run
+    c.word-image-in-Some-run-default.ensures c.word-devices.ensures c.word.ensures until in
+    subst (λ o. IfErr c.run.result (λ f. IsFailure o before after f)) (sym order) c.run.ensures.failed
 
 pub returns-in-Some-replay-default-clause-done : goal.returns-in-Some-replay-default-clause-done
 returns-in-Some-replay-default-clause-done g c =
