@@ -11,6 +11,9 @@ stands beside this one.
 the image is changed; behind a line `--`, all that standard error says. `\\r` at the end of a line is a carriage return, and `\\` leaves its line feed
 out. LENGTH is how many bytes the image has, and LONGER one more. The replay is that of `display`.
 
+`source_rows` has those in the source of `flight`: what it is; the lines of the source, in which `\\xHH` is the byte of that number; behind a line
+`--`, all that standard error says.
+
 The last line printed is how many mistakes were tried, and the exit status is 1 if anything was not as written.
 """
 
@@ -61,6 +64,25 @@ def read_text_rows():
         yield title.removeprefix("# "), kind.split(), text, said + "\n"
 
 
+def read_source_rows():
+    """The mistakes in sources: what each is, the source, and what is said of it."""
+    for block in (HERE / "source_rows").read_text().split("\n====\n"):
+        title, rest = block.rstrip("\n").split("\n", 1)
+        source, said = rest.split("\n--\n")
+        source = re.sub(rb"\\x([0-9a-f]{2})", lambda it: bytes([int(it[1], 16)]), source.encode() + b"\n")
+        yield title.removeprefix("# "), source, said + "\n"
+
+
+def explain_source(program, source, folder):
+    """What the program says of a source."""
+    (folder / "table.toml").write_text((HERE / "table.toml").read_text())
+    (folder / "a.pal").write_bytes(source)
+    (folder / "source.pal").write_text(SOURCE)
+    words = [program, "check", "--explain", "table.toml", "a.pal", "source.pal"]
+    done = subprocess.run(words, cwd=folder, stdin=subprocess.DEVNULL, capture_output=True, text=True, timeout=60)
+    return done.returncode, done.stdout, done.stderr
+
+
 def build(program, folder):
     """The bytes of the image of the module."""
     (folder / "table.toml").write_text((HERE / "table.toml").read_text())
@@ -106,6 +128,8 @@ def main(program):
         folder = Path(folder)
         for title, name, changes, wanted in read_rows():
             compare(title, wanted, explain(program, name, changes, folder))
+        for title, source, wanted in read_source_rows():
+            compare(title, wanted, explain_source(program, source, folder))
         image = build(program, folder)
         for title, kind, text, wanted in read_text_rows():
             wanted = wanted.replace("LENGTH", str(len(image))).replace("LONGER", str(len(image) + 1))

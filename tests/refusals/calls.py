@@ -154,6 +154,7 @@ class Command:
         self.words = [mb, *module.commands()[name]]
         self.image = (folder / "image").read_bytes()
         self.before = b"before" if name in trial.WRITING else self.image
+        self.may_begin = name == trial.BEGINNING
         self.right = trial.run(self.words, folder)
 
     def ask(self, library, **how):
@@ -161,14 +162,19 @@ class Command:
         (self.folder / "image").write_bytes(self.before)
         return trial.watch(library, self.words, self.folder, **how)
 
+    def begun(self, out):
+        """What may be written where memory is lacking."""
+        return out if self.may_begin and self.right.out.startswith(out) else b""
+
     def judge(self, told, case, watched):
-        """The answer has to be the right one, or that memory is lacking, with nothing done; and nothing is held at the end."""
+        """The answer has to be the right one, or that memory is lacking, with nothing done, or with a beginning written; and nothing is held at
+        the end."""
         answer, image = watched.answer, (self.folder / "image").read_bytes()
         if watched.end is None or watched.end.blocks != 0:
             told.wrong.append(f"{self.name}, {case}: {answer}, held {watched.end} at the end")
         elif answer == self.right and image == self.image:
             told.count(RIGHT)
-        elif answer == Answer(1, b"", b"mb: memory\n") and image == self.before:
+        elif answer == Answer(1, self.begun(answer.out), b"mb: memory\n") and image == self.before:
             told.count(LACKING)
         else:
             told.wrong.append(f"{self.name}, {case}: {answer}{'' if image == self.before else ', IMAGE is changed'}")

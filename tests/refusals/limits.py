@@ -246,10 +246,11 @@ def lay(module, folder):
 
 
 def ask_all(mb, module, partition, folder):
-    """Gives every command a module, and what its partition is brought to the replay; returns the answers by command, without those that have no image."""
+    """Gives every command a module, and what its partition is brought to the replay; returns the answers by command, without those that have no image.
+    A run that waits for a line is a run, and is not tried."""
     answers = {}
     for name, words in trial.commands(lay(module, folder), partition, module.ticks).items():
-        if name in ("check", "cost", "build") or (folder / "image").is_file():
+        if name in ("check", "cost", "build") or (folder / "image").is_file() and name != "until":
             answers[name] = trial.run([mb, *words], folder)
         if name == "build" and (folder / "image").is_file():
             images.lay_old(folder)

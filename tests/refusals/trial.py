@@ -76,6 +76,7 @@ def commands(sources, partition, ticks):
         "upgrade": ["upgrade", "old", "image"],
         "dis": ["dis", "image"],
         "run": ["run", "image", "devices", str(ticks)],
+        "until": ["run", "image", "devices", str(ticks), "--until", partition, "MODE", "NORMAL"],
         "inputs": ["inputs", "image", partition, "devices", str(ticks)],
         "replay": ["replay", "image", partition, "inputs", str(ticks)],
     }
@@ -83,6 +84,8 @@ def commands(sources, partition, ticks):
 
 # The commands that write IMAGE.
 WRITING = ("build", "upgrade")
+# The command that may have written a beginning where memory lacks: it holds the text of a tick until it has looked for the line.
+BEGINNING = "until"
 
 
 def compiler():

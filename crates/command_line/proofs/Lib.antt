@@ -9,3 +9,4 @@ pub mod Ran
 pub mod Read
 pub mod Replayed
 pub mod Shown
+pub mod Spelled

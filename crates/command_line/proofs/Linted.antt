@@ -3,7 +3,11 @@ use Rattle.std.proofs.Common.{◌≡◌, ℕ, Bool, true, false, List, [], ◌�
 use Rattle.apex_types.specs.declared.cost.Costs.{Costs}
 use Rattle.module_meaning.specs.Table.{Partition}
 use Rattle.pal_meaning.specs.Syntax as written
+use Rattle.pal_base.specs.Answers.{IsRefused}
 use Rattle.pal_base.specs.WrittenView.{program_of}
+use Rattle.pal_base.specs.declared.fault.PalFault.{PalFault}
+use Rattle.pal_base.specs.declared.fault.Refusal.{Refusal as Refused}
+use Rattle.pal_base.specs.declared.fault.Refusal.TheVariants as refused
 use Rattle.pal_base.specs.declared.checked.Checked.{Checked}
 use Rattle.pal_base.specs.declared.program.Process.{Process}
 use Rattle.pal_base.specs.declared.syntax.Program as tree
@@ -17,7 +21,7 @@ use Rattle.module.specs.Sources.{AreSources}
 use Rattle.streams.specs.Contents.{Contents}
 use Rattle.streams.specs.States.{Seen}
 use Rattle.command_line.specs.Done.{AreFoundIn, IsDoneWith, IsLinted, IsModuleIn}
-use Rattle.command_line.specs.Linting.{AddsFound, AddsTrees, AreAllFound, AreFoundOf, AreFoundOfModule, AreNotShown, AreShown, AreTrees, IsFoundOf, IsReadModule}
+use Rattle.command_line.specs.Linting.{AddsFound, AddsTrees, AreAllFound, AreFoundOf, AreFoundOfModule, AreNotShown, AreShown, AreTrees, HasTree, HaveTrees, IsFoundOf, IsReadModule}
 use Rattle.command_line.specs.Orders.{Lint}
 use Rattle.command_line.specs.Outcomes.{is_remarkable}
 use Rattle.command_line.specs.Refusals.{IsLintRefused}
@@ -142,3 +146,28 @@ unnamed_findings old new m before after (Err (Run fault)) same h = absurd h
 unnamed_findings old new m before after (Err (Replay fault)) same h = absurd h
 unnamed_findings old new m before after (Err (Inputs fault)) same h = absurd h
 unnamed_findings old new m before after (Err (File name reason)) same h = absurd h
+
+-- ---- sources that are read a second time
+
+-- a text that is that of a program is refused for want of memory alone
+pub only_memory : (r : Refused) (text : List ℕ) → HasTree text → IsRefused r text → r ≡ refused.Memory
+only_memory refused.Text text (tree, is) h = absurd (h is.0)
+only_memory refused.Grammar text (tree, is) h = absurd (h.1 tree is)
+only_memory refused.Name text has h = absurd h
+only_memory refused.Kind text has h = absurd h
+only_memory refused.Limit text has h = absurd h
+only_memory refused.Period text has h = absurd h
+only_memory refused.Memory text has h = refl
+
+pub memory_alone : {A : Type 0} (text : List ℕ) (answer : Result A PalFault) → HasTree text → IfErr answer (λ fault. IsRefused fault.refusal text) → IfErr answer (λ fault. fault.refusal ≡ refused.Memory)
+memory_alone text (Ok x) has h = tt
+memory_alone text (Err fault) has h = only_memory fault.refusal text has h
+
+-- accepted sources have trees
+pub accepted_have_trees : (rows : List Partition) (texts : List (List ℕ)) (given : List Checked) → AreSources rows texts given → HaveTrees texts
+accepted_have_trees [] [] [] h = tt
+accepted_have_trees (row ∷ rows) (text ∷ texts) (a ∷ given) h = ((h.0.tree, h.0.written), accepted_have_trees rows texts given h.1)
+accepted_have_trees [] [] (a ∷ given) h = absurd h
+accepted_have_trees [] (text ∷ texts) given h = absurd h
+accepted_have_trees (row ∷ rows) [] given h = absurd h
+accepted_have_trees (row ∷ rows) (text ∷ texts) [] h = absurd h

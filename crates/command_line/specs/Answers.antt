@@ -1,8 +1,9 @@
 -- The meaning of each exit status of a command.
-use Rattle.std.specs.Prelude.{◌≡◌, ◌⊎◌, ◌≤◌, ℕ, Bool, false, List, [], Some, Result, Ok, Err}
+use Rattle.std.specs.Prelude.{◌≡◌, ◌⊎◌, ◌≤◌, ℕ, Bool, false, List, [], Option, Some, None, Result, Ok, Err}
 use Rattle.clap.specs.Kinds.{Kinds}
 use Rattle.command_words.specs.Kinds.{AreMistaken, AskForHelp}
 use Rattle.command_words.specs.Told.{IsUsageTold}
+use Rattle.command_pages.specs.declared.page.Page.{Page}
 use Rattle.streams.specs.States.{HasFailed, IsFlushed, IsWritten, Seen, TakesText}
 use Rattle.command_line.specs.Done.{IsDone, IsRemarkable}
 use Rattle.command_line.specs.Explained.{told_text}
@@ -10,6 +11,7 @@ use Rattle.command_line.specs.Lines.{line_of}
 use Rattle.command_line.specs.Orders.{Order}
 use Rattle.command_line.specs.Outcomes.{status_of}
 use Rattle.command_line.specs.declared.outcome.Outcome.{Outcome}
+use Rattle.command_line.specs.Pages.{IsPageTold}
 use Rattle.command_line.specs.Refusals.{IsFailureOfWords, IsWrongTicks}
 use Rattle.command_line.specs.States.{IsUntouched, State}
 use Rattle.command_line.specs.Told.{IsOfFailed}
@@ -49,6 +51,13 @@ pub record IsAnswer (kinds : Kinds) (order : Order) (asked : Bool) (before after
   pub refused : status ≡ 1 → (r : Refusal) × IsRefusedFor kinds order before after r × IsOfFailed old_failed new_failed r × IsRefusalTold asked old_err new_err r
   pub usage : status ≡ 2 → IsUntouched before after × (new_failed ≡ old_failed) × AreNoCommand kinds order × IsWritten old_err new_err
   pub remarkable : status ≡ 3 → (IsFlushed before.out after.out × (kinds ≡ []) × IsRemarkable order before after) × (new_failed ≡ old_failed) × (new_err ≡ old_err)
+
+-- The words ask for a page of the program's own words, and no file is touched; or they ask for none.
+abbrev pub IsAnswerTo : Option Page → Kinds → Order → Bool → State → State → List (List ℕ) → List (List ℕ) → Seen → Seen → ℕ → Type 0
+IsAnswerTo (Some page) kinds order asked before after old_failed new_failed old_err new_err status =
+    (after.files ≡ before.files) × (new_failed ≡ old_failed) × IsPageTold page before.out after.out old_err new_err status
+IsAnswerTo None kinds order asked before after old_failed new_failed old_err new_err status =
+    IsAnswer kinds order asked before after old_failed new_failed old_err new_err status
 
 -- ---- the report of an outcome
 

@@ -1,12 +1,18 @@
 -- The report of a refusal: its line and, on request, an explanation behind it.
-use Rattle.std.specs.Prelude.{◌≡◌, ℕ, Bool, true, false, List, [], ◌∷◌, ◌++◌, if◌then◌else◌, Option, Some, None, string_bytes}
+use Rattle.std.specs.Prelude.{◌≡◌, ℕ, Bool, true, false, List, [], ◌∷◌, ◌++◌, if◌then◌else◌, Option, Some, None, Result, Err, string_bytes}
 use Rattle.std.specs.Str.{bytes_eq}
+use Rattle.command_words.specs.declared.failure.Failure.{Failure}
+use Rattle.command_words.specs.declared.failure.Failure.TheVariants.{Refused}
+use Rattle.finding_lines.specs.Lines.{rule_line}
+use Rattle.finding_lines.specs.Reports.{Form, Report, json, plain}
+use Rattle.image.specs.declared.fault.ImageFault.{ImageFault}
 use Rattle.module_meaning.specs.Table.{Partition, Table}
-use Rattle.explanations.specs.Explanation.{IsExplanationOf, IsTableExplanation}
+use Rattle.explanations.specs.Explanation.{IsSourceExplanation, IsTableExplanation}
 use Rattle.explanations.specs.Files.{IsDeviceExplanation, IsImageExplanation, IsReplayExplanation}
 use Rattle.explanations.specs.Sentences.{command_sentence, device_sentence, file_sentence, image_sentence, replay_sentence, source_sentence, table_sentence}
 use Rattle.explanations.specs.declared.sentences.CommandFault.TheVariants as command
 use Rattle.module_meaning.specs.Accepted.{IsTable}
+use Rattle.module.specs.Lines.{build_line, inputs_line, run_line}
 use Rattle.module.specs.declared.fault.BuildFault.{BuildFault}
 use Rattle.module.specs.declared.fault.BuildFault.TheVariants as build
 use Rattle.module.specs.declared.inputs_fault.InputsFault.{InputsFault}
@@ -14,8 +20,12 @@ use Rattle.module.specs.declared.inputs_fault.InputsFault.TheVariants as inputs
 use Rattle.module.specs.declared.fault.RunFault.{RunFault}
 use Rattle.module.specs.declared.fault.RunFault.TheVariants as run
 use Rattle.pal_base.specs.declared.fault.PalFault.{PalFault}
-use Rattle.command_line.specs.Lines.{line_of}
+use Rattle.command_line.specs.Lines.{line_of, rule_of}
+use Rattle.command_line.specs.declared.explaining.Style.{Style}
+use Rattle.command_line.specs.declared.explaining.Style.TheVariants as styled
+use Rattle.command_line.specs.declared.outcome.Outcome.{Outcome}
 use Rattle.command_line.specs.declared.explaining.RunFiles.{RunFiles}
+use Rattle.command_line.specs.declared.explaining.SourceFile.{SourceFile}
 use Rattle.command_line.specs.declared.explaining.Note.{Note}
 use Rattle.command_line.specs.declared.explaining.Note.TheVariants.{Unwanted, Wanted, Explained}
 use Rattle.command_line.specs.declared.refusal.Refusal.{Refusal}
@@ -61,39 +71,75 @@ sentence_of (File name reason) = file_sentence reason
 sentence_of Memory = command_sentence command.Memory
 sentence_of Write = command_sentence command.Write
 
--- The line alone, or the line and its explanation: the note on a refused source or table, or else the
--- sentence.
+-- The line alone, or the line and its explanation: what was noted, or else the sentence.
 abbrev pub told_text : Bool → Refusal → Note → List ℕ
 told_text false r note = line_of r ++ 10 ∷ []
 told_text true r Unwanted = line_of r ++ 10 ∷ sentence_of r ++ 10 ∷ []
-told_text true r Wanted = line_of r ++ 10 ∷ sentence_of r ++ 10 ∷ []
+told_text true r (Wanted style) = line_of r ++ 10 ∷ sentence_of r ++ 10 ∷ []
 told_text true r (Explained text) = line_of r ++ 10 ∷ string_bytes text
+
+-- ---- how a refusal is explained
+
+-- the form of findings by a rule
+abbrev pub form_in : Style → List ℕ → Form
+form_in styled.Plain rule = plain
+form_in styled.Json rule = json rule
+
+abbrev pub report_in : Style → List ℕ → List ℕ → Report
+report_in style rule file = record { file = file; form = form_in style rule }
+
+-- the object of a refusal without a finding: what its line says, with the sentence of the rule as advice
+abbrev pub object_of : Refusal → List ℕ
+object_of r = rule_line (rule_of r) (rule_of r) (sentence_of r)
+
+-- If objects were wanted and none is noted, there may be that of the refusal.
+abbrev pub IsObjectOf : Refusal → Note → Note → Type 0
+IsObjectOf r (Wanted styled.Json) (Explained text) = string_bytes text ≡ object_of r
+IsObjectOf r old new = new ≡ old
+
+abbrev pub IsCompleted : Result Outcome (Failure Refusal) → Note → Note → Type 0
+IsCompleted (Err (Refused r)) old new = IsObjectOf r old new
+IsCompleted outcome old new = new ≡ old
 
 -- ---- the note on a refused source or table
 
+-- a source: the name of its file, its text, and the period of its partition
+pub record Source : Type 0 where
+  pub file : List ℕ
+  pub text : List ℕ
+  pub period : ℕ
+
+abbrev pub report_on : Form → Source → Report
+report_on form source = record { file = source.file; form = form }
+
+abbrev pub source_file : SourceFile → Source
+source_file s = record { file = s.file.now; text = s.text.now; period = s.period }
+
 -- the source of the partition of this name, one source standing for each partition
-abbrev pub source_of : List Partition → List (List ℕ) → List ℕ → Option (List ℕ)
-source_of (row ∷ rows) (source ∷ sources) name = if bytes_eq row.name name then Some source else source_of rows sources name
-source_of _ _ name = None
+abbrev pub source_of : List Partition → List (List ℕ) → List (List ℕ) → List ℕ → Option Source
+source_of (row ∷ rows) (file ∷ files) (text ∷ texts) name =
+    if bytes_eq row.name name then Some (record { file = file; text = text; period = row.period }) else source_of rows files texts name
+source_of _ _ _ name = None
 
 -- with this table the text explains the refusal of the source of the partition of this name
-abbrev pub IsExplainedWith : Table → List (List ℕ) → List ℕ → PalFault → List ℕ → Type 0
-IsExplainedWith t sources name fault text = (source : List ℕ) × (source_of t.partitions sources name ≡ Some source) × IsExplanationOf source fault text
+abbrev pub IsExplainedWith : Form → Table → List (List ℕ) → List (List ℕ) → List ℕ → PalFault → List ℕ → Type 0
+IsExplainedWith form t files sources name fault text =
+    (source : Source) × (source_of t.partitions files sources name ≡ Some source) × IsSourceExplanation (report_on form source) source.period source.text fault.refusal text
 
 -- the text explains it with the table of this text, which is accepted
-abbrev pub IsExplained : List ℕ → List (List ℕ) → List ℕ → PalFault → List ℕ → Type 0
-IsExplained table sources name fault text = (t : Table) × IsTable table t × IsExplainedWith t sources name fault text
+abbrev pub IsExplained : Form → List ℕ → List (List ℕ) → List (List ℕ) → List ℕ → PalFault → List ℕ → Type 0
+IsExplained form table files sources name fault text = (t : Table) × IsTable table t × IsExplainedWith form t files sources name fault text
 
 -- the text explains the refusal of a table, which is that of this file, or of the source of the partition that the fault names
-abbrev pub IsNoted : List ℕ → List ℕ → List (List ℕ) → BuildFault → List ℕ → Type 0
-IsNoted file table sources (build.Table fault) text = IsTableExplanation file table fault text
-IsNoted file table sources (build.Pal name fault) text = IsExplained table sources name fault text
-IsNoted file table sources fault text = ⊥
+abbrev pub IsNoted : Style → List ℕ → List ℕ → List (List ℕ) → List (List ℕ) → BuildFault → List ℕ → Type 0
+IsNoted style file table files sources (build.Table fault) text = IsTableExplanation (report_in style (build_line (build.Table fault)) file) table fault text
+IsNoted style file table files sources (build.Pal name fault) text = IsExplained (form_in style (build_line (build.Pal name fault))) table files sources name fault text
+IsNoted style file table files sources fault text = ⊥
 
 -- If an explanation was wanted, the refused table or source may be explained.
-abbrev pub IsNoteOf : List ℕ → List ℕ → List (List ℕ) → BuildFault → Note → Note → Type 0
-IsNoteOf file table sources fault Wanted (Explained text) = IsNoted file table sources fault (string_bytes text)
-IsNoteOf file table sources fault old new = new ≡ old
+abbrev pub IsNoteOf : List ℕ → List ℕ → List (List ℕ) → List (List ℕ) → BuildFault → Note → Note → Type 0
+IsNoteOf file table files sources fault (Wanted style) (Explained text) = IsNoted style file table files sources fault (string_bytes text)
+IsNoteOf file table files sources fault old new = new ≡ old
 
 -- ---- the note on a refused image, device text or replay text
 
@@ -107,24 +153,28 @@ pub record Files : Type 0 where
 abbrev pub files_of : RunFiles → Files
 files_of f = record { image_name = f.image_name.now; image = f.image.now; text_name = f.text_name.now; text = f.text.now }
 
--- If an explanation was wanted, there may be one of which this is so.
-abbrev pub IsNotedBy : (List ℕ → Type 0) → Note → Note → Type 0
-IsNotedBy is Wanted (Explained text) = is (string_bytes text)
+-- If an explanation was wanted in a style, there may be one of which this is so.
+abbrev pub IsNotedBy : (Style → List ℕ → Type 0) → Note → Note → Type 0
+IsNotedBy is (Wanted style) (Explained text) = is style (string_bytes text)
 IsNotedBy is old new = new ≡ old
 
--- the text explains the refusal of the image or of the device text
-abbrev pub IsOfRun : Files → RunFault → List ℕ → Type 0
-IsOfRun f (run.Image fault) text = IsImageExplanation f.image_name f.image fault text
-IsOfRun f (run.Device fault) text = IsDeviceExplanation f.text_name f.image f.text fault text
-IsOfRun f fault text = ⊥
+-- the text explains the refusal of the image
+abbrev pub IsOfImage : Style → List ℕ → List ℕ → ImageFault → List ℕ → Type 0
+IsOfImage style file bytes fault text = IsImageExplanation (report_in style (run_line (run.Image fault)) file) bytes fault text
+
+-- that of the image or of the device text
+abbrev pub IsOfRun : Style → Files → RunFault → List ℕ → Type 0
+IsOfRun style f (run.Image fault) text = IsOfImage style f.image_name f.image fault text
+IsOfRun style f (run.Device fault) text = IsDeviceExplanation (report_in style (run_line (run.Device fault)) f.text_name) f.image f.text fault text
+IsOfRun style f fault text = ⊥
 
 -- that of the image or of the text of the replay of this partition
-abbrev pub IsOfReplay : Files → List ℕ → RunFault → List ℕ → Type 0
-IsOfReplay f partition (run.Image fault) text = IsImageExplanation f.image_name f.image fault text
-IsOfReplay f partition (run.Device fault) text = IsReplayExplanation f.text_name f.image partition f.text fault text
-IsOfReplay f partition fault text = ⊥
+abbrev pub IsOfReplay : Style → Files → List ℕ → RunFault → List ℕ → Type 0
+IsOfReplay style f partition (run.Image fault) text = IsOfImage style f.image_name f.image fault text
+IsOfReplay style f partition (run.Device fault) text = IsReplayExplanation (report_in style (run_line (run.Device fault)) f.text_name) f.image partition f.text fault text
+IsOfReplay style f partition fault text = ⊥
 
-abbrev pub IsOfInputs : Files → InputsFault → List ℕ → Type 0
-IsOfInputs f (inputs.Image fault) text = IsImageExplanation f.image_name f.image fault text
-IsOfInputs f (inputs.Device fault) text = IsDeviceExplanation f.text_name f.image f.text fault text
-IsOfInputs f fault text = ⊥
+abbrev pub IsOfInputs : Style → Files → InputsFault → List ℕ → Type 0
+IsOfInputs style f (inputs.Image fault) text = IsOfImage style f.image_name f.image fault text
+IsOfInputs style f (inputs.Device fault) text = IsDeviceExplanation (report_in style (inputs_line (inputs.Device fault)) f.text_name) f.image f.text fault text
+IsOfInputs style f fault text = ⊥

@@ -6,8 +6,10 @@ pub mod Linting
 pub mod Loading
 pub mod Outcomes
 pub mod Orders
+pub mod Pages
 pub mod Reading
 pub mod Refusals
+pub mod Spelled
 pub mod States
 pub mod Told
 pub mod Words

@@ -4,11 +4,15 @@ use Rattle.module.specs.Lines.{build_line, inputs_line, run_line}
 use Rattle.command_line.specs.declared.refusal.Refusal.{Refusal}
 use Rattle.command_line.specs.declared.refusal.Refusal.TheVariants.{Build, Run, Replay, Inputs, File, Memory, Write}
 
+-- what it says behind the program's name
+abbrev pub rule_of : Refusal → List ℕ
+rule_of (Build fault) = build_line fault
+rule_of (Run fault) = run_line fault
+rule_of (Replay fault) = run_line fault
+rule_of (Inputs fault) = inputs_line fault
+rule_of (File name reason) = codes "file " ++ string_bytes name
+rule_of Memory = codes "memory"
+rule_of Write = codes "write"
+
 abbrev pub line_of : Refusal → List ℕ
-line_of (Build fault) = codes "mb: " ++ build_line fault
-line_of (Run fault) = codes "mb: " ++ run_line fault
-line_of (Replay fault) = codes "mb: " ++ run_line fault
-line_of (Inputs fault) = codes "mb: " ++ inputs_line fault
-line_of (File name reason) = codes "mb: file " ++ string_bytes name
-line_of Memory = codes "mb: memory"
-line_of Write = codes "mb: write"
+line_of r = codes "mb: " ++ rule_of r

@@ -43,7 +43,15 @@ abbrev pub AddsFound : Costs → List PartitionRow → List PartitionRow → Lis
 AddsFound costs all rows trees accepted old new =
     (found : List PartitionFindings) × (new ≡ old ++ found) × AreFoundOf costs (map partition_view all) (map partition_view rows) (map program_of trees) accepted found
 
--- each text is that of a program
+-- the text is that of a program
+abbrev pub HasTree : List ℕ → Type 0
+HasTree text = (tree : written.Program) × IsProgramOf text tree
+
+abbrev pub HaveTrees : List (List ℕ) → Type 0
+HaveTrees [] = Unit {0}
+HaveTrees (text ∷ texts) = HasTree text × HaveTrees texts
+
+-- each text is that of its program
 abbrev pub AreTrees : List (List ℕ) → List written.Program → Type 0
 AreTrees [] [] = Unit {0}
 AreTrees (text ∷ texts) (p ∷ ps) = IsProgramOf text p × AreTrees texts ps

@@ -1,8 +1,10 @@
 -- The command that the words of a command line ask for.
-use Rattle.std.specs.Prelude.{ℕ, Bool, false, List, Some, None, if◌then◌else◌, codes}
+use Rattle.std.specs.Prelude.{◌||◌, ℕ, Bool, false, List, Some, None, if◌then◌else◌, codes}
 use Rattle.std.specs.Str.{bytes_eq}
 use Rattle.clap.specs.Walk.{Row}
 use Rattle.command_words.specs.Found.{Entered, word_at, words_at}
+use Rattle.command_line.specs.declared.explaining.Style.{Style}
+use Rattle.command_line.specs.declared.explaining.Style.TheVariants.{Json, Plain}
 use Rattle.command_line.specs.declared.form.Form.{Form}
 use Rattle.command_line.specs.declared.form.Form.TheVariants.{Tables, Rows, Picture}
 
@@ -78,7 +80,11 @@ abbrev pub order_of : Entered → Order
 order_of None = First
 order_of (Some entered) = order_named entered.0 entered.1
 
--- whether the words ask for an explanation of a refusal
+-- whether the words ask for an explanation of a refusal, and how
 abbrev pub asks : Entered → Bool
 asks None = false
-asks (Some entered) = bytes_eq (word_at (codes "explain") entered.1) (codes "true")
+asks (Some entered) = is_flagged (codes "explain") entered.1 || is_flagged (codes "explain-json") entered.1
+
+abbrev pub style_of : Entered → Style
+style_of None = Plain
+style_of (Some entered) = if is_flagged (codes "explain-json") entered.1 then Json else Plain

@@ -18,9 +18,13 @@ any_sources_rule = record (new_rule (codes "SOURCE")) { range = Some (record { s
 abbrev pub explain_rule : Rule
 explain_rule = flag_rule (codes "explain")
 
--- a command that takes the flag
+-- and for one in JSON objects
+abbrev pub explain_json_rule : Rule
+explain_json_rule = flag_rule (codes "explain-json")
+
+-- a command that takes the flags
 abbrev pub explained_app : List ℕ → App
-explained_app name = with_rule (new_app name) explain_rule
+explained_app name = with_rule (with_rule (new_app name) explain_rule) explain_json_rule
 
 abbrev pub check_app : App
 check_app = with_rule (with_rule (explained_app (codes "check")) (word_rule (codes "TABLE"))) sources_rule

@@ -6,14 +6,15 @@ ghost use Rattle.clap.specs.Matches.{found_of};
 ghost use Rattle.clap.specs.Simple.{subcommand_of, subcommand_rows_of};
 ghost use Rattle.clap.specs.Walk.{rows_of};
 ghost use Rattle.command_line.specs.Done.{IsDone, IsDoneWith};
-ghost use Rattle.command_line.specs.Orders.{Build, Check, Upgrade, asks, form_of, order_of};
+ghost use Rattle.command_line.specs.Orders.{Build, Check, Upgrade, asks, form_of, is_flagged, order_of, style_of};
 ghost use Rattle.command_line.specs.Refusals.{IsBuildRefused, IsCheckRefused, IsFailure, IsFailureOfWords, IsUpgradeRefused};
+ghost use Rattle.command_line.specs.Spelled.{spelled};
 ghost use Rattle.command_line.specs.States.{state};
 ghost use Rattle.command_line.specs.Told.{IsOfFailed, IsOfFailedFile};
 ghost use Rattle.streams.specs.States.{IsFlushed, seen};
 ghost use Rattle.command_line.specs.Words.{mb_app};
 
-use crate::explaining::Note;
+use crate::explaining::{Note, Style};
 use crate::form::Form;
 use crate::grammar::grammar;
 use crate::linting::lint;
@@ -24,6 +25,7 @@ use crate::refusal::Refusal;
 use crate::replaying::{inputs, replay};
 use crate::running::{run, run_stored};
 use crate::showing::{cost, dis};
+use crate::words::spelled;
 use clap::ArgMatches;
 use command_words::{Failure, word};
 use module::Watch;
@@ -44,28 +46,29 @@ pub fn perform<S: AsStr, F: Files, O: Stream, W: Watch>(
     note: &mut Note,
 ) -> Result<Outcome, Failure<Refusal>>
     requires { O.failures out.old < 2 ^ 64 - 1 }
-    ensures asked { asked.old ≡ false → asks (subcommand_of mb_app (map S.text words.now)) ≡ false
+    ensures asked { asked.old ≡ false → asks (subcommand_of mb_app (spelled (map S.text words.now))) ≡ false
         → asked.new ≡ false }
-    ensures command { OnOk result (fault_of mb_app (map S.text words.now) ≡ []) }
+    ensures command { OnOk result (fault_of mb_app (spelled (map S.text words.now)) ≡ []) }
     ensures done { IfOk result
         (λ outcome.
-        IsDoneWith outcome (order_of (subcommand_of mb_app (map S.text words.now)))
+        IsDoneWith outcome (order_of (subcommand_of mb_app (spelled (map S.text words.now))))
         (state (F.contents files.old) (seen O.taken O.failures O.is_flushed out.old))
         (state (F.contents files.new) (seen O.taken O.failures O.is_flushed out.new))) }
     ensures flushed { OnOk result
         (IsFlushed (seen O.taken O.failures O.is_flushed out.old)
         (seen O.taken O.failures O.is_flushed out.new)) }
     ensures failed { IfErr result
-        (λ f. IsFailureOfWords (fault_of mb_app (map S.text words.now))
-        (order_of (subcommand_of mb_app (map S.text words.now)))
+        (λ f. IsFailureOfWords (fault_of mb_app (spelled (map S.text words.now)))
+        (order_of (subcommand_of mb_app (spelled (map S.text words.now))))
         (state (F.contents files.old) (seen O.taken O.failures O.is_flushed out.old))
         (state (F.contents files.new) (seen O.taken O.failures O.is_flushed out.new)) f) }
     ensures noted { OnOk result (F.failed files.new ≡ F.failed files.old) }
     ensures named { IfErr result (λ f. IsOfFailedFile (F.failed files.old) (F.failed files.new) f) }
 {
-    let matches = grammar(alloc)?.try_get_matches_from(words)?;
+    let words = spelled(alloc, words)?;
+    let matches = grammar(alloc)?.try_get_matches_from(words.as_slice())?;
     *asked = asks(&matches);
-    *note = Note::new(*asked);
+    *note = Note::new(*asked, style_of(&matches));
     obey(alloc, &matches, files, out, watch, note)
 }
 
@@ -74,8 +77,24 @@ fn asks(matches: &ArgMatches<'_>) -> bool
     ensures { result ≡ asks (subcommand_rows_of matches.now) }
 {
     match matches.subcommand() {
-        Some((_, found)) => word(found, "explain").as_bytes() == b"true".as_slice(),
+        Some((_, found)) => is_flagged(found, "explain") || is_flagged(found, "explain-json"),
         None => false,
+    }
+}
+
+fn is_flagged(found: &ArgMatches<'_>, name: &str) -> bool
+    ensures { result ≡ is_flagged name.now (rows_of (found_of found.now)) }
+{
+    word(found, name).as_bytes() == b"true".as_slice()
+}
+
+/// How the words ask for an explanation.
+fn style_of(matches: &ArgMatches<'_>) -> Style
+    ensures { result ≡ style_of (subcommand_rows_of matches.now) }
+{
+    match matches.subcommand() {
+        Some((_, found)) if is_flagged(found, "explain-json") => Style::Json,
+        _ => Style::Plain,
     }
 }
 

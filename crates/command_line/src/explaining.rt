@@ -1,24 +1,48 @@
 //! Explanations of refusals.
 
-ghost use Rattle.std.specs.Prelude.{◌≡◌, Some, map, option_map, string_bytes, IfSome};
+ghost use Rattle.std.specs.Prelude.{◌≡◌, Some, map, option_map, string_bytes, IfOk, IfSome};
 ghost use Rattle.module_meaning.specs.Accepted.{IsTable};
 ghost use Rattle.window_table.specs.Views.{partition_view, table_of};
-ghost use Rattle.explanations.specs.Files.{IsImageExplanation};
-ghost use Rattle.command_line.specs.Explained.{IsExplained, IsExplainedWith, IsNoted, IsNotedBy, IsNoteOf, IsOfInputs, IsOfReplay, IsOfRun, build_sentence, files_of, inputs_sentence, run_sentence, sentence_of, sentence_of_replay, source_of, told_text};
+ghost use Rattle.finding_lines.specs.Reports.{form_of};
+ghost use Rattle.command_line.specs.Explained.{IsCompleted, IsExplained, IsExplainedWith, IsNoted, IsNotedBy, IsNoteOf, IsOfImage, IsOfInputs, IsOfReplay, IsOfRun, build_sentence, files_of, form_in, inputs_sentence, object_of, run_sentence, sentence_of, sentence_of_replay, source_file, source_of, told_text};
 
-use crate::refusal::Refusal;
+use crate::outcome::Outcome;
+use crate::refusal::{Refusal, Rule};
 use apex_types::Name;
+use command_words::Failure;
 use explanations::{
     CommandFault, command_sentence, device_sentence, explain_devices, explain_image,
     explain_inputs, explain_source, explain_table, file_sentence, image_sentence, replay_sentence,
     source_sentence, table_sentence,
 };
+use finding_lines::{Form, Report, rule_line};
 use image::ImageFault;
 use module::{BuildFault, InputsFault, RunFault};
 use pal_base::fault::PalFault;
-use std::alloc::Global;
+use std::alloc::{AllocError, Global};
 use std::fmt;
 use window_table::{ModuleTable, PartitionRow, read_table};
+
+/// How a refusal is explained.
+#[derive(Clone, Copy, Debug, PartialEq, Eq)]
+pub enum Style {
+    /// In plain words.
+    Plain,
+    /// In JSON objects, one a line.
+    Json,
+}
+
+impl Style {
+    /// The form of findings by that rule.
+    fn form(self, rule: &str) -> Form<'_>
+        ensures { form_of result ≡ form_in self rule.now }
+    {
+        match self {
+            Style::Plain => Form::Plain,
+            Style::Json => Form::Json(rule),
+        }
+    }
+}
 
 /// The explanation of a refused file, for the lines behind that of its refusal.
 #[derive(Drop)]
@@ -26,34 +50,55 @@ pub enum Note {
     /// Nobody asked for an explanation.
     Unwanted,
     /// No file is refused so far.
-    Wanted,
+    Wanted(Style),
     /// The lines that explain the refusal of a file, to their end.
     Explained(String),
 }
 
 impl Note {
     /// Nothing is noted yet.
-    pub fn new(wanted: bool) -> Note {
-        if wanted { Note::Wanted } else { Note::Unwanted }
+    pub fn new(is_wanted: bool, style: Style) -> Note {
+        if is_wanted {
+            Note::Wanted(style)
+        } else {
+            Note::Unwanted
+        }
+    }
+
+    /// Notes the object of a refusal without a finding, if objects are wanted and there is memory for
+    /// it.
+    pub fn complete(&mut self, alloc: Global, outcome: &Result<Outcome, Failure<Refusal>>)
+        ensures { IsCompleted outcome.now self.old self.new }
+    {
+        let Err(Failure::Refused(refusal)) = outcome else {
+            return;
+        };
+        let Note::Wanted(Style::Json) = self else {
+            return;
+        };
+        if let Ok(text) = object_of(alloc, refusal) {
+            *self = Note::Explained(text);
+        }
     }
 
     /// Notes the explanation of a refused table or source, if it is wanted and there is memory for
-    /// it. `file` is the name of the table's file.
+    /// it. `file` is the name of the table's file, and `files` are those of the sources.
     pub fn explain(
         &mut self,
         alloc: Global,
         file: &str,
         table: &[u8],
+        files: &[&str],
         sources: &[&[u8]],
         fault: &BuildFault,
     )
-        ensures { IsNoteOf file.now table.now (map (λ s. s.now) sources.now) fault.now self.old
-            self.new }
+        ensures { IsNoteOf file.now table.now (map (λ s. s.now) files.now)
+            (map (λ s. s.now) sources.now) fault.now self.old self.new }
     {
-        let Note::Wanted = self else {
+        let Note::Wanted(style) = *self else {
             return;
         };
-        if let Some(text) = explanation(alloc, file, table, sources, fault) {
+        if let Some(text) = explanation(alloc, style, file, table, files, sources, fault) {
             *self = Note::Explained(text);
         }
     }
@@ -71,12 +116,12 @@ pub struct RunFiles<'a> {
 impl Note {
     /// Notes the explanation of a refused image, if it is wanted and there is memory for it.
     pub fn explain_image(&mut self, alloc: Global, file: &str, bytes: &[u8], fault: ImageFault)
-        ensures { IsNotedBy (IsImageExplanation file.now bytes.now fault) self.old self.new }
+        ensures { IsNotedBy (λ style. IsOfImage style file.now bytes.now fault) self.old self.new }
     {
-        let Note::Wanted = self else {
+        let Note::Wanted(style) = *self else {
             return;
         };
-        if let Some(text) = explain_image(alloc, file, bytes, fault) {
+        if let Some(text) = image_explanation(alloc, style, file, bytes, fault) {
             *self = Note::Explained(text);
         }
     }
@@ -84,12 +129,12 @@ impl Note {
     /// Notes the explanation of a run whose image or device text is refused, if it is wanted and there
     /// is memory for it.
     pub fn explain_run(&mut self, alloc: Global, files: RunFiles<'_>, fault: &RunFault)
-        ensures { IsNotedBy (IsOfRun (files_of files.entry) fault.now) self.old self.new }
+        ensures { IsNotedBy (λ style. IsOfRun style (files_of files.entry) fault.now) self.old self.new }
     {
-        let Note::Wanted = self else {
+        let Note::Wanted(style) = *self else {
             return;
         };
-        if let Some(text) = run_explanation(alloc, files, fault) {
+        if let Some(text) = run_explanation(alloc, style, files, fault) {
             *self = Note::Explained(text);
         }
     }
@@ -103,13 +148,14 @@ impl Note {
         partition: &str,
         fault: &RunFault,
     )
-        ensures { IsNotedBy (IsOfReplay (files_of files.entry) partition.now fault.now) self.old
+        ensures { IsNotedBy
+            (λ style. IsOfReplay style (files_of files.entry) partition.now fault.now) self.old
             self.new }
     {
-        let Note::Wanted = self else {
+        let Note::Wanted(style) = *self else {
             return;
         };
-        if let Some(text) = replay_explanation(alloc, files, partition, fault) {
+        if let Some(text) = replay_explanation(alloc, style, files, partition, fault) {
             *self = Note::Explained(text);
         }
     }
@@ -117,26 +163,56 @@ impl Note {
     /// Notes the explanation of inputs whose image or device text is refused, if it is wanted and there
     /// is memory for it.
     pub fn explain_inputs(&mut self, alloc: Global, files: RunFiles<'_>, fault: &InputsFault)
-        ensures { IsNotedBy (IsOfInputs (files_of files.entry) fault.now) self.old self.new }
+        ensures { IsNotedBy (λ style. IsOfInputs style (files_of files.entry) fault.now) self.old
+            self.new }
     {
-        let Note::Wanted = self else {
+        let Note::Wanted(style) = *self else {
             return;
         };
-        if let Some(text) = inputs_explanation(alloc, files, fault) {
+        if let Some(text) = inputs_explanation(alloc, style, files, fault) {
             *self = Note::Explained(text);
         }
     }
 }
 
-/// The explanation of a refused image or device text, if there is memory for it.
-fn run_explanation(alloc: Global, files: RunFiles<'_>, fault: &RunFault) -> Option<String>
+/// The explanation of a refused image, if there is memory for it.
+fn image_explanation(
+    alloc: Global,
+    style: Style,
+    file: &str,
+    bytes: &[u8],
+    fault: ImageFault,
+) -> Option<String>
     ensures { IfSome result
-        (λ text. IsOfRun (files_of files.entry) fault.now (string_bytes text)) }
+        (λ text. IsOfImage style file.now bytes.now fault (string_bytes text)) }
+{
+    let rule = RunFault::Image(fault);
+    let rule = format!(in alloc; "{rule}").ok()?;
+    let form = style.form(rule.as_str());
+    explain_image(alloc, Report { file, form }, bytes, fault)
+}
+
+/// The explanation of a refused image or device text, if there is memory for it.
+fn run_explanation(
+    alloc: Global,
+    style: Style,
+    files: RunFiles<'_>,
+    fault: &RunFault,
+) -> Option<String>
+    ensures { IfSome result
+        (λ text. IsOfRun style (files_of files.entry) fault.now (string_bytes text)) }
 {
     match fault {
-        RunFault::Image(fault) => explain_image(alloc, files.image_name, files.image, *fault),
-        RunFault::Device(fault) => {
-            explain_devices(alloc, files.text_name, files.image, files.text, *fault)
+        RunFault::Image(fault) => {
+            image_explanation(alloc, style, files.image_name, files.image, *fault)
+        }
+        RunFault::Device(device) => {
+            let rule = format!(in alloc; "{fault}").ok()?;
+            let report = Report {
+                file: files.text_name,
+                form: style.form(rule.as_str()),
+            };
+            explain_devices(alloc, report, files.image, files.text, *device)
         }
         _ => None,
     }
@@ -145,38 +221,52 @@ fn run_explanation(alloc: Global, files: RunFiles<'_>, fault: &RunFault) -> Opti
 /// The explanation of a refused image or replay text, if there is memory for it.
 fn replay_explanation(
     alloc: Global,
+    style: Style,
     files: RunFiles<'_>,
     partition: &str,
     fault: &RunFault,
 ) -> Option<String>
     ensures { IfSome result
-        (λ text. IsOfReplay (files_of files.entry) partition.now fault.now (string_bytes text)) }
+        (λ text.
+        IsOfReplay style (files_of files.entry) partition.now fault.now (string_bytes text)) }
 {
     match fault {
-        RunFault::Image(fault) => explain_image(alloc, files.image_name, files.image, *fault),
-        RunFault::Device(fault) => {
-            explain_inputs(
-                alloc,
-                files.text_name,
-                files.image,
-                partition,
-                files.text,
-                *fault,
-            )
+        RunFault::Image(fault) => {
+            image_explanation(alloc, style, files.image_name, files.image, *fault)
+        }
+        RunFault::Device(device) => {
+            let rule = format!(in alloc; "{fault}").ok()?;
+            let report = Report {
+                file: files.text_name,
+                form: style.form(rule.as_str()),
+            };
+            explain_inputs(alloc, report, files.image, partition, files.text, *device)
         }
         _ => None,
     }
 }
 
 /// The explanation of a refused image or device text, if there is memory for it.
-fn inputs_explanation(alloc: Global, files: RunFiles<'_>, fault: &InputsFault) -> Option<String>
+fn inputs_explanation(
+    alloc: Global,
+    style: Style,
+    files: RunFiles<'_>,
+    fault: &InputsFault,
+) -> Option<String>
     ensures { IfSome result
-        (λ text. IsOfInputs (files_of files.entry) fault.now (string_bytes text)) }
+        (λ text. IsOfInputs style (files_of files.entry) fault.now (string_bytes text)) }
 {
     match fault {
-        InputsFault::Image(fault) => explain_image(alloc, files.image_name, files.image, *fault),
-        InputsFault::Device(fault) => {
-            explain_devices(alloc, files.text_name, files.image, files.text, *fault)
+        InputsFault::Image(fault) => {
+            image_explanation(alloc, style, files.image_name, files.image, *fault)
+        }
+        InputsFault::Device(device) => {
+            let rule = format!(in alloc; "{fault}").ok()?;
+            let report = Report {
+                file: files.text_name,
+                form: style.form(rule.as_str()),
+            };
+            explain_devices(alloc, report, files.image, files.text, *device)
         }
         _ => None,
     }
@@ -185,19 +275,24 @@ fn inputs_explanation(alloc: Global, files: RunFiles<'_>, fault: &InputsFault) -
 /// The explanation of a refused table or source, if there is memory for it.
 fn explanation(
     alloc: Global,
+    style: Style,
     file: &str,
     table: &[u8],
+    files: &[&str],
     sources: &[&[u8]],
     fault: &BuildFault,
 ) -> Option<String>
     ensures { IfSome result
-        (λ text. IsNoted file.now table.now (map (λ s. s.now) sources.now) fault.now
-        (string_bytes text)) }
+        (λ text.
+        IsNoted style file.now table.now (map (λ s. s.now) files.now)
+        (map (λ s. s.now) sources.now) fault.now (string_bytes text)) }
 {
+    let shown = format!(in alloc; "{fault}").ok()?;
+    let form = style.form(shown.as_str());
     match fault {
-        BuildFault::Table(fault) => explain_table(alloc, file, table, *fault),
+        BuildFault::Table(rule) => explain_table(alloc, Report { file, form }, table, *rule),
         BuildFault::Pal { partition, fault } => {
-            explained(alloc, table, sources, partition, *fault)
+            explained(alloc, form, table, files, sources, partition, *fault)
         }
         _ => None,
     }
@@ -207,17 +302,20 @@ fn explanation(
 /// is memory for it.
 fn explained(
     alloc: Global,
+    form: Form<'_>,
     table: &[u8],
+    files: &[&str],
     sources: &[&[u8]],
     partition: &Name,
     fault: PalFault,
 ) -> Option<String>
     ensures { IfSome result
-        (λ text. IsExplained table.now (map (λ s. s.now) sources.now) partition.now fault
-        (string_bytes text)) }
+        (λ text.
+        IsExplained (form_of form.entry) table.now (map (λ s. s.now) files.now)
+        (map (λ s. s.now) sources.now) partition.now fault (string_bytes text)) }
 {
     let table = accepted(alloc, table)?;
-    explained_with(alloc, &table, sources, partition, fault)
+    explained_with(alloc, form, &table, files, sources, partition, fault)
 }
 
 /// The table of a text, if it is accepted and there is memory for it.
@@ -233,41 +331,56 @@ fn accepted(alloc: Global, text: &[u8]) -> Option<ModuleTable>
 /// The explanation of the source of the partition of that name in an accepted table.
 fn explained_with(
     alloc: Global,
+    form: Form<'_>,
     table: &ModuleTable,
+    files: &[&str],
     sources: &[&[u8]],
     partition: &Name,
     fault: PalFault,
 ) -> Option<String>
     ensures { IfSome result
         (λ text.
-        IsExplainedWith (table_of table.now) (map (λ s. s.now) sources.now) partition.now fault
-        (string_bytes text)) }
+        IsExplainedWith (form_of form.entry) (table_of table.now) (map (λ s. s.now) files.now)
+        (map (λ s. s.now) sources.now) partition.now fault (string_bytes text)) }
 {
-    let source = source_of(table.partitions.as_slice(), sources, partition)?;
-    match explain_source(alloc, source, fault) {
-        Ok(text) => Some(text),
-        Err(_) => None,
-    }
+    let source = source_of(table.partitions.as_slice(), files, sources, partition)?;
+    let report = Report {
+        file: source.file,
+        form,
+    };
+    explain_source(alloc, report, source.period, source.text, fault.refusal)
+}
+
+/// A source: the name of its file, its text, and the period of its partition.
+#[derive(Clone, Copy)]
+pub struct SourceFile<'a> {
+    pub file: &'a str,
+    pub text: &'a [u8],
+    pub period: u32,
 }
 
 /// The source of the partition of that name, one source standing for each partition.
 fn source_of<'a>(
     partitions: &[PartitionRow],
+    files: &'a [&'a str],
     sources: &'a [&'a [u8]],
     name: &Name,
-) -> Option<&'a [u8]>
-    ensures { option_map (λ s. s.now) result
-        ≡ source_of (map partition_view partitions.now) (map (λ s. s.now) sources.now) name.now }
+) -> Option<SourceFile<'a>>
+    ensures { option_map source_file result
+        ≡ source_of (map partition_view partitions.now) (map (λ s. s.now) files.now)
+        (map (λ s. s.now) sources.now) name.now }
 {
-    match (partitions.split_first(), sources.split_first()) {
-        (Some((partition, partitions)), Some((source, sources))) => {
-            if partition.name.as_bytes() == name.as_bytes() {
-                Some(*source)
-            } else {
-                source_of(partitions, sources, name)
-            }
-        }
-        _ => None,
+    let (partition, partitions) = partitions.split_first()?;
+    let (file, files) = files.split_first()?;
+    let (text, sources) = sources.split_first()?;
+    if partition.name.as_bytes() == name.as_bytes() {
+        Some(SourceFile {
+            file,
+            text,
+            period: partition.period,
+        })
+    } else {
+        source_of(partitions, files, sources, name)
     }
 }
 
@@ -334,6 +447,15 @@ fn inputs_sentence(fault: &InputsFault) -> &'static str
     }
 }
 
+/// The object of a refusal: what its line says, with the sentence of the rule as advice.
+fn object_of(alloc: Global, refusal: &Refusal) -> Result<String, AllocError>
+    ensures { IfOk result (λ text. string_bytes text ≡ object_of refusal.now) }
+{
+    let rule = Rule(refusal);
+    let rule = format!(in alloc; "{rule}")?;
+    rule_line(alloc, rule.as_str(), rule.as_str(), sentence_of(refusal))
+}
+
 /// The report of a refusal: its line, and an explanation behind it if the words asked for one.
 #[derive(Drop)]
 pub struct Told {
@@ -352,7 +474,7 @@ impl fmt::Display for Told {
         }
         match &self.note {
             Note::Explained(text) => write!(f, "{refusal}\n{text}"),
-            Note::Unwanted | Note::Wanted => writeln!(f, "{refusal}\n{}", sentence_of(refusal)),
+            Note::Unwanted | Note::Wanted(_) => writeln!(f, "{refusal}\n{}", sentence_of(refusal)),
         }
     }
 }

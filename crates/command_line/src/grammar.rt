@@ -215,11 +215,17 @@ fn of_partition<'a>(alloc: Global, name: &'a str) -> Result<Command<'a>, AllocEr
         .arg(required_word(alloc, "PARTITION", "The name of the partition"))
 }
 
-/// A command that takes the flag for explanations.
+/// A command that takes the flags for explanations.
 fn explained<'a>(alloc: Global, name: &'a str) -> Result<Command<'a>, AllocError>
     ensures { IfOk result (λ command. IsCommand command (explained_app name.entry.now)) }
 {
-    Command::new(alloc, name).arg(flag(alloc, "explain", "Explains a refusal in plain words"))
+    Command::new(alloc, name)
+        .arg(flag(alloc, "explain", "Explains a refusal in plain words"))?
+        .arg(flag(
+            alloc,
+            "explain-json",
+            "The same as --explain=json: explains it in JSON objects, for editors",
+        ))
 }
 
 fn sources<'a>(alloc: Global) -> Arg<'a>

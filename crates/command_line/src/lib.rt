@@ -7,8 +7,10 @@
 ghost use Rattle.std.specs.Prelude.{◌≡◌, ◌≤◌, ◌-◌, ◌^◌, ◌<◌, map};
 ghost use Rattle.clap.specs.Faults.{fault_of};
 ghost use Rattle.clap.specs.Simple.{subcommand_of};
-ghost use Rattle.command_line.specs.Answers.{IsAnswer};
+ghost use Rattle.command_line.specs.Answers.{IsAnswer, IsAnswerTo};
+ghost use Rattle.command_pages.specs.Pages.{page_of};
 ghost use Rattle.command_line.specs.Orders.{asks, order_of};
+ghost use Rattle.command_line.specs.Spelled.{spelled};
 ghost use Rattle.command_line.specs.States.{state};
 ghost use Rattle.streams.specs.States.{seen};
 ghost use Rattle.command_line.specs.Words.{mb_app};
@@ -21,16 +23,20 @@ mod grammar;
 mod linting;
 mod loading;
 mod outcome;
+mod pages;
 mod reading;
 mod refusal;
 mod replaying;
 mod running;
 mod showing;
 mod telling;
+mod words;
 
+use command_pages::page_of;
 use commands::perform;
-use explaining::Note;
+use explaining::{Note, Style};
 pub use module::{Unwatched, Watch};
+use pages::tell_page;
 pub use refusal::Refusal;
 use std::alloc::Global;
 use std::convert::AsStr;
@@ -40,7 +46,8 @@ use telling::tell;
 /// Does what the words of a command line say, the program's name first, and returns the exit
 /// status: 0; 1 for a refused command, with its line on `err`, and an explanation behind it if the
 /// words ask for one; 2 for words that are no command, with the usage on `err`; 3 for a command that
-/// is done and has found something. Help goes to `out`, with status 0.
+/// is done and has found something. Help goes to `out`, with status 0, and so do the
+/// program's own manual page and its completion for a shell.
 ///
 /// Faults are met in this order: the words, the files read in the order of the words, the build,
 /// the run or what is listed, the file written, the lines printed. An image is written only if it
@@ -55,16 +62,43 @@ pub fn command<S: AsStr, F: Files, O: Stream, E: Stream, W: Watch>(
 ) -> u8
     requires out { O.failures out.old < 2 ^ 64 - 1 }
     requires err { E.failures err.old < 2 ^ 64 - 1 }
-    ensures { IsAnswer (fault_of mb_app (map S.text words.now))
-        (order_of (subcommand_of mb_app (map S.text words.now)))
-        (asks (subcommand_of mb_app (map S.text words.now)))
+    ensures { IsAnswerTo (page_of (map S.text words.now))
+        (fault_of mb_app (spelled (map S.text words.now)))
+        (order_of (subcommand_of mb_app (spelled (map S.text words.now))))
+        (asks (subcommand_of mb_app (spelled (map S.text words.now))))
+        (state (F.contents files.old) (seen O.taken O.failures O.is_flushed out.old))
+        (state (F.contents files.new) (seen O.taken O.failures O.is_flushed out.new))
+        (F.failed files.old) (F.failed files.new) (seen E.taken E.failures E.is_flushed err.old)
+        (seen E.taken E.failures E.is_flushed err.new) result }
+{
+    match page_of(words) {
+        Some(page) => tell_page(alloc, page, out, err),
+        None => answer(alloc, words, files, out, err, watch),
+    }
+}
+
+/// The same for words that ask for no page.
+fn answer<S: AsStr, F: Files, O: Stream, E: Stream, W: Watch>(
+    alloc: Global,
+    words: &[S],
+    files: &mut F,
+    out: &mut O,
+    err: &mut E,
+    watch: &mut W,
+) -> u8
+    requires out { O.failures out.old < 2 ^ 64 - 1 }
+    requires err { E.failures err.old < 2 ^ 64 - 1 }
+    ensures { IsAnswer (fault_of mb_app (spelled (map S.text words.now)))
+        (order_of (subcommand_of mb_app (spelled (map S.text words.now))))
+        (asks (subcommand_of mb_app (spelled (map S.text words.now))))
         (state (F.contents files.old) (seen O.taken O.failures O.is_flushed out.old))
         (state (F.contents files.new) (seen O.taken O.failures O.is_flushed out.new))
         (F.failed files.old) (F.failed files.new) (seen E.taken E.failures E.is_flushed err.old)
         (seen E.taken E.failures E.is_flushed err.new) result }
 {
     let mut asked = false;
-    let mut note = Note::new(false);
+    let mut note = Note::new(false, Style::Plain);
     let outcome = perform(alloc, words, files, out, watch, &mut asked, &mut note);
+    note.complete(alloc, &outcome);
     tell(outcome, asked, note, out, err)
 }

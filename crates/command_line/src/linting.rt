@@ -4,8 +4,11 @@ ghost use Rattle.std.specs.Prelude.{◌≡◌, ◌-◌, ◌^◌, ◌<◌, map, I
 ghost use Rattle.std.specs.Io.KnownBytes.{Appends};
 ghost use Rattle.apex_types.specs.Line.{TakesBeginning};
 ghost use Rattle.lint.specs.Sentences.{findings_text};
+ghost use Rattle.pal_base.specs.WrittenView.{program_of};
+ghost use Rattle.pal_base.specs.declared.fault.Refusal.TheVariants.{Memory};
+ghost use Rattle.pal_meaning.specs.Grammar.{IsProgramOf};
 ghost use Rattle.command_line.specs.Done.{IsDoneWith, IsModuleIn};
-ghost use Rattle.command_line.specs.Linting.{AddsFound, AddsTrees, AreNotShown, AreShown, IsReadModule};
+ghost use Rattle.command_line.specs.Linting.{AddsFound, AddsTrees, AreNotShown, AreShown, HasTree, HaveTrees, IsReadModule};
 ghost use Rattle.command_line.specs.Orders.{Lint};
 ghost use Rattle.command_line.specs.Outcomes.{is_remarkable};
 ghost use Rattle.command_line.specs.Reading.{IsUncostedText, texts_of};
@@ -22,6 +25,7 @@ use apex_types::{Costs, SinkFault};
 use lint::{PartitionFindings, partition_findings, write_findings};
 use module::AcceptedModule;
 use pal::Checked;
+use pal_base::fault::PalFault;
 use pal_base::parse::parse;
 use pal_base::syntax::Program;
 use std::alloc::{AllocError, Global};
@@ -106,10 +110,17 @@ fn module_named<F: Files>(
     ensures noted { OnOk result (F.failed files.new ≡ F.failed files.old) }
     ensures named { IfErr result (λ r. IsOfFailed (F.failed files.old) (F.failed files.new) r) }
 {
-    let name = table;
+    let (name, names) = (table, sources);
     let table = read_table(alloc, name, files)?;
-    let sources = read_sources(alloc, sources, files)?;
-    read_texts(alloc, name, table.as_slice(), sources.as_slice(), note)
+    let sources = read_sources(alloc, names, files)?;
+    read_texts(
+        alloc,
+        name,
+        table.as_slice(),
+        names,
+        sources.as_slice(),
+        note,
+    )
 }
 
 /// The module of a table and its sources.
@@ -117,27 +128,41 @@ fn read_texts(
     alloc: Global,
     name: &str,
     table: &[u8],
+    names: &[&str],
     sources: &[Vec<u8>],
     note: &mut Note,
 ) -> Result<ReadModule, Refusal>
     ensures read { IfOk result (λ m. IsReadModule table.now (texts_of sources.now) m) }
     ensures refused { IfErr result (λ r. IsUncostedText table.now (texts_of sources.now) r) }
 {
-    let accepted = module_of_texts(alloc, name, table, sources, note)?;
+    let accepted = module_of_texts(alloc, name, table, names, sources, note)?;
     let mut trees = Vec::new(alloc);
     add_trees(alloc, sources, &mut trees)?;
     Ok(ReadModule { accepted, trees })
 }
 
-/// Adds accepted sources as they are written.
+/// The tree of a source that has one.
+///
+/// # Errors
+///
+/// Memory ran out; there is no other.
+fn tree_of(alloc: Global, source: &[u8]) -> Result<Program, PalFault>
+    requires { HasTree source.now }
+    ensures tree { IfOk result (λ program. IsProgramOf source.now (program_of program)) }
+    ensures memory { IfErr result (λ fault. fault.refusal ≡ Memory) }
+{
+    parse(alloc, source)
+}
+
+/// Adds sources that have trees as they are written.
 fn add_trees(alloc: Global, sources: &[Vec<u8>], trees: &mut Vec<Program>) -> Result<(), AllocError>
+    requires { HaveTrees (texts_of sources.now) }
     ensures { OnOk result (AddsTrees (texts_of sources.now) trees.old.items trees.new.items) }
 {
     let Some((source, sources)) = sources.split_first() else {
         return Ok(());
     };
-    // An accepted source is the text of a program, so nothing but memory can be lacking.
-    let Ok(tree) = parse(alloc, source.as_slice()) else {
+    let Ok(tree) = tree_of(alloc, source.as_slice()) else {
         return Err(AllocError);
     };
     trees.push(tree)?;

@@ -81,13 +81,20 @@ fn loaded_named<F: Files>(
     ensures noted { OnOk result (F.failed files.new ≡ F.failed files.old) }
     ensures named { IfErr result (λ r. IsOfFailed (F.failed files.old) (F.failed files.new) r) }
 {
-    let name = table;
+    let (name, names) = (table, sources);
     let table = read_table(alloc, name, files)?;
-    match sources.split_first() {
+    match names.split_first() {
         None => load_of_text(alloc, name, table.as_slice(), note),
         Some(_) => {
-            let sources = read_sources(alloc, sources, files)?;
-            load_of_texts(alloc, name, table.as_slice(), sources.as_slice(), note)
+            let sources = read_sources(alloc, names, files)?;
+            load_of_texts(
+                alloc,
+                name,
+                table.as_slice(),
+                names,
+                sources.as_slice(),
+                note,
+            )
         }
     }
 }
@@ -100,7 +107,7 @@ fn load_of_text(alloc: Global, name: &str, table: &[u8], note: &mut Note) -> Res
     match accept_table(alloc, table) {
         Ok(accepted) => Ok(load_of_accepted(alloc, accepted, Vec::new(alloc))?),
         Err(fault) => {
-            note.explain(alloc, name, table, &[], &fault);
+            note.explain(alloc, name, table, &[], &[], &fault);
             Err(Refusal::Build(fault))
         }
     }
@@ -111,13 +118,16 @@ fn load_of_texts(
     alloc: Global,
     name: &str,
     table: &[u8],
+    names: &[&str],
     sources: &[Vec<u8>],
     note: &mut Note,
 ) -> Result<Loaded, Refusal>
     ensures loaded { IfOk result (λ loaded. AreLoaded table.now (texts_of sources.now) loaded.load) }
     ensures refused { IfErr result (λ r. IsUncostedText table.now (texts_of sources.now) r) }
 {
-    let AcceptedModule { table, sources } = module_of_texts(alloc, name, table, sources, note)?;
+    let AcceptedModule { table, sources } = module_of_texts(
+        alloc, name, table, names, sources, note,
+    )?;
     Ok(load_of_accepted(alloc, table, sources)?)
 }
 

@@ -119,10 +119,17 @@ pub fn build_named<F: Files>(
     ensures noted { OnOk result (F.failed files.new ≡ F.failed files.old) }
     ensures named { IfErr result (λ r. IsOfFailed (F.failed files.old) (F.failed files.new) r) }
 {
-    let name = table;
+    let (name, names) = (table, sources);
     let table = read_table(alloc, name, files)?;
-    let sources = read_sources(alloc, sources, files)?;
-    build_texts(alloc, name, table.as_slice(), sources.as_slice(), note)
+    let sources = read_sources(alloc, names, files)?;
+    build_texts(
+        alloc,
+        name,
+        table.as_slice(),
+        names,
+        sources.as_slice(),
+        note,
+    )
 }
 
 /// The image of a table and its sources.
@@ -130,6 +137,7 @@ fn build_texts(
     alloc: Global,
     name: &str,
     table: &[u8],
+    names: &[&str],
     sources: &[Vec<u8>],
     note: &mut Note,
 ) -> Result<Vec<u8>, Refusal>
@@ -140,7 +148,7 @@ fn build_texts(
     match module::build(alloc, table, texts.as_slice()) {
         Ok(image) => Ok(image),
         Err(fault) => {
-            note.explain(alloc, name, table, texts.as_slice(), &fault);
+            note.explain(alloc, name, table, names, texts.as_slice(), &fault);
             Err(Refusal::Build(fault))
         }
     }
@@ -164,10 +172,17 @@ pub fn costs_named<F: Files>(
     ensures noted { OnOk result (F.failed files.new ≡ F.failed files.old) }
     ensures named { IfErr result (λ r. IsOfFailed (F.failed files.old) (F.failed files.new) r) }
 {
-    let name = table;
+    let (name, names) = (table, sources);
     let table = read_table(alloc, name, files)?;
-    let sources = read_sources(alloc, sources, files)?;
-    costs_of_texts(alloc, name, table.as_slice(), sources.as_slice(), note)
+    let sources = read_sources(alloc, names, files)?;
+    costs_of_texts(
+        alloc,
+        name,
+        table.as_slice(),
+        names,
+        sources.as_slice(),
+        note,
+    )
 }
 
 /// The costs of a table and its sources.
@@ -175,6 +190,7 @@ fn costs_of_texts(
     alloc: Global,
     name: &str,
     table: &[u8],
+    names: &[&str],
     sources: &[Vec<u8>],
     note: &mut Note,
 ) -> Result<Vec<PartitionCosts>, Refusal>
@@ -185,18 +201,19 @@ fn costs_of_texts(
     match module::costs(alloc, table, texts.as_slice()) {
         Ok(costs) => Ok(costs),
         Err(fault) => {
-            note.explain(alloc, name, table, texts.as_slice(), &fault);
+            note.explain(alloc, name, table, names, texts.as_slice(), &fault);
             Err(Refusal::Build(fault))
         }
     }
 }
 
 /// An accepted table and its sources. A refusal is explained in `note`; `name` is that of the
-/// table's file.
+/// table's file, and `names` are those of the sources.
 pub fn module_of_texts(
     alloc: Global,
     name: &str,
     table: &[u8],
+    names: &[&str],
     sources: &[Vec<u8>],
     note: &mut Note,
 ) -> Result<AcceptedModule, Refusal>
@@ -208,7 +225,7 @@ pub fn module_of_texts(
     match module::accept_module(alloc, table, texts.as_slice()) {
         Ok(module) => Ok(module),
         Err(fault) => {
-            note.explain(alloc, name, table, texts.as_slice(), &fault);
+            note.explain(alloc, name, table, names, texts.as_slice(), &fault);
             Err(Refusal::Build(fault))
         }
     }

@@ -1,7 +1,7 @@
 //! Why a command was refused.
 
 ghost use Rattle.std.specs.Prelude.{◌≡◌, Some};
-ghost use Rattle.command_line.specs.Lines.{line_of};
+ghost use Rattle.command_line.specs.Lines.{line_of, rule_of};
 ghost use Rattle.command_line.specs.Refusals.{refusal_of_both};
 ghost use Rattle.command_line.specs.Told.{of_file};
 ghost use Rattle.command_line.specs.declared.refusal.Refusal.TheVariants as refusal;
@@ -40,18 +40,31 @@ impl Refusal {
     }
 }
 
+/// What the line of a refusal says behind the program's name.
+#[derive(Clone, Copy)]
+pub struct Rule<'a>(pub &'a Refusal);
+
+impl<'a> fmt::Display for Rule<'a> {
+    ghost output = { λ rule. Some (rule_of rule.field-0.now) };
+
+    fn fmt<W: fmt::Write>(&self, f: &mut fmt::Formatter<W>) -> fmt::Result {
+        match self.0 {
+            Refusal::Build(fault) => write!(f, "{fault}"),
+            Refusal::Run(fault) | Refusal::Replay(fault) => write!(f, "{fault}"),
+            Refusal::Inputs(fault) => write!(f, "{fault}"),
+            Refusal::File(name, _) => write!(f, "file {name}"),
+            Refusal::Memory => write!(f, "memory"),
+            Refusal::Write => write!(f, "write"),
+        }
+    }
+}
+
 impl fmt::Display for Refusal {
     ghost output = { λ refusal. Some (line_of refusal) };
 
     fn fmt<W: fmt::Write>(&self, f: &mut fmt::Formatter<W>) -> fmt::Result {
-        match self {
-            Refusal::Build(fault) => write!(f, "mb: {fault}"),
-            Refusal::Run(fault) | Refusal::Replay(fault) => write!(f, "mb: {fault}"),
-            Refusal::Inputs(fault) => write!(f, "mb: {fault}"),
-            Refusal::File(name, _) => write!(f, "mb: file {name}"),
-            Refusal::Memory => write!(f, "mb: memory"),
-            Refusal::Write => write!(f, "mb: write"),
-        }
+        let rule = Rule(self);
+        write!(f, "mb: {rule}")
     }
 }
 

@@ -2,6 +2,7 @@
 
 ghost use Rattle.std.specs.Prelude.{◌≡◌, IfSome, option_map, string_bytes};
 ghost use Rattle.engine_meaning.specs.Digits.{same};
+ghost use Rattle.finding_lines.specs.Reports.{report_of};
 ghost use Rattle.image.specs.Items.{items_of, partition_of};
 ghost use Rattle.image.specs.Views.{image_of};
 ghost use Rattle.machine_meaning.specs.ImageReading.{image_at};
@@ -9,8 +10,10 @@ ghost use Rattle.explanations.specs.Files as spec;
 ghost use Rattle.text_findings.specs.Views.{names_of};
 ghost use Rattle.text_names.specs.Named.{input_names};
 
+use crate::report::explanation;
 use crate::sentences::{device_sentence, image_sentence, replay_sentence};
 use apex_types::DeviceFault;
+use finding_lines::Report;
 use image::{Image, ImageFault, PartitionItem, load_image};
 use std::alloc::Global;
 use text_findings::Names;
@@ -18,40 +21,37 @@ use text_names::{device_names, input_names};
 use window_table::PartitionRow;
 
 /// The explanation of a refused image: a line with the sentence of its fault, and the lines of what is
-/// wrong with it. `file` is its name. There is none if memory runs out.
-pub fn explain_image(alloc: Global, file: &str, bytes: &[u8], fault: ImageFault) -> Option<String>
+/// wrong with it. There is none if memory runs out.
+pub fn explain_image(
+    alloc: Global,
+    report: Report<'_>,
+    bytes: &[u8],
+    fault: ImageFault,
+) -> Option<String>
     ensures { IfSome result
-        (λ text. spec.IsImageExplanation file.now bytes.now fault (string_bytes text)) }
+        (λ text. spec.IsImageExplanation (report_of report.entry) bytes.now fault (string_bytes text)) }
 {
-    let lines = image_findings::explain_image(alloc, file, bytes)?;
-    explanation(alloc, image_sentence(fault), lines.as_str())
+    let lines = image_findings::explain_image(alloc, report, bytes)?;
+    explanation(alloc, report.form, image_sentence(fault), lines.as_str())
 }
 
-/// A sentence on a line of its own, and the lines behind it.
-fn explanation(alloc: Global, sentence: &str, lines: &str) -> Option<String>
-    ensures { IfSome result
-        (λ text. string_bytes text ≡ spec.explanation sentence.now lines.now) }
-{
-    format!(in alloc; "{sentence}\n{lines}").ok()
-}
-
-/// The explanation of a device text that is refused for the image of these bytes. `file` is its name.
+/// The explanation of a device text that is refused for the image of these bytes.
 /// There is none if memory runs out.
 pub fn explain_devices(
     alloc: Global,
-    file: &str,
+    report: Report<'_>,
     image: &[u8],
     text: &[u8],
     fault: DeviceFault,
 ) -> Option<String>
     ensures { IfSome result
         (λ lines.
-        spec.IsDeviceExplanation file.now image.now text.now fault (string_bytes lines)) }
+        spec.IsDeviceExplanation (report_of report.entry) image.now text.now fault (string_bytes lines)) }
 {
     let image = loaded(alloc, image)?;
     let names = device_names(alloc, &image).ok()?;
-    let lines = text_lines(alloc, file, &names, text)?;
-    explanation(alloc, device_sentence(fault), lines.as_str())
+    let lines = text_lines(alloc, report, &names, text)?;
+    explanation(alloc, report.form, device_sentence(fault), lines.as_str())
 }
 
 /// The image of these bytes, if they are one and there is memory for it.
@@ -65,21 +65,21 @@ fn loaded(alloc: Global, bytes: &[u8]) -> Option<Image>
 }
 
 /// The lines of what is wrong with a text of these names.
-fn text_lines(alloc: Global, file: &str, names: &Names<'_>, text: &[u8]) -> Option<String>
+fn text_lines(alloc: Global, report: Report<'_>, names: &Names<'_>, text: &[u8]) -> Option<String>
     ensures { IfSome result
-        (λ lines. spec.AreOfText file.now (names_of names.now) text.now (string_bytes lines)) }
+        (λ lines. spec.AreOfText (report_of report.entry) (names_of names.now) text.now (string_bytes lines)) }
 {
-    match text_findings::explain_text(alloc, file, names, text) {
+    match text_findings::explain_text(alloc, report, names, text) {
         Ok(lines) => lines,
         Err(_) => None,
     }
 }
 
 /// The explanation of a replay text that is refused for the partition of that name of the image of
-/// these bytes. `file` is the name of the text. There is none if memory runs out.
+/// these bytes. There is none if memory runs out.
 pub fn explain_inputs(
     alloc: Global,
-    file: &str,
+    report: Report<'_>,
     image: &[u8],
     partition: &str,
     text: &[u8],
@@ -87,40 +87,40 @@ pub fn explain_inputs(
 ) -> Option<String>
     ensures { IfSome result
         (λ lines.
-        spec.IsReplayExplanation file.now image.now partition.now text.now fault
+        spec.IsReplayExplanation (report_of report.entry) image.now partition.now text.now fault
         (string_bytes lines)) }
 {
     let image = loaded(alloc, image)?;
-    let lines = partition_lines(alloc, file, &image, partition, text)?;
-    explanation(alloc, replay_sentence(fault), lines.as_str())
+    let lines = partition_lines(alloc, report, &image, partition, text)?;
+    explanation(alloc, report.form, replay_sentence(fault), lines.as_str())
 }
 
 /// The lines of what is wrong with a replay text for the partition of that name.
 fn partition_lines(
     alloc: Global,
-    file: &str,
+    report: Report<'_>,
     image: &Image,
     partition: &str,
     text: &[u8],
 ) -> Option<String>
     ensures { IfSome result
         (λ lines.
-        spec.AreOfPartition file.now (image_of image.now) partition.now text.now
+        spec.AreOfPartition (report_of report.entry) (image_of image.now) partition.now text.now
         (string_bytes lines)) }
 {
     let row = row_named(image.partitions.as_slice(), partition)?;
-    row_lines(alloc, file, row, text)
+    row_lines(alloc, report, row, text)
 }
 
 /// The lines of what is wrong with a replay text for the partition of this row.
-fn row_lines(alloc: Global, file: &str, row: &PartitionRow, text: &[u8]) -> Option<String>
+fn row_lines(alloc: Global, report: Report<'_>, row: &PartitionRow, text: &[u8]) -> Option<String>
     ensures { IfSome result
         (λ lines.
-        spec.AreOfText file.now (input_names (partition_of row.now)) text.now
+        spec.AreOfText (report_of report.entry) (input_names (partition_of row.now)) text.now
         (string_bytes lines)) }
 {
     let names = input_names(alloc, row).ok()?;
-    text_lines(alloc, file, &names, text)
+    text_lines(alloc, report, &names, text)
 }
 
 /// The row of the partition of that name.

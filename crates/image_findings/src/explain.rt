@@ -1,6 +1,7 @@
 //! The lines of what is wrong with an image.
 
 ghost use Rattle.std.specs.Prelude.{◌≡◌, false, Err, IfOk, IfSome, string_bytes};
+ghost use Rattle.finding_lines.specs.Reports.{report_of};
 ghost use Rattle.image_findings.specs.Explained as spec;
 ghost use Rattle.image.specs.Named.{named};
 ghost use Rattle.image_findings.specs.Seen.{is_truncated};
@@ -9,45 +10,44 @@ ghost use Rattle.machine_meaning.specs.ImageReading.{image_at};
 use crate::beginnings::has_all_fields;
 use crate::foreign::foreign_lines;
 use crate::seen::seen_at;
-use finding_lines::{byte_lines, file_lines};
+use finding_lines::{Report, byte_lines, file_lines};
 use image::{ImageFault, load_image};
 use std::alloc::{AllocError, Global};
 
 /// What is wrong with the bytes of an image: the byte at which it was seen, what it is, and what to
-/// do. `file` is its name. There is nothing to say of an image that is accepted, and nothing is said
-/// if memory runs out.
-pub fn explain_image(alloc: Global, file: &str, bytes: &[u8]) -> Option<String>
-    ensures { IfSome result (λ lines. spec.IsExplanation file.now bytes.now (string_bytes lines)) }
+/// do. There is nothing to say of an image that is accepted, and nothing is said if memory runs out.
+pub fn explain_image(alloc: Global, report: Report<'_>, bytes: &[u8]) -> Option<String>
+    ensures { IfSome result (λ lines. spec.IsExplanation (report_of report.entry) bytes.now (string_bytes lines)) }
 {
     match load_image(alloc, bytes) {
         Ok(_) => None,
-        Err(fault) => fault_lines(alloc, file, bytes, fault),
+        Err(fault) => fault_lines(alloc, report, bytes, fault),
     }
 }
 
 /// The lines that tell a fault of these bytes.
 #[tactic(auto, using(crate::proofs::Told::of_fault))]
-fn fault_lines(alloc: Global, file: &str, bytes: &[u8], fault: ImageFault) -> Option<String>
+fn fault_lines(alloc: Global, report: Report<'_>, bytes: &[u8], fault: ImageFault) -> Option<String>
     requires { IfSome (named fault) (λ f. image_at bytes.now ≡ Err f) }
-    ensures { IfSome result (λ lines. spec.IsExplanation file.now bytes.now (string_bytes lines)) }
+    ensures { IfSome result (λ lines. spec.IsExplanation (report_of report.entry) bytes.now (string_bytes lines)) }
 {
     match fault {
-        ImageFault::Truncated => cut_lines(alloc, file, bytes.len()).ok(),
-        ImageFault::Foreign => foreign_lines(alloc, file, bytes).ok(),
-        ImageFault::Limit => limit_lines(alloc, file, bytes).ok(),
-        ImageFault::Order => order_lines(alloc, file, bytes).ok(),
-        ImageFault::Trailing => trailing_lines(alloc, file, bytes).ok(),
+        ImageFault::Truncated => cut_lines(alloc, report, bytes.len()).ok(),
+        ImageFault::Foreign => foreign_lines(alloc, report, bytes).ok(),
+        ImageFault::Limit => limit_lines(alloc, report, bytes).ok(),
+        ImageFault::Order => order_lines(alloc, report, bytes).ok(),
+        ImageFault::Trailing => trailing_lines(alloc, report, bytes).ok(),
         ImageFault::Memory => None,
     }
 }
 
 /// That the bytes end within a field.
-fn cut_lines(alloc: Global, file: &str, length: usize) -> Result<String, AllocError>
-    ensures { IfOk result (λ lines. string_bytes lines ≡ spec.cut_lines file.now length) }
+fn cut_lines(alloc: Global, report: Report<'_>, length: usize) -> Result<String, AllocError>
+    ensures { IfOk result (λ lines. string_bytes lines ≡ spec.cut_lines (report_of report.entry) length) }
 {
     byte_lines(
         alloc,
-        file,
+        report,
         length,
         "the file ends here, within the image",
         "Copy the whole file, or build the image anew.",
@@ -56,45 +56,50 @@ fn cut_lines(alloc: Global, file: &str, length: usize) -> Result<String, AllocEr
 
 /// That a value is outside its limit, or that all of them break a rule together.
 #[tactic(auto, using(crate::proofs::Told::of_limit))]
-fn limit_lines(alloc: Global, file: &str, bytes: &[u8]) -> Result<String, AllocError>
+fn limit_lines(alloc: Global, report: Report<'_>, bytes: &[u8]) -> Result<String, AllocError>
     requires { is_truncated (image_at bytes.now) ≡ false }
-    ensures { IfOk result (λ lines. spec.IsOfLimit file.now bytes.now (string_bytes lines)) }
+    ensures { IfOk result (λ lines. spec.IsOfLimit (report_of report.entry) bytes.now (string_bytes lines)) }
 {
     let all = has_all_fields(alloc, bytes)?;
-    limit_lines_if(alloc, file, bytes, all)
+    limit_lines_if(alloc, report, bytes, all)
 }
 
 /// The same, by whether all fields are there.
 #[tactic(auto, using(crate::proofs::Told::of_value))]
-fn limit_lines_if(alloc: Global, file: &str, bytes: &[u8], all: bool) -> Result<String, AllocError>
+fn limit_lines_if(
+    alloc: Global,
+    report: Report<'_>,
+    bytes: &[u8],
+    all: bool,
+) -> Result<String, AllocError>
     requires { is_truncated (image_at bytes.now) ≡ false }
-    ensures { IfOk result (λ lines. spec.IsOfLimitIf all file.now bytes.now (string_bytes lines)) }
+    ensures { IfOk result (λ lines. spec.IsOfLimitIf all (report_of report.entry) bytes.now (string_bytes lines)) }
 {
     if all {
-        rule_lines(alloc, file)
+        rule_lines(alloc, report)
     } else {
         let place = seen_at(alloc, bytes)?;
-        limit_lines_at(alloc, file, place)
+        limit_lines_at(alloc, report, place)
     }
 }
 
-fn rule_lines(alloc: Global, file: &str) -> Result<String, AllocError>
-    ensures { IfOk result (λ lines. string_bytes lines ≡ spec.rule_lines file.now) }
+fn rule_lines(alloc: Global, report: Report<'_>) -> Result<String, AllocError>
+    ensures { IfOk result (λ lines. string_bytes lines ≡ spec.rule_lines (report_of report.entry)) }
 {
     file_lines(
         alloc,
-        file,
+        report,
         "each value is within its limit, and together they break a rule of the module table",
         "Bytes of the image were changed: build it anew.",
     )
 }
 
-fn limit_lines_at(alloc: Global, file: &str, place: usize) -> Result<String, AllocError>
-    ensures { IfOk result (λ lines. string_bytes lines ≡ spec.limit_lines_at file.now place) }
+fn limit_lines_at(alloc: Global, report: Report<'_>, place: usize) -> Result<String, AllocError>
+    ensures { IfOk result (λ lines. string_bytes lines ≡ spec.limit_lines_at (report_of report.entry) place) }
 {
     byte_lines(
         alloc,
-        file,
+        report,
         place,
         "the value that ends with this byte is outside its limit",
         "Bytes of the image were changed: build it anew.",
@@ -103,21 +108,21 @@ fn limit_lines_at(alloc: Global, file: &str, place: usize) -> Result<String, All
 
 /// That a name is repeated, or a window begins too early.
 #[tactic(auto, using(crate::proofs::Told::of_order))]
-fn order_lines(alloc: Global, file: &str, bytes: &[u8]) -> Result<String, AllocError>
+fn order_lines(alloc: Global, report: Report<'_>, bytes: &[u8]) -> Result<String, AllocError>
     requires { is_truncated (image_at bytes.now) ≡ false }
     ensures { IfOk result
-        (λ lines. spec.IsOfOrder file.now bytes.now (string_bytes lines)) }
+        (λ lines. spec.IsOfOrder (report_of report.entry) bytes.now (string_bytes lines)) }
 {
     let place = seen_at(alloc, bytes)?;
-    order_lines_at(alloc, file, place)
+    order_lines_at(alloc, report, place)
 }
 
-fn order_lines_at(alloc: Global, file: &str, place: usize) -> Result<String, AllocError>
-    ensures { IfOk result (λ lines. string_bytes lines ≡ spec.order_lines_at file.now place) }
+fn order_lines_at(alloc: Global, report: Report<'_>, place: usize) -> Result<String, AllocError>
+    ensures { IfOk result (λ lines. string_bytes lines ≡ spec.order_lines_at (report_of report.entry) place) }
 {
     byte_lines(
         alloc,
-        file,
+        report,
         place,
         "the name that ends with this byte was used before, or the window begins too early",
         "Bytes of the image were changed: build it anew.",
@@ -126,28 +131,28 @@ fn order_lines_at(alloc: Global, file: &str, place: usize) -> Result<String, All
 
 /// How many bytes the image has, and how many the file.
 #[tactic(auto, using(crate::proofs::Told::of_trailing))]
-fn trailing_lines(alloc: Global, file: &str, bytes: &[u8]) -> Result<String, AllocError>
+fn trailing_lines(alloc: Global, report: Report<'_>, bytes: &[u8]) -> Result<String, AllocError>
     requires { is_truncated (image_at bytes.now) ≡ false }
     ensures { IfOk result
-        (λ lines. spec.IsOfTrailing file.now bytes.now (string_bytes lines)) }
+        (λ lines. spec.IsOfTrailing (report_of report.entry) bytes.now (string_bytes lines)) }
 {
     let place = seen_at(alloc, bytes)?;
-    trailing_lines_at(alloc, file, place.saturating_add(1), bytes.len())
+    trailing_lines_at(alloc, report, place.saturating_add(1), bytes.len())
 }
 
 fn trailing_lines_at(
     alloc: Global,
-    file: &str,
+    report: Report<'_>,
     image: usize,
     length: usize,
 ) -> Result<String, AllocError>
     ensures { IfOk result
-        (λ lines. string_bytes lines ≡ spec.trailing_lines_at file.now image length) }
+        (λ lines. string_bytes lines ≡ spec.trailing_lines_at (report_of report.entry) image length) }
 {
     let said = trailing_text(alloc, image, length)?;
     byte_lines(
         alloc,
-        file,
+        report,
         image,
         said.as_str(),
         "Leave out what follows the image, or build it anew.",

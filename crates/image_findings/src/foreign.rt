@@ -1,28 +1,29 @@
 //! Bytes that are no image of a known version.
 
 ghost use Rattle.std.specs.Prelude.{◌≡◌, ◌+◌, ◌≤◌, IfOk, drop, length, string_bytes};
+ghost use Rattle.finding_lines.specs.Reports.{report_of};
 ghost use Rattle.image_findings.specs.Explained.{foreign_lines, first_other, version_lines, version_number, version_text};
 
 use apex_types::MAGIC;
-use finding_lines::byte_lines;
+use finding_lines::{Report, byte_lines};
 use std::alloc::{AllocError, Global};
 
 /// The place of the version, behind the magic.
 const VERSION_PLACE: usize = 8;
 
 /// The first byte that is not that of an image, or the version.
-pub fn foreign_lines(alloc: Global, file: &str, bytes: &[u8]) -> Result<String, AllocError>
-    ensures { IfOk result (λ lines. string_bytes lines ≡ foreign_lines file.now bytes.now) }
+pub fn foreign_lines(alloc: Global, report: Report<'_>, bytes: &[u8]) -> Result<String, AllocError>
+    ensures { IfOk result (λ lines. string_bytes lines ≡ foreign_lines (report_of report.entry) bytes.now) }
 {
     match first_other(0, bytes, MAGIC.as_slice()) {
         Some(place) => byte_lines(
             alloc,
-            file,
+            report,
             place,
             "an image begins with the eight bytes `AP653IMG`",
             "Name a file that `mb build` wrote.",
         ),
-        None => version_lines(alloc, file, version_number(behind_magic(bytes))),
+        None => version_lines(alloc, report, version_number(behind_magic(bytes))),
     }
 }
 
@@ -63,13 +64,13 @@ fn version_number(bytes: &[u8]) -> u32
 }
 
 /// That the version of this number is not known.
-fn version_lines(alloc: Global, file: &str, number: u32) -> Result<String, AllocError>
-    ensures { IfOk result (λ lines. string_bytes lines ≡ version_lines file.now number) }
+fn version_lines(alloc: Global, report: Report<'_>, number: u32) -> Result<String, AllocError>
+    ensures { IfOk result (λ lines. string_bytes lines ≡ version_lines (report_of report.entry) number) }
 {
     let said = version_text(alloc, number)?;
     byte_lines(
         alloc,
-        file,
+        report,
         VERSION_PLACE,
         said.as_str(),
         "Use the `mb` that wrote it, or build the image anew.",

@@ -19,5 +19,5 @@ abbrev pub share_cell : ℕ → ℕ → Cell
 share_cell n all = cell.Share (record { tenths = share_of n all })
 
 -- a number, and its share
-abbrev pub share_cells : ℕ → ℕ → List Cell
+unfoldable pub share_cells : ℕ → ℕ → List Cell
 share_cells n all = cell.Number n ∷ share_cell n all ∷ []

@@ -3,5 +3,5 @@ use Rattle.std.specs.Prelude.{ℕ, List}
 use Rattle.csv.specs.Writing.{default_writer, row_text}
 
 -- Texts with commas between them, and a line feed behind. A text with a comma, a quotation mark or the end of a line stands in quotation marks.
-abbrev pub record_text : List (List ℕ) → List ℕ
+unfoldable pub record_text : List (List ℕ) → List ℕ
 record_text texts = row_text default_writer texts

@@ -11,7 +11,7 @@ pub record Contents : Type 0 where
   pub headings : List (List ℕ)
   pub rows : List (List (List ℕ))
 
-abbrev pub contents_of : Table → Contents
+unfoldable pub contents_of : Table → Contents
 contents_of t = record { names = t.names; headings = texts_of t.headings; rows = map texts_of t.rows.items }
 
 abbrev pub with_row : List (List ℕ) → Contents → Contents
@@ -38,10 +38,13 @@ widths_from column (heading ∷ headings) rows = width column rows ∷ widths_fr
 
 -- ---- its lines
 
+abbrev pub blank : ℕ
+blank = 32
+
 -- a name stands at the left of its column, a number at the right
 abbrev pub aligned : Bool → List ℕ → ℕ → List ℕ
-aligned true text wide = text ++ replicate (wide - length text) 32
-aligned false text wide = replicate (wide - length text) 32 ++ text
+aligned true text wide = text ++ replicate (wide - length text) blank
+aligned false text wide = replicate (wide - length text) blank ++ text
 
 -- Texts, of which so many are names, with a gap in front of the first and two blanks in front of each other. Those behind the last column are left out.
 abbrev pub texts_text : List ℕ → ℕ → List (List ℕ) → List ℕ → List ℕ
@@ -61,5 +64,5 @@ table_text_if (row ∷ rows) title t =
     let widths = widths_from 0 t.headings (t.headings ∷ t.rows) in
     (title ++ 10 ∷ []) ++ flat_map (line t.names widths) (t.headings ∷ t.rows)
 
-abbrev pub table_text : List ℕ → Contents → List ℕ
+unfoldable pub table_text : List ℕ → Contents → List ℕ
 table_text title t = table_text_if t.rows title t

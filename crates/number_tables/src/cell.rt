@@ -41,6 +41,7 @@ pub fn number_cell(number: Option<u64>) -> Cell
 }
 
 /// A number, and its share of all.
+#[tactic(auto, unfolding(crate::specs::Cells::share_cells))]
 pub fn share_cells(number: u64, all: u64) -> [Cell; 2]
     ensures { result ≡ share_cells number all }
 {

@@ -15,6 +15,7 @@ use std::alloc::{AllocError, Global};
 /// # Errors
 ///
 /// Memory ran out. Then nothing is appended.
+#[tactic(auto, unfolding(crate::specs::Records::record_text))]
 pub fn push_record(alloc: Global, row: &Row, text: &mut Vec<u8>) -> Result<(), AllocError>
     ensures { OnOk result (text.new.items ≡ text.old.items ++ record_text (texts_of row.now)) }
 {

@@ -3,7 +3,7 @@
 ghost use Rattle.std.specs.Prelude.{◌≡◌, ◌++◌, ◌∷◌, [], map, length, replicate, slice_get, codes, string_bytes, IfOk, OnOk};
 ghost use Rattle.number_tables.specs.Cells.{cell_text};
 ghost use Rattle.number_tables.specs.Rows.{texts_of};
-ghost use Rattle.number_tables.specs.Tables.{aligned, contents_of, length_or_0, line, table_text, texts_text, width, widths_from, with_row};
+ghost use Rattle.number_tables.specs.Tables.{aligned, blank, contents_of, length_or_0, line, table_text, texts_text, width, widths_from, with_row};
 
 use crate::cell::Cell;
 use crate::row::Row;
@@ -29,6 +29,7 @@ impl Table {
     /// # Errors
     ///
     /// Memory ran out.
+    #[tactic(auto, unfolding(crate::specs::Tables::contents_of))]
     pub fn new(alloc: Global, names: &[&str], numbers: &[&str]) -> Result<Table, AllocError>
         ensures { IfOk result
             (λ table. contents_of table
@@ -54,6 +55,7 @@ impl Table {
     /// # Errors
     ///
     /// Memory ran out.
+    #[tactic(auto, unfolding(crate::specs::Tables::contents_of))]
     pub fn add(&mut self, names: &[&str], numbers: &[Cell]) -> Result<(), AllocError>
         ensures { OnOk result
             (contents_of self.new
@@ -73,7 +75,7 @@ impl Table {
     /// # Errors
     ///
     /// Memory ran out. Then a beginning of them may be there.
-    #[tactic(auto, using(std::proofs::lemmas::List::drop_more))]
+    #[tactic(auto, using(std::proofs::lemmas::List::drop_more), unfolding(crate::specs::Tables::contents_of, crate::specs::Tables::table_text))]
     pub fn write(&self, title: &str, text: &mut Vec<u8>) -> Result<(), AllocError>
         ensures { OnOk result
             (text.new.items ≡ text.old.items ++ table_text title.now (contents_of self.now)) }
@@ -184,7 +186,7 @@ fn push_aligned(is_name: bool, text: &str, wide: usize, out: &mut Vec<u8>) -> Re
 /// Appends so many blanks.
 #[tactic(auto, using(std::proofs::lemmas::List::replicate_more))]
 fn push_blanks(count: usize, out: &mut Vec<u8>) -> Result<(), AllocError>
-    ensures { OnOk result (out.new.items ≡ out.old.items ++ replicate count 32) }
+    ensures { OnOk result (out.new.items ≡ out.old.items ++ replicate count blank) }
 {
     for _ in 0..count {
         out.push(b' ')?;

@@ -114,16 +114,21 @@ buffer rule size messages s = judged (outside_wrong rule thing.Messages 1 MOST_D
 abbrev pub array : Judge → Option ℕ → List written.Integer → State → State
 array j size values s = first_values j values (step (judged (by_limit j.rule (size_wrong (length values) size)) (step s)))
 
+-- what stands behind the name of a declaration that is no procedure, but for the semicolon
+abbrev pub row : Judge → written.Kind → State → State
+row j (written.Variable value) s = first_value j value s
+row j (written.Array size values) s = array j size values s
+row j (written.Semaphore first maximum discipline) s = step (semaphore j.rule first maximum s)
+row j written.Event s = s
+row j (written.Buffer size messages discipline) s = step (buffer j.rule size messages s)
+row j (written.Blackboard size) s = blackboard j.rule size s
+row j written.Port s = s
+row j (written.Procedure names b) s = s
+
 -- what stands behind the name of a declaration
 abbrev pub kind : Judge → written.Kind → State → State
-kind j (written.Variable value) s = step (first_value j value s)
-kind j (written.Array size values) s = step (array j size values s)
-kind j (written.Semaphore first maximum discipline) s = step (step (semaphore j.rule first maximum s))
-kind j written.Event s = step s
-kind j (written.Buffer size messages discipline) s = step (step (buffer j.rule size messages s))
-kind j (written.Blackboard size) s = step (blackboard j.rule size s)
-kind j written.Port s = step s
 kind j (written.Procedure names b) s = procedure j names b s
+kind j k s = step (row j k s)
 
 -- a name that is declared, behind those before
 abbrev pub declared_name : Judge → List Entry → List ℕ → State → State

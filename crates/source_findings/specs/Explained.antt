@@ -1,6 +1,7 @@
 -- What is wrong with a refused source, as `--explain` shows it.
 use Rattle.std.specs.Prelude.{◌≡◌, ℕ, ◌-◌, List, flat_map, length, Option, Some}
 use Rattle.finding_lines.specs.Lines.{lines_at}
+use Rattle.finding_lines.specs.Reports.{Report}
 use Rattle.pal_base.specs.Next.{IsLookedFor}
 use Rattle.pal_base.specs.declared.fault.Refusal.{Refusal}
 use Rattle.pal_base.specs.declared.fault.Refusal.TheVariants as rule
@@ -16,23 +17,25 @@ use Rattle.source_findings.specs.What.{Wrong}
 use Rattle.source_findings.specs.declared.sought.Sought.{Sought}
 
 -- the lines of a place where something is wrong, and of several
-abbrev pub wrong_lines : List ℕ → List ℕ → Wrong → List ℕ
-wrong_lines file text w = lines_at file text (length text - w.left) (said w.what) (advice w.what)
+abbrev pub wrong_lines : Report → List ℕ → Wrong → List ℕ
+wrong_lines r text w = lines_at r text (length text - w.left) (said w.what) (advice w.what)
 
-abbrev pub all_lines : List ℕ → List ℕ → List Wrong → List ℕ
-all_lines file text ws = flat_map (wrong_lines file text) ws
+abbrev pub all_lines : Report → List ℕ → List Wrong → List ℕ
+all_lines r text ws = flat_map (wrong_lines r text) ws
 
 -- the place where a text leaves the grammar, and what is looked for there
-abbrev pub IsUnfit : List ℕ → List ℕ → List ℕ → Type 0
-IsUnfit file text lines =
-    (place : LookedFor) × (sought : Sought) × (near : Option (List ℕ)) × IsLookedFor text (Some place) × (lines ≡ unfit_lines file text place.place place.is_too_deep (phrase sought) near)
+abbrev pub IsUnfitAt : Report → List ℕ → LookedFor → List ℕ → Type 0
+IsUnfitAt r text place lines = (sought : Sought) × (near : Option (List ℕ)) × (lines ≡ unfit_lines r text place.place place.is_too_deep (phrase sought) near)
+
+abbrev pub IsUnfit : Report → List ℕ → List ℕ → Type 0
+IsUnfit r text lines = (place : LookedFor) × IsLookedFor text (Some place) × IsUnfitAt r text place lines
 
 -- each place where a program breaks a rule
-abbrev pub IsOfProgram : List ℕ → ℕ → List ℕ → Refusal → List ℕ → Type 0
-IsOfProgram file period text rule lines = (program : written.Program) × IsProgramOf text program × (lines ≡ all_lines file text (wrongs rule period text program))
+abbrev pub IsOfProgram : Report → ℕ → List ℕ → Refusal → List ℕ → Type 0
+IsOfProgram r period text rule lines = (program : written.Program) × IsProgramOf text program × (lines ≡ all_lines r text (wrongs rule period text program))
 
 -- the lines say what is wrong with a source by the rule of its refusal, for a partition of this period
-abbrev pub IsExplanation : List ℕ → ℕ → List ℕ → Refusal → List ℕ → Type 0
-IsExplanation file period text rule.Text lines = lines ≡ all_lines file text (text_wrongs text)
-IsExplanation file period text rule.Grammar lines = IsUnfit file text lines
-IsExplanation file period text rule lines = IsOfProgram file period text rule lines
+abbrev pub IsExplanation : Report → ℕ → List ℕ → Refusal → List ℕ → Type 0
+IsExplanation r period text rule.Text lines = lines ≡ all_lines r text (text_wrongs text)
+IsExplanation r period text rule.Grammar lines = IsUnfit r text lines
+IsExplanation r period text rule lines = IsOfProgram r period text rule lines

@@ -2,6 +2,7 @@
 use Rattle.std.specs.Prelude.{ℕ, zero, suc, ◌-◌, ◌==◌, Bool, if◌then◌else◌, List, [], ◌∷◌, ◌++◌, codes, length, slice_get, take, Option, Some, None}
 use Rattle.std.specs.Fmt.{decimal}
 use Rattle.finding_lines.specs.Lines.{lines_at}
+use Rattle.finding_lines.specs.Reports.{Report}
 use Rattle.pal_meaning.specs.Lines.{from_word}
 use Rattle.places.specs.Texts.{line_of, shown_start}
 use Rattle.source_findings.specs.Phrases.{did_you_mean, quoted}
@@ -60,6 +61,6 @@ unfit_advice text place is_too_deep wanted (Some near) = did_you_mean near
 unfit_advice text place is_too_deep wanted None = place_text text place is_too_deep wanted (from_word place text)
 
 -- the lines of the place with so many words before it
-abbrev pub unfit_lines : List ℕ → List ℕ → ℕ → Bool → List ℕ → Option (List ℕ) → List ℕ
-unfit_lines file text place is_too_deep wanted near =
-    lines_at file text (length text - length (from_word place text)) (unfit_said (from_word place text) is_too_deep wanted) (unfit_advice text place is_too_deep wanted near)
+abbrev pub unfit_lines : Report → List ℕ → ℕ → Bool → List ℕ → Option (List ℕ) → List ℕ
+unfit_lines r text place is_too_deep wanted near =
+    lines_at r text (length text - length (from_word place text)) (unfit_said (from_word place text) is_too_deep wanted) (unfit_advice text place is_too_deep wanted near)

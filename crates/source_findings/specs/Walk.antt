@@ -1,10 +1,11 @@
 -- The walk through the words of expressions and statements. The tree says what each word is.
-use Rattle.std.specs.Prelude.{ℕ, Bool, true, false, List, [], ◌∷◌, length}
+use Rattle.std.specs.Prelude.{ℕ, Bool, true, false, List, [], ◌∷◌, length, Option}
 use Rattle.apex_types.specs.ServiceShape.{arguments_of}
 use Rattle.apex_types.specs.declared.limits.TheConstants.{MOST_WORK_TICKS}
 use Rattle.apex_types.specs.declared.service.Service.{Service}
 use Rattle.apex_types.specs.declared.shape.ArgumentKind.{ArgumentKind}
 use Rattle.apex_types.specs.declared.shape.ArgumentKind.TheVariants as argument
+use Rattle.pal_base.specs.declared.fault.Refusal.{Refusal}
 use Rattle.pal_meaning.specs.Syntax as written
 use Rattle.pal_meaning.specs.WellFormed.{expr_count}
 use Rattle.source_findings.specs.Judged.{Judge, arguments_wrong, name_wrong, no_name_wrong, number_wrong, outside_wrong, return_wrong, targets_wrong}
@@ -18,28 +19,23 @@ abbrev pub comma : Bool → State → State
 comma true s = s
 comma false s = step s
 
--- behind a name that is used, and what is wanted there
+-- a name that is used, and what is wanted there; and behind it
+abbrev pub used_here : Judge → Role → List ℕ → State → State
+used_here j wanted name s = noted (name_wrong j name wanted) s
+
 abbrev pub used : Judge → Role → List ℕ → State → State
-used j wanted name s = judged (name_wrong j name wanted) s
+used j wanted name s = step (used_here j wanted name s)
 
 -- behind an expression
 abbrev mutual
   pub expr : Judge → written.Expr → State → State
   expr j (written.Number value) s = judged (number_wrong j.rule value) s
   expr j (written.Name name) s = used j role.Variable name s
-  expr j (written.Element array index) s = element j array index s
-  expr j (written.Apply procedure arguments) s = apply j procedure arguments s
+  expr j (written.Element array index) s = step (expr j index (step (used j role.Array array s)))
+  expr j (written.Apply procedure arguments) s = step (exprs j arguments true (step (used j (role.Procedure (expr_count arguments)) procedure s)))
   expr j (written.Parenthesis inside) s = step (expr j inside (step s))
   expr j (written.Unary operator operand) s = expr j operand (step s)
   expr j (written.Chain first rest) s = links j rest (expr j first s)
-
-  -- a name, and an expression in brackets
-  pub element : Judge → List ℕ → written.Expr → State → State
-  element j array index s = step (expr j index (step (used j role.Array array s)))
-
-  -- the name of a procedure, and its arguments
-  pub apply : Judge → List ℕ → written.Exprs → State → State
-  apply j procedure arguments s = step (exprs j arguments true (step (used j (role.Procedure (expr_count arguments)) procedure s)))
 
   pub links : Judge → written.Links → State → State
   links j written.NoLink s = s
@@ -48,6 +44,14 @@ abbrev mutual
   pub exprs : Judge → written.Exprs → Bool → State → State
   exprs j written.NoExpr first s = s
   exprs j (written.MoreExprs e es) first s = exprs j es false (expr j e (comma first s))
+
+-- behind a name, and an expression in brackets
+abbrev pub element : Judge → List ℕ → written.Expr → State → State
+element j array index s = step (expr j index (step (used j role.Array array s)))
+
+-- behind the name of a procedure, and its arguments
+abbrev pub apply : Judge → List ℕ → written.Exprs → State → State
+apply j procedure arguments s = step (exprs j arguments true (step (used j (role.Procedure (expr_count arguments)) procedure s)))
 
 -- an expression where the name of something is wanted
 abbrev pub no_name : Judge → Role → written.Expr → State → State
@@ -74,28 +78,35 @@ abbrev pub targets : Judge → List (List ℕ) → State → State
 targets j [] s = s
 targets j (name ∷ names) s = targets j names (used j role.Variable name (step s))
 
--- a service, with its arguments and its targets
+-- a service, with its arguments and its targets, but for the semicolon
 abbrev pub service_call : Judge → Service → written.Exprs → List (List ℕ) → State → State
 service_call j service es names s =
-    step (targets j names (step (all_given j (arguments_of service) es true (step
-    (judged (targets_wrong j.rule service (length names)) (noted (arguments_wrong j.rule service (expr_count es)) s))))))
+    targets j names (step (all_given j (arguments_of service) es true (step
+    (judged (targets_wrong j.rule service (length names)) (noted (arguments_wrong j.rule service (expr_count es)) s)))))
 
--- behind a statement; whether a body may return is whether it is a procedure's
+abbrev pub work : Refusal → Option ℕ → State → State
+work rule ticks s = judged (outside_wrong rule thing.Work 1 MOST_WORK_TICKS ticks) (step s)
+
+-- behind a statement, but for the semicolon or the brace that ends it; whether a body may return is whether it is a procedure's
 abbrev mutual
   pub stmt : Judge → Bool → written.Stmt → State → State
-  stmt j returns (written.Assign target value) s = step (expr j value (step (used j role.Variable target s)))
-  stmt j returns (written.AssignElement array index value) s = step (expr j value (step (element j array index s)))
-  stmt j returns (written.If test inside) s = step (branch j returns test inside s)
-  stmt j returns (written.IfElse test inside other) s = step (block j returns other (step (step (step (branch j returns test inside s)))))
-  stmt j returns (written.While test inside) s = step (branch j returns test inside s)
-  stmt j returns (written.Work ticks) s = step (judged (outside_wrong j.rule thing.Work 1 MOST_WORK_TICKS ticks) (step s))
-  stmt j returns (written.Return value) s = step (expr j value (judged (return_wrong j.rule returns) s))
+  stmt j returns (written.Assign target value) s = expr j value (step (used j role.Variable target s))
+  stmt j returns (written.AssignElement array index value) s = expr j value (step (element j array index s))
+  stmt j returns (written.If test inside) s = block j returns inside (step (expr j test (step s)))
+  stmt j returns (written.IfElse test inside other) s = block j returns other (step (step (step (block j returns inside (step (expr j test (step s)))))))
+  stmt j returns (written.While test inside) s = block j returns inside (step (expr j test (step s)))
+  stmt j returns (written.Work ticks) s = work j.rule ticks s
+  stmt j returns (written.Return value) s = expr j value (judged (return_wrong j.rule returns) s)
   stmt j returns (written.CallService service arguments names) s = service_call j service arguments names s
-
-  -- a test, and the statements in braces, but for the closing brace
-  pub branch : Judge → Bool → written.Expr → written.Block → State → State
-  branch j returns test inside s = block j returns inside (step (expr j test (step s)))
 
   pub block : Judge → Bool → written.Block → State → State
   block j returns written.NoStmt s = s
-  block j returns (written.MoreStmts first rest) s = block j returns rest (stmt j returns first s)
+  block j returns (written.MoreStmts first rest) s = block j returns rest (step (stmt j returns first s))
+
+-- behind a test, and the statements in braces, but for the closing brace
+abbrev pub branch : Judge → Bool → written.Expr → written.Block → State → State
+branch j returns test inside s = block j returns inside (step (expr j test (step s)))
+
+-- behind the brace that closes a branch, `else`, and the statements in braces, but for the closing brace
+abbrev pub otherwise : Judge → Bool → written.Block → State → State
+otherwise j returns inside s = block j returns inside (step (step (step s)))

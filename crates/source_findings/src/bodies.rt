@@ -1,8 +1,8 @@
 //! The walk through the bodies of a program.
 
-ghost use Rattle.std.specs.Prelude.{◌≡◌, ◌++◌, map, length, OnOk, option_map, [], true};
+ghost use Rattle.std.specs.Prelude.{◌≡◌, map, OnOk, option_map};
 ghost use Rattle.pal_base.specs.View as view;
-ghost use Rattle.pal_base.specs.View.{body_of, name_of, number_of, texts};
+ghost use Rattle.pal_base.specs.View.{body_of, name_of, number_of};
 ghost use Rattle.source_findings.specs.Bodies as spec;
 ghost use Rattle.source_findings.specs.Views.{entries_of, judge_of, names_of, state_of, what_of};
 
@@ -74,7 +74,7 @@ pub fn body<'a>(
 ) -> Result<(), AllocError>
     ensures { OnOk result
         (state_of walk.new
-        ≡ spec.body (judge_of judge.now) returns (entries_of own.items) (option_map what_of frame.entry)
+        ≡ spec.body (judge_of judge.now) returns (entries_of own.entry.items) (option_map what_of frame.entry)
         (body_of (names_of judge.now) body.now) (state_of walk.old)) }
 {
     walk.note(frame)?;
@@ -94,7 +94,7 @@ fn inside<'a>(
 ) -> Result<(), AllocError>
     ensures { OnOk result
         (state_of walk.new
-        ≡ spec.inside (judge_of judge.now) returns (entries_of own.items)
+        ≡ spec.inside (judge_of judge.now) returns (entries_of own.entry.items)
         (body_of (names_of judge.now) body.now) (state_of walk.old)) }
 {
     let mut own = own;

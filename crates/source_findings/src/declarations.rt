@@ -1,8 +1,8 @@
 //! The walk through declarations and processes, and through a whole program.
 
-ghost use Rattle.std.specs.Prelude.{◌≡◌, ◌++◌, ◌+◌, [], map, length, true, OnOk, IfOk, option_map};
+ghost use Rattle.std.specs.Prelude.{◌≡◌, map, true, OnOk, IfOk, option_map};
 ghost use Rattle.pal_base.specs.View as view;
-ghost use Rattle.pal_base.specs.View.{body_of, integer_of, name_of, number_of, texts};
+ghost use Rattle.pal_base.specs.View.{body_of, integer_of, name_of, number_of, program_from};
 ghost use Rattle.pal_base.specs.WrittenView.{program_of};
 ghost use Rattle.source_findings.specs.Bodies as spec;
 ghost use Rattle.source_findings.specs.Tally.{no_tally};
@@ -262,13 +262,37 @@ fn kind<'a>(
         (state_of walk.old)) }
 {
     match kind {
-        DeclarationKind::Variable(value) => first_value(judge, walk, value)?,
-        DeclarationKind::Array { size, values } => array(judge, walk, size, values.as_slice())?,
+        DeclarationKind::Procedure { parameters, body } => {
+            procedure(alloc, judge, walk, parameters, body)
+        }
+        _ => {
+            row(judge, walk, kind)?;
+            walk.step();
+            Ok(())
+        }
+    }
+}
+
+/// Goes behind what stands behind the name of a declaration that is no procedure, but for the
+/// semicolon.
+fn row<'a>(
+    judge: &Judge<'_, 'a>,
+    walk: &mut Walk<'a>,
+    kind: &DeclarationKind,
+) -> Result<(), AllocError>
+    ensures { OnOk result
+        (state_of walk.new
+        ≡ spec.row (judge_of judge.now) (view.declared_of (names_of judge.now) kind.now)
+        (state_of walk.old)) }
+{
+    match kind {
+        DeclarationKind::Variable(value) => first_value(judge, walk, value),
+        DeclarationKind::Array { size, values } => array(judge, walk, size, values),
         DeclarationKind::Semaphore { first, maximum, .. } => {
             semaphore(judge.rule, walk, first, maximum)?;
             walk.step();
+            Ok(())
         }
-        DeclarationKind::Event | DeclarationKind::Port => {}
         DeclarationKind::Buffer {
             words,
             messages,
@@ -276,14 +300,13 @@ fn kind<'a>(
         } => {
             buffer(judge.rule, walk, words, messages)?;
             walk.step();
+            Ok(())
         }
-        DeclarationKind::Blackboard { words } => blackboard(judge.rule, walk, words)?,
-        DeclarationKind::Procedure { parameters, body } => {
-            return procedure(alloc, judge, walk, parameters.as_slice(), body);
+        DeclarationKind::Blackboard { words } => blackboard(judge.rule, walk, words),
+        DeclarationKind::Event | DeclarationKind::Port | DeclarationKind::Procedure { .. } => {
+            Ok(())
         }
     }
-    walk.step();
-    Ok(())
 }
 
 /// Goes behind a name that is declared, behind those before.
@@ -413,9 +436,12 @@ fn whole<'a>(
     walk: &mut Walk<'a>,
     program: &Program,
 ) -> Result<(), AllocError>
-    ensures { names_of judge.now ≡ texts program.now.names.keys → OnOk result
+    ensures { OnOk result
         (state_of walk.new
-        ≡ spec.program (judge_of judge.now) (program_of program.now) (state_of walk.old)) }
+        ≡ spec.program (judge_of judge.now)
+        (program_from judge.now.names.now.keys program.now.declarations.items program.now.init
+        program.now.handler program.now.processes.items)
+        (state_of walk.old)) }
 {
     let mut before = Vec::new(alloc);
     declarations(

@@ -1,6 +1,11 @@
 //! The lines of what is wrong with a source.
 
-ghost use Rattle.std.specs.Prelude.{◌≡◌, flat_map, IfOk, IfSome, string_bytes};
+ghost use Rattle.std.specs.Prelude.{◌≡◌, IfOk, IfSome, Some, string_bytes};
+ghost use Rattle.pal_base.specs.Next.{IsLookedFor};
+ghost use Rattle.pal_base.specs.WrittenView.{program_of};
+ghost use Rattle.pal_meaning.specs.Grammar.{IsProgramOf};
+ghost use Rattle.source_findings.specs.Bodies.{wrongs};
+ghost use Rattle.finding_lines.specs.Reports.{report_of};
 ghost use Rattle.source_findings.specs.Explained as spec;
 ghost use Rattle.source_findings.specs.Texts.{text_wrongs};
 ghost use Rattle.source_findings.specs.Views.{wrong_of, wrongs_of};
@@ -10,81 +15,131 @@ use crate::finding::Wrong;
 use crate::phrases::{advice, said};
 use crate::texts::text_wrongs;
 use crate::unfit::{hint_at, unfit_lines};
-use finding_lines::lines_at;
+use finding_lines::{Report, lines_at};
 use pal_base::fault::Refusal;
-use pal_base::looking::looked_for;
+use pal_base::looking::{LookedFor, looked_for};
 use pal_base::parse::parse;
+use pal_base::syntax::Program;
 use std::alloc::{AllocError, Global};
 
 /// What is wrong with a source by the rule of its refusal, for a partition of this period: each place
 /// where the rule is broken, at most twenty of them, what was found there, the line with a mark, and
-/// what to do. `file` is the name of the source. There is none if memory runs out, or if the text is
-/// refused by another rule.
+/// what to do. There is none if memory runs out, or if the text is refused by another rule.
 pub fn explain_source(
     alloc: Global,
-    file: &str,
+    report: Report<'_>,
     period: u32,
     text: &[u8],
     rule: Refusal,
 ) -> Option<String>
     ensures { IfSome result
-        (λ lines. spec.IsExplanation file.now period text.now rule (string_bytes lines)) }
+        (λ lines. spec.IsExplanation (report_of report.entry) period text.now rule (string_bytes lines)) }
 {
     match rule {
-        Refusal::Text => text_lines(alloc, file, text),
-        Refusal::Grammar => grammar_lines(alloc, file, text),
-        _ => program_lines(alloc, file, period, text, rule),
+        Refusal::Text => text_lines(alloc, report, text),
+        Refusal::Grammar => grammar_lines(alloc, report, text),
+        _ => program_lines(alloc, report, period, text, rule),
     }
 }
 
 /// What is wrong with a text that is no source.
-fn text_lines(alloc: Global, file: &str, text: &[u8]) -> Option<String>
+fn text_lines(alloc: Global, report: Report<'_>, text: &[u8]) -> Option<String>
     ensures { IfSome result
-        (λ lines. string_bytes lines ≡ spec.all_lines file.now text.now (text_wrongs text.now)) }
+        (λ lines. string_bytes lines ≡ spec.all_lines (report_of report.entry) text.now (text_wrongs text.now)) }
 {
     let found = text_wrongs(alloc, text).ok()?;
-    all_lines(alloc, file, text, found.as_slice()).ok()
+    all_lines(alloc, report, text, found.as_slice()).ok()
 }
 
 /// The place where a text leaves the grammar.
-fn grammar_lines(alloc: Global, file: &str, text: &[u8]) -> Option<String>
-    ensures { IfSome result (λ lines. spec.IsUnfit file.now text.now (string_bytes lines)) }
+fn grammar_lines(alloc: Global, report: Report<'_>, text: &[u8]) -> Option<String>
+    ensures { IfSome result (λ lines. spec.IsUnfit (report_of report.entry) text.now (string_bytes lines)) }
 {
-    let place = looked_for(alloc, text).ok()??;
-    let hint = hint_at(alloc, text, &place).ok()?;
-    unfit_lines(alloc, file, text, &place, hint.sought.phrase(), hint.near).ok()
+    let place = unfit_place(alloc, text)?;
+    place_lines(alloc, report, text, &place)
+}
+
+/// Where a text leaves the grammar, if it does and there is memory for it.
+fn unfit_place(alloc: Global, text: &[u8]) -> Option<LookedFor>
+    ensures { IfSome result (λ place. IsLookedFor text.now (Some place)) }
+{
+    match looked_for(alloc, text) {
+        Ok(place) => place,
+        Err(_) => None,
+    }
+}
+
+/// The lines of the place where a text leaves the grammar.
+fn place_lines(alloc: Global, report: Report<'_>, text: &[u8], place: &LookedFor) -> Option<String>
+    ensures { IfSome result
+        (λ lines. spec.IsUnfitAt (report_of report.entry) text.now place.now (string_bytes lines)) }
+{
+    let hint = hint_at(alloc, text, place).ok()?;
+    let (wanted, near) = (hint.sought.phrase(), hint.near);
+    match unfit_lines(alloc, report, text, place, wanted, near) {
+        Ok(lines) => Some(lines),
+        Err(_) => None,
+    }
 }
 
 /// Each place where the program of a text breaks a rule.
 fn program_lines(
     alloc: Global,
-    file: &str,
+    report: Report<'_>,
     period: u32,
     text: &[u8],
     rule: Refusal,
 ) -> Option<String>
     ensures { IfSome result
-        (λ lines. spec.IsOfProgram file.now period text.now rule (string_bytes lines)) }
+        (λ lines. spec.IsOfProgram (report_of report.entry) period text.now rule (string_bytes lines)) }
 {
-    let program = parse(alloc, text).ok()?;
-    let found = wrongs(alloc, rule, period, text, &program).ok()?;
-    all_lines(alloc, file, text, found.as_slice()).ok()
+    let program = read_program(alloc, text)?;
+    broken_lines(alloc, report, period, text, rule, &program)
+}
+
+/// The program of a text, if it is one and there is memory for it.
+fn read_program(alloc: Global, text: &[u8]) -> Option<Program>
+    ensures { IfSome result (λ program. IsProgramOf text.now (program_of program)) }
+{
+    match parse(alloc, text) {
+        Ok(program) => Some(program),
+        Err(_) => None,
+    }
+}
+
+/// Each place where a program breaks a rule.
+fn broken_lines(
+    alloc: Global,
+    report: Report<'_>,
+    period: u32,
+    text: &[u8],
+    rule: Refusal,
+    program: &Program,
+) -> Option<String>
+    ensures { IfSome result
+        (λ lines.
+        string_bytes lines
+        ≡ spec.all_lines (report_of report.entry) text.now
+        (wrongs rule period text.now (program_of program.now))) }
+{
+    let found = wrongs(alloc, rule, period, text, program).ok()?;
+    all_lines(alloc, report, text, found.as_slice()).ok()
 }
 
 /// The lines of all places.
 #[tactic(auto, using(std::proofs::lemmas::List::drop_more, std::proofs::lemmas::List::append_assoc, crate::proofs::Lists::append_nil))]
 fn all_lines(
     alloc: Global,
-    file: &str,
+    report: Report<'_>,
     text: &[u8],
     found: &[Wrong<'_>],
 ) -> Result<String, AllocError>
     ensures { IfOk result
-        (λ lines. string_bytes lines ≡ spec.all_lines file.now text.now (wrongs_of found.now)) }
+        (λ lines. string_bytes lines ≡ spec.all_lines (report_of report.entry) text.now (wrongs_of found.now)) }
 {
     let mut lines = String::new(alloc);
     for wrong in found {
-        lines.push_str(&wrong_lines(alloc, file, text, *wrong)?)?;
+        lines.push_str(&wrong_lines(alloc, report, text, *wrong)?)?;
     }
     Ok(lines)
 }
@@ -92,15 +147,15 @@ fn all_lines(
 /// The lines of a place.
 fn wrong_lines(
     alloc: Global,
-    file: &str,
+    report: Report<'_>,
     text: &[u8],
     wrong: Wrong<'_>,
 ) -> Result<String, AllocError>
     ensures { IfOk result
-        (λ lines. string_bytes lines ≡ spec.wrong_lines file.now text.now (wrong_of wrong.entry)) }
+        (λ lines. string_bytes lines ≡ spec.wrong_lines (report_of report.entry) text.now (wrong_of wrong.entry)) }
 {
     let said = said(alloc, wrong.what)?;
     let advice = advice(alloc, wrong.what)?;
     let offset = text.len().saturating_sub(wrong.left);
-    lines_at(alloc, file, text, offset, said.as_str(), advice.as_str())
+    lines_at(alloc, report, text, offset, said.as_str(), advice.as_str())
 }

@@ -20,10 +20,10 @@ fn expr_operands(expr: &Expr) -> u64
     match expr {
         Expr::Number(_) | Expr::Name(_) => 1,
         Expr::Element(_, index) => expr_operands(index),
-        Expr::Apply(_, arguments) => exprs_operands(arguments.as_slice()).max(1),
+        Expr::Apply(_, arguments) => exprs_operands(arguments).max(1),
         Expr::Parenthesis(inside) => expr_operands(inside),
         Expr::Unary(_, operand) => expr_operands(operand),
-        Expr::Chain(first, rest) => expr_operands(first).max(links_operands(rest.as_slice())),
+        Expr::Chain(first, rest) => expr_operands(first).max(links_operands(rest)),
     }
 }
 

@@ -119,8 +119,11 @@ fn counted_text(
     ensures { IfOk result
         (λ text. string_bytes text ≡ spec.counted_text number one.now several.now) }
 {
-    let noun = if number == 1 { one } else { several };
-    format!(in alloc; "{number}{noun}")
+    if number == 1 {
+        format!(in alloc; "{number}{one}")
+    } else {
+        format!(in alloc; "{number}{several}")
+    }
 }
 
 fn arguments_text(alloc: Global, number: usize) -> Result<String, AllocError>

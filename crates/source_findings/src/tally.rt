@@ -5,6 +5,7 @@ ghost use Rattle.apex_types.specs.declared.limits.TheConstants.{MOST_OBJECTS};
 ghost use Rattle.pal_base.specs.View.{declared_of, number_of};
 ghost use Rattle.pal_meaning.specs.Resolve.{value_or_zero};
 ghost use Rattle.source_findings.specs.Frames.{held};
+ghost use Rattle.source_findings.specs.Judged as judged;
 ghost use Rattle.source_findings.specs.Tally as spec;
 ghost use Rattle.source_findings.specs.Views.{tally_of, what_of};
 
@@ -77,32 +78,36 @@ impl Tally {
             → option_map what_of result
             ≡ spec.tally_wrong rule (tally_of self) (declared_of names kind.now) }
     {
-        let (many, number, most) = match kind {
+        match kind {
             DeclarationKind::Variable(_) | DeclarationKind::Array { .. } => {
-                (Many::Words, self.words, u64::from(MOST_DATA_WORDS))
+                many_wrong(rule, Many::Words, self.words, u64::from(MOST_DATA_WORDS))
             }
-            DeclarationKind::Semaphore { .. } => objects(Many::Semaphores, self.semaphores),
-            DeclarationKind::Event => objects(Many::Events, self.events),
-            DeclarationKind::Buffer { .. } => objects(Many::Buffers, self.buffers),
-            DeclarationKind::Blackboard { .. } => objects(Many::Blackboards, self.blackboards),
-            DeclarationKind::Port => (Many::Ports, self.ports, u64::from(MOST_PORTS)),
+            DeclarationKind::Semaphore { .. } => {
+                objects_wrong(rule, Many::Semaphores, self.semaphores)
+            }
+            DeclarationKind::Event => objects_wrong(rule, Many::Events, self.events),
+            DeclarationKind::Buffer { .. } => objects_wrong(rule, Many::Buffers, self.buffers),
+            DeclarationKind::Blackboard { .. } => {
+                objects_wrong(rule, Many::Blackboards, self.blackboards)
+            }
+            DeclarationKind::Port => {
+                many_wrong(rule, Many::Ports, self.ports, u64::from(MOST_PORTS))
+            }
             DeclarationKind::Procedure { .. } => {
-                (
+                many_wrong(
+                    rule,
                     Many::Procedures,
                     self.procedures,
                     u64::from(MOST_PROCEDURES),
                 )
             }
-        };
-        many_wrong(rule, many, number, most)
+        }
     }
 }
 
-/// Objects of a kind, and how many there may be.
-fn objects(many: Many, number: u64) -> (Many, u64, u64)
-    ensures many { result.0 ≡ many }
-    ensures number { result.1 ≡ number }
-    ensures most { result.2 ≡ MOST_OBJECTS }
+/// What is wrong with the number of objects of a kind.
+fn objects_wrong(rule: Refusal, many: Many, number: u64) -> Option<What<'static>>
+    ensures { option_map what_of result ≡ judged.many_wrong rule many number MOST_OBJECTS }
 {
-    (many, number, u64::from(MOST_OBJECTS))
+    many_wrong(rule, many, number, u64::from(MOST_OBJECTS))
 }

@@ -1,8 +1,8 @@
 //! What is wrong with a text that is no source.
 
-ghost use Rattle.std.specs.Prelude.{◌≡◌, IfOk, OnOk, option_map, [], false};
+ghost use Rattle.std.specs.Prelude.{◌≡◌, IfOk, option_map, [], false};
 ghost use Rattle.source_findings.specs.Texts as spec;
-ghost use Rattle.source_findings.specs.Views.{state_of, what_of, wrongs_of};
+ghost use Rattle.source_findings.specs.Views.{what_of, wrongs_of};
 
 use crate::finding::{What, Wrong};
 use crate::walk::Walk;
@@ -17,11 +17,12 @@ use std::alloc::{AllocError, Global};
 pub fn text_wrongs(alloc: Global, text: &[u8]) -> Result<Vec<Wrong<'_>>, AllocError>
     ensures { IfOk result (λ found. wrongs_of found.items ≡ spec.text_wrongs text.now) }
 {
-    let mut found = strays(alloc, text)?;
+    let found = strays(alloc, text)?;
     if found.is_empty() {
-        add_length(&mut found, text)?;
+        too_long(alloc, text)
+    } else {
+        Ok(found)
     }
-    Ok(found)
 }
 
 /// The bytes above 127, each unless the one before it is too.
@@ -52,11 +53,11 @@ fn stray(before: bool, byte: u8) -> Option<What<'static>>
     }
 }
 
-/// Adds where a text is longer than it may be.
-fn add_length<'a>(found: &mut Vec<Wrong<'a>>, text: &[u8]) -> Result<(), AllocError>
-    ensures { OnOk result
-        (wrongs_of found.old.items ≡ [] → wrongs_of found.new.items ≡ spec.too_long text.now) }
+/// Where a text is longer than it may be.
+fn too_long(alloc: Global, text: &[u8]) -> Result<Vec<Wrong<'_>>, AllocError>
+    ensures { IfOk result (λ found. wrongs_of found.items ≡ spec.too_long text.now) }
 {
+    let mut found = Vec::new(alloc);
     let most = MOST_SOURCE_BYTES as usize;
     if most < text.len() {
         found.push(Wrong {
@@ -64,5 +65,5 @@ fn add_length<'a>(found: &mut Vec<Wrong<'a>>, text: &[u8]) -> Result<(), AllocEr
             what: What::TooLong,
         })?;
     }
-    Ok(())
+    Ok(found)
 }

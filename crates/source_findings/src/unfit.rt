@@ -1,14 +1,15 @@
 //! The place where a text leaves the grammar.
 
-ghost use Rattle.std.specs.Prelude.{◌≡◌, length, take, IfOk, OnOk, string_bytes, option_copied, []};
+ghost use Rattle.std.specs.Prelude.{◌≡◌, length, IfOk, OnOk, string_bytes, option_copied, []};
 ghost use Rattle.pal_meaning.specs.Lines.{from_word};
+ghost use Rattle.finding_lines.specs.Reports.{report_of};
 ghost use Rattle.source_findings.specs.Unfit as spec;
 
 use crate::choices::sought_of;
 use crate::phrases::{did_you_mean, quoted};
 use crate::sought::Sought;
 use crate::words::candidates;
-use finding_lines::lines_at;
+use finding_lines::{Report, lines_at};
 use pal_base::looking::LookedFor;
 use places::{nearest, place_of};
 use source_places::{first_word, from_word, next_word};
@@ -43,7 +44,7 @@ pub fn hint_at(alloc: Global, text: &[u8], looked_for: &LookedFor) -> Result<Hin
 /// Only if memory runs out.
 pub fn unfit_lines(
     alloc: Global,
-    file: &str,
+    report: Report<'_>,
     text: &[u8],
     looked_for: &LookedFor,
     wanted: &str,
@@ -51,14 +52,14 @@ pub fn unfit_lines(
 ) -> Result<String, AllocError>
     ensures { IfOk result
         (λ lines. string_bytes lines
-        ≡ spec.unfit_lines file.now text.now looked_for.now.place looked_for.now.is_too_deep
+        ≡ spec.unfit_lines (report_of report.entry) text.now looked_for.now.place looked_for.now.is_too_deep
         wanted.now (option_copied near.entry)) }
 {
     let rest = from_word(text, looked_for.place);
     let said = unfit_said(alloc, rest, looked_for.is_too_deep, wanted)?;
     let advice = unfit_advice(alloc, text, looked_for, wanted, near)?;
     let offset = text.len().saturating_sub(rest.len());
-    lines_at(alloc, file, text, offset, said.as_str(), advice.as_str())
+    lines_at(alloc, report, text, offset, said.as_str(), advice.as_str())
 }
 
 /// What stands where the grammar is left.
@@ -161,6 +162,7 @@ fn open_brace(alloc: Global, text: &[u8], place: usize) -> Result<Option<usize>,
 }
 
 /// The braces that are open behind so many words of a text that begins with a word.
+#[tactic(auto, unfolding(crate::specs::Unfit::open_braces))]
 fn open_braces(alloc: Global, text: &[u8], place: usize) -> Result<Vec<usize>, AllocError>
     ensures { IfOk result (λ opened. opened.items ≡ spec.open_braces place text.now []) }
 {

@@ -1,8 +1,8 @@
 //! The walk through the words of expressions and statements, beside their tree.
 
-ghost use Rattle.std.specs.Prelude.{◌≡◌, ◌<◌, length, map, true, OnOk, option_map};
+ghost use Rattle.std.specs.Prelude.{◌≡◌, map, true, OnOk, option_map};
 ghost use Rattle.pal_base.specs.View as view;
-ghost use Rattle.pal_base.specs.View.{block_of, expr_of, exprs_of, links_of, name_of};
+ghost use Rattle.pal_base.specs.View.{block_of, expr_of, exprs_of, links_of, name_of, number_of};
 ghost use Rattle.source_findings.specs.Views.{judge_of, names_of, state_of, what_of};
 ghost use Rattle.source_findings.specs.Walk as spec;
 ghost use Rattle.source_findings.specs.What as state;
@@ -15,7 +15,8 @@ use crate::judge::{
 use crate::roles::{Role, text_of};
 use apex_types::limits::MOST_WORK_TICKS;
 use apex_types::{ArgumentKind, Service};
-use pal_base::syntax::{Expr, Identifier, Link, Stmt, StmtKind};
+use pal_base::fault::Refusal;
+use pal_base::syntax::{Expr, Identifier, Link, Numeral, Stmt, StmtKind};
 use source_places::next_word;
 use std::alloc::{AllocError, Global};
 
@@ -82,8 +83,8 @@ impl<'a> Walk<'a> {
     }
 }
 
-/// Goes behind a name that is used, and says what is wanted there.
-pub fn used<'a>(
+/// Notes what is wrong with a name that is used, unless enough was found before.
+fn note_name<'a>(
     alloc: Global,
     judge: &Judge<'_, 'a>,
     walk: &mut Walk<'a>,
@@ -92,11 +93,30 @@ pub fn used<'a>(
 ) -> Result<(), AllocError>
     ensures { OnOk result
         (state_of walk.new
-        ≡ spec.used (judge_of judge.now) wanted (name_of (names_of judge.now) name) (state_of walk.old)) }
+        ≡ spec.used_here (judge_of judge.now) wanted (name_of (names_of judge.now) name)
+        (state_of walk.old)) }
 {
-    if walk.found.len() < MOST_FINDINGS {
-        walk.push(name_wrong(alloc, judge, text_of(judge.names, name), wanted)?)?;
+    if MOST_FINDINGS <= walk.found.len() {
+        return Ok(());
     }
+    let wrong = name_wrong(alloc, judge, text_of(judge.names, name), wanted)?;
+    walk.note(wrong)
+}
+
+/// Goes behind a name that is used, and says what is wanted there.
+fn used<'a>(
+    alloc: Global,
+    judge: &Judge<'_, 'a>,
+    walk: &mut Walk<'a>,
+    wanted: Role,
+    name: Identifier,
+) -> Result<(), AllocError>
+    ensures { OnOk result
+        (state_of walk.new
+        ≡ spec.used (judge_of judge.now) wanted (name_of (names_of judge.now) name)
+        (state_of walk.old)) }
+{
+    note_name(alloc, judge, walk, wanted, name)?;
     walk.step();
     Ok(())
 }
@@ -118,7 +138,8 @@ pub fn expression<'a>(
         Expr::Name(name) => used(alloc, judge, walk, Role::Variable, *name),
         Expr::Element(array, index) => element(alloc, judge, walk, *array, index),
         Expr::Apply(procedure, arguments) => {
-            apply(alloc, judge, walk, *procedure, arguments.as_slice())
+            apply(alloc, judge, walk, *procedure, arguments)?;
+            Ok(())
         }
         Expr::Parenthesis(inside) => {
             walk.step();
@@ -132,7 +153,8 @@ pub fn expression<'a>(
         }
         Expr::Chain(first, rest) => {
             expression(alloc, judge, walk, first)?;
-            links(alloc, judge, walk, rest.as_slice())
+            links(alloc, judge, walk, rest)?;
+            Ok(())
         }
     }
 }
@@ -159,6 +181,7 @@ fn element<'a>(
 }
 
 /// Goes behind the name of a procedure, and its arguments.
+#[tactic(auto, using(pal::proofs::Counted::counted))]
 #[cycle(walk_expression)]
 fn apply<'a>(
     alloc: Global,
@@ -276,17 +299,17 @@ fn all_given<'a>(
         ≡ spec.all_given (judge_of judge.now) kinds.now (exprs_of (names_of judge.now) exprs.now) true
         (state_of walk.old)) }
 {
-    let mut kinds = kinds;
+    let mut left = kinds;
     let mut is_first = true;
     for expr in exprs {
         walk.comma(is_first);
-        if let Some((kind, others)) = kinds.split_first() {
+        is_first = false;
+        if let Some((kind, others)) = left.split_first() {
             given(alloc, judge, walk, *kind, expr)?;
-            kinds = others;
+            left = others;
         } else {
             expression(alloc, judge, walk, expr)?;
         }
-        is_first = false;
     }
     Ok(())
 }
@@ -310,7 +333,8 @@ fn targets<'a>(
     Ok(())
 }
 
-/// Goes behind a service, its arguments and its targets.
+/// Goes behind a service, its arguments and its targets, but for the semicolon.
+#[tactic(auto, using(pal::proofs::Counted::counted))]
 fn service_call<'a>(
     alloc: Global,
     judge: &Judge<'_, 'a>,
@@ -329,9 +353,7 @@ fn service_call<'a>(
     walk.step();
     all_given(alloc, judge, walk, service.arguments(), arguments)?;
     walk.step();
-    targets(alloc, judge, walk, names)?;
-    walk.step();
-    Ok(())
+    targets(alloc, judge, walk, names)
 }
 
 /// Goes behind statements.
@@ -341,20 +363,22 @@ pub fn block<'a>(
     judge: &Judge<'_, 'a>,
     walk: &mut Walk<'a>,
     returns: bool,
-    block: &[Stmt],
+    stmts: &[Stmt],
 ) -> Result<(), AllocError>
     ensures { OnOk result
         (state_of walk.new
-        ≡ spec.block (judge_of judge.now) returns (block_of (names_of judge.now) block.now)
+        ≡ spec.block (judge_of judge.now) returns (block_of (names_of judge.now) stmts.now)
         (state_of walk.old)) }
 {
-    for stmt in block {
+    for stmt in stmts {
         statement(alloc, judge, walk, returns, &stmt.kind)?;
+        walk.step();
     }
     Ok(())
 }
 
-/// Goes behind a statement. Whether a body may return is whether it is a procedure's.
+/// Goes behind a statement, but for the semicolon or the brace that ends it. Whether a body may
+/// return is whether it is a procedure's.
 #[cycle(walk_statement)]
 fn statement<'a>(
     alloc: Global,
@@ -372,51 +396,35 @@ fn statement<'a>(
         StmtKind::Assign(target, value) => {
             used(alloc, judge, walk, Role::Variable, *target)?;
             walk.step();
-            expression(alloc, judge, walk, value)?;
+            expression(alloc, judge, walk, value)
         }
         StmtKind::AssignElement(array, index, value) => {
             element(alloc, judge, walk, *array, index)?;
             walk.step();
-            expression(alloc, judge, walk, value)?;
+            expression(alloc, judge, walk, value)
         }
-        StmtKind::If(test, inside) | StmtKind::While(test, inside) => {
-            branch(alloc, judge, walk, returns, test, inside.as_slice())?;
+        StmtKind::If(test, inside) => {
+            branch(alloc, judge, walk, returns, test, inside)?;
+            Ok(())
+        }
+        StmtKind::While(test, inside) => {
+            branch(alloc, judge, walk, returns, test, inside)?;
+            Ok(())
         }
         StmtKind::IfElse(test, inside, other) => {
-            branch(alloc, judge, walk, returns, test, inside.as_slice())?;
-            walk.step();
-            walk.step();
-            walk.step();
-            block(alloc, judge, walk, returns, other.as_slice())?;
+            branch(alloc, judge, walk, returns, test, inside)?;
+            otherwise(alloc, judge, walk, returns, other)?;
+            Ok(())
         }
-        StmtKind::Work(ticks) => {
-            walk.step();
-            let ticks = value_of(ticks);
-            walk.judge(outside_wrong(
-                judge.rule,
-                Thing::Work,
-                1,
-                u64::from(MOST_WORK_TICKS),
-                ticks,
-            ))?;
-        }
+        StmtKind::Work(ticks) => work(judge.rule, walk, ticks),
         StmtKind::Return(value) => {
             walk.judge(return_wrong(judge.rule, returns))?;
-            expression(alloc, judge, walk, value)?;
+            expression(alloc, judge, walk, value)
         }
         StmtKind::CallService(service, arguments, names) => {
-            return service_call(
-                alloc,
-                judge,
-                walk,
-                *service,
-                arguments.as_slice(),
-                names.as_slice(),
-            );
+            service_call(alloc, judge, walk, *service, arguments, names)
         }
     }
-    walk.step();
-    Ok(())
 }
 
 /// Goes behind a test and the statements in braces, but for the closing brace.
@@ -438,4 +446,35 @@ fn branch<'a>(
     expression(alloc, judge, walk, test)?;
     walk.step();
     block(alloc, judge, walk, returns, inside)
+}
+
+/// Goes behind the brace that closes a branch, `else`, and the statements in braces behind it, but
+/// for the closing brace.
+#[cycle(walk_statement)]
+fn otherwise<'a>(
+    alloc: Global,
+    judge: &Judge<'_, 'a>,
+    walk: &mut Walk<'a>,
+    returns: bool,
+    inside: &[Stmt],
+) -> Result<(), AllocError>
+    ensures { OnOk result
+        (state_of walk.new
+        ≡ spec.otherwise (judge_of judge.now) returns
+        (block_of (names_of judge.now) inside.now) (state_of walk.old)) }
+{
+    walk.step();
+    walk.step();
+    walk.step();
+    block(alloc, judge, walk, returns, inside)
+}
+
+/// Goes behind `work` and its ticks.
+fn work(rule: Refusal, walk: &mut Walk<'_>, ticks: &Numeral) -> Result<(), AllocError>
+    ensures { OnOk result
+        (state_of walk.new ≡ spec.work rule (number_of ticks.now) (state_of walk.old)) }
+{
+    walk.step();
+    let (ticks, most) = (value_of(ticks), u64::from(MOST_WORK_TICKS));
+    walk.judge(outside_wrong(rule, Thing::Work, 1, most, ticks))
 }

@@ -1,3 +1,4 @@
 pub mod WholeLines
 pub mod Ahead
 pub mod Reached
+pub mod Begun

@@ -1,8 +1,8 @@
 -- The findings of a table as `--explain` shows them.
-use Rattle.std.specs.Prelude.{ℕ, ◌-◌, Bool, true, false, if◌then◌else◌, List, [], ◌∷◌, ◌++◌, codes, drop, flat_map, length, Option, Some, None, take}
-use Rattle.std.specs.Fmt.{decimal}
+use Rattle.std.specs.Prelude.{ℕ, ◌-◌, Bool, true, false, if◌then◌else◌, List, [], ◌∷◌, ◌++◌, flat_map, length, Option, Some, None, take}
+use Rattle.finding_lines.specs.Lines as lines
+use Rattle.finding_lines.specs.Reports.{Report}
 use Rattle.places.specs.Entries.{Entry, Path, first_at, key}
-use Rattle.places.specs.Texts.{column_of, line_of, marked_line}
 use Rattle.table_findings.specs.Findings.{Finding, Missing, Unknown, What}
 use Rattle.table_findings.specs.Phrases.{advice, finding_text}
 use Rattle.table_findings.specs.Subjects.{subject_path}
@@ -34,16 +34,12 @@ offset_of text es f = length text - left_at (length text) f.what (first_at (find
 
 -- ---- its lines
 
-abbrev pub heading : List ℕ → List ℕ → List ℕ → List ℕ
-heading file before finding = file ++ (codes ":" ++ (decimal (line_of before) ++ (codes ":" ++ (decimal (column_of before) ++ (codes ": " ++ (finding ++ codes "\n"))))))
+abbrev pub lines_at : Report → List ℕ → ℕ → Finding → List ℕ
+lines_at r text offset f = lines.lines_at r text offset (finding_text f) (advice f.key f.what)
 
--- the finding with its place, the line around it with the mark, and the advice
-abbrev pub lines_at : List ℕ → List ℕ → ℕ → Finding → List ℕ
-lines_at file text offset f = heading file (take offset text) (finding_text f) ++ (marked_line (take offset text) (drop offset text) ++ (advice f.key f.what ++ codes "\n"))
-
-abbrev pub finding_lines : List ℕ → List ℕ → List Entry → Finding → List ℕ
-finding_lines file text es f = lines_at file text (offset_of text es f) f
+abbrev pub lines_of : Report → List ℕ → List Entry → Finding → List ℕ
+lines_of r text es f = lines_at r text (offset_of text es f) f
 
 -- the lines of the first twenty findings
-abbrev pub findings_text : List ℕ → List ℕ → List Entry → List Finding → List ℕ
-findings_text file text es found = flat_map (finding_lines file text es) (take 20 found)
+abbrev pub findings_text : Report → List ℕ → List Entry → List Finding → List ℕ
+findings_text r text es found = flat_map (lines_of r text es) (take 20 found)

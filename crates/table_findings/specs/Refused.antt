@@ -1,13 +1,14 @@
 -- What is wrong with a table that is refused.
-use Rattle.std.specs.Prelude.{◌≡◌, ◌⊎◌, ℕ, ◌≤◌, List, [], ◌++◌, codes, drop, length, Some, None, take}
+use Rattle.std.specs.Prelude.{◌≡◌, ◌⊎◌, ℕ, ◌≤◌, List, [], codes, length, Some, None}
+use Rattle.finding_lines.specs.Lines.{lines_at}
+use Rattle.finding_lines.specs.Reports.{Report}
 use Rattle.places.specs.Entries.{Entry, entries}
-use Rattle.places.specs.Texts.{marked_line}
 use Rattle.toml.specs.Data.{Members}
 use Rattle.module_meaning.specs.Accepted.{IsDocument}
 use Rattle.module_meaning.specs.TableRules.{TableText, table_text_of}
 use Rattle.table_findings.specs.Durations.{short_periods}
 use Rattle.table_findings.specs.Ends.{ends}
-use Rattle.table_findings.specs.Explained.{findings_text, heading}
+use Rattle.table_findings.specs.Explained.{findings_text}
 use Rattle.table_findings.specs.Findings.{Finding}
 use Rattle.table_findings.specs.Health.{health}
 use Rattle.table_findings.specs.Limits.{limits}
@@ -38,17 +39,17 @@ findings fault.Health ms = health ms
 findings f ms = findings_with f ms
 
 -- the lines of the first twenty findings of a document
-abbrev pub IsOfDocument : List ℕ → List ℕ → Members → TableFault → List ℕ → Type 0
-IsOfDocument file text ms f lines = (es : List Entry) × (entries text ≡ Some es) × (lines ≡ findings_text file text es (findings f ms))
+abbrev pub IsOfDocument : Report → List ℕ → Members → TableFault → List ℕ → Type 0
+IsOfDocument r text ms f lines = (es : List Entry) × (entries text ≡ Some es) × (lines ≡ findings_text r text es (findings f ms))
 
 -- that the reading of a document ended at an offset, in these words
-abbrev pub ended_at : List ℕ → List ℕ → ℕ → List ℕ → List ℕ
-ended_at file bytes offset said = heading file (take offset bytes) said ++ (marked_line (take offset bytes) (drop offset bytes) ++ codes "The text is TOML up to this place.\n")
+abbrev pub ended_at : Report → List ℕ → ℕ → List ℕ → List ℕ
+ended_at r bytes offset said = lines_at r bytes offset said (codes "The text is TOML up to this place.")
 
 -- where the reading of a text ended, in the words of its reader
-abbrev pub IsEnded : List ℕ → List ℕ → List ℕ → Type 0
-IsEnded file bytes lines = (offset : ℕ) × (said : List ℕ) × (offset ≤ length bytes) × (lines ≡ ended_at file bytes offset said)
+abbrev pub IsEnded : Report → List ℕ → List ℕ → Type 0
+IsEnded r bytes lines = (offset : ℕ) × (said : List ℕ) × (offset ≤ length bytes) × (lines ≡ ended_at r bytes offset said)
 
 -- a text that is no document has the place where its reading ended; a document has its findings
-abbrev pub IsExplanation : List ℕ → List ℕ → TableFault → List ℕ → Type 0
-IsExplanation file bytes f lines = ((ms : Members) × IsDocument bytes ms × IsOfDocument file bytes ms f lines) ⊎ (((ms : Members) → IsDocument bytes ms → ⊥) × IsEnded file bytes lines)
+abbrev pub IsExplanation : Report → List ℕ → TableFault → List ℕ → Type 0
+IsExplanation r bytes f lines = ((ms : Members) × IsDocument bytes ms × IsOfDocument r bytes ms f lines) ⊎ (((ms : Members) → IsDocument bytes ms → ⊥) × IsEnded r bytes lines)

@@ -1,6 +1,7 @@
 //! What is wrong with a table that is refused.
 
-ghost use Rattle.std.specs.Prelude.{◌≡◌, ◌++◌, IfSome, OnSome, string_bytes};
+ghost use Rattle.std.specs.Prelude.{◌≡◌, ◌++◌, IfOk, IfSome, OnSome, string_bytes};
+ghost use Rattle.finding_lines.specs.Reports.{report_of};
 ghost use Rattle.toml.specs.Errors.{IsMemory, IsWithin};
 ghost use Rattle.toml.specs.View.{table_view};
 ghost use Rattle.table_findings.specs.Refused as spec;
@@ -10,72 +11,89 @@ ghost use Rattle.window_table.specs.Views.{table_text};
 use crate::actions::health;
 use crate::bounds::limits;
 use crate::durations::short_periods;
-use crate::explained::{findings_text, heading};
+use crate::explained::findings_text;
 use crate::finding::Finding;
 use crate::fitting::ends;
 use crate::forms::shape;
 use crate::repeated::repeated_names;
 use crate::schedule::{odd_periods, overlaps, without_release};
 use crate::unknown::unknown_names;
-use places::{TomlPlaces, marked_line};
-use std::alloc::Global;
+use finding_lines::{Report, lines_at};
+use places::TomlPlaces;
+use std::alloc::{AllocError, Global};
 use toml::Table;
 use toml::de::Error;
 use window_table::{TableFault, WrittenTable, read_written};
 
 /// What is wrong with a table that is refused by this rule: the lines of the first twenty findings.
-/// `file` is its name. There are none if memory runs out.
-pub fn explain_table(alloc: Global, file: &str, bytes: &[u8], fault: TableFault) -> Option<String>
+/// There are none if memory runs out.
+pub fn explain_table(
+    alloc: Global,
+    report: Report<'_>,
+    bytes: &[u8],
+    fault: TableFault,
+) -> Option<String>
     ensures { IfSome result
-        (λ lines. spec.IsExplanation file.now bytes.now fault (string_bytes lines)) }
+        (λ lines. spec.IsExplanation (report_of report.entry) bytes.now fault (string_bytes lines)) }
 {
     match toml::table_from_slice(alloc, bytes) {
         Ok(document) => {
             let text = std::str::from_utf8(bytes).ok()?;
-            explain_document(alloc, file, text, &document, fault)
+            explain_document(alloc, report, text, &document, fault)
         }
-        Err(error) => explain_error(alloc, file, bytes, &error),
+        Err(error) => explain_error(alloc, report, bytes, &error),
     }
 }
 
 /// Where the reading of a document ended, and why.
-fn explain_error(alloc: Global, file: &str, bytes: &[u8], error: &Error) -> Option<String>
+fn explain_error(alloc: Global, report: Report<'_>, bytes: &[u8], error: &Error) -> Option<String>
     requires { IsWithin bytes.now error.now }
     ensures ended { IfSome result
-        (λ lines. spec.IsEnded file.now bytes.now (string_bytes lines)) }
+        (λ lines. spec.IsEnded (report_of report.entry) bytes.now (string_bytes lines)) }
     ensures text { IfSome result (λ lines. ¬ IsMemory error.now) }
 {
     let span = error.span()?;
-    ended_at(alloc, file, bytes, span.start, error.message())
+    ended_at(alloc, report, bytes, span.start, error.message()).ok()
 }
 
 /// That the reading of a document ended at an offset, in these words.
-fn ended_at(alloc: Global, file: &str, bytes: &[u8], offset: usize, said: &str) -> Option<String>
-    ensures { IfSome result
-        (λ lines. string_bytes lines ≡ spec.ended_at file.now bytes.now offset said.now) }
+fn ended_at(
+    alloc: Global,
+    report: Report<'_>,
+    bytes: &[u8],
+    offset: usize,
+    said: &str,
+) -> Result<String, AllocError>
+    ensures { IfOk result
+        (λ lines. string_bytes lines
+        ≡ spec.ended_at (report_of report.entry) bytes.now offset said.now) }
 {
-    let heading = heading(alloc, file, bytes, offset, said).ok()?;
-    let marked = marked_line(alloc, bytes, offset).ok()?;
-    let (heading, marked) = (heading.as_str(), marked.as_str());
-    format!(in alloc; "{heading}{marked}The text is TOML up to this place.\n").ok()
+    lines_at(
+        alloc,
+        report,
+        bytes,
+        offset,
+        said,
+        "The text is TOML up to this place.",
+    )
 }
 
 /// The findings of a document.
 fn explain_document(
     alloc: Global,
-    file: &str,
+    report: Report<'_>,
     text: &str,
     document: &Table,
     fault: TableFault,
 ) -> Option<String>
     ensures { IfSome result
-        (λ lines. spec.IsOfDocument file.now text.now (table_view document.now) fault
+        (λ lines. spec.IsOfDocument (report_of report.entry) text.now (table_view document.now) fault
         (string_bytes lines)) }
 {
     let places = TomlPlaces::read(alloc, text)?;
     let mut found = Vec::new(alloc);
     findings(alloc, &mut found, document, fault)?;
-    findings_text(alloc, file, text, &places, found.as_slice()).ok()
+    findings_text(alloc, report, text, &places, found.as_slice()).ok()
 }
 
 /// Adds what breaks a rule in a document.

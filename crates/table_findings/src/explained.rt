@@ -1,6 +1,7 @@
 //! The findings of a table, each with its place, the line there, and advice.
 
 ghost use Rattle.std.specs.Prelude.{◌≡◌, flat_map, IfOk, option_map, string_bytes, take};
+ghost use Rattle.finding_lines.specs.Reports.{report_of};
 ghost use Rattle.places.specs.Views.{entries_in, entry_of, path_of};
 ghost use Rattle.table_findings.specs.Explained as spec;
 ghost use Rattle.table_findings.specs.Views.{finding_of, findings_of, what_of};
@@ -8,7 +9,8 @@ ghost use Rattle.table_findings.specs.Views.{finding_of, findings_of, what_of};
 use crate::finding::{Finding, What};
 use crate::phrases::{advice, finding_text};
 use crate::subject::{push_key, subject_path};
-use places::{Entry, Step, TomlPlaces, marked_line, place_of};
+use finding_lines::Report;
+use places::{Entry, Step, TomlPlaces};
 use std::alloc::{AllocError, Global};
 
 /// The most findings that are shown.
@@ -21,17 +23,17 @@ const MOST_FINDINGS: usize = 20;
 /// Only if memory runs out.
 pub fn findings_text(
     alloc: Global,
-    file: &str,
+    report: Report<'_>,
     text: &str,
     places: &TomlPlaces,
     found: &[Finding<'_>],
 ) -> Result<String, AllocError>
     ensures { IfOk result
         (λ lines. string_bytes lines
-        ≡ spec.findings_text file.now text.now (entries_in places.now)
+        ≡ spec.findings_text (report_of report.entry) text.now (entries_in places.now)
         (findings_of found.now)) }
 {
-    all_lines(alloc, file, text, places, first_findings(found))
+    all_lines(alloc, report, text, places, first_findings(found))
 }
 
 /// The first twenty findings.
@@ -47,7 +49,7 @@ fn first_findings<'f, 'a>(found: &'f [Finding<'a>]) -> &'f [Finding<'a>]
 #[tactic(auto, using(std::proofs::lemmas::List::drop_more, std::proofs::lemmas::List::append_assoc, crate::proofs::Steps::append_nil))]
 fn all_lines(
     alloc: Global,
-    file: &str,
+    report: Report<'_>,
     text: &str,
     places: &TomlPlaces,
     found: &[Finding<'_>],
@@ -55,69 +57,48 @@ fn all_lines(
     ensures { IfOk result
         (λ lines. string_bytes lines
         ≡ flat_map
-        (spec.finding_lines file.now text.now (entries_in places.now))
+        (spec.lines_of (report_of report.entry) text.now (entries_in places.now))
         (findings_of found.now)) }
 {
     let mut lines = String::new(alloc);
     for finding in found {
-        lines.push_str(&finding_lines(alloc, file, text, places, *finding)?)?;
+        lines.push_str(&lines_of(alloc, report, text, places, *finding)?)?;
     }
     Ok(lines)
 }
 
 /// The lines of a finding: its place and what it says, the line there with a mark, and the advice.
-fn finding_lines(
+fn lines_of(
     alloc: Global,
-    file: &str,
+    report: Report<'_>,
     text: &str,
     places: &TomlPlaces,
     finding: Finding<'_>,
 ) -> Result<String, AllocError>
     ensures { IfOk result
         (λ lines. string_bytes lines
-        ≡ spec.finding_lines file.now text.now (entries_in places.now)
+        ≡ spec.lines_of (report_of report.entry) text.now (entries_in places.now)
         (finding_of finding.entry)) }
 {
     let offset = offset_of(alloc, text, places, finding)?;
-    lines_at(alloc, file, text, offset, finding)
+    lines_at(alloc, report, text, offset, finding)
 }
 
 fn lines_at(
     alloc: Global,
-    file: &str,
+    report: Report<'_>,
     text: &str,
     offset: usize,
     finding: Finding<'_>,
 ) -> Result<String, AllocError>
     ensures { IfOk result
-        (λ lines. string_bytes lines ≡ spec.lines_at file.now text.now offset (finding_of finding.entry)) }
+        (λ lines. string_bytes lines
+        ≡ spec.lines_at (report_of report.entry) text.now offset (finding_of finding.entry)) }
 {
     let said = finding_text(alloc, finding)?;
-    let heading = heading(alloc, file, text.as_bytes(), offset, said.as_str())?;
-    let marked = marked_line(alloc, text.as_bytes(), offset)?;
     let advice = advice(alloc, finding.key, finding.what)?;
-    let (heading, marked, advice) = (heading.as_str(), marked.as_str(), advice.as_str());
-    format!(in alloc; "{heading}{marked}{advice}\n")
-}
-
-/// The line with a place of a text, and what is said of it.
-///
-/// # Errors
-///
-/// Only if memory runs out.
-pub fn heading(
-    alloc: Global,
-    file: &str,
-    text: &[u8],
-    offset: usize,
-    said: &str,
-) -> Result<String, AllocError>
-    ensures { IfOk result
-        (λ line. string_bytes line ≡ spec.heading file.now (take offset text.now) said.now) }
-{
-    let place = place_of(text, offset);
-    let (line, column) = (place.line, place.column);
-    format!(in alloc; "{file}:{line}:{column}: {said}\n")
+    let (said, advice) = (said.as_str(), advice.as_str());
+    finding_lines::lines_at(alloc, report, text.as_bytes(), offset, said, advice)
 }
 
 /// How much of the text is before the place of a finding.

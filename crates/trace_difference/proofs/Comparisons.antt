@@ -1,12 +1,12 @@
 -- The lines of two traces, one more.
-use Rattle.std.proofs.Common.{◌≡◌, ◌≢◌, ℕ, zero, suc, ◌+◌, ◌<◌, ◌≤◌, Bool, true, false, cond, List, [], ◌∷◌, ◌++◌, Option, Some, None, IfSome, Result, Ok, Err, OnOk, get_or, refl, sym, ap, subst, ◌∙◌, rules, arith, append-nil, append_assoc}
-use Rattle.std.specs.Prelude.{filter, not, reverse, slice_get, slice_set, ◌&&◌, nat_eq}
+use Rattle.std.proofs.Common.{◌≡◌, ℕ, zero, suc, ◌<◌, ◌≤◌, Bool, true, false, cond, List, [], ◌∷◌, ◌++◌, Option, Some, None, Result, Ok, Err, OnOk, get_or, refl, sym, ap, subst, ◌∙◌, rules, arith, append-nil}
+use Rattle.std.specs.Prelude.{filter, not, slice_get, slice_set, nat_eq}
 use Rattle.std.specs.Option.{option_to_list}
 use Rattle.std.proofs.lemmas.Bool.{and_parts, eqb-true}
 use Rattle.std.proofs.lemmas.List.Elements.{filter-append}
 use Rattle.apex_types.specs.declared.event.Event.{Event}
 use Rattle.engine_meaning.specs.Digits.{same}
-use Rattle.trace_difference.specs.Comparisons.{AreDifferences, AreFinished, AreParts, IsFinishedAs, IsNoneOf, IsPlaceOf, others, told_of}
+use Rattle.trace_difference.specs.Comparisons.{AreDifferences, AreFinished, AreParts, IsFinishedAs, IsNoneOf, others, told_of}
 use Rattle.trace_difference.specs.Parts.{AreOther, IsAlone, IsFirst, IsJudged, IsPart, IsSettled, IsStep, first_line, first_with, part, second_with}
 use Rattle.trace_difference.specs.declared.part.Apart.{Apart}
 use Rattle.trace_difference.specs.declared.part.Difference.{Difference}

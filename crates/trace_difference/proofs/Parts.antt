@@ -1,10 +1,9 @@
 -- The lines of a partition, one more.
 use mathlib.Core.List.{reverse-append}
-use Rattle.std.proofs.Common.{◌≡◌, ◌≢◌, ℕ, zero, suc, ◌+◌, ◌-◌, ◌^◌, ◌<◌, ◌≤◌, List, [], ◌∷◌, ◌++◌, length, take, Option, Some, None, refl, sym, ap, subst, ◌∙◌, rules, arith, append-nil, append_assoc, length-append}
-use Rattle.std.specs.Prelude.{reverse, min}
+use Rattle.std.proofs.Common.{◌≡◌, ◌≢◌, ℕ, ◌<◌, ◌≤◌, List, [], ◌∷◌, ◌++◌, length, take, Option, Some, None, refl, sym, ap, subst, ◌∙◌, arith, append-nil, append_assoc}
+use Rattle.std.specs.Prelude.{reverse}
 use Rattle.apex_types.specs.declared.event.Event.{Event}
-use Rattle.apex_types.specs.declared.identity.Ticks.{Ticks}
-use Rattle.trace_difference.specs.Parts.{AreOther, IsAlone, IsEndedAs, IsFirst, IsFrontBefore, IsJudged, IsLevel, IsPart, IsPartAs, IsRest, IsSettled, apart_of, count, first_line, first_with, last_three, lines_of, other_side, second_with}
+use Rattle.trace_difference.specs.Parts.{AreOther, IsAlone, IsEndedAs, IsFirst, IsFrontBefore, IsLevel, IsPartAs, IsRest, IsSettled, apart_of, first_line, first_with, last_three, other_side, second_with}
 use Rattle.trace_difference.specs.declared.part.Apart.{Apart}
 use Rattle.trace_difference.specs.declared.part.Part.{Part}
 use Rattle.trace_difference.specs.declared.rest.Rest.{Rest}

@@ -1,5 +1,5 @@
 -- Services with the same word.
-use Rattle.std.proofs.Common.{◌≡◌, List, Some, Bool, sym, ap, ◌∙◌, int_eq, ℤ}
+use Rattle.std.proofs.Common.{◌≡◌, List, Bool, sym, ap, ◌∙◌, int_eq, ℤ}
 use Rattle.std.specs.Prelude.{IsTrue}
 use Rattle.std.proofs.lemmas.Slice.Eq.{slice_eq-Decides}
 use Rattle.std.specs.Cmp.{signed_Decides}

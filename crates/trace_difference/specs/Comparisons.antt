@@ -1,5 +1,5 @@
 -- The lines of two traces, partition by partition.
-use Rattle.std.specs.Prelude.{◌≡◌, ℕ, ◌<◌, Bool, true, false, not, List, [], ◌∷◌, ◌++◌, Option, Some, None, IfSome, filter, slice_get, if◌then◌else◌}
+use Rattle.std.specs.Prelude.{◌≡◌, ℕ, ◌<◌, true, false, not, List, [], ◌∷◌, ◌++◌, Option, Some, None, IfSome, filter, slice_get, if◌then◌else◌}
 use Rattle.std.specs.Option.{option_to_list}
 use Rattle.apex_types.specs.declared.event.Event.{Event}
 use Rattle.trace_difference.specs.Parts.{IsJudged, IsPart, IsSettled, part}

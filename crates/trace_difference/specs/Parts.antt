@@ -1,7 +1,6 @@
 -- The lines of a partition in two traces, and where they differ first.
-use Rattle.std.specs.Prelude.{◌≡◌, ◌≢◌, ℕ, ◌-◌, ◌^◌, ◌<◌, ◌≤◌, Bool, true, false, List, [], ◌∷◌, ◌++◌, length, reverse, take, min, filter, Option, Some, None}
+use Rattle.std.specs.Prelude.{◌≡◌, ◌≢◌, ℕ, ◌-◌, ◌^◌, ◌<◌, ◌≤◌, List, [], ◌∷◌, ◌++◌, length, reverse, take, min, filter, Option, Some, None}
 use Rattle.apex_types.specs.declared.event.Event.{Event}
-use Rattle.engine_meaning.specs.Digits.{same}
 use Rattle.trace_difference.specs.declared.part.Part.{Part}
 use Rattle.trace_difference.specs.declared.part.Apart.{Apart}
 use Rattle.trace_difference.specs.declared.part.Difference.{Difference}

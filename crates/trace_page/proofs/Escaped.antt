@@ -1,9 +1,9 @@
 -- Text that is escaped.
-use Rattle.std.proofs.Common.{◌≡◌, ℕ, Bool, true, false, cond, List, [], ◌∷◌, ◌++◌, flat_map, refl, sym, ap, ◌∙◌, rules, append_assoc}
+use Rattle.std.proofs.Common.{◌≡◌, ℕ, Bool, true, false, cond, List, [], ◌∷◌, ◌++◌, flat_map, refl, sym, ap, ◌∙◌, append_assoc}
 use Rattle.std.specs.Prelude.{◌==◌, ◌||◌}
 use Rattle.apex_types.specs.Line.{line_of, text_of}
 use Rattle.apex_types.specs.declared.event.Event.{Event}
-use Rattle.trace_page.specs.Escaping.{ends_at, ends_within, escaped, escaped_byte, escaped_line}
+use Rattle.trace_page.specs.Escaping.{ends_within, escaped, escaped_byte, escaped_line}
 
 stays_within : (b : ℕ) (rest : List ℕ) → ends_within false rest ≡ false → ends_within false (escaped_byte b ++ rest) ≡ false
 stays_within b rest h = go (b == 34) (b == 92) (b == 10) (b == 60) refl refl refl refl

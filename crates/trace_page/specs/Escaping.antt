@@ -1,5 +1,5 @@
 -- The text of a trace in a string of a script.
-use Rattle.std.specs.Prelude.{ℕ, Bool, true, false, List, [], ◌∷◌, ◌++◌, flat_map, ◌==◌, ◌||◌, if◌then◌else◌}
+use Rattle.std.specs.Prelude.{ℕ, Bool, true, false, List, [], ◌∷◌, flat_map, ◌==◌, ◌||◌, if◌then◌else◌}
 use Rattle.apex_types.specs.Line.{line_of}
 use Rattle.apex_types.specs.declared.event.Event.{Event}
 

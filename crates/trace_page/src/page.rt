@@ -26,7 +26,7 @@ impl Page {
     /// A page without lines, of a run of so many ticks, if that is known. Without them it ends behind
     /// its last line.
     pub fn new(alloc: Global, ran: Option<Ticks>) -> Page
-        ensures data { result.data.items ≡ [] }
+        ensures lines { result.data.items ≡ [] }
         ensures ran { result.ran ≡ ran }
     {
         Page {
@@ -42,7 +42,7 @@ impl Page {
     ///
     /// Memory ran out.
     pub fn add(&mut self, event: &Event) -> Result<(), MemoryFull>
-        ensures data { OnOk result
+        ensures lines { OnOk result
             (self.new.data.items ≡ self.old.data.items ++ escaped_line event.now) }
         ensures ran { self.new.ran ≡ self.old.ran }
     {

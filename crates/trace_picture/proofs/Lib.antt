@@ -1,4 +1,5 @@
 pub mod Added
+pub mod Counts
 pub mod Multiples
 pub mod Outlines
 pub mod Pages

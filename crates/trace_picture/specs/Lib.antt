@@ -9,6 +9,7 @@ pub mod Page
 pub mod Rows
 pub mod Titles
 pub mod Windows
+pub mod FlagWords
 pub mod Elements
 pub mod Shapes
 pub mod Added

@@ -1,6 +1,7 @@
--- The text of the shapes of a picture: first the windows and the bars, then what stands on them.
+-- The text of the shapes of a picture: first the windows and the bars, then what stands on them, and the words beside flags.
 use Rattle.std.specs.Prelude.{ℕ, List, [], ◌++◌, flat_map, Option, is_some}
 use Rattle.trace_picture.specs.Bars.{mode_text}
+use Rattle.trace_picture.specs.FlagWords.{words_text}
 use Rattle.trace_picture.specs.Marks.{flag_text, message_text, report_text}
 use Rattle.trace_picture.specs.Titles.{heading, heading_text}
 use Rattle.trace_picture.specs.Windows.{stay_text, windows_text}
@@ -32,7 +33,9 @@ marks_text axis l rows shapes = flat_map (mark_of axis l rows) shapes
 -- the windows and the shapes of a picture
 abbrev pub shapes_text : Drawing → List ℕ
 shapes_text d =
-    windows_text d.axis d.rows d.windows ++ (bars_text d.axis d.lanes d.rows d.windows d.shapes.items ++ marks_text d.axis d.lanes d.rows d.shapes.items)
+    windows_text d.axis d.rows d.windows
+    ++ (bars_text d.axis d.lanes d.rows d.windows d.shapes.items
+    ++ (marks_text d.axis d.lanes d.rows d.shapes.items ++ words_text d.axis d.rows d.shapes.items))
 
 -- what a picture of the trace of this name shows: its title, its windows and its shapes
 abbrev pub picture_text : List ℕ → Drawing → List ℕ

@@ -8,6 +8,7 @@ ghost use Rattle.trace_picture.specs.Page.{HasWithin, IsPicture};
 use crate::axis::Axis;
 use crate::bars::draw_mode;
 use crate::element::{Key, Tag, at, set, view};
+use crate::flag_words::draw_flag_words;
 use crate::frame::{draw_axis, draw_heading, draw_legend, draw_names};
 use crate::length::Length;
 use crate::marks::{draw_flag, draw_message, draw_report};
@@ -82,6 +83,7 @@ impl Drawing {
     /// # Errors
     ///
     /// Memory ran out.
+    #[tactic(auto, using(crate::proofs::Pages::stands))]
     pub fn text(&self, name: &str) -> Result<String, AllocError>
         ensures picture { IfOk result (λ text. ∥ IsPicture (string_bytes text) ∥₁) }
         ensures shapes { IfOk result
@@ -131,7 +133,8 @@ impl Drawing {
         }
     }
 
-    /// Draws the shapes: first the windows and the bars, then what stands on them.
+    /// Draws the shapes: first the windows and the bars, then what stands on them, and the words
+    /// beside flags.
     fn draw_shapes(&self, page: &mut Page) -> Result<(), AllocError>
         ensures { OnOk result
             (string_bytes page.new.text
@@ -139,7 +142,8 @@ impl Drawing {
     {
         draw_windows(page, self.alloc, self.axis, &self.rows, &self.windows)?;
         self.draw_bars(page)?;
-        self.draw_marks(page)
+        self.draw_marks(page)?;
+        draw_flag_words(page, self.axis, &self.rows, self.shapes.as_slice())
     }
 
     #[tactic(auto, using(std::proofs::lemmas::List::drop_more))]

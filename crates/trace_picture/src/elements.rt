@@ -127,14 +127,14 @@ pub fn beginnings(
     Ok(begun)
 }
 
-/// The number of elements that begin up to this tick.
+/// The number of elements that begin before this tick.
 #[tactic(auto, using(std::proofs::lemmas::List::drop_more))]
-fn count_to(begun: &[Ticks], tick: u64) -> usize
-    ensures { result ≡ spec.count_before (tick + 1) begun.now }
+fn count_before(begun: &[Ticks], tick: u64) -> usize
+    ensures { result ≡ spec.count_before tick begun.now }
 {
     let mut count: usize = 0;
     for first in begun {
-        if first.0 <= tick {
+        if first.0 < tick {
             count += 1;
         }
     }
@@ -154,6 +154,7 @@ fn latest(begun: &[Ticks]) -> u64
 }
 
 /// The last tick before which there are not too many elements.
+#[tactic(auto, using(crate::proofs::Counts::none))]
 pub fn excess_of(shown: Span, begun: &[Ticks]) -> Excess
     requires { 5000 < length begun.now }
     ensures { spec.IsExcess shown begun.now result }
@@ -162,7 +163,7 @@ pub fn excess_of(shown: Span, begun: &[Ticks]) -> Excess
     let mut high = latest(begun);
     while low < high {
         let middle = low + (high - low) / 2;
-        if count_to(begun, middle) > MOST_SHAPES {
+        if count_before(begun, middle + 1) > MOST_SHAPES {
             high = middle;
         } else {
             low = middle + 1;
@@ -172,15 +173,5 @@ pub fn excess_of(shown: Span, begun: &[Ticks]) -> Excess
         from: shown.from,
         until: Ticks(low),
         elements: count_before(begun, low),
-    }
-}
-
-/// The number of elements that begin before this tick.
-fn count_before(begun: &[Ticks], tick: u64) -> usize
-    ensures { result ≡ spec.count_before tick begun.now }
-{
-    match tick.checked_sub(1) {
-        Some(last) => count_to(begun, last),
-        None => 0,
     }
 }

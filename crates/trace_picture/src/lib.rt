@@ -10,6 +10,7 @@ mod elements;
 mod escaped;
 mod excess;
 mod fault;
+mod flag_words;
 mod frame;
 pub mod laws;
 mod length;

@@ -127,7 +127,7 @@ fn draw_arrow(
 }
 
 /// The distance of the foot of a flag from the top of its row.
-fn flag_down(owner: Owner) -> Length
+pub fn flag_down(owner: Owner) -> Length
     ensures { result ≡ flag_down owner }
 {
     match owner {

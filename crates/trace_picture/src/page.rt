@@ -4,7 +4,7 @@ ghost use Rattle.std.specs.Prelude.{◌≡◌, ◌-◌, ◌++◌, ◌∷◌, [],
 ghost use Rattle.std.specs.Fmt.{decimal};
 ghost use Rattle.trace_picture.specs.Element.{empty_text, end_text, start_text, titled};
 ghost use Rattle.trace_picture.specs.Escaped.{escaped};
-ghost use Rattle.trace_picture.specs.Page.{IsBegun, IsPicture};
+ghost use Rattle.trace_picture.specs.Page.{GoesOn, IsBegun, IsPicture};
 ghost use Rattle.trace_picture.specs.declared.element.Tag.{Tag};
 
 use crate::element::{Attribute, Tag, push_end, push_start};
@@ -145,6 +145,8 @@ impl Page {
         ensures text { OnOk result
             ((outer : List Tag) (tag : Tag) → self.old.unended.items ≡ outer ++ tag ∷ []
             → string_bytes self.new.text ≡ string_bytes self.old.text ++ end_text tag) }
+        ensures goes_on { OnOk result
+            (GoesOn (string_bytes self.old.text) (string_bytes self.new.text)) }
         ensures unended { OnOk result (vec_len self.new.unended ≡ vec_len self.old.unended - 1) }
         ensures kept { OnErr result (string_bytes self.new.text ≡ string_bytes self.old.text) }
         ensures kept_unended { OnErr result (self.new.unended.items ≡ self.old.unended.items) }
@@ -166,7 +168,9 @@ impl Page {
     ///
     /// Memory ran out.
     pub fn finish(mut self) -> Result<String, AllocError>
-        ensures { IfOk result (λ text. ∥ IsPicture (string_bytes text) ∥₁) }
+        ensures picture { IfOk result (λ text. ∥ IsPicture (string_bytes text) ∥₁) }
+        ensures goes_on { IfOk result
+            (λ text. GoesOn (string_bytes self.text) (string_bytes text)) }
     {
         while !self.unended.as_slice().is_empty() {
             self.close()?;

@@ -4,4 +4,5 @@ pub mod Contiguous
 pub mod Counted
 pub mod MeasuredTimes
 pub mod Percentiles
+pub mod Rows
 pub mod Sums

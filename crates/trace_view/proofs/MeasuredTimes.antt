@@ -1,9 +1,9 @@
 -- The times that turns measure are those of the activations.
-use Rattle.std.proofs.Common.{◌≡◌, ℕ, ◌-◌, Bool, true, false, not, ◌&&◌, if◌then◌else◌, List, [], ◌∷◌, ◌++◌, Option, Some, None, refl, sym, ap, ◌∙◌, append_assoc, append-nil}
+use Rattle.std.proofs.Common.{◌≡◌, ℕ, Bool, true, false, not, ◌&&◌, if◌then◌else◌, List, [], ◌∷◌, ◌++◌, Option, Some, None, refl, sym, ap, ◌∙◌, append_assoc, append-nil}
 use Rattle.apex_types.specs.declared.codes.ProcessState.{ProcessState}
 use Rattle.apex_types.specs.declared.codes.ProcessState.TheVariants as state
 use Rattle.trace_stays.specs.declared.span.Span.{Span}
-use Rattle.trace_view.specs.Tallies.{begins, begun, begun_if, ended_at, ended_running, entered, first_if, has_tick, measured, nothing_counted, over, run, run_if, turned, with_ended}
+use Rattle.trace_view.specs.Tallies.{begins, begun, begun_if, ended_at, ended_running, entered, has_tick, measured, nothing_counted, over, run, run_if, turned, with_ended}
 use Rattle.trace_view.specs.Turns.{AreTimesOf, and_measured, end_times, first_end, first_running, is_ready, measured_by, running_times, times_to_end, times_to_running}
 use Rattle.trace_view.specs.declared.tally.Activation.{Activation}
 use Rattle.trace_view.specs.declared.tally.Measured.{Measured}

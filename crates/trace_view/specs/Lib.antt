@@ -1,4 +1,5 @@
 pub mod Cells
+pub mod Counted
 pub mod Counting
 pub mod Extents
 pub mod Starts

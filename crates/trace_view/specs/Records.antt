@@ -32,31 +32,35 @@ values cells = map (cell_text []) cells
 abbrev pub named : List ℕ → List ℕ → List ℕ → List (List ℕ)
 named kind partition name = kind ∷ partition ∷ name ∷ []
 
-abbrev pub trace_record : Report → List (List ℕ)
+unfoldable pub trace_record : Report → List (List ℕ)
 trace_record r = named (codes "trace") [] [] ++ values (extent_cells r.extent) ++ blanks 42
 
-abbrev pub partition_record : PartitionTotal → List (List ℕ)
+unfoldable pub partition_record : PartitionTotal → List (List ℕ)
 partition_record p =
     named (codes "partition") p.name [] ++ blanks 31 ++ values (mode_cells p.modes p.starts) ++ values (condition_cells p.starts.conditions) ++ blanks 7
 
-abbrev pub process_record : ℕ → ProcessTotal → List (List ℕ)
-process_record all p =
-    named (codes "process") p.partition (subject_text p.who) ++ blanks 6 ++ values (state_cells p.tally.ticks all) ++ values (time_cells p.tally p.spreads)
-    ++ values (service_cells p.tally) ++ blanks 17
+unfoldable pub process_values : ℕ → ProcessTotal → List (List ℕ)
+process_values all p = values (state_cells p.tally.ticks all) ++ values (time_cells p.tally p.spreads) ++ values (service_cells p.tally)
 
-abbrev pub route_record : RouteTotal → Route → List (List ℕ)
+unfoldable pub process_record : ℕ → ProcessTotal → List (List ℕ)
+process_record all p = named (codes "process") p.partition (subject_text p.who) ++ blanks 6 ++ process_values all p ++ blanks 17
+
+unfoldable pub route_record : RouteTotal → Route → List (List ℕ)
 route_record t (route.Port name) = named (codes "port") t.partition name ++ blanks 41 ++ values (port_cells t.messages) ++ blanks 4
 route_record t (route.Channel name) = named (codes "channel") t.partition name ++ blanks 44 ++ values (cell.Number t.messages.out ∷ []) ++ blanks 3
 
-abbrev pub error_record : ErrorTotal → List (List ℕ)
+unfoldable pub error_record : ErrorTotal → List (List ℕ)
 error_record e =
     named (codes "error") (partition_word e.partition) (error_word e.error) ++ blanks 45
     ++ (level_word (level_of_response e.response) ∷ action_word e.response ∷ []) ++ values (cell.Number e.lines ∷ [])
 
 -- ---- all of them
 
+unfoldable pub heading_texts : List (List ℕ)
+heading_texts = map (λ t. t.now) HEADINGS
+
 abbrev pub heading_record : List ℕ
-heading_record = record_text (map (λ t. t.now) HEADINGS)
+heading_record = record_text heading_texts
 
 abbrev pub partition_records : Report → List ℕ
 partition_records r = flat_map (λ p. record_text (partition_record p)) r.partitions.items
@@ -70,5 +74,5 @@ route_records r = flat_map (λ (t : RouteTotal). record_text (route_record t t.r
 abbrev pub error_records : Report → List ℕ
 error_records r = flat_map (λ e. record_text (error_record e)) r.errors.items
 
-abbrev pub all_records : Report → List ℕ
+unfoldable pub all_records : Report → List ℕ
 all_records r = heading_record ++ record_text (trace_record r) ++ partition_records r ++ process_records r ++ route_records r ++ error_records r

@@ -14,7 +14,7 @@ use Rattle.trace_shares.specs.declared.shares.Shares.{Shares}
 use Rattle.trace_shares.specs.declared.usage.Use.{Use}
 use Rattle.trace_shares.specs.declared.usage.Use.TheVariants as use_of
 use Rattle.trace_stays.specs.Stays.{ticks_of}
-use Rattle.trace_view.specs.Cells.{condition_cells, extent_cells, mode_cells, port_cells, service_cells, state_cells, time_cells}
+use Rattle.trace_view.specs.Cells.{condition_cells, extent_cells, mode_cells, paired_cells, port_cells, service_cells, state_cells, time_cells}
 use Rattle.trace_view.specs.Errors.{partition_word}
 use Rattle.trace_view.specs.declared.errors.ErrorTotal.{ErrorTotal}
 use Rattle.trace_view.specs.declared.messages.Route.{Route}
@@ -30,94 +30,107 @@ use Rattle.trace_view.specs.declared.report.RouteTotal.{RouteTotal}
 abbrev pub shown : List Cell → List (List ℕ)
 shown cells = map (cell_text (codes "-")) cells
 
-abbrev pub process_row : (ProcessTotal → List Cell) → ProcessTotal → List (List ℕ)
-process_row cells p = (p.partition ∷ subject_text p.who ∷ []) ++ shown (cells p)
+-- the names of a process, and the texts of cells behind them
+abbrev pub process_row : ProcessTotal → List Cell → List (List ℕ)
+process_row p cells = (p.partition ∷ subject_text p.who ∷ []) ++ shown cells
 
-abbrev pub partition_row : (PartitionTotal → List Cell) → PartitionTotal → List (List ℕ)
-partition_row cells p = (p.name ∷ []) ++ shown (cells p)
+unfoldable pub states_row : ℕ → ProcessTotal → List (List ℕ)
+states_row all p = process_row p (state_cells p.tally.ticks all)
 
-abbrev pub error_row : ErrorTotal → List (List ℕ)
+unfoldable pub times_row : ProcessTotal → List (List ℕ)
+times_row p = process_row p (time_cells p.tally p.spreads)
+
+unfoldable pub services_row : ProcessTotal → List (List ℕ)
+services_row p = process_row p (service_cells p.tally)
+
+unfoldable pub modes_row : PartitionTotal → List (List ℕ)
+modes_row p = (p.name ∷ []) ++ shown (mode_cells p.modes p.starts)
+
+unfoldable pub conditions_row : PartitionTotal → List (List ℕ)
+conditions_row p = (p.name ∷ []) ++ shown (condition_cells p.starts.conditions)
+
+unfoldable pub error_row : ErrorTotal → List (List ℕ)
 error_row e =
     (partition_word e.partition ∷ error_word e.error ∷ level_word (level_of_response e.response) ∷ action_word e.response ∷ [])
     ++ shown (cell.Number e.lines ∷ [])
 
 -- the row of a port, among the ports
-abbrev pub port_row : RouteTotal → Route → List (List (List ℕ))
+unfoldable pub port_row : RouteTotal → Route → List (List (List ℕ))
 port_row t (route.Port name) = ((t.partition ∷ name ∷ []) ++ shown (port_cells t.messages)) ∷ []
 port_row t (route.Channel name) = []
 
 -- the row of a channel, among the channels
-abbrev pub channel_row : RouteTotal → Route → List (List (List ℕ))
+unfoldable pub channel_row : RouteTotal → Route → List (List (List ℕ))
 channel_row t (route.Port name) = []
 channel_row t (route.Channel name) = ((t.partition ∷ name ∷ []) ++ shown (cell.Number t.messages.out ∷ [])) ∷ []
 
 -- ---- tables
 
-abbrev pub extent_table : Report → List ℕ
+unfoldable pub extent_table : Report → List ℕ
 extent_table r = table_text (codes "The trace: its lines, and the ticks that count") (record {
   names = 0;
   headings = codes "lines" ∷ codes "first tick" ∷ codes "last tick" ∷ codes "from" ∷ codes "to" ∷ codes "ticks" ∷ [];
   rows = shown (extent_cells r.extent) ∷ [];
 })
 
-abbrev pub states_table : Report → List ℕ
+unfoldable pub states_table : Report → List ℕ
 states_table r = table_text (codes "\nProcesses: ticks in each state, and their share of all ticks") (record {
   names = 2;
   headings =
       codes "partition" ∷ codes "process" ∷ codes "RUNNING" ∷ codes "%" ∷ codes "READY" ∷ codes "%" ∷ codes "WAITING" ∷ codes "%"
       ∷ codes "DORMANT" ∷ codes "%" ∷ [];
-  rows = map (process_row (λ p. state_cells p.tally.ticks (ticks_of r.extent.window))) r.processes.items;
+  rows = map (states_row (ticks_of r.extent.window)) r.processes.items;
 })
 
-abbrev pub times_table : Report → List ℕ
+unfoldable pub times_table : Report → List ℕ
 times_table r = table_text (codes "\nProcesses: activations, and ticks from READY to RUNNING and to the end") (record {
   names = 2;
   headings =
       codes "partition" ∷ codes "process" ∷ codes "activations" ∷ codes "least to RUNNING" ∷ codes "median" ∷ codes "95 %" ∷ codes "greatest"
       ∷ codes "least to end" ∷ codes "median" ∷ codes "95 %" ∷ codes "greatest" ∷ codes "deadlines missed" ∷ [];
-  rows = map (process_row (λ p. time_cells p.tally p.spreads)) r.processes.items;
+  rows = map times_row r.processes.items;
 })
 
-abbrev pub services_table : Report → List ℕ
+unfoldable pub services_table : Report → List ℕ
 services_table r = table_text (codes "\nProcesses: services refused, by their codes, and application messages") (record {
   names = 2;
   headings =
       codes "partition" ∷ codes "process" ∷ codes "NO_ACTION" ∷ codes "NOT_AVAILABLE" ∷ codes "INVALID_PARAM" ∷ codes "INVALID_CONFIG"
       ∷ codes "INVALID_MODE" ∷ codes "TIMED_OUT" ∷ codes "messages" ∷ [];
-  rows = map (process_row (λ p. service_cells p.tally)) r.processes.items;
+  rows = map services_row r.processes.items;
 })
 
-abbrev pub modes_table : Report → List ℕ
+unfoldable pub modes_table : Report → List ℕ
 modes_table r = table_text (codes "\nPartitions: ticks in each mode, and starts") (record {
   names = 1;
   headings =
       codes "partition" ∷ codes "NORMAL" ∷ codes "COLD_START" ∷ codes "WARM_START" ∷ codes "IDLE" ∷ codes "cold starts" ∷ codes "warm starts" ∷ [];
-  rows = map (partition_row (λ p. mode_cells p.modes p.starts)) r.partitions.items;
+  rows = map modes_row r.partitions.items;
 })
 
-abbrev pub conditions_table : Report → List ℕ
+unfoldable pub conditions_table : Report → List ℕ
 conditions_table r = table_text (codes "\nPartitions: starts, by their conditions") (record {
   names = 1;
   headings =
       codes "partition" ∷ codes "NORMAL_START" ∷ codes "PARTITION_RESTART" ∷ codes "HM_MODULE_RESTART" ∷ codes "HM_PARTITION_RESTART" ∷ [];
-  rows = map (partition_row (λ p. condition_cells p.starts.conditions)) r.partitions.items;
+  rows = map conditions_row r.partitions.items;
 })
 
-abbrev pub errors_table : Report → List ℕ
+unfoldable pub errors_table : Report → List ℕ
 errors_table r = table_text (codes "\nErrors, by their level and the action on them") (record {
   names = 4;
   headings = codes "partition" ∷ codes "error" ∷ codes "level" ∷ codes "action" ∷ codes "lines" ∷ [];
   rows = map error_row r.errors.items;
 })
 
-abbrev pub ports_table : Report → List ℕ
+unfoldable pub ports_table : Report → List ℕ
 ports_table r = table_text (codes "\nPorts: messages") (record {
   names = 2;
   headings = codes "partition" ∷ codes "port" ∷ codes "moved" ∷ codes "arrived" ∷ codes "lost" ∷ [];
   rows = flat_map (λ (t : RouteTotal). port_row t t.route) r.routes.items;
 })
 
-abbrev pub channels_table : Report → List ℕ
+unfoldable pub channels_table : Report → List ℕ
 channels_table r = table_text (codes "\nChannels: messages that left the module") (record {
   names = 2;
   headings = codes "partition" ∷ codes "channel" ∷ codes "out" ∷ [];
@@ -127,7 +140,7 @@ channels_table r = table_text (codes "\nChannels: messages that left the module"
 -- ---- what the processor did
 
 -- the row of a process that worked, if it is of the partition at this place
-abbrev pub worked_by : ℕ → List ℕ → ℕ → Row → Use → List (List (List ℕ))
+unfoldable pub worked_by : ℕ → List ℕ → ℕ → Row → Use → List (List (List ℕ))
 worked_by place name all row (use_of.Process p who) =
     if is_at place (place_of_use (use_of.Process p who)) then ((name ∷ subject_text who ∷ []) ++ shown (share_cells row.ticks all)) ∷ [] else []
 worked_by place name all row (use_of.Idle p) = []
@@ -142,7 +155,7 @@ abbrev pub worked_from : ℕ → ℕ → List Row → List Owner → List (List 
 worked_from place all rows [] = []
 worked_from place all rows (o ∷ os) = worked_rows place o.name all rows ++ worked_from (place + 1) all rows os
 
-abbrev pub worked_table : Shares → ℕ → List ℕ
+unfoldable pub worked_table : Shares → ℕ → List ℕ
 worked_table s all = table_text (codes "\nProcesses: ticks in which they worked, and their share of all ticks") (record {
   names = 2;
   headings = codes "partition" ∷ codes "process" ∷ codes "ticks" ∷ codes "%" ∷ [];
@@ -150,29 +163,29 @@ worked_table s all = table_text (codes "\nProcesses: ticks in which they worked,
 })
 
 -- the ticks of the windows of the partition at this place, and the idle ones among them
-abbrev pub windows_row : ℕ → ℕ → List Row → Owner → List (List ℕ)
+unfoldable pub windows_row : ℕ → ℕ → List Row → Owner → List (List ℕ)
 windows_row place all rows o =
-    (o.name ∷ []) ++ shown (share_cells (capped (ticks_at place rows)) all ++ share_cells (capped (idle_at place rows)) all)
+    (o.name ∷ []) ++ shown (paired_cells (capped (ticks_at place rows)) (capped (idle_at place rows)) all)
 
 abbrev pub windows_from : ℕ → ℕ → List Row → List Owner → List (List (List ℕ))
 windows_from place all rows [] = []
 windows_from place all rows (o ∷ os) = windows_row place all rows o ∷ windows_from (place + 1) all rows os
 
-abbrev pub windows_table : Shares → ℕ → List ℕ
+unfoldable pub windows_table : Shares → ℕ → List ℕ
 windows_table s all = table_text (codes "\nPartitions: ticks of their windows, and those in which none of their processes worked") (record {
   names = 1;
   headings = codes "partition" ∷ codes "ticks" ∷ codes "%" ∷ codes "idle" ∷ codes "%" ∷ [];
   rows = windows_from 0 all s.counted.rows.items s.owners.items;
 })
 
-abbrev pub unused_table : Shares → ℕ → List ℕ
+unfoldable pub unused_table : Shares → ℕ → List ℕ
 unused_table s all = table_text (codes "\nThe module: ticks in no window, and those behind a shutdown") (record {
   names = 0;
   headings = codes "in no window" ∷ codes "%" ∷ codes "shut down" ∷ codes "%" ∷ [];
-  rows = shown (share_cells (ticks_for use_of.Unowned s.counted.rows.items) all ++ share_cells (ticks_for use_of.Down s.counted.rows.items) all) ∷ [];
+  rows = shown (paired_cells (ticks_for use_of.Unowned s.counted.rows.items) (ticks_for use_of.Down s.counted.rows.items) all) ∷ [];
 })
 
-abbrev pub usage_tables : Shares → ℕ → List ℕ
+unfoldable pub usage_tables : Shares → ℕ → List ℕ
 usage_tables s all = worked_table s all ++ windows_table s all ++ unused_table s all
 
 abbrev pub usage_if : Option Shares → ℕ → List ℕ
@@ -181,14 +194,14 @@ usage_if (Some s) all = usage_tables s all
 
 -- ---- all of them
 
-abbrev pub process_tables : Report → List ℕ
+unfoldable pub process_tables : Report → List ℕ
 process_tables r = states_table r ++ usage_if r.shares (ticks_of r.extent.window) ++ times_table r ++ services_table r
 
-abbrev pub partition_tables : Report → List ℕ
+unfoldable pub partition_tables : Report → List ℕ
 partition_tables r = modes_table r ++ conditions_table r ++ errors_table r
 
-abbrev pub message_tables : Report → List ℕ
+unfoldable pub message_tables : Report → List ℕ
 message_tables r = ports_table r ++ channels_table r
 
-abbrev pub tables_text : Report → List ℕ
+unfoldable pub tables_text : Report → List ℕ
 tables_text r = extent_table r ++ process_tables r ++ partition_tables r ++ message_tables r

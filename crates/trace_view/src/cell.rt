@@ -1,7 +1,7 @@
 //! The cells of tables.
 
 ghost use Rattle.std.specs.Prelude.{◌≡◌};
-ghost use Rattle.trace_view.specs.Cells.{condition_cells, extent_cells, greatest_cell, least_cell, mode_cells, port_cells, service_cells, state_cells, tick_cell, time_cells};
+ghost use Rattle.trace_view.specs.Cells.{condition_cells, extent_cells, greatest_cell, least_cell, mode_cells, paired_cells, port_cells, service_cells, state_cells, tick_cell, time_cells};
 
 use crate::conditions::Conditions;
 use crate::extent::Extent;
@@ -44,6 +44,7 @@ fn greatest_cell(times: Option<Extremes>) -> Cell
 
 /// Lines; the first and the last tick of a line; the first tick that counts, the first that does
 /// not, and how many count.
+#[tactic(auto, unfolding(crate::specs::Cells::extent_cells))]
 pub fn extent_cells(extent: &Extent) -> [Cell; 6]
     ensures { result ≡ extent_cells extent.now }
 {
@@ -58,6 +59,7 @@ pub fn extent_cells(extent: &Extent) -> [Cell; 6]
 }
 
 /// The ticks in each state, and behind each its share of all.
+#[tactic(auto, unfolding(crate::specs::Cells::state_cells))]
 pub fn state_cells(ticks: StateTicks, all: u64) -> [Cell; 8]
     ensures { result ≡ state_cells ticks all }
 {
@@ -75,6 +77,7 @@ pub fn state_cells(ticks: StateTicks, all: u64) -> [Cell; 8]
 
 /// Activations; the least time to RUNNING, the median, the 95th percentile and the greatest one; the
 /// same to the end; missed deadlines.
+#[tactic(auto, unfolding(crate::specs::Cells::time_cells))]
 pub fn time_cells(tally: &Tally, spreads: ResponseSpreads) -> [Cell; 10]
     ensures { result ≡ time_cells tally.now spreads }
 {
@@ -93,6 +96,7 @@ pub fn time_cells(tally: &Tally, spreads: ResponseSpreads) -> [Cell; 10]
 }
 
 /// Refused services by their codes, from 1 to 6, and application messages.
+#[tactic(auto, unfolding(crate::specs::Cells::service_cells))]
 pub fn service_cells(tally: &Tally) -> [Cell; 7]
     ensures { result ≡ service_cells tally.now }
 {
@@ -109,6 +113,7 @@ pub fn service_cells(tally: &Tally) -> [Cell; 7]
 }
 
 /// The ticks in each mode, and the starts in COLD_START and WARM_START.
+#[tactic(auto, unfolding(crate::specs::Cells::mode_cells))]
 pub fn mode_cells(modes: ModeTicks, starts: Starts) -> [Cell; 6]
     ensures { result ≡ mode_cells modes starts }
 {
@@ -124,6 +129,7 @@ pub fn mode_cells(modes: ModeTicks, starts: Starts) -> [Cell; 6]
 
 /// The starts by their conditions: NORMAL_START, PARTITION_RESTART, HM_MODULE_RESTART and
 /// HM_PARTITION_RESTART.
+#[tactic(auto, unfolding(crate::specs::Cells::condition_cells))]
 pub fn condition_cells(conditions: Conditions) -> [Cell; 4]
     ensures { result ≡ condition_cells conditions }
 {
@@ -135,7 +141,21 @@ pub fn condition_cells(conditions: Conditions) -> [Cell; 4]
     ]
 }
 
+/// Two numbers, and behind each its share of all.
+#[tactic(auto, unfolding(crate::specs::Cells::paired_cells))]
+pub fn paired_cells(one: u64, other: u64, all: u64) -> [Cell; 4]
+    ensures { result ≡ paired_cells one other all }
+{
+    [
+        Cell::Number(one),
+        Cell::Share(Share::of(one, all)),
+        Cell::Number(other),
+        Cell::Share(Share::of(other, all)),
+    ]
+}
+
 /// The messages of a port: moved, arrived, lost.
+#[tactic(auto, unfolding(crate::specs::Cells::port_cells))]
 pub fn port_cells(messages: Messages) -> [Cell; 3]
     ensures { result ≡ port_cells messages }
 {

@@ -1,9 +1,8 @@
-//! Why partitions start.
+//! The starts of a partition by their conditions.
 
 ghost use Rattle.std.specs.Prelude.{◌≡◌};
-ghost use Rattle.trace_view.specs.Starts.{told_behind, told_by_error, told_by_service};
 
-use apex_types::{EventKind, ModuleAction, Response, Service, StartCondition};
+use apex_types::StartCondition;
 
 /// How often a partition has started, by the condition of the start.
 #[derive(Clone, Copy, Debug, PartialEq, Eq)]
@@ -54,38 +53,5 @@ impl Conditions {
             }
             None => {}
         }
-    }
-}
-
-/// The condition of a start in the line behind this one, if the lines tell it.
-pub fn told_behind(told: Option<StartCondition>, kind: &EventKind) -> Option<StartCondition>
-    ensures { result ≡ told_behind told kind.now }
-{
-    match kind {
-        EventKind::Mode(_) => told,
-        EventKind::Return(_, service, _) => told_by_service(*service),
-        EventKind::Error(_, _, response) => told_by_error(*response),
-        _ => None,
-    }
-}
-
-/// What the line of a service tells.
-fn told_by_service(service: Service) -> Option<StartCondition>
-    ensures { result ≡ told_by_service service }
-{
-    match service {
-        Service::SetPartitionMode => Some(StartCondition::PartitionRestart),
-        _ => None,
-    }
-}
-
-/// What the line of an error tells.
-fn told_by_error(response: Response) -> Option<StartCondition>
-    ensures { result ≡ told_by_error response }
-{
-    match response {
-        Response::Partition(_) => Some(StartCondition::HmPartitionRestart),
-        Response::Module(ModuleAction::Reset) => Some(StartCondition::HmModuleRestart),
-        Response::Module(_) | Response::Handler => None,
     }
 }

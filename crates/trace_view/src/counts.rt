@@ -1,6 +1,9 @@
 //! The counts so far, by partitions, processes, ports and channels.
 
-ghost use Rattle.std.specs.Prelude.{◌≡◌, IfOk};
+ghost use Rattle.std.specs.Prelude.{◌≡◌, [], Some, IfOk, OnOk};
+ghost use Rattle.trace_view.specs.Counted.{HasError, HasErrorIf, HasMessage, HasMessageIf};
+ghost use Rattle.trace_view.specs.Counting.{route_of};
+ghost use Rattle.trace_view.specs.Tallies.{has_tick};
 ghost use Rattle.trace_view.specs.Traffic.{totals_from};
 
 use crate::errors::Errors;
@@ -11,10 +14,10 @@ use crate::report::{PartitionTotal, ProcessTotal, Report, RouteTotal};
 use crate::responses::Responses;
 use crate::starts::Starts;
 use crate::tally::{Tally, Turn};
+use crate::told::Told;
 use crate::traffic::Traffic;
 use apex_types::{
-    ErrorKind, Event, EventKind, Mode, Name, ProcessState, ReturnCode, StartCondition, Subject,
-    Ticks,
+    ErrorKind, Event, EventKind, Mode, Name, ProcessState, ReturnCode, Subject, Ticks,
 };
 use std::alloc::Global;
 use trace_stays::{Ended, Lanes, MemoryFull, Span};
@@ -40,7 +43,10 @@ pub struct Counts {
 
 impl Counts {
     /// Nothing was counted.
-    pub fn new(alloc: Global) -> Counts {
+    pub fn new(alloc: Global) -> Counts
+        ensures errors { result.errors.totals.items ≡ [] }
+        ensures messages { result.traffic.passages.items ≡ [] }
+    {
         Counts {
             alloc,
             lanes: Lanes::new(alloc),
@@ -60,24 +66,37 @@ impl Counts {
     /// # Errors
     ///
     /// Memory ran out.
-    pub fn count(
-        &mut self,
-        event: &Event,
-        window: Span,
-        told: Option<StartCondition>,
-    ) -> Result<(), MemoryFull> {
-        self.ended.clear();
-        self.lanes.follow(event, &mut self.ended)?;
-        self.make_room()?;
-        match &event.kind {
-            EventKind::State(who, state) => self.turn(event, who, *state, window)?,
-            EventKind::Mode(_) => self.start_again(event.tick, window),
-            _ => {}
-        }
+    pub fn count(&mut self, event: &Event, window: Span, told: &Told) -> Result<(), MemoryFull>
+        ensures errors { OnOk result
+            (HasErrorIf (has_tick window event.now.tick.0) event.now.partition event.now.kind
+            self.old.errors self.new.errors) }
+        ensures messages { OnOk result
+            (HasMessageIf (has_tick window event.now.tick.0) event.now.partition event.now.kind
+            self.new.lanes.partitions.items self.old.traffic self.new.traffic) }
+    {
+        self.follow(event, window)?;
         if has_tick(window, event.tick) {
             self.count_kind(event, told)?;
         }
         Ok(())
+    }
+
+    /// Counts the stays that end with an event.
+    fn follow(&mut self, event: &Event, window: Span) -> Result<(), MemoryFull>
+        ensures errors { self.new.errors ≡ self.old.errors }
+        ensures traffic { self.new.traffic ≡ self.old.traffic }
+    {
+        self.ended.clear();
+        self.lanes.follow(event, &mut self.ended)?;
+        self.make_room()?;
+        match &event.kind {
+            EventKind::State(who, state) => self.turn(event, who, *state, window),
+            EventKind::Mode(_) => {
+                self.start_again(event.tick, window);
+                Ok(())
+            }
+            _ => Ok(()),
+        }
     }
 
     /// The numbers, those of each partition together.
@@ -90,6 +109,7 @@ impl Counts {
         ensures routes { IfOk result
             (λ report. report.routes.items
             ≡ totals_from 0 report.partitions.items self.traffic.passages.items) }
+        ensures errors { IfOk result (λ report. report.errors ≡ self.errors.totals) }
     {
         self.finish_stays(extent.window)?;
         let partitions = self.partition_totals()?;
@@ -107,7 +127,8 @@ impl Counts {
 
     /// Counts the stays that are not over.
     fn finish_stays(&mut self, window: Span) -> Result<(), MemoryFull>
-        ensures { self.new.traffic ≡ self.old.traffic }
+        ensures errors { self.new.errors ≡ self.old.errors }
+        ensures traffic { self.new.traffic ≡ self.old.traffic }
     {
         self.ended.clear();
         self.lanes.finish(window.until, &mut self.ended)?;
@@ -131,7 +152,8 @@ impl Counts {
 
     /// Makes a place for each partition and each process that has a line.
     fn make_room(&mut self) -> Result<(), MemoryFull>
-        ensures { self.new.traffic ≡ self.old.traffic }
+        ensures errors { self.new.errors ≡ self.old.errors }
+        ensures traffic { self.new.traffic ≡ self.old.traffic }
     {
         self.modes
             .resize(self.lanes.partitions().len(), ModeTicks::new())?;
@@ -144,7 +166,10 @@ impl Counts {
     }
 
     /// Counts a turn of the process at this place, and takes the time that it measures.
-    fn turn_at(&mut self, place: usize, turn: Turn, window: Span) -> Result<(), MemoryFull> {
+    fn turn_at(&mut self, place: usize, turn: Turn, window: Span) -> Result<(), MemoryFull>
+        ensures errors { self.new.errors ≡ self.old.errors }
+        ensures traffic { self.new.traffic ≡ self.old.traffic }
+    {
         let Some(tally) = self.tallies.get_mut(place) else {
             return Ok(());
         };
@@ -158,7 +183,10 @@ impl Counts {
     }
 
     /// The place of a process, which gets one if it has none.
-    fn process_place(&mut self, partition: &Name, who: &Subject) -> Result<usize, MemoryFull> {
+    fn process_place(&mut self, partition: &Name, who: &Subject) -> Result<usize, MemoryFull>
+        ensures errors { self.new.errors ≡ self.old.errors }
+        ensures traffic { self.new.traffic ≡ self.old.traffic }
+    {
         let place = self.lanes.process_place(partition, who)?;
         self.make_room()?;
         Ok(place)
@@ -171,7 +199,10 @@ impl Counts {
         who: &Subject,
         state: ProcessState,
         window: Span,
-    ) -> Result<(), MemoryFull> {
+    ) -> Result<(), MemoryFull>
+        ensures errors { self.new.errors ≡ self.old.errors }
+        ensures traffic { self.new.traffic ≡ self.old.traffic }
+    {
         let Some(name) = &event.partition else {
             return Ok(());
         };
@@ -189,7 +220,10 @@ impl Counts {
     }
 
     /// A partition enters a mode. The processes whose stays are over are gone.
-    fn start_again(&mut self, tick: Ticks, window: Span) {
+    fn start_again(&mut self, tick: Ticks, window: Span)
+        ensures errors { self.new.errors ≡ self.old.errors }
+        ensures traffic { self.new.traffic ≡ self.old.traffic }
+    {
         for ended in &self.ended {
             match ended {
                 Ended::State(place, stay) => {
@@ -212,14 +246,38 @@ impl Counts {
     }
 
     /// Counts the parts of a line besides states and modes.
-    fn count_kind(
-        &mut self,
-        event: &Event,
-        told: Option<StartCondition>,
-    ) -> Result<(), MemoryFull> {
-        if let EventKind::Error(error, _, response) = &event.kind {
-            self.errors.count(&event.partition, *error, *response)?;
+    fn count_kind(&mut self, event: &Event, told: &Told) -> Result<(), MemoryFull>
+        ensures errors { OnOk result
+            (HasError event.now.partition event.now.kind self.old.errors self.new.errors) }
+        ensures messages { OnOk result
+            (HasMessage event.now.partition (route_of event.now.kind) event.now.kind
+            self.new.lanes.partitions.items self.old.traffic self.new.traffic) }
+    {
+        self.count_error(event)?;
+        self.count_own(event, told)
+    }
+
+    /// Counts the line of an error.
+    fn count_error(&mut self, event: &Event) -> Result<(), MemoryFull>
+        ensures errors { OnOk result
+            (HasError event.now.partition event.now.kind self.old.errors self.new.errors) }
+        ensures traffic { self.new.traffic ≡ self.old.traffic }
+    {
+        match &event.kind {
+            EventKind::Error(error, _, response) => {
+                self.errors.count(&event.partition, *error, *response)
+            }
+            _ => Ok(()),
         }
+    }
+
+    /// Counts what a line says of its partition, besides its error.
+    fn count_own(&mut self, event: &Event, told: &Told) -> Result<(), MemoryFull>
+        ensures errors { self.new.errors ≡ self.old.errors }
+        ensures messages { OnOk result
+            (HasMessage event.now.partition (route_of event.now.kind) event.now.kind
+            self.new.lanes.partitions.items self.old.traffic self.new.traffic) }
+    {
         let Some(name) = &event.partition else {
             return Ok(());
         };
@@ -240,7 +298,10 @@ impl Counts {
         partition: &Name,
         who: &Subject,
         code: ReturnCode,
-    ) -> Result<(), MemoryFull> {
+    ) -> Result<(), MemoryFull>
+        ensures errors { self.new.errors ≡ self.old.errors }
+        ensures traffic { self.new.traffic ≡ self.old.traffic }
+    {
         let place = self.process_place(partition, who)?;
         if let Some(tally) = self.tallies.get_mut(place) {
             tally.answer(code);
@@ -248,7 +309,10 @@ impl Counts {
         Ok(())
     }
 
-    fn miss(&mut self, partition: &Name, who: &Subject) -> Result<(), MemoryFull> {
+    fn miss(&mut self, partition: &Name, who: &Subject) -> Result<(), MemoryFull>
+        ensures errors { self.new.errors ≡ self.old.errors }
+        ensures traffic { self.new.traffic ≡ self.old.traffic }
+    {
         let place = self.process_place(partition, who)?;
         if let Some(tally) = self.tallies.get_mut(place) {
             tally.miss();
@@ -256,7 +320,10 @@ impl Counts {
         Ok(())
     }
 
-    fn report(&mut self, partition: &Name, who: &Subject) -> Result<(), MemoryFull> {
+    fn report(&mut self, partition: &Name, who: &Subject) -> Result<(), MemoryFull>
+        ensures errors { self.new.errors ≡ self.old.errors }
+        ensures traffic { self.new.traffic ≡ self.old.traffic }
+    {
         let place = self.process_place(partition, who)?;
         if let Some(tally) = self.tallies.get_mut(place) {
             tally.report();
@@ -265,22 +332,25 @@ impl Counts {
     }
 
     /// Counts the start of a partition, if it enters the mode of one.
-    fn start(
-        &mut self,
-        partition: &Name,
-        mode: Mode,
-        told: Option<StartCondition>,
-    ) -> Result<(), MemoryFull> {
+    fn start(&mut self, partition: &Name, mode: Mode, told: &Told) -> Result<(), MemoryFull>
+        ensures errors { self.new.errors ≡ self.old.errors }
+        ensures traffic { self.new.traffic ≡ self.old.traffic }
+    {
         let place = self.lanes.partition_place(partition)?;
         self.make_room()?;
         if let Some(starts) = self.starts.get_mut(place) {
-            starts.count(mode, told);
+            starts.count(mode, told.condition_for(partition));
         }
         Ok(())
     }
 
     /// Counts a message that passes.
-    fn pass(&mut self, partition: &Name, route: Route, kind: &EventKind) -> Result<(), MemoryFull> {
+    fn pass(&mut self, partition: &Name, route: Route, kind: &EventKind) -> Result<(), MemoryFull>
+        ensures errors { self.new.errors ≡ self.old.errors }
+        ensures messages { OnOk result
+            (HasMessage (Some partition.now) (Some route) kind.now
+            self.new.lanes.partitions.items self.old.traffic self.new.traffic) }
+    {
         let partition = self.lanes.partition_place(partition)?;
         self.traffic.count(partition, &route, kind)
     }

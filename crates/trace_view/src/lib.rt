@@ -24,11 +24,12 @@ mod states;
 mod summary;
 mod tally;
 mod times;
+mod told;
 mod traffic;
 mod usage;
 mod writing;
 
-pub use conditions::{Conditions, told_behind};
+pub use conditions::Conditions;
 pub use errors::ErrorTotal;
 pub use extent::Extent;
 pub use extremes::Extremes;
@@ -42,3 +43,4 @@ pub use states::StateTicks;
 pub use summary::Summary;
 pub use tally::{Measured, Tally, Turn};
 pub use times::{Percentile, Spread, Times};
+pub use told::Told;

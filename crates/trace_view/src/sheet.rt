@@ -2,7 +2,7 @@
 
 ghost use Rattle.std.specs.Prelude.{◌≡◌, ◌++◌, IfOk, OnOk};
 ghost use Rattle.number_tables.specs.Rows.{texts_of};
-ghost use Rattle.trace_view.specs.Records.{all_records, error_record, error_records, heading_record, partition_record, partition_records, process_record, process_records, route_record, route_records, trace_record};
+ghost use Rattle.trace_view.specs.Records.{all_records, error_record, error_records, heading_record, heading_texts, partition_record, partition_records, process_record, process_records, process_values, route_record, route_records, trace_record};
 
 use crate::cell::{
     condition_cells, extent_cells, mode_cells, port_cells, service_cells, state_cells, time_cells,
@@ -71,6 +71,7 @@ pub const HEADINGS: [&str; 51] = [
 
 /// Appends the row of headings, a row of the trace, and a row of each partition, process, port and
 /// channel, and of the errors of each kind.
+#[tactic(auto, unfolding(crate::specs::Records::all_records))]
 pub fn write_sheet(alloc: Global, report: &Report, text: &mut Vec<u8>) -> Result<(), AllocError>
     ensures { OnOk result (text.new.items ≡ text.old.items ++ all_records report.now) }
 {
@@ -82,6 +83,7 @@ pub fn write_sheet(alloc: Global, report: &Report, text: &mut Vec<u8>) -> Result
     write_errors(alloc, report, text)
 }
 
+#[tactic(auto, unfolding(crate::specs::Records::heading_texts))]
 fn write_headings(alloc: Global, text: &mut Vec<u8>) -> Result<(), AllocError>
     ensures { OnOk result (text.new.items ≡ text.old.items ++ heading_record) }
 {
@@ -132,6 +134,7 @@ fn write_errors(alloc: Global, report: &Report, text: &mut Vec<u8>) -> Result<()
 }
 
 /// The row of the trace.
+#[tactic(auto, unfolding(crate::specs::Records::trace_record))]
 fn trace(alloc: Global, report: &Report) -> Result<Row, AllocError>
     ensures { IfOk result (λ row. texts_of row ≡ trace_record report.now) }
 {
@@ -142,6 +145,7 @@ fn trace(alloc: Global, report: &Report) -> Result<Row, AllocError>
 }
 
 /// The row of a partition.
+#[tactic(auto, unfolding(crate::specs::Records::partition_record))]
 fn partition(alloc: Global, total: &PartitionTotal) -> Result<Row, AllocError>
     ensures { IfOk result (λ row. texts_of row ≡ partition_record total.now) }
 {
@@ -154,20 +158,31 @@ fn partition(alloc: Global, total: &PartitionTotal) -> Result<Row, AllocError>
 }
 
 /// The row of a process, among so many ticks.
+#[tactic(auto, unfolding(crate::specs::Records::process_record))]
 fn process(alloc: Global, total: &ProcessTotal, all: u64) -> Result<Row, AllocError>
     ensures { IfOk result (λ row. texts_of row ≡ process_record all total.now) }
 {
     let who = subject_word(&total.who);
     let mut row = named(alloc, "process", total.partition.as_str(), who)?;
     row.push_blanks(6)?;
-    row.push_cells(&state_cells(total.tally.ticks, all), "")?;
-    row.push_cells(&time_cells(&total.tally, total.spreads), "")?;
-    row.push_cells(&service_cells(&total.tally), "")?;
+    push_process(total, all, &mut row)?;
     row.push_blanks(17)?;
     Ok(row)
 }
 
+/// Adds the numbers of a process.
+#[tactic(auto, unfolding(crate::specs::Records::process_values))]
+fn push_process(total: &ProcessTotal, all: u64, row: &mut Row) -> Result<(), AllocError>
+    ensures { OnOk result (texts_of row.new ≡ texts_of row.old ++ process_values all total.now) }
+{
+    row.push_cells(&state_cells(total.tally.ticks, all), "")?;
+    row.push_cells(&time_cells(&total.tally, total.spreads), "")?;
+    row.push_cells(&service_cells(&total.tally), "")?;
+    Ok(())
+}
+
 /// The row of a port or a channel.
+#[tactic(auto, unfolding(crate::specs::Records::route_record))]
 fn route(alloc: Global, total: &RouteTotal) -> Result<Row, AllocError>
     ensures { IfOk result (λ row. texts_of row ≡ route_record total.now total.now.route) }
 {
@@ -190,6 +205,7 @@ fn route(alloc: Global, total: &RouteTotal) -> Result<Row, AllocError>
 }
 
 /// The row of the errors of a kind.
+#[tactic(auto, unfolding(crate::specs::Records::error_record))]
 fn error(alloc: Global, total: &ErrorTotal) -> Result<Row, AllocError>
     ensures { IfOk result (λ row. texts_of row ≡ error_record total.now) }
 {

@@ -2,11 +2,11 @@
 
 ghost use Rattle.std.specs.Prelude.{◌≡◌, IfOk};
 
-use crate::conditions::told_behind;
 use crate::counts::Counts;
 use crate::extent::Extent;
 use crate::report::Report;
-use apex_types::{Event, StartCondition, Ticks};
+use crate::told::Told;
+use apex_types::{Event, Ticks};
 use std::alloc::Global;
 use trace_shares::{Shares, SharesFault};
 
@@ -18,8 +18,8 @@ pub struct Summary {
     /// The lines so far. Until all are counted, a window without an end stays open.
     extent: Extent,
     counts: Counts,
-    /// The condition of a start in the next line, if the lines so far tell it.
-    told: Option<StartCondition>,
+    /// What the lines so far tell of a start in the next one.
+    told: Told,
     /// What the processor did, if the windows are known.
     shares: Option<Shares>,
 }
@@ -40,7 +40,7 @@ impl Summary {
             to,
             extent: Extent::new(from, to),
             counts: Counts::new(alloc),
-            told: Some(StartCondition::NormalStart),
+            told: Told::new(),
             shares,
         }
     }
@@ -53,14 +53,14 @@ impl Summary {
     pub fn count(&mut self, event: &Event) -> Result<(), SharesFault>
         ensures to { self.new.to ≡ self.old.to }
         ensures extent { self.new.extent ≡ with_line event.now.tick self.old.extent }
-        ensures told { self.new.told ≡ told_behind self.old.told event.now.kind }
+        ensures told { self.new.told ≡ told_behind event.now self.old.told }
     {
         let told = self.told;
-        self.told = told_behind(told, &event.kind);
+        self.told.read(event);
         self.extent.count(event.tick);
         let window = self.extent.window;
         if event.tick.0 < window.until.0 {
-            self.counts.count(event, window, told)?;
+            self.counts.count(event, window, &told)?;
             if let Some(shares) = &mut self.shares {
                 shares.follow(event)?;
             }
@@ -78,9 +78,9 @@ impl Summary {
         ensures to { self.new.to ≡ self.old.to }
         ensures extent { self.new.extent ≡ self.old.extent }
         ensures counts { self.new.counts ≡ self.old.counts }
-        ensures told { self.new.told ≡ told_behind self.old.told event.now.kind }
+        ensures told { self.new.told ≡ told_behind event.now self.old.told }
     {
-        self.told = told_behind(self.told, &event.kind);
+        self.told.read(event);
         if event.tick.0 < self.extent.window.until.0 {
             if let Some(shares) = &mut self.shares {
                 shares.follow(event)?;

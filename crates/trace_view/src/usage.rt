@@ -1,15 +1,17 @@
 //! The tables of what the processor did, by the windows of a module table.
 
 ghost use Rattle.std.specs.Prelude.{◌≡◌, ◌++◌, OnOk};
-ghost use Rattle.number_tables.specs.Tables.{contents_of, with_rows};
-ghost use Rattle.trace_view.specs.Tables.{unused_table, usage_tables, windows_table, worked_by, worked_rows, worked_table};
+ghost use Rattle.number_tables.specs.Tables.{contents_of, with_row, with_rows};
+ghost use Rattle.trace_view.specs.Tables.{unused_table, usage_tables, windows_row, windows_table, worked_by, worked_rows, worked_table};
 
+use crate::cell::paired_cells;
 use number_tables::{Table, share_cells};
 use std::alloc::{AllocError, Global};
-use trace_shares::{Owner, Row, Shares, Use};
+use trace_shares::{Counted, Owner, Row, Shares, Use};
 use trace_stays::subject_word;
 
 /// Appends the tables of what the processor did in so many ticks.
+#[tactic(auto, unfolding(crate::specs::Tables::usage_tables))]
 pub fn write_usage(
     alloc: Global,
     shares: &Shares,
@@ -42,7 +44,8 @@ fn write_worked(
     table.write(
         "\nProcesses: ticks in which they worked, and their share of all ticks",
         text,
-    )
+    )?;
+    Ok(())
 }
 
 /// Adds the rows of the processes of the partition at this place.
@@ -65,6 +68,7 @@ fn add_worked(
 }
 
 /// Adds the row of a process, if it is one of the partition at this place.
+#[tactic(auto, unfolding(crate::specs::Tables::worked_by))]
 fn add_row(
     place: usize,
     owner: &Owner,
@@ -99,17 +103,31 @@ fn write_windows(
     let mut table = Table::new(alloc, &["partition"], &["ticks", "%", "idle", "%"])?;
     let owners = shares.owners();
     for (place, owner) in owners.iter().enumerate() {
-        let ticks = shares.counted().window_ticks(place);
-        let idle = shares.counted().idle_ticks(place);
-        let [number, share] = share_cells(ticks, all);
-        let [idle_number, idle_share] = share_cells(idle, all);
-        let cells = [number, share, idle_number, idle_share];
-        table.add(&[owner.name.as_str()], &cells)?;
+        add_windows(place, owner, shares.counted(), all, &mut table)?;
     }
     table.write(
         "\nPartitions: ticks of their windows, and those in which none of their processes worked",
         text,
-    )
+    )?;
+    Ok(())
+}
+
+/// Adds the row of the partition at this place.
+#[tactic(auto, unfolding(crate::specs::Tables::windows_row))]
+fn add_windows(
+    place: usize,
+    owner: &Owner,
+    counted: &Counted,
+    all: u64,
+    table: &mut Table,
+) -> Result<(), AllocError>
+    ensures { OnOk result
+        (contents_of table.new
+        ≡ with_row (windows_row place all counted.now.rows.items owner.now)
+        (contents_of table.old)) }
+{
+    let cells = paired_cells(counted.window_ticks(place), counted.idle_ticks(place), all);
+    table.add(&[owner.name.as_str()], &cells)
 }
 
 fn write_unused(
@@ -121,11 +139,12 @@ fn write_unused(
     ensures { OnOk result (text.new.items ≡ text.old.items ++ unused_table shares.now all) }
 {
     let mut table = Table::new(alloc, &[], &["in no window", "%", "shut down", "%"])?;
-    let [unowned, unowned_share] = share_cells(shares.counted().ticks(&Use::Unowned), all);
-    let [down, down_share] = share_cells(shares.counted().ticks(&Use::Down), all);
-    table.add(&[], &[unowned, unowned_share, down, down_share])?;
+    let unowned = shares.counted().ticks(&Use::Unowned);
+    let down = shares.counted().ticks(&Use::Down);
+    table.add(&[], &paired_cells(unowned, down, all))?;
     table.write(
         "\nThe module: ticks in no window, and those behind a shutdown",
         text,
-    )
+    )?;
+    Ok(())
 }

@@ -2,20 +2,21 @@
 
 ghost use Rattle.std.specs.Prelude.{◌≡◌, ◌++◌, OnOk};
 ghost use Rattle.number_tables.specs.Tables.{contents_of, with_row, with_rows};
-ghost use Rattle.trace_view.specs.Tables.{channel_row, channels_table, conditions_table, error_row, errors_table, extent_table, message_tables, modes_table, partition_tables, port_row, ports_table, process_tables, services_table, states_table, tables_text, times_table};
+ghost use Rattle.trace_view.specs.Tables.{channel_row, channels_table, conditions_row, conditions_table, error_row, errors_table, extent_table, message_tables, modes_row, modes_table, partition_tables, port_row, ports_table, process_tables, services_row, services_table, states_row, states_table, tables_text, times_row, times_table};
 
 use crate::cell::{
     condition_cells, extent_cells, mode_cells, port_cells, service_cells, state_cells, time_cells,
 };
 use crate::errors::ErrorTotal;
 use crate::messages::Route;
-use crate::report::{Report, RouteTotal};
+use crate::report::{PartitionTotal, ProcessTotal, Report, RouteTotal};
 use crate::usage::write_usage;
 use number_tables::{Cell, Table};
 use std::alloc::{AllocError, Global};
 use trace_stays::subject_word;
 
 /// Appends the tables, with an empty line between two of them. A table without rows is left out.
+#[tactic(auto, unfolding(crate::specs::Tables::tables_text))]
 pub fn write_tables(alloc: Global, report: &Report, text: &mut Vec<u8>) -> Result<(), AllocError>
     ensures { OnOk result (text.new.items ≡ text.old.items ++ tables_text report.now) }
 {
@@ -26,6 +27,7 @@ pub fn write_tables(alloc: Global, report: &Report, text: &mut Vec<u8>) -> Resul
 }
 
 /// The tables with rows of processes, among them those of what the processor did.
+#[tactic(auto, unfolding(crate::specs::Tables::process_tables))]
 fn write_processes(alloc: Global, report: &Report, text: &mut Vec<u8>) -> Result<(), AllocError>
     ensures { OnOk result (text.new.items ≡ text.old.items ++ process_tables report.now) }
 {
@@ -37,6 +39,7 @@ fn write_processes(alloc: Global, report: &Report, text: &mut Vec<u8>) -> Result
     write_services(alloc, report, text)
 }
 
+#[tactic(auto, unfolding(crate::specs::Tables::partition_tables))]
 fn write_partitions(alloc: Global, report: &Report, text: &mut Vec<u8>) -> Result<(), AllocError>
     ensures { OnOk result (text.new.items ≡ text.old.items ++ partition_tables report.now) }
 {
@@ -45,6 +48,7 @@ fn write_partitions(alloc: Global, report: &Report, text: &mut Vec<u8>) -> Resul
     write_errors(alloc, report, text)
 }
 
+#[tactic(auto, unfolding(crate::specs::Tables::message_tables))]
 fn write_messages(alloc: Global, report: &Report, text: &mut Vec<u8>) -> Result<(), AllocError>
     ensures { OnOk result (text.new.items ≡ text.old.items ++ message_tables report.now) }
 {
@@ -58,7 +62,8 @@ fn write_extent(alloc: Global, report: &Report, text: &mut Vec<u8>) -> Result<()
     let numbers = ["lines", "first tick", "last tick", "from", "to", "ticks"];
     let mut table = Table::new(alloc, &[], &numbers)?;
     table.add(&[], &extent_cells(&report.extent))?;
-    table.write("The trace: its lines, and the ticks that count", text)
+    table.write("The trace: its lines, and the ticks that count", text)?;
+    Ok(())
 }
 
 #[tactic(auto, using(std::proofs::lemmas::List::drop_more))]
@@ -69,13 +74,22 @@ fn write_states(alloc: Global, report: &Report, text: &mut Vec<u8>) -> Result<()
     let mut table = Table::new(alloc, &["partition", "process"], &numbers)?;
     let all = report.extent.window.ticks();
     for process in &report.processes {
-        let names = [process.partition.as_str(), subject_word(&process.who)];
-        table.add(&names, &state_cells(process.tally.ticks, all))?;
+        add_states(process, all, &mut table)?;
     }
     table.write(
         "\nProcesses: ticks in each state, and their share of all ticks",
         text,
-    )
+    )?;
+    Ok(())
+}
+
+#[tactic(auto, unfolding(crate::specs::Tables::states_row))]
+fn add_states(process: &ProcessTotal, all: u64, table: &mut Table) -> Result<(), AllocError>
+    ensures { OnOk result
+        (contents_of table.new ≡ with_row (states_row all process.now) (contents_of table.old)) }
+{
+    let names = [process.partition.as_str(), subject_word(&process.who)];
+    table.add(&names, &state_cells(process.tally.ticks, all))
 }
 
 #[tactic(auto, using(std::proofs::lemmas::List::drop_more))]
@@ -96,13 +110,22 @@ fn write_times(alloc: Global, report: &Report, text: &mut Vec<u8>) -> Result<(),
     ];
     let mut table = Table::new(alloc, &["partition", "process"], &numbers)?;
     for process in &report.processes {
-        let names = [process.partition.as_str(), subject_word(&process.who)];
-        table.add(&names, &time_cells(&process.tally, process.spreads))?;
+        add_times(process, &mut table)?;
     }
     table.write(
         "\nProcesses: activations, and ticks from READY to RUNNING and to the end",
         text,
-    )
+    )?;
+    Ok(())
+}
+
+#[tactic(auto, unfolding(crate::specs::Tables::times_row))]
+fn add_times(process: &ProcessTotal, table: &mut Table) -> Result<(), AllocError>
+    ensures { OnOk result
+        (contents_of table.new ≡ with_row (times_row process.now) (contents_of table.old)) }
+{
+    let names = [process.partition.as_str(), subject_word(&process.who)];
+    table.add(&names, &time_cells(&process.tally, process.spreads))
 }
 
 #[tactic(auto, using(std::proofs::lemmas::List::drop_more))]
@@ -120,13 +143,22 @@ fn write_services(alloc: Global, report: &Report, text: &mut Vec<u8>) -> Result<
     ];
     let mut table = Table::new(alloc, &["partition", "process"], &numbers)?;
     for process in &report.processes {
-        let names = [process.partition.as_str(), subject_word(&process.who)];
-        table.add(&names, &service_cells(&process.tally))?;
+        add_services(process, &mut table)?;
     }
     table.write(
         "\nProcesses: services refused, by their codes, and application messages",
         text,
-    )
+    )?;
+    Ok(())
+}
+
+#[tactic(auto, unfolding(crate::specs::Tables::services_row))]
+fn add_services(process: &ProcessTotal, table: &mut Table) -> Result<(), AllocError>
+    ensures { OnOk result
+        (contents_of table.new ≡ with_row (services_row process.now) (contents_of table.old)) }
+{
+    let names = [process.partition.as_str(), subject_word(&process.who)];
+    table.add(&names, &service_cells(&process.tally))
 }
 
 #[tactic(auto, using(std::proofs::lemmas::List::drop_more))]
@@ -143,10 +175,19 @@ fn write_modes(alloc: Global, report: &Report, text: &mut Vec<u8>) -> Result<(),
     ];
     let mut table = Table::new(alloc, &["partition"], &numbers)?;
     for partition in &report.partitions {
-        let cells = mode_cells(partition.modes, partition.starts);
-        table.add(&[partition.name.as_str()], &cells)?;
+        add_modes(partition, &mut table)?;
     }
-    table.write("\nPartitions: ticks in each mode, and starts", text)
+    table.write("\nPartitions: ticks in each mode, and starts", text)?;
+    Ok(())
+}
+
+#[tactic(auto, unfolding(crate::specs::Tables::modes_row))]
+fn add_modes(partition: &PartitionTotal, table: &mut Table) -> Result<(), AllocError>
+    ensures { OnOk result
+        (contents_of table.new ≡ with_row (modes_row partition.now) (contents_of table.old)) }
+{
+    let cells = mode_cells(partition.modes, partition.starts);
+    table.add(&[partition.name.as_str()], &cells)
 }
 
 #[tactic(auto, using(std::proofs::lemmas::List::drop_more))]
@@ -161,10 +202,19 @@ fn write_conditions(alloc: Global, report: &Report, text: &mut Vec<u8>) -> Resul
     ];
     let mut table = Table::new(alloc, &["partition"], &numbers)?;
     for partition in &report.partitions {
-        let cells = condition_cells(partition.starts.conditions);
-        table.add(&[partition.name.as_str()], &cells)?;
+        add_conditions(partition, &mut table)?;
     }
-    table.write("\nPartitions: starts, by their conditions", text)
+    table.write("\nPartitions: starts, by their conditions", text)?;
+    Ok(())
+}
+
+#[tactic(auto, unfolding(crate::specs::Tables::conditions_row))]
+fn add_conditions(partition: &PartitionTotal, table: &mut Table) -> Result<(), AllocError>
+    ensures { OnOk result
+        (contents_of table.new ≡ with_row (conditions_row partition.now) (contents_of table.old)) }
+{
+    let cells = condition_cells(partition.starts.conditions);
+    table.add(&[partition.name.as_str()], &cells)
 }
 
 #[tactic(auto, using(std::proofs::lemmas::List::drop_more))]
@@ -176,9 +226,11 @@ fn write_errors(alloc: Global, report: &Report, text: &mut Vec<u8>) -> Result<()
     for total in &report.errors {
         add_error(total, &mut table)?;
     }
-    table.write("\nErrors, by their level and the action on them", text)
+    table.write("\nErrors, by their level and the action on them", text)?;
+    Ok(())
 }
 
+#[tactic(auto, unfolding(crate::specs::Tables::error_row))]
 fn add_error(total: &ErrorTotal, table: &mut Table) -> Result<(), AllocError>
     ensures { OnOk result
         (contents_of table.new ≡ with_row (error_row total.now) (contents_of table.old)) }
@@ -201,10 +253,12 @@ fn write_ports(alloc: Global, report: &Report, text: &mut Vec<u8>) -> Result<(),
     for total in &report.routes {
         add_port(total, &mut table)?;
     }
-    table.write("\nPorts: messages", text)
+    table.write("\nPorts: messages", text)?;
+    Ok(())
 }
 
 /// Adds the row of a port.
+#[tactic(auto, unfolding(crate::specs::Tables::port_row))]
 fn add_port(total: &RouteTotal, table: &mut Table) -> Result<(), AllocError>
     ensures { OnOk result
         (contents_of table.new
@@ -227,10 +281,12 @@ fn write_channels(alloc: Global, report: &Report, text: &mut Vec<u8>) -> Result<
     for total in &report.routes {
         add_channel(total, &mut table)?;
     }
-    table.write("\nChannels: messages that left the module", text)
+    table.write("\nChannels: messages that left the module", text)?;
+    Ok(())
 }
 
 /// Adds the row of a channel.
+#[tactic(auto, unfolding(crate::specs::Tables::channel_row))]
 fn add_channel(total: &RouteTotal, table: &mut Table) -> Result<(), AllocError>
     ensures { OnOk result
         (contents_of table.new

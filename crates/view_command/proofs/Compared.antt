@@ -29,7 +29,7 @@ use Rattle.view_command.specs.Lines.{called}
 use Rattle.view_command.specs.States.{IsUntouched, State}
 use Rattle.view_command.specs.Texts.{AreInRun, IsLateIn, IsLateLine, IsRefusedIn, IsRefusedLine, IsTraceIn}
 use Rattle.view_command.specs.declared.refusal.Refusal.{Refusal}
-use Rattle.view_command.specs.declared.refusal.Refusal.TheVariants.{Open, Read, Line, Late, TooMany, Table, Foreign, Memory, Write}
+use Rattle.view_command.specs.declared.refusal.Refusal.TheVariants.{Open, Read, Line, Late, TooMany, Crowded, Table, Foreign, Memory, Write}
 use Rattle.view_command.specs.declared.views.Outcome.{Outcome}
 use Rattle.view_command.specs.declared.views.Outcome.TheVariants.{Shown, Found}
 use Rattle.view_command.specs.Compared.{AreToldBy, AreToldIn, IsInOrder, IsTextOf, asked, first_behind, second_behind, tick_behind}
@@ -300,6 +300,7 @@ unread_in texts ran name shown text before after (Late number s) opens is same h
     late_in (Some files) name None opens h = absurd opens
     late_in (Some files) name (Some bytes) opens h = (bytes, opens, h)
 unread_in texts ran name shown text before after TooMany opens is same h = same
+unread_in texts ran name shown text before after (Crowded excess) opens is same h = same
 unread_in texts ran name shown text before after (Table fault s) opens is same h = absurd h
 unread_in texts ran name shown text before after (Foreign partition) opens is same h = same
 unread_in texts ran name shown text before after Memory opens is same h = same

@@ -2,6 +2,7 @@
 
 ghost use Rattle.std.specs.Prelude.{◌≡◌, IsErrOf};
 ghost use Rattle.view_command.specs.Views.{IsOfPicture, outcome_of, shares_fault, view_fault, windows_fault};
+ghost use Rattle.trace_picture.specs.declared.excess.Excess.{Excess};
 ghost use Rattle.view_command.specs.declared.views.ViewFault.TheVariants as fault;
 
 use crate::windows::{page_windows, shares_of, windows_of};
@@ -86,7 +87,9 @@ impl Shown {
         to: Option<Ticks>,
         table: Option<ModuleTable>,
     ) -> Result<Self, ViewFault>
-        ensures { IsErrOf result ViewFault.TooMany → ⊥ }
+        ensures many { IsErrOf result ViewFault.TooMany → ⊥ }
+        ensures crowded { (excess : Excess) → IsErrOf result (ViewFault.Crowded excess)
+            → ⊥ }
     {
         let shown = match view {
             View::Table => Shown::Table(Summary::new(
@@ -119,7 +122,9 @@ impl Shown {
     /// Reads the next event, if the filter lets it through. Only what the processor did and the
     /// windows of a picture or a dump go by all lines.
     pub fn read(&mut self, kept: &Filter, event: &Event) -> Result<(), ViewFault>
-        ensures { IsErrOf result ViewFault.TooMany → IsOfPicture self.old }
+        ensures many { IsErrOf result ViewFault.TooMany → IsOfPicture self.old }
+        ensures crowded { (excess : Excess) → IsErrOf result (ViewFault.Crowded excess)
+            → IsOfPicture self.old }
     {
         if kept.shows(event) {
             return self.add(event);
@@ -136,7 +141,9 @@ impl Shown {
 
     /// Takes the next event. Only a picture or a dump may have too many elements.
     pub fn add(&mut self, event: &Event) -> Result<(), ViewFault>
-        ensures { IsErrOf result ViewFault.TooMany → IsOfPicture self.old }
+        ensures many { IsErrOf result ViewFault.TooMany → IsOfPicture self.old }
+        ensures crowded { (excess : Excess) → IsErrOf result (ViewFault.Crowded excess)
+            → IsOfPicture self.old }
     {
         match self {
             Shown::Table(summary) | Shown::Rows(summary) => summary.count(event)?,
@@ -167,14 +174,16 @@ impl Shown {
 
     /// The report of all events of the trace of this name, as the bytes to write.
     pub fn into_bytes(self, alloc: Global, name: &str) -> Result<Vec<u8>, ViewFault>
-        ensures { IsErrOf result ViewFault.TooMany → IsOfPicture self }
+        ensures many { IsErrOf result ViewFault.TooMany → IsOfPicture self }
+        ensures crowded { (excess : Excess) → IsErrOf result (ViewFault.Crowded excess)
+            → IsOfPicture self }
     {
         let mut bytes = Vec::new(alloc);
         match self {
             Shown::Table(summary) => bytes = summary.finish()?.tables(alloc)?,
             Shown::Rows(summary) => bytes = summary.finish()?.sheet(alloc)?,
             Shown::Picture(picture, width, windows) => {
-                bytes = picture_text(picture, width, windows, name)?
+                write_picture(picture, width, windows, name, &mut bytes)?
             }
             Shown::Waves(dump, windows) => write_waves(alloc, dump, windows, &mut bytes)?,
             Shown::Page(page, windows) => bytes = page.into_text(windows.as_slice())?,
@@ -193,18 +202,19 @@ fn read_windows(windows: &mut Option<Windows>, event: &Event) -> Result<(), Wind
     }
 }
 
-/// The picture of the trace of this name, with the windows of the module table, if one is given.
-fn picture_text(
+/// Writes the picture of the trace of this name, with the windows of the module table, if one is given.
+fn write_picture(
     picture: Picture,
     width: Width,
     mut windows: Option<Windows>,
     name: &str,
-) -> Result<Vec<u8>, ViewFault> {
+    bytes: &mut Vec<u8>,
+) -> Result<(), ViewFault> {
     if let Some(windows) = &mut windows {
         windows.pass_to(picture.until())?;
     }
-    let text = picture.finish(windows, width)?.text(name)?;
-    Ok(text.into_bytes())
+    picture.finish(windows, width)?.write(name, bytes)?;
+    Ok(())
 }
 
 /// Writes the waves that were gathered, with the windows of the module table, if one is given.

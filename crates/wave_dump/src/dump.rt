@@ -224,6 +224,7 @@ impl Dump {
     /// # Errors
     ///
     /// Memory ran out.
+    #[tactic(auto, unfolding(crate::specs::Texts::dump_text))]
     pub fn text(&self, alloc: Global) -> Result<String, AllocError>
         ensures { IfOk result (λ text. string_bytes text ≡ dump_text self.now) }
     {

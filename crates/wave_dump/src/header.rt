@@ -1,7 +1,7 @@
 //! The beginning of a dump: its variables, and their first values.
 
 ghost use Rattle.std.specs.Prelude.{◌≡◌, ◌++◌, OnOk, Some, string_bytes};
-ghost use Rattle.wave_dump.specs.Headers.{begin_text, end_text, first_values, group_text, groups_text, has_lane, header_text, is_in, is_same_group, is_same_owner, low_modes, low_modes_from, low_states, low_states_from, low_text, low_windows_behind, module_text, modes_text, next_number, nothing_text, number_behind, others_behind, partition_text, partitions_from, process_text, processes_from, pulse_text, pulses_from, scope_text, string_text, window_text, wire_text, word_text};
+ghost use Rattle.wave_dump.specs.Headers.{begin_text, begin_time, end_text, event_text, first_lines, first_values, group_text, groups_text, has_lane, header_text, is_in, is_same_group, is_same_owner, low_modes, low_modes_from, low_states, low_states_from, low_text, low_windows_behind, module_text, modes_text, nothing_text, number_behind, other_text, others_behind, partition_text, partitions_from, process_text, processes_from, pulse_text, pulses_from, scope_text, string_text, window_text, wire_text, word_text};
 
 use crate::pulse::{Group, Pulse, PulseLane};
 use crate::variable::Variable;
@@ -24,6 +24,7 @@ pub struct Header<'a> {
 /// # Errors
 ///
 /// Memory ran out. Then a beginning of it may be there.
+#[tactic(auto, unfolding(crate::specs::Headers::header_text))]
 pub fn push_header(
     alloc: Global,
     from: Ticks,
@@ -33,18 +34,33 @@ pub fn push_header(
     ensures { OnOk result
         (string_bytes text.new
         ≡ string_bytes text.old
-        ++ header_text from.0 header.lanes.now.partitions.items
-        header.lanes.now.processes.items header.pulses.now header.names.now) }
+        ++ header_text from.0 header.entry.lanes.now.partitions.items
+        header.entry.lanes.now.processes.items header.entry.pulses.now header.entry.names.now) }
 {
     let partitions = header.lanes.partitions();
-    text.push_str(
-        "$version mbview $end\n$comment One time unit stands for a tick of the processor. $end\n$timescale 1 ns $end\n",
-    )?;
+    push_first_lines(text)?;
     push_partitions(alloc, header, text)?;
     push_others(partitions, header.names, text)?;
     push_module(alloc, header.pulses, text)?;
-    write!(text, "$enddefinitions $end\n#{}\n", from.0)?;
+    push_begin(from, text)?;
     push_first_values(partitions, header.lanes.processes(), header.names, text)
+}
+
+#[tactic(auto, unfolding(crate::specs::Headers::first_lines))]
+fn push_first_lines(text: &mut String) -> Result<(), AllocError>
+    ensures { OnOk result (string_bytes text.new ≡ string_bytes text.old ++ first_lines) }
+{
+    text.push_str(
+        "$version mbview $end\n$comment One time unit stands for a tick of the processor. $end\n$timescale 1 ns $end\n",
+    )
+}
+
+/// Appends the end of the variables, and the first time.
+#[tactic(auto, unfolding(crate::specs::Headers::begin_time))]
+fn push_begin(from: Ticks, text: &mut String) -> Result<(), AllocError>
+    ensures { OnOk result (string_bytes text.new ≡ string_bytes text.old ++ begin_time from.0) }
+{
+    write!(text, "$enddefinitions $end\n#{}\n", from.0)
 }
 
 /// Appends the scopes of the partitions that have a line.
@@ -53,8 +69,8 @@ fn push_partitions(alloc: Global, header: Header<'_>, text: &mut String) -> Resu
     ensures { OnOk result
         (string_bytes text.new
         ≡ string_bytes text.old
-        ++ partitions_from 0 header.lanes.now.processes.items header.pulses.now header.names.now
-        header.lanes.now.partitions.items) }
+        ++ partitions_from 0 header.entry.lanes.now.processes.items header.entry.pulses.now header.entry.names.now
+        header.entry.lanes.now.partitions.items) }
 {
     let partitions = header.lanes.partitions();
     for (place, lane) in partitions.iter().enumerate() {
@@ -64,6 +80,7 @@ fn push_partitions(alloc: Global, header: Header<'_>, text: &mut String) -> Resu
 }
 
 /// Appends the scope of a partition: its windows, its modes, its processes, its pulses.
+#[tactic(auto, unfolding(crate::specs::Headers::partition_text))]
 fn push_partition(
     alloc: Global,
     place: usize,
@@ -74,8 +91,8 @@ fn push_partition(
     ensures { OnOk result
         (string_bytes text.new
         ≡ string_bytes text.old
-        ++ partition_text place header.lanes.now.processes.items header.pulses.now
-        header.names.now lane.now) }
+        ++ partition_text place header.entry.lanes.now.processes.items header.entry.pulses.now
+        header.entry.names.now lane.now) }
 {
     begin_scope(lane.name.as_str(), text)?;
     push_window(number_of(header.names, &lane.name), text)?;
@@ -86,6 +103,7 @@ fn push_partition(
 }
 
 /// Appends the wire of the windows of a partition, if it has a number in the module table.
+#[tactic(auto, unfolding(crate::specs::Headers::window_text))]
 fn push_window(number: Option<u8>, text: &mut String) -> Result<(), AllocError>
     ensures { OnOk result (string_bytes text.new ≡ string_bytes text.old ++ window_text number) }
 {
@@ -96,6 +114,7 @@ fn push_window(number: Option<u8>, text: &mut String) -> Result<(), AllocError>
 }
 
 /// Appends the scope of the modes of the partition at this place.
+#[tactic(auto, unfolding(crate::specs::Headers::modes_text))]
 fn push_modes(place: usize, text: &mut String) -> Result<(), AllocError>
     ensures { OnOk result (string_bytes text.new ≡ string_bytes text.old ++ modes_text place) }
 {
@@ -128,6 +147,7 @@ fn push_processes(
 }
 
 /// Appends the scope of the process at this place.
+#[tactic(auto, unfolding(crate::specs::Headers::process_text))]
 fn push_process(place: usize, lane: &ProcessLane, text: &mut String) -> Result<(), AllocError>
     ensures { OnOk result
         (string_bytes text.new ≡ string_bytes text.old ++ process_text place lane.now) }
@@ -170,11 +190,11 @@ fn push_others(lanes: &[PartitionLane], names: &[Name], text: &mut String) -> Re
 }
 
 /// Appends the scope of a partition that has windows and no line.
+#[tactic(auto, unfolding(crate::specs::Headers::other_text))]
 fn push_other(number: u8, name: &Name, text: &mut String) -> Result<(), AllocError>
     ensures { OnOk result
         (string_bytes text.new
-        ≡ string_bytes text.old
-        ++ (begin_text name.now ++ window_text (Some number) ++ end_text)) }
+        ≡ string_bytes text.old ++ other_text number name.now) }
 {
     begin_scope(name.as_str(), text)?;
     push_window(Some(number), text)?;
@@ -210,6 +230,7 @@ fn number_of(names: &[Name], name: &Name) -> Option<u8>
 }
 
 /// Appends the scope of the module's own errors, if it has any.
+#[tactic(auto, unfolding(crate::specs::Headers::module_text))]
 fn push_module(alloc: Global, pulses: &[PulseLane], text: &mut String) -> Result<(), AllocError>
     ensures { OnOk result
         (string_bytes text.new ≡ string_bytes text.old ++ module_text pulses.now) }
@@ -220,6 +241,7 @@ fn push_module(alloc: Global, pulses: &[PulseLane], text: &mut String) -> Result
 }
 
 /// Appends the groups of pulses of the partition at this place.
+#[tactic(auto, unfolding(crate::specs::Headers::groups_text))]
 fn push_groups(
     alloc: Global,
     place: usize,
@@ -235,6 +257,7 @@ fn push_groups(
 }
 
 /// Appends the scope of one group of pulses, if the group has any.
+#[tactic(auto, unfolding(crate::specs::Headers::group_text))]
 fn push_group(
     alloc: Global,
     group: Group,
@@ -298,30 +321,46 @@ fn is_same_group(one: Group, other: Group) -> bool
 }
 
 /// Appends the variables of a pulse: its event, and the first word of its message.
+#[tactic(auto, unfolding(crate::specs::Headers::pulse_text))]
 fn push_pulse(place: usize, pulse: &Pulse, text: &mut String) -> Result<(), AllocError>
     ensures { OnOk result
         (string_bytes text.new ≡ string_bytes text.old ++ pulse_text place pulse.now) }
+{
+    push_event(place, pulse, text)?;
+    match pulse.group() {
+        Group::Messages | Group::Reports => push_word(place, pulse, text),
+        Group::Errors => Ok(()),
+    }
+}
+
+#[tactic(auto, unfolding(crate::specs::Headers::event_text))]
+fn push_event(place: usize, pulse: &Pulse, text: &mut String) -> Result<(), AllocError>
+    ensures { OnOk result
+        (string_bytes text.new ≡ string_bytes text.old ++ event_text place pulse.now) }
 {
     write!(
         text,
         "$var event 1 {} {} $end\n",
         Variable::Pulse(place),
         *pulse
-    )?;
-    match pulse.group() {
-        Group::Messages | Group::Reports => {
-            write!(
-                text,
-                "$var reg 64 {} {}_WORD $end\n",
-                Variable::Word(place),
-                *pulse
-            )
-        }
-        Group::Errors => Ok(()),
-    }
+    )
+}
+
+#[tactic(auto, unfolding(crate::specs::Headers::word_text))]
+fn push_word(place: usize, pulse: &Pulse, text: &mut String) -> Result<(), AllocError>
+    ensures { OnOk result
+        (string_bytes text.new ≡ string_bytes text.old ++ word_text place pulse.now) }
+{
+    write!(
+        text,
+        "$var reg 64 {} {}_WORD $end\n",
+        Variable::Word(place),
+        *pulse
+    )
 }
 
 /// Appends a scope with these contents; nothing if it is empty.
+#[tactic(auto, unfolding(crate::specs::Headers::scope_text))]
 fn push_scope(name: &str, inner: &str, text: &mut String) -> Result<(), AllocError>
     ensures { OnOk result
         (string_bytes text.new ≡ string_bytes text.old ++ scope_text name.now inner.now) }
@@ -334,18 +373,21 @@ fn push_scope(name: &str, inner: &str, text: &mut String) -> Result<(), AllocErr
     end_scope(text)
 }
 
+#[tactic(auto, unfolding(crate::specs::Headers::begin_text))]
 fn begin_scope(name: &str, text: &mut String) -> Result<(), AllocError>
     ensures { OnOk result (string_bytes text.new ≡ string_bytes text.old ++ begin_text name.now) }
 {
     write!(text, "$scope module {} $end\n", name)
 }
 
+#[tactic(auto, unfolding(crate::specs::Headers::end_text))]
 fn end_scope(text: &mut String) -> Result<(), AllocError>
     ensures { OnOk result (string_bytes text.new ≡ string_bytes text.old ++ end_text) }
 {
     text.push_str("$upscope $end\n")
 }
 
+#[tactic(auto, unfolding(crate::specs::Headers::wire_text))]
 fn push_wire(variable: Variable, name: &str, text: &mut String) -> Result<(), AllocError>
     ensures { OnOk result
         (string_bytes text.new ≡ string_bytes text.old ++ wire_text variable name.now) }
@@ -354,6 +396,7 @@ fn push_wire(variable: Variable, name: &str, text: &mut String) -> Result<(), Al
 }
 
 /// A variable that shows names.
+#[tactic(auto, unfolding(crate::specs::Headers::string_text))]
 fn push_name(variable: Variable, name: &str, text: &mut String) -> Result<(), AllocError>
     ensures { OnOk result
         (string_bytes text.new ≡ string_bytes text.old ++ string_text variable name.now) }
@@ -362,6 +405,7 @@ fn push_name(variable: Variable, name: &str, text: &mut String) -> Result<(), Al
 }
 
 /// Appends that all wires are 0 before the first changes, and no name is shown.
+#[tactic(auto, unfolding(crate::specs::Headers::first_values))]
 fn push_first_values(
     partitions: &[PartitionLane],
     processes: &[ProcessLane],
@@ -385,7 +429,7 @@ fn push_low_windows(names: &[Name], text: &mut String) -> Result<(), AllocError>
         (string_bytes text.new ≡ string_bytes text.old ++ low_windows_behind 0 names.now) }
 {
     let mut number: u8 = 0;
-    for _ in names {
+    for _name in names {
         number = number.saturating_add(1);
         push_low(Variable::Window(number), text)?;
     }
@@ -403,6 +447,7 @@ fn push_low_modes(partitions: &[PartitionLane], text: &mut String) -> Result<(),
     Ok(())
 }
 
+#[tactic(auto, unfolding(crate::specs::Headers::low_modes))]
 fn push_no_mode(place: usize, text: &mut String) -> Result<(), AllocError>
     ensures { OnOk result (string_bytes text.new ≡ string_bytes text.old ++ low_modes place) }
 {
@@ -424,6 +469,7 @@ fn push_low_states(processes: &[ProcessLane], text: &mut String) -> Result<(), A
     Ok(())
 }
 
+#[tactic(auto, unfolding(crate::specs::Headers::low_states))]
 fn push_no_state(place: usize, text: &mut String) -> Result<(), AllocError>
     ensures { OnOk result (string_bytes text.new ≡ string_bytes text.old ++ low_states place) }
 {
@@ -434,12 +480,14 @@ fn push_no_state(place: usize, text: &mut String) -> Result<(), AllocError>
     push_nothing(Variable::StateName(place), text)
 }
 
+#[tactic(auto, unfolding(crate::specs::Headers::low_text))]
 fn push_low(variable: Variable, text: &mut String) -> Result<(), AllocError>
     ensures { OnOk result (string_bytes text.new ≡ string_bytes text.old ++ low_text variable) }
 {
     write!(text, "0{}\n", variable)
 }
 
+#[tactic(auto, unfolding(crate::specs::Headers::nothing_text))]
 fn push_nothing(variable: Variable, text: &mut String) -> Result<(), AllocError>
     ensures { OnOk result (string_bytes text.new ≡ string_bytes text.old ++ nothing_text variable) }
 {

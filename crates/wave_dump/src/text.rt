@@ -31,6 +31,7 @@ pub fn push_changes(changes: &[Change], span: Span, text: &mut String) -> Result
 }
 
 /// Appends a time, if it is another one than now.
+#[tactic(auto, unfolding(crate::specs::Texts::time_text))]
 fn push_time(now: Ticks, next: Ticks, text: &mut String) -> Result<(), AllocError>
     ensures { OnOk result (string_bytes text.new ≡ string_bytes text.old ++ time_text now.0 next.0) }
 {
@@ -40,6 +41,7 @@ fn push_time(now: Ticks, next: Ticks, text: &mut String) -> Result<(), AllocErro
     write!(text, "#{}\n", next.0)
 }
 
+#[tactic(auto, unfolding(crate::specs::Texts::change_text))]
 fn push_change(change: &Change, text: &mut String) -> Result<(), AllocError>
     ensures { OnOk result (string_bytes text.new ≡ string_bytes text.old ++ change_text change.now) }
 {

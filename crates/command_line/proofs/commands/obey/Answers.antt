@@ -182,8 +182,10 @@ returns-in-Some-run-default-clause-done g c =
     let after = state (g.F.Files.contents c.run.new.files) (seen g.O.Sink.taken g.O.Sink.failures g.O.Stream.is_flushed c.run.new.out) in
     let arm = c.in-Some-run-default in
     let rows = rows_of (found_of arm.found.now) in
-    let order = run_is c.args.matches.now arm.field-0-0.now rows c.word-image-in-Some-run-default.result.now c.word-devices.result.now c.word.result.now arm.ensures.name arm.ensures.rows arm.is-run
-    c.word-image-in-Some-run-default.ensures c.word-devices.ensures c.word.ensures in
+    let until : map (λ s. s.now) c.unwrap_or-until.result.now ≡ words_at (codes "until") rows =
+    words_are (found_of arm.found.now) (codes "until") c.get_strs-in-Some-run-default.result _ c.unwrap_or-until.result c.get_strs-in-Some-run-default.ensures (search rules) c.unwrap_or-until.ensures in
+    let order = run_is c.args.matches.now arm.field-0-0.now rows c.word-image-in-Some-run-default.result.now c.word-devices.result.now c.word.result.now (map (λ s. s.now) c.unwrap_or-until.result.now) arm.ensures.name arm.ensures.rows arm.is-run
+    c.word-image-in-Some-run-default.ensures c.word-devices.ensures c.word.ensures until in
     subst (λ o. IfOk c.run.result (λ u. IsDoneWith u o before after)) (sym order) c.run.ensures.done
 
 pub returns-in-Some-replay-default-clause-done : goal.returns-in-Some-replay-default-clause-done

@@ -9,6 +9,7 @@ use Rattle.command_words.proofs.Found.{entered_is, of_kinds}
 use Rattle.command_line.specs.Done.{IsDoneWith}
 use Rattle.command_line.specs.Orders.{asks, order_of}
 use Rattle.command_line.specs.Refusals.{IsFailureOfWords}
+use Rattle.command_line.specs.Spelled.{spelled}
 use Rattle.command_line.specs.States.{state}
 use Rattle.command_line.specs.Told.{IsOfFailedFile}
 use Rattle.command_line.specs.Words.{mb_app}
@@ -21,13 +22,13 @@ use Rattle.command_line.proofs.commands.perform.Goals as goal
 
 pub returns-in_err-grammar-clause-failed : goal.returns-in_err-grammar-clause-failed
 returns-in_err-grammar-clause-failed g c =
-    let order = order_of (subcommand_of mb_app (map g.S.AsStr.text c.args.words.now)) in
+    let order = order_of (subcommand_of mb_app (spelled (map g.S.AsStr.text c.args.words.now))) in
     let before = state (g.F.Files.contents c.args.files.now) (seen g.O.Sink.taken g.O.Sink.failures g.O.Stream.is_flushed c.args.out.now) in
     told_as _ (Refused refusal.Memory) c.from_residual.result c.from_residual.ensures (memory_refused order before)
 
 pub returns-in_err-matches-clause-failed : goal.returns-in_err-matches-clause-failed
 returns-in_err-matches-clause-failed g c =
-    let words = map g.S.AsStr.text c.args.words.now in
+    let words = spelled (map g.S.AsStr.text c.args.words.now) in
     let order = order_of (subcommand_of mb_app words) in
     let before = state (g.F.Files.contents c.args.files.now) (seen g.O.Sink.taken g.O.Sink.failures g.O.Stream.is_flushed c.args.out.now) in
     let error = c.in_err-matches.field-0.0 in
@@ -37,12 +38,12 @@ returns-in_err-matches-clause-failed g c =
 
 pub returns-clause-command : goal.returns-clause-command
 returns-clause-command g c =
-    let words = map g.S.AsStr.text c.args.words.now in
+    let words = spelled (map g.S.AsStr.text c.args.words.now) in
     on_ok c.obey.result (of_kinds mb_app words c.in_ok-grammar.field-0 (λ k. k ≡ []) c.in_ok-grammar.ensures mb_is_free c.in_ok-matches.ensures.kinds)
 
 pub returns-clause-done : goal.returns-clause-done
 returns-clause-done g c =
-    let words = map g.S.AsStr.text c.args.words.now in
+    let words = spelled (map g.S.AsStr.text c.args.words.now) in
     let before = state (g.F.Files.contents c.args.files.now) (seen g.O.Sink.taken g.O.Sink.failures g.O.Stream.is_flushed c.args.out.now) in
     let after = state (g.F.Files.contents c.obey.new.files) (seen g.O.Sink.taken g.O.Sink.failures g.O.Stream.is_flushed c.obey.new.out) in
     let entered = entered_is mb_app words c.in_ok-grammar.field-0 c.in_ok-matches.matches c.in_ok-grammar.ensures mb_is_simple c.in_ok-matches.ensures.matches in
@@ -50,7 +51,7 @@ returns-clause-done g c =
 
 pub returns-clause-failed : goal.returns-clause-failed
 returns-clause-failed g c =
-    let words = map g.S.AsStr.text c.args.words.now in
+    let words = spelled (map g.S.AsStr.text c.args.words.now) in
     let before = state (g.F.Files.contents c.args.files.now) (seen g.O.Sink.taken g.O.Sink.failures g.O.Stream.is_flushed c.args.out.now) in
     let after = state (g.F.Files.contents c.obey.new.files) (seen g.O.Sink.taken g.O.Sink.failures g.O.Stream.is_flushed c.obey.new.out) in
     let entered = entered_is mb_app words c.in_ok-grammar.field-0 c.in_ok-matches.matches c.in_ok-grammar.ensures mb_is_simple c.in_ok-matches.ensures.matches in
@@ -59,13 +60,13 @@ returns-clause-failed g c =
 
 pub returns-clause-asked : goal.returns-clause-asked
 returns-clause-asked g c = λ before none.
-    let words = map g.S.AsStr.text c.args.words.now in
+    let words = spelled (map g.S.AsStr.text c.args.words.now) in
     let entered = entered_is mb_app words c.in_ok-grammar.field-0 c.in_ok-matches.matches c.in_ok-grammar.ensures mb_is_simple c.in_ok-matches.ensures.matches in
     c.asks.ensures ∙ ap asks entered ∙ none
 
 pub returns-in_err-matches-clause-named : goal.returns-in_err-matches-clause-named
 returns-in_err-matches-clause-named g c =
-    let words = map g.S.AsStr.text c.args.words.now in
+    let words = spelled (map g.S.AsStr.text c.args.words.now) in
     let failed = g.F.Files.failed c.args.files.now in
     let error = c.in_err-matches.field-0.0 in
     let kinds = of_kinds mb_app words c.in_ok-grammar.field-0 (λ k. HasKind k error) c.in_ok-grammar.ensures mb_is_free c.in_err-matches.ensures.kinds in

@@ -1,5 +1,10 @@
-use Rattle.std.proofs.Common.{rules}
+use Rattle.std.proofs.Common.{map, rules, string_bytes}
+use Rattle.window_table.specs.Views.{table_of}
+use Rattle.command_line.specs.Explained.{source_file}
+use Rattle.command_line.proofs.Noted.{with_source}
 use Rattle.command_line.proofs.explaining.explained_with.Goals as goal
 
-pub returns-in-Ok : goal.returns-in-Ok
-returns-in-Ok c = (c.in_ok-source.source.now, search rules, search rules)
+pub returns : goal.returns
+returns c =
+    with_source string_bytes (table_of c.args.table.now) (map (λ s. s.now) c.args.files.now) (map (λ s. s.now) c.args.sources.now) c.args.partition.now c.args.fault (source_file c.in_ok-source.source) c.explain_source.result
+    (search rules) c.explain_source.ensures

@@ -1,34 +1,37 @@
-use Rattle.std.proofs.Common.{ℕ, ◌+◌, ap, ◌∙◌}
+use Rattle.std.proofs.Common.{ℕ, ◌+◌, map, ap, ◌∙◌}
 use Rattle.machine_meaning.specs.ImageReading.{image_at}
 use Rattle.command_line.specs.declared.refusal.Refusal.TheVariants.{Run, Write}
-use Rattle.command_line.proofs.Ran.{kept_run, told_as}
+use Rattle.command_line.proofs.Ran.{kept_traced, told_as}
 use Rattle.command_line.proofs.Begun.{given_from, run_of_whole}
-use Rattle.command_line.specs.Done.{is_ok}
-use Rattle.std.specs.Prelude.{Err}
+use Rattle.std.specs.Prelude.{Ok, Err}
 use Rattle.command_line.proofs.running.run_named.Goals as goal
 
-pub returns-in_err-trace-clause-refused : goal.returns-in_err-trace-clause-refused
-returns-in_err-trace-clause-refused g c =
+pub returns-in_err-outcome-clause-refused : goal.returns-in_err-outcome-clause-refused
+returns-in_err-outcome-clause-refused g c =
     let files = g.F.Files.contents c.args.files.now in
+    let until = map (λ w. w.now) c.args.until.now in
     let given = given_from files (g.F.Files.contents c.read_as.new.files) c.args.image.now c.args.devices.now c.in_ok-image.image.items c.in_ok-devices.devices.items c.as_slice.result.now c.as_slice-2.result.now
     c.in_ok-image.ensures.unchanged c.as_slice.ensures.value c.as_slice-2.ensures.value c.in_ok-image.ensures.held c.in_ok-devices.ensures.held in
     let same = c.in_ok-devices.ensures.unchanged ∙ c.in_ok-image.ensures.unchanged in
-    told_as _ (Run c.in_err-trace.field-0.0) c.from_residual-in_err-trace.result c.from_residual-in_err-trace.ensures
-    (c.in_err-trace.ensures.failed, same, given.given, run_of_whole given c.args.ticks (g.O.Sink.taken c.args.out.now) (g.O.Sink.taken c.trace.new.out) (Err c.in_err-trace.field-0.0) c.in_err-trace.ensures.trace)
+    told_as _ (Run c.in_err-outcome.field-0.0) c.from_residual-in_err-outcome.result c.from_residual-in_err-outcome.ensures
+    (c.in_err-outcome.ensures.failed, same, given.given, run_of_whole given until c.args.ticks (g.O.Sink.taken c.args.out.now) (g.O.Sink.taken c.trace.new.out) (Err c.in_err-outcome.field-0.0) c.in_err-outcome.ensures.trace)
 
 pub returns-in_err-flush-clause-refused : goal.returns-in_err-flush-clause-refused
 returns-in_err-flush-clause-refused g c =
     let taken = g.O.Sink.taken in
     let files = g.F.Files.contents c.args.files.now in
+    let until = map (λ w. w.now) c.args.until.now in
     let given = given_from files (g.F.Files.contents c.read_as.new.files) c.args.image.now c.args.devices.now c.in_ok-image.image.items c.in_ok-devices.devices.items c.as_slice.result.now c.as_slice-2.result.now
     c.in_ok-image.ensures.unchanged c.as_slice.ensures.value c.as_slice-2.ensures.value c.in_ok-image.ensures.held c.in_ok-devices.ensures.held in
     let same = c.in_ok-devices.ensures.unchanged ∙ c.in_ok-image.ensures.unchanged in
     told_as _ Write c.from_residual-in_err-flush.result c.from_residual-in_err-flush.ensures (
-      c.in_err-flush.ensures.failed ∙ ap (λ (n : ℕ). n + 1) c.in_ok-trace.ensures.quiet,
+      c.in_err-flush.ensures.failed ∙ ap (λ (n : ℕ). n + 1) c.in_ok-outcome.ensures.quiet,
       (
+        c.in_ok-outcome.outcome,
         same,
         given.given,
-        run_of_whole given c.args.ticks (taken c.args.out.now) (taken c.flush.new.self) is_ok (kept_run (image_at c.as_slice.result.now) c.as_slice-2.result.now c.args.ticks (taken c.args.out.now) (taken c.trace.new.out) (taken c.flush.new.self) c.in_ok-trace.ensures.trace c.in_err-flush.ensures.kept),
+        run_of_whole given until c.args.ticks (taken c.args.out.now) (taken c.flush.new.self) (Ok c.in_ok-outcome.outcome)
+            (kept_traced (image_at c.as_slice.result.now) c.as_slice-2.result.now until c.args.ticks c.in_ok-outcome.outcome (taken c.args.out.now) (taken c.trace.new.out) (taken c.flush.new.self) c.in_ok-outcome.ensures.trace c.in_err-flush.ensures.kept),
       ),
     )
 
@@ -36,10 +39,12 @@ pub returns-clause-done : goal.returns-clause-done
 returns-clause-done g c =
     let taken = g.O.Sink.taken in
     let files = g.F.Files.contents c.args.files.now in
+    let until = map (λ w. w.now) c.args.until.now in
     let given = given_from files (g.F.Files.contents c.read_as.new.files) c.args.image.now c.args.devices.now c.in_ok-image.image.items c.in_ok-devices.devices.items c.as_slice.result.now c.as_slice-2.result.now
     c.in_ok-image.ensures.unchanged c.as_slice.ensures.value c.as_slice-2.ensures.value c.in_ok-image.ensures.held c.in_ok-devices.ensures.held in
     let same = c.in_ok-devices.ensures.unchanged ∙ c.in_ok-image.ensures.unchanged in (
       same,
       given.given,
-      run_of_whole given c.args.ticks (taken c.args.out.now) (taken c.flush.new.self) is_ok (kept_run (image_at c.as_slice.result.now) c.as_slice-2.result.now c.args.ticks (taken c.args.out.now) (taken c.trace.new.out) (taken c.flush.new.self) c.in_ok-trace.ensures.trace c.in_ok-flush.ensures.kept),
+      run_of_whole given until c.args.ticks (taken c.args.out.now) (taken c.flush.new.self) (Ok c.in_ok-outcome.outcome)
+          (kept_traced (image_at c.as_slice.result.now) c.as_slice-2.result.now until c.args.ticks c.in_ok-outcome.outcome (taken c.args.out.now) (taken c.trace.new.out) (taken c.flush.new.self) c.in_ok-outcome.ensures.trace c.in_ok-flush.ensures.kept),
     )

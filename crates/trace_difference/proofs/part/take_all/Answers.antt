@@ -1,4 +1,4 @@
-use Rattle.std.proofs.Common.{◌≡◌, ◌∷◌, [], ◌++◌, List, sym, ap, ◌∙◌, append_assoc, subst}
+use Rattle.std.proofs.Common.{◌∷◌, [], ◌++◌, List, sym, ap, ◌∙◌, append_assoc, subst}
 use Rattle.apex_types.specs.declared.event.Event.{Event}
 use Rattle.trace_difference.specs.Parts.{IsRest}
 use Rattle.trace_difference.proofs.part.take_all.Goals as goal

@@ -1,11 +1,10 @@
 use Rattle.std.proofs.Common.{◌≡◌, drop, map}
 use Rattle.number_tables.specs.Tables.{contents_of, with_rows}
-use Rattle.trace_view.specs.Cells.{condition_cells}
-use Rattle.trace_view.specs.Tables.{partition_row}
+use Rattle.trace_view.specs.Tables.{conditions_row}
 use Rattle.trace_view.proofs.writing.write_conditions.Given as goal
 
 -- the rows so far, and those of the rest
 abbrev pub invariant-loop-partition : goal.invariant-loop-partition
 invariant-loop-partition l =
-    with_rows (map (partition_row (λ p. condition_cells p.starts.conditions)) (drop l.partition-index l.report.partitions.items)) (contents_of l.table)
-    ≡ with_rows (map (partition_row (λ p. condition_cells p.starts.conditions)) l.report.partitions.items) (contents_of l.initial.table)
+    with_rows (map conditions_row (drop l.partition-index l.report.partitions.items)) (contents_of l.table)
+    ≡ with_rows (map conditions_row l.report.partitions.items) (contents_of l.initial.table)

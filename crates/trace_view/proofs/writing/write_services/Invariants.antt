@@ -1,11 +1,10 @@
 use Rattle.std.proofs.Common.{◌≡◌, drop, map}
 use Rattle.number_tables.specs.Tables.{contents_of, with_rows}
-use Rattle.trace_view.specs.Cells.{service_cells}
-use Rattle.trace_view.specs.Tables.{process_row}
+use Rattle.trace_view.specs.Tables.{services_row}
 use Rattle.trace_view.proofs.writing.write_services.Given as goal
 
 -- the rows so far, and those of the rest
 abbrev pub invariant-loop-process : goal.invariant-loop-process
 invariant-loop-process l =
-    with_rows (map (process_row (λ p. service_cells p.tally)) (drop l.process-index l.report.processes.items)) (contents_of l.table)
-    ≡ with_rows (map (process_row (λ p. service_cells p.tally)) l.report.processes.items) (contents_of l.initial.table)
+    with_rows (map services_row (drop l.process-index l.report.processes.items)) (contents_of l.table)
+    ≡ with_rows (map services_row l.report.processes.items) (contents_of l.initial.table)

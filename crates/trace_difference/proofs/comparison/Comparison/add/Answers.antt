@@ -1,4 +1,4 @@
-use Rattle.std.proofs.Common.{◌≡◌, List, Option, Some, None, true, ap, sym, ◌∙◌, subst}
+use Rattle.std.proofs.Common.{◌≡◌, List, Option, Some, true, ap, sym, ◌∙◌, subst}
 use Rattle.trace_difference.specs.Comparisons.{AreParts}
 use Rattle.trace_difference.specs.Parts.{IsSettled, first_with, second_with}
 use Rattle.trace_difference.specs.declared.part.Apart.{Apart}

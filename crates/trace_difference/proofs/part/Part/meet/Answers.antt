@@ -1,5 +1,4 @@
-use Rattle.std.proofs.Common.{◌≡◌, ◌∷◌, [], List, sym, subst}
-use Rattle.apex_types.specs.declared.event.Event.{Event}
+use Rattle.std.proofs.Common.{◌∷◌, [], sym, subst}
 use Rattle.trace_difference.specs.Parts.{IsFirst, first_with, other_side, second_with}
 use Rattle.trace_difference.specs.declared.part.Apart.{Apart}
 use Rattle.trace_difference.proofs.Parts.{apart_both}

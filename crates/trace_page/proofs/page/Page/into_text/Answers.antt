@@ -1,6 +1,6 @@
 use Rattle.std.proofs.Common.{◌≡◌, ◌++◌, List, ℕ, ap, ◌∙◌}
 use Rattle.trace_page.specs.Ticks.{ticks_text}
-use Rattle.trace_page.specs.declared.text.TheConstants.{FRONT, BETWEEN, BEHIND_WINDOWS, BACK}
+use Rattle.trace_page.specs.declared.text.TheConstants.{FRONT, BETWEEN, BEHIND_WINDOWS}
 use Rattle.trace_page.proofs.page.Page.into_text.Goals as goal
 
 pub returns : goal.returns

@@ -1,5 +1,9 @@
-use Rattle.std.proofs.Common.{vec_len}
+use Rattle.std.proofs.Common.{string_bytes, vec_len}
+use Rattle.trace_picture.specs.Page.{GoesOn}
 use Rattle.trace_picture.proofs.page.Page.finish.Given as goal
 
 abbrev pub decreases-loop-self : goal.decreases-loop-self
 decreases-loop-self l = vec_len l.self.unended
+
+abbrev pub invariant-loop-self : goal.invariant-loop-self
+invariant-loop-self l = GoesOn (string_bytes l.initial.self.text) (string_bytes l.self.text)

@@ -1,4 +1,4 @@
-use Rattle.std.proofs.Common.{rules, ◌≡◌, ◌*◌, ◌-◌, ◌^◌, ◌≤◌, sym, subst, ◌∙◌, ap, arith}
+use Rattle.std.proofs.Common.{rules, ◌≡◌, ◌*◌, ◌-◌, ◌^◌, ◌≤◌, sym, subst, ◌∙◌, ap}
 use Rattle.trace_view.specs.Percentiles.{IsPercentile, percent_of, reached}
 use Rattle.trace_view.proofs.Percentiles.{no_percentile, percentile_is}
 use Rattle.trace_view.proofs.times.Times.percentile.Goals as goal

@@ -1,0 +1,26 @@
+-- What is said of a source, if there is memory for it.
+use Rattle.std.proofs.Common.{◌≡◌, ℕ, List, Option, Some, None, IfSome}
+use Rattle.pal_base.specs.Next.{IsLookedFor}
+use Rattle.pal_base.specs.declared.fault.Refusal.{Refusal}
+use Rattle.pal_base.specs.declared.looking.LookedFor.{LookedFor}
+use Rattle.pal_meaning.specs.Grammar.{IsProgramOf}
+use Rattle.pal_meaning.specs.Syntax as written
+use Rattle.source_findings.specs.Bodies.{wrongs}
+use Rattle.source_findings.specs.Explained.{IsOfProgram, IsUnfit, IsUnfitAt, all_lines}
+use Rattle.source_findings.specs.Unfit.{unfit_lines}
+use Rattle.source_findings.specs.Wanted.{phrase}
+use Rattle.source_findings.specs.declared.sought.Sought.{Sought}
+
+pub place_found : (text : List ℕ) (place : Option LookedFor) → IsLookedFor text place → IfSome place (λ l. IsLookedFor text (Some l))
+place_found text None h = tt
+place_found text (Some l) h = h
+
+pub with_place : {A : Type 0} (view : A → List ℕ) (file text : List ℕ) (place : LookedFor) (answer : Option A)
+    → IsLookedFor text (Some place) → IfSome answer (λ a. IsUnfitAt file text place (view a)) → IfSome answer (λ a. IsUnfit file text (view a))
+with_place view file text place None is told = tt
+with_place view file text place (Some a) is told = (place, is, told)
+
+pub with_program : {A : Type 0} (view : A → List ℕ) (file : List ℕ) (period : ℕ) (text : List ℕ) (rule : Refusal) (program : written.Program) (answer : Option A)
+    → IsProgramOf text program → IfSome answer (λ a. view a ≡ all_lines file text (wrongs rule period text program)) → IfSome answer (λ a. IsOfProgram file period text rule (view a))
+with_program view file period text rule program None is told = tt
+with_program view file period text rule program (Some a) is told = (program, is, told)
