@@ -1,7 +1,10 @@
 -- A page grows, and stays one.
-use Rattle.std.proofs.Common.{◌≡◌, ℕ, List, [], ◌∷◌, ◌++◌, reverse, Bool, true, false, cond, Option, Some, refl, sym, ap, subst, ◌∙◌, append_assoc, append-nil}
+use Rattle.std.proofs.Common.{◌≡◌, ℕ, List, IfOk, Ok, Err, Result, string_bytes, [], ◌∷◌, ◌++◌, reverse, Bool, true, false, cond, Option, Some, refl, sym, ap, subst, ◌∙◌, append_assoc, append-nil}
 use Rattle.std.specs.Prelude.{option_to_list}
 use Rattle.std.proofs.Math.Logic.{∥∥₁_map}
+use Rattle.std.specs.declared.alloc.AllocError.{AllocError}
+use Rattle.std.specs.declared.alloc.Global.{Global}
+use Rattle.std.specs.declared.string.String.{String}
 use Rattle.std.proofs.lemmas.List.{reverse-append}
 use Rattle.trace_picture.specs.Escaped.{escaped}
 use Rattle.trace_picture.specs.Element.{start_text, empty_text, end_text, titled}
@@ -10,7 +13,7 @@ use Rattle.trace_picture.specs.declared.element.Attribute.{Attribute}
 use Rattle.trace_picture.specs.declared.element.Tag.{Tag}
 use Rattle.trace_picture.specs.declared.element.Tag.TheVariants.{Svg, Title}
 
-seam : (xs ys zs : List ℕ) → (xs ++ ys) ++ zs ≡ xs ++ (ys ++ zs)
+pub seam : (xs ys zs : List ℕ) → (xs ++ ys) ++ zs ≡ xs ++ (ys ++ zs)
 seam xs ys zs = rw append_assoc
 
 -- the contents of the innermost element grow at their end
@@ -97,3 +100,8 @@ pub stands : (text one both whole first second : List ℕ) → one ≡ text ++ f
 stands text one both whole first second is then (more, on) =
     let same : both ≡ text ++ (first ++ second) = rw (then, is, append_assoc) in
     (text, (more, rw (on, same)))
+
+pub within : (r : Result (String Global) AllocError) (both inner : List ℕ) → ((whole : List ℕ) → GoesOn both whole → HasWithin inner whole)
+    → IfOk r (λ text. GoesOn both (string_bytes text)) → IfOk r (λ text. HasWithin inner (string_bytes text))
+within (Ok text) both inner go h = go (string_bytes text) h
+within (Err e) both inner go h = tt

@@ -83,7 +83,6 @@ impl Drawing {
     /// # Errors
     ///
     /// Memory ran out.
-    #[tactic(auto, using(crate::proofs::Pages::stands))]
     pub fn text(&self, name: &str) -> Result<String, AllocError>
         ensures picture { IfOk result (λ text. ∥ IsPicture (string_bytes text) ∥₁) }
         ensures shapes { IfOk result

@@ -1,8 +1,8 @@
 //! Arrows, flags and marks.
 
-ghost use Rattle.std.specs.Prelude.{◌≡◌, ◌++◌, OnOk, string_bytes};
-ghost use Rattle.trace_picture.specs.Element.{path_start, titled};
-ghost use Rattle.trace_picture.specs.Marks.{arrow_start, end_of, fan_of, flag_down, flag_text, message_class, message_text, report_text, start_of};
+ghost use Rattle.std.specs.Prelude.{◌≡◌, ◌++◌, OnOk, codes, string_bytes};
+ghost use Rattle.trace_picture.specs.Element.{line_tag, path_start, titled};
+ghost use Rattle.trace_picture.specs.Marks.{arrow_start, end_of, fan_of, flag_down, flag_text, message_class, message_place, message_text, report_text, start_of};
 
 use crate::axis::Axis;
 use crate::element::{Key, Tag, at, moved, set};
@@ -98,6 +98,13 @@ fn end_of(from: Length, to: Length, fan: Length) -> Length
     }
 }
 
+/// The place of the arrow of a message.
+fn message_place(axis: Axis, message: &Message) -> Length
+    ensures { result ≡ message_place axis message.now }
+{
+    axis.place(message.tick)
+}
+
 /// Draws the arrow of a message from a row to a row.
 fn draw_arrow(
     page: &mut Page,
@@ -112,15 +119,35 @@ fn draw_arrow(
         ≡ string_bytes page.old.text
         ++ titled Tag.Line (arrow_start axis message.now from to) title.now) }
 {
-    let x = axis.place(message.tick);
+    let class = message_class(message.lost);
+    let place = message_place(axis, message);
+    let start = start_of(from, to);
+    let end = end_of(from, to, fan_of(message));
+    draw_line(page, class, place, start, end, title)
+}
+
+/// Draws a line down or up at a place, with a title.
+fn draw_line(
+    page: &mut Page,
+    class: &str,
+    place: Length,
+    start: Length,
+    end: Length,
+    title: &str,
+) -> Result<(), AllocError>
+    ensures { OnOk result
+        (string_bytes page.new.text
+        ≡ string_bytes page.old.text
+        ++ titled Tag.Line (line_tag class.now place start place end ++ codes ">") title.now) }
+{
     page.titled(
         Tag::Line,
         &[
-            set(Key::Class, message_class(message.lost)),
-            at(Key::X1, x),
-            at(Key::Y1, start_of(from, to)),
-            at(Key::X2, x),
-            at(Key::Y2, end_of(from, to, fan_of(message))),
+            set(Key::Class, class),
+            at(Key::X1, place),
+            at(Key::Y1, start),
+            at(Key::X2, place),
+            at(Key::Y2, end),
         ],
         title,
     )

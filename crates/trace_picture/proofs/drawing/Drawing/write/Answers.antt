@@ -10,6 +10,7 @@ returns g c =
       c.as_bytes.result.now,
       (
         subst (λ t. ∥ IsPicture t ∥₁) same c.in_ok-text.ensures.picture,
-        (subst (HasWithin (picture_text c.args.name.now c.args.self.now)) same c.in_ok-text.ensures.shapes, c.in_ok-write_all.ensures.bytes),
+        subst (HasWithin (picture_text c.args.name.now c.args.self.now)) same c.in_ok-text.ensures.shapes,
+        c.in_ok-write_all.ensures.bytes,
       ),
     )
