@@ -3,8 +3,8 @@
 ghost use Rattle.std.specs.Prelude.{◌≡◌, Some, map, option_map, string_bytes, IfOk, IfSome};
 ghost use Rattle.module_meaning.specs.Accepted.{IsTable};
 ghost use Rattle.window_table.specs.Views.{partition_view, table_of};
-ghost use Rattle.finding_lines.specs.Reports.{form_of};
-ghost use Rattle.command_line.specs.Explained.{IsCompleted, IsExplained, IsExplainedWith, IsNoted, IsNotedBy, IsNoteOf, IsOfImage, IsOfInputs, IsOfReplay, IsOfRun, IsOfSource, build_sentence, files_of, form_in, inputs_sentence, object_of, run_sentence, sentence_of, sentence_of_replay, source_of, told_text};
+ghost use Rattle.finding_lines.specs.Reports.{form_of, report_of};
+ghost use Rattle.command_line.specs.Explained.{IsCompleted, IsExplained, IsExplainedWith, IsNoted, IsNotedBy, IsNoteOf, IsOfImage, IsOfInputs, IsOfReplay, IsOfRun, IsOfSource, build_sentence, files_of, form_in, inputs_sentence, object_of, report_in, run_sentence, sentence_of, sentence_of_replay, source_of, told_text};
 
 use crate::outcome::Outcome;
 use crate::refusal::{Refusal, Rule};
@@ -33,6 +33,14 @@ pub enum Style {
 }
 
 impl Style {
+    /// How findings on a file by that rule are told.
+    fn report<'a>(self, rule: &'a str, file: &'a str) -> Report<'a>
+        ensures { report_of result ≡ report_in self rule.now file.now }
+    {
+        let form = self.form(rule);
+        Report { file, form }
+    }
+
     /// The form of findings by that rule.
     fn form(self, rule: &str) -> Form<'_>
         ensures { form_of result ≡ form_in self rule.now }
@@ -187,8 +195,8 @@ fn image_explanation(
 {
     let rule = RunFault::Image(fault);
     let rule = format!(in alloc; "{rule}").ok()?;
-    let form = style.form(rule.as_str());
-    explain_image(alloc, Report { file, form }, bytes, fault)
+    let report = style.report(rule.as_str(), file);
+    explain_image(alloc, report, bytes, fault)
 }
 
 /// The explanation of a refused image or device text, if there is memory for it.
@@ -207,10 +215,7 @@ fn run_explanation(
         }
         RunFault::Device(device) => {
             let rule = format!(in alloc; "{fault}").ok()?;
-            let report = Report {
-                file: files.text_name,
-                form: style.form(rule.as_str()),
-            };
+            let report = style.report(rule.as_str(), files.text_name);
             explain_devices(alloc, report, files.image, files.text, *device)
         }
         _ => None,
@@ -235,10 +240,7 @@ fn replay_explanation(
         }
         RunFault::Device(device) => {
             let rule = format!(in alloc; "{fault}").ok()?;
-            let report = Report {
-                file: files.text_name,
-                form: style.form(rule.as_str()),
-            };
+            let report = style.report(rule.as_str(), files.text_name);
             explain_inputs(alloc, report, files.image, partition, files.text, *device)
         }
         _ => None,
@@ -261,10 +263,7 @@ fn inputs_explanation(
         }
         InputsFault::Device(device) => {
             let rule = format!(in alloc; "{fault}").ok()?;
-            let report = Report {
-                file: files.text_name,
-                form: style.form(rule.as_str()),
-            };
+            let report = style.report(rule.as_str(), files.text_name);
             explain_devices(alloc, report, files.image, files.text, *device)
         }
         _ => None,
@@ -288,8 +287,8 @@ fn explanation(
     match fault {
         BuildFault::Table(rule) => {
             let shown = format!(in alloc; "{fault}").ok()?;
-            let form = style.form(shown.as_str());
-            explain_table(alloc, Report { file, form }, table, *rule)
+            let report = style.report(shown.as_str(), file);
+            explain_table(alloc, report, table, *rule)
         }
         BuildFault::Pal { partition, fault } => {
             source_explanation(alloc, style, table, sources, partition, *fault)
