@@ -452,7 +452,7 @@ fn inputs_sentence(fault: &InputsFault) -> &'static str
 fn object_of(alloc: Global, refusal: &Refusal) -> Result<String, AllocError>
     ensures { IfOk result (λ text. string_bytes text ≡ object_of refusal.now) }
 {
-    let rule = Rule(refusal);
+    let rule = Rule { refusal };
     let rule = format!(in alloc; "{rule}")?;
     rule_line(alloc, rule.as_str(), rule.as_str(), sentence_of(refusal))
 }
