@@ -14,9 +14,12 @@ out. LENGTH is how many bytes the image has, and LONGER one more. The replay is 
 `source_rows` has those in the source of `flight`: what it is; the lines of the source, in which `\\xHH` is the byte of that number; behind a line
 `--`, all that standard error says.
 
+Each mistake is tried with `--explain`, and with `--explain=json`, where what is wanted is read off the lines for people.
+
 The last line printed is how many mistakes were tried, and the exit status is 1 if anything was not as written.
 """
 
+import json
 import re
 import subprocess
 import sys
@@ -26,6 +29,26 @@ from pathlib import Path
 HERE = Path(__file__).resolve().parent
 SOURCE = "init stack 16 { local r; SET_PARTITION_MODE(3) -> r; }\n"
 CHANGE = re.compile(r"(\w+\.toml):(\d+)(?: (.*))?$")
+FLAGS = ["--explain", "--explain=json"]
+AT_PLACE = re.compile(r"(?P<file>[\w.]+):(?P<line>\d+):(?P<column>\d+): (?P<message>.*)$")
+AT_BYTE = re.compile(r"(?P<file>[\w.]+): byte (?P<byte>\d+): (?P<message>.*)$")
+OF_FILE = re.compile(r"(?P<file>[\w.]+): (?P<message>.*)$")
+
+
+def objects_of(said):
+    """What is said as JSON objects, by what is said for people: the line of the refusal, and an object for each finding."""
+    refusal, _, *lines = said.splitlines()
+    told = refusal + "\n"
+    while lines:
+        if found := AT_PLACE.match(lines[0]):
+            advice, lines = lines[3], lines[4:]
+        else:
+            found = AT_BYTE.match(lines[0]) or OF_FILE.match(lines[0])
+            advice, lines = lines[1], lines[2:]
+        finding = {key: int(it) if key in ("line", "column", "byte") else it for key, it in found.groupdict().items()}
+        finding |= {"rule": refusal.removeprefix("mb: "), "advice": advice}
+        told += json.dumps(finding, sort_keys=True, separators=(",", ":"), ensure_ascii=False) + "\n"
+    return told
 
 
 def read_rows():
@@ -42,14 +65,14 @@ def read_rows():
         yield title.removeprefix("# "), name, changes, "".join(line + "\n" for line in lines)
 
 
-def explain(program, name, changes, folder):
+def explain(program, flag, name, changes, folder):
     """What the program says of a file with these changes."""
     lines = (HERE / name).read_text().split("\n")
     for number, text in changes.items():
         lines[number - 1] = text
     (folder / name).write_text("\n".join(lines))
     (folder / "source.pal").write_text(SOURCE)
-    words = [program, "check", "--explain", name, "source.pal"]
+    words = [program, "check", flag, name, "source.pal"]
     done = subprocess.run(words, cwd=folder, stdin=subprocess.DEVNULL, capture_output=True, text=True, timeout=60)
     return done.returncode, done.stdout, done.stderr
 
@@ -73,12 +96,12 @@ def read_source_rows():
         yield title.removeprefix("# "), source, said + "\n"
 
 
-def explain_source(program, source, folder):
+def explain_source(program, flag, source, folder):
     """What the program says of a source."""
     (folder / "table.toml").write_text((HERE / "table.toml").read_text())
     (folder / "a.pal").write_bytes(source)
     (folder / "source.pal").write_text(SOURCE)
-    words = [program, "check", "--explain", "table.toml", "a.pal", "source.pal"]
+    words = [program, "check", flag, "table.toml", "a.pal", "source.pal"]
     done = subprocess.run(words, cwd=folder, stdin=subprocess.DEVNULL, capture_output=True, text=True, timeout=60)
     return done.returncode, done.stdout, done.stderr
 
@@ -101,13 +124,13 @@ def changed(image, how, *numbers):
     return image[:place] + bytes(byte) + image[place + 1 :]
 
 
-def explain_text(program, image, kind, text, folder):
+def explain_text(program, flag, image, kind, text, folder):
     """What the program says of a text or of an image."""
     name, *change = kind
     (folder / "image").write_bytes(changed(image, *change) if change else image)
     (folder / name if not change else folder / "devices").write_bytes(text.encode())
     words = {"devices": ["run", "image", "devices", "20"], "inputs": ["replay", "image", "display", "inputs", "20"], "image": ["dis", "image"]}[name]
-    words = [program, words[0], "--explain", *words[1:]]
+    words = [program, words[0], flag, *words[1:]]
     done = subprocess.run(words, cwd=folder, stdin=subprocess.DEVNULL, capture_output=True, text=True, timeout=60)
     return done.returncode, done.stdout, done.stderr
 
@@ -116,24 +139,25 @@ def main(program):
     program = Path(program).resolve()
     tried, wrong = 0, 0
 
-    def compare(title, wanted, found):
+    def compare(title, wanted, explained):
         nonlocal tried, wrong
         tried += 1
-        status, printed, said = found
-        if found != (1, "", wanted):
-            wrong += 1
-            print(f"{title}: wanted\n{wanted}had status {status} and\n{printed}{said}")
+        for flag, said in zip(FLAGS, [wanted, objects_of(wanted)]):
+            found = explained(flag)
+            if found != (1, "", said):
+                wrong += 1
+                print(f"{title}, {flag}: wanted\n{said}had status {found[0]} and\n{found[1]}{found[2]}")
 
     with tempfile.TemporaryDirectory() as folder:
         folder = Path(folder)
         for title, name, changes, wanted in read_rows():
-            compare(title, wanted, explain(program, name, changes, folder))
+            compare(title, wanted, lambda flag: explain(program, flag, name, changes, folder))
         for title, source, wanted in read_source_rows():
-            compare(title, wanted, explain_source(program, source, folder))
+            compare(title, wanted, lambda flag: explain_source(program, flag, source, folder))
         image = build(program, folder)
         for title, kind, text, wanted in read_text_rows():
             wanted = wanted.replace("LENGTH", str(len(image))).replace("LONGER", str(len(image) + 1))
-            compare(title, wanted, explain_text(program, image, kind, text, folder))
+            compare(title, wanted, lambda flag: explain_text(program, flag, image, kind, text, folder))
     print(f"{tried} mistakes")
     return 1 if wrong else 0
 

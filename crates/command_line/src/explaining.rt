@@ -3,8 +3,8 @@
 ghost use Rattle.std.specs.Prelude.{◌≡◌, Some, map, option_map, string_bytes, IfOk, IfSome};
 ghost use Rattle.module_meaning.specs.Accepted.{IsTable};
 ghost use Rattle.window_table.specs.Views.{partition_view, table_of};
-ghost use Rattle.finding_lines.specs.Reports.{form_of};
-ghost use Rattle.command_line.specs.Explained.{IsCompleted, IsExplained, IsExplainedWith, IsNoted, IsNotedBy, IsNoteOf, IsOfImage, IsOfInputs, IsOfReplay, IsOfRun, build_sentence, files_of, form_in, inputs_sentence, object_of, run_sentence, sentence_of, sentence_of_replay, source_file, source_of, told_text};
+ghost use Rattle.finding_lines.specs.Reports.{form_of, report_of};
+ghost use Rattle.command_line.specs.Explained.{IsCompleted, IsExplained, IsExplainedWith, IsNoted, IsNotedBy, IsNoteOf, IsOfImage, IsOfInputs, IsOfReplay, IsOfRun, build_sentence, files_of, form_in, inputs_sentence, object_of, report_in, report_on, run_sentence, sentence_of, sentence_of_replay, source_file, source_of, told_text};
 
 use crate::outcome::Outcome;
 use crate::refusal::{Refusal, Rule};
@@ -33,6 +33,14 @@ pub enum Style {
 }
 
 impl Style {
+    /// How findings on a file by that rule are told.
+    fn report<'a>(self, rule: &'a str, file: &'a str) -> Report<'a>
+        ensures { report_of result ≡ report_in self rule.now file.now }
+    {
+        let form = self.form(rule);
+        Report { file, form }
+    }
+
     /// The form of findings by that rule.
     fn form(self, rule: &str) -> Form<'_>
         ensures { form_of result ≡ form_in self rule.now }
@@ -188,8 +196,8 @@ fn image_explanation(
 {
     let rule = RunFault::Image(fault);
     let rule = format!(in alloc; "{rule}").ok()?;
-    let form = style.form(rule.as_str());
-    explain_image(alloc, Report { file, form }, bytes, fault)
+    let report = style.report(rule.as_str(), file);
+    explain_image(alloc, report, bytes, fault)
 }
 
 /// The explanation of a refused image or device text, if there is memory for it.
@@ -208,10 +216,7 @@ fn run_explanation(
         }
         RunFault::Device(device) => {
             let rule = format!(in alloc; "{fault}").ok()?;
-            let report = Report {
-                file: files.text_name,
-                form: style.form(rule.as_str()),
-            };
+            let report = style.report(rule.as_str(), files.text_name);
             explain_devices(alloc, report, files.image, files.text, *device)
         }
         _ => None,
@@ -236,10 +241,7 @@ fn replay_explanation(
         }
         RunFault::Device(device) => {
             let rule = format!(in alloc; "{fault}").ok()?;
-            let report = Report {
-                file: files.text_name,
-                form: style.form(rule.as_str()),
-            };
+            let report = style.report(rule.as_str(), files.text_name);
             explain_inputs(alloc, report, files.image, partition, files.text, *device)
         }
         _ => None,
@@ -262,10 +264,7 @@ fn inputs_explanation(
         }
         InputsFault::Device(device) => {
             let rule = format!(in alloc; "{fault}").ok()?;
-            let report = Report {
-                file: files.text_name,
-                form: style.form(rule.as_str()),
-            };
+            let report = style.report(rule.as_str(), files.text_name);
             explain_devices(alloc, report, files.image, files.text, *device)
         }
         _ => None,
@@ -287,12 +286,19 @@ fn explanation(
         IsNoted style file.now table.now (map (λ s. s.now) files.now)
         (map (λ s. s.now) sources.now) fault.now (string_bytes text)) }
 {
-    let shown = format!(in alloc; "{fault}").ok()?;
-    let form = style.form(shown.as_str());
     match fault {
-        BuildFault::Table(rule) => explain_table(alloc, Report { file, form }, table, *rule),
-        BuildFault::Pal { partition, fault } => {
-            explained(alloc, form, table, files, sources, partition, *fault)
+        BuildFault::Table(rule) => {
+            let shown = format!(in alloc; "{fault}").ok()?;
+            let report = style.report(shown.as_str(), file);
+            explain_table(alloc, report, table, *rule)
+        }
+        BuildFault::Pal {
+            partition,
+            fault: refused,
+        } => {
+            let shown = format!(in alloc; "{fault}").ok()?;
+            let form = style.form(shown.as_str());
+            explained(alloc, form, table, files, sources, partition, *refused)
         }
         _ => None,
     }
@@ -344,11 +350,18 @@ fn explained_with(
         (map (λ s. s.now) sources.now) partition.now fault (string_bytes text)) }
 {
     let source = source_of(table.partitions.as_slice(), files, sources, partition)?;
-    let report = Report {
+    let report = report_on(form, source);
+    explain_source(alloc, report, source.period, source.text, fault.refusal)
+}
+
+/// How findings in that source are told.
+fn report_on<'a>(form: Form<'a>, source: SourceFile<'a>) -> Report<'a>
+    ensures { report_of result ≡ report_on (form_of form.entry) (source_file source.entry) }
+{
+    Report {
         file: source.file,
         form,
-    };
-    explain_source(alloc, report, source.period, source.text, fault.refusal)
+    }
 }
 
 /// A source: the name of its file, its text, and the period of its partition.
@@ -451,7 +464,7 @@ fn inputs_sentence(fault: &InputsFault) -> &'static str
 fn object_of(alloc: Global, refusal: &Refusal) -> Result<String, AllocError>
     ensures { IfOk result (λ text. string_bytes text ≡ object_of refusal.now) }
 {
-    let rule = Rule(refusal);
+    let rule = Rule { refusal };
     let rule = format!(in alloc; "{rule}")?;
     rule_line(alloc, rule.as_str(), rule.as_str(), sentence_of(refusal))
 }

@@ -42,13 +42,15 @@ impl Refusal {
 
 /// What the line of a refusal says behind the program's name.
 #[derive(Clone, Copy)]
-pub struct Rule<'a>(pub &'a Refusal);
+pub struct Rule<'a> {
+    pub refusal: &'a Refusal,
+}
 
 impl<'a> fmt::Display for Rule<'a> {
-    ghost output = { λ rule. Some (rule_of rule.field-0.now) };
+    ghost output = { λ rule. Some (rule_of rule.refusal.now) };
 
     fn fmt<W: fmt::Write>(&self, f: &mut fmt::Formatter<W>) -> fmt::Result {
-        match self.0 {
+        match self.refusal {
             Refusal::Build(fault) => write!(f, "{fault}"),
             Refusal::Run(fault) | Refusal::Replay(fault) => write!(f, "{fault}"),
             Refusal::Inputs(fault) => write!(f, "{fault}"),
@@ -63,7 +65,7 @@ impl fmt::Display for Refusal {
     ghost output = { λ refusal. Some (line_of refusal) };
 
     fn fmt<W: fmt::Write>(&self, f: &mut fmt::Formatter<W>) -> fmt::Result {
-        let rule = Rule(self);
+        let rule = Rule { refusal: self };
         write!(f, "mb: {rule}")
     }
 }

@@ -5,11 +5,13 @@ use Rattle.clap.specs.Values.{kind_of}
 use Rattle.command_words.specs.Found.{Entered}
 use Rattle.command_words.specs.Kinds.{AreMistaken, AskForHelp, IsMistake}
 use Rattle.command_words.specs.Told.{IsUsageTold}
+use Rattle.command_pages.specs.declared.page.Page.{Page}
 use Rattle.streams.specs.Contents.{Contents}
 use Rattle.streams.specs.States.{HasFailed, IsFlushed, IsWritten, Seen, TakesLine}
 use Rattle.view_command.specs.Lines.{called, line_of}
 use Rattle.clap.specs.Walk.{Row}
 use Rattle.view_command.specs.Orders.{AreWrongWords, AsksForNothing, EndsBefore, IsDiff, IsNoKind, IsNoLimit, IsNoRun, IsNoTick, IsNoWidth, other_of, ran_of, table_of, trace_of}
+use Rattle.view_command.specs.Pages.{IsPageTold}
 use Rattle.view_command.specs.States.{IsUntouched, State}
 use Rattle.view_command.specs.Texts.{IsLateIn, IsLateLine, IsRefusedIn, IsRefusedLine, IsRefusedTableIn, IsTableAsked, IsTraceIn}
 use Rattle.command_words.specs.declared.failure.Failure.{Failure}
@@ -170,6 +172,12 @@ pub record IsAnswer (kinds : Kinds) (entered : Entered) (texts : Option Contents
   pub refused : status ≡ 1 → (r : Refusal) × IsRefusedFor kinds entered texts before after r × TakesLine old_err new_err (line_of r)
   pub usage : status ≡ 2 → IsUntouched before after × AreNoCommand kinds entered × IsWritten old_err new_err
   pub found : status ≡ 3 → IsFound kinds entered texts before after × (new_err ≡ old_err)
+
+-- The words ask for a page of the program's own words, and no text is opened; or they ask for none.
+abbrev pub IsAnswerTo : Option Page → Kinds → Entered → Option Contents → State → State → Seen → Seen → ℕ → Type 0
+IsAnswerTo (Some page) kinds entered texts before after old_err new_err status =
+    (after.unopened ≡ before.unopened) × IsPageTold page before.out after.out old_err new_err status
+IsAnswerTo None kinds entered texts before after old_err new_err status = IsAnswer kinds entered texts before after old_err new_err status
 
 -- ---- the report of an outcome
 

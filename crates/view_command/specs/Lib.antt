@@ -5,6 +5,7 @@ pub mod Differences
 pub mod Faults
 pub mod Lines
 pub mod Orders
+pub mod Pages
 pub mod States
 pub mod Texts
 pub mod Views

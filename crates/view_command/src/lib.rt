@@ -5,7 +5,8 @@ ghost use Rattle.std.specs.Prelude.{◌≡◌, ◌-◌, ◌^◌, ◌<◌, [], ma
 ghost use Rattle.clap.specs.Faults.{fault_of};
 ghost use Rattle.clap.specs.Simple.{subcommand_of};
 ghost use Rattle.streams.specs.States.{IsFlushed, seen};
-ghost use Rattle.view_command.specs.Answers.{AreTracesIn, IsAnswer, IsFailure};
+ghost use Rattle.command_pages.specs.Pages.{page_of};
+ghost use Rattle.view_command.specs.Answers.{AreTracesIn, IsAnswer, IsAnswerTo, IsFailure};
 ghost use Rattle.view_command.specs.States.{state};
 ghost use Rattle.view_command.specs.Words.{view_app};
 
@@ -13,6 +14,7 @@ mod comparing;
 mod differences;
 mod grammar;
 mod options;
+mod pages;
 mod refusal;
 mod request;
 mod showing;
@@ -20,8 +22,10 @@ mod telling;
 mod views;
 mod windows;
 
+use command_pages::page_of;
 use command_words::Failure;
 use comparing::compare;
+use pages::tell_page;
 pub use refusal::Refusal;
 use request::{Request, request_of};
 use showing::show;
@@ -33,11 +37,36 @@ use views::Outcome;
 
 /// Shows the trace that the words of a command line name, the program's name first, and returns the
 /// exit status: 0; 1 for a refusal, with its line on `err`; 2 for words that are no command, with
-/// the usage on `err`; 3 if the trace has what it may not have. Help goes to `out`, with status 0.
+/// the usage on `err`; 3 if the trace has what it may not have. Help goes to `out`, with status 0, and
+/// so do the program's own manual page and its completion for a shell.
 ///
 /// Nothing is written to `out` before the whole trace was read. With status 0 or 3 all of it was
 /// written and flushed. If `err` cannot be written, only the status reports the failure.
 pub fn view<S: AsStr, F: Sources, O: Stream, E: Stream>(
+    alloc: Global,
+    words: &[S],
+    sources: &mut F,
+    out: &mut O,
+    err: &mut E,
+) -> u8
+    requires out { O.failures out.old < 2 ^ 64 - 1 }
+    requires err { E.failures err.old < 2 ^ 64 - 1 }
+    ensures { IsAnswerTo (page_of (map S.text words.now))
+        (fault_of view_app (map S.text words.now))
+        (subcommand_of view_app (map S.text words.now)) (F.texts sources.old)
+        (state (F.unopened sources.old) (seen O.taken O.failures O.is_flushed out.old))
+        (state (F.unopened sources.new) (seen O.taken O.failures O.is_flushed out.new))
+        (seen E.taken E.failures E.is_flushed err.old)
+        (seen E.taken E.failures E.is_flushed err.new) result }
+{
+    match page_of(words) {
+        Some(page) => tell_page(alloc, page, out, err),
+        None => answer(alloc, words, sources, out, err),
+    }
+}
+
+/// The same for words that ask for no page.
+fn answer<S: AsStr, F: Sources, O: Stream, E: Stream>(
     alloc: Global,
     words: &[S],
     sources: &mut F,

@@ -5,7 +5,7 @@ use Rattle.streams.specs.States.{seen}
 use Rattle.view_command.specs.States.{state}
 use Rattle.view_command.specs.Words.{view_app}
 use Rattle.view_command.proofs.Answered.{answered, can_take_help}
-use Rattle.view_command.proofs.view.Goals as goal
+use Rattle.view_command.proofs.answer.Goals as goal
 
 pub tell-requires-clause-out : goal.tell-requires-clause-out
 tell-requires-clause-out g c =

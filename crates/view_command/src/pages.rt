@@ -1,0 +1,51 @@
+//! The pages that the program writes of its own words.
+
+ghost use Rattle.std.specs.Prelude.{◌-◌, ◌^◌, ◌<◌, IfErr, IfOk, OnOk, string_bytes};
+ghost use Rattle.view_command.specs.Pages.{IsPageRefused, IsPageTold, IsPageWritten, IsTextOf};
+ghost use Rattle.streams.specs.States.{seen};
+
+use crate::grammar::grammar;
+use crate::refusal::Refusal;
+use command_pages::{Page, page_text};
+use std::alloc::{AllocError, Global};
+use streams::{Stream, tell_line, write_text};
+
+/// Writes a page to `out`, and returns the exit status. If it is not written, the line of the refusal
+/// goes to `err`.
+pub fn tell_page<O: Stream, E: Stream>(alloc: Global, page: Page, out: &mut O, err: &mut E) -> u8
+    requires out { O.failures out.old < 2 ^ 64 - 1 }
+    requires err { E.failures err.old < 2 ^ 64 - 1 }
+    ensures { IsPageTold page (seen O.taken O.failures O.is_flushed out.old)
+        (seen O.taken O.failures O.is_flushed out.new)
+        (seen E.taken E.failures E.is_flushed err.old)
+        (seen E.taken E.failures E.is_flushed err.new) result }
+{
+    match write_page(alloc, page, out) {
+        Ok(()) => 0,
+        Err(refusal) => {
+            tell_line(err, refusal);
+            1
+        }
+    }
+}
+
+/// Writes a page.
+fn write_page<O: Stream>(alloc: Global, page: Page, out: &mut O) -> Result<(), Refusal>
+    requires { O.failures out.old < 2 ^ 64 - 1 }
+    ensures written { OnOk result
+        (IsPageWritten page (seen O.taken O.failures O.is_flushed out.old)
+        (seen O.taken O.failures O.is_flushed out.new)) }
+    ensures refused { IfErr result
+        (λ r. IsPageRefused (seen O.taken O.failures O.is_flushed out.old)
+        (seen O.taken O.failures O.is_flushed out.new) r) }
+{
+    let text = text_of(alloc, page)?;
+    Ok(write_text(out, text.as_str())?)
+}
+
+/// The text of a page.
+fn text_of(alloc: Global, page: Page) -> Result<String, AllocError>
+    ensures { IfOk result (λ text. IsTextOf page (string_bytes text)) }
+{
+    page_text(alloc, page, grammar(alloc)?)
+}
