@@ -114,8 +114,12 @@ sign_text negative = if negative then codes "-" else codes ""
 abbrev pub time_text : Thing → Bool → ℕ → List ℕ
 time_text thing negative number = thing_text thing ++ (codes " is " ++ (sign_text negative ++ (decimal number ++ codes ", and has to be -1 or 1 to 1099511627776")))
 
+-- how many somebody has of something, and may have
+abbrev pub has_text : Many → ℕ → List ℕ
+has_text thing number = holder_text thing ++ (decimal number ++ noun_text thing)
+
 abbrev pub many_text : Many → ℕ → ℕ → List ℕ
-many_text thing number most = holder_text thing ++ (decimal number ++ (noun_text thing ++ (codes ", and may have " ++ decimal most)))
+many_text thing number most = has_text thing number ++ (codes ", and may have " ++ decimal most)
 
 abbrev pub frame_text : ℕ → ℕ → List ℕ
 frame_text words stack = codes "the frame of the body has " ++ (decimal words ++ (codes " words, and its stack " ++ decimal stack))

@@ -78,11 +78,14 @@ abbrev pub targets : Judge → List (List ℕ) → State → State
 targets j [] s = s
 targets j (name ∷ names) s = targets j names (used j role.Variable name (step s))
 
+-- the name of a service, at which the numbers of its arguments and targets are judged
+abbrev pub asked : Refusal → Service → written.Exprs → List (List ℕ) → State → State
+asked rule service es names s = judged (targets_wrong rule service (length names)) (noted (arguments_wrong rule service (expr_count es)) s)
+
 -- a service, with its arguments and its targets, but for the semicolon
 abbrev pub service_call : Judge → Service → written.Exprs → List (List ℕ) → State → State
 service_call j service es names s =
-    targets j names (step (all_given j (arguments_of service) es true (step
-    (judged (targets_wrong j.rule service (length names)) (noted (arguments_wrong j.rule service (expr_count es)) s)))))
+    targets j names (step (all_given j (arguments_of service) es true (step (asked j.rule service es names s))))
 
 abbrev pub work : Refusal → Option ℕ → State → State
 work rule ticks s = judged (outside_wrong rule thing.Work 1 MOST_WORK_TICKS ticks) (step s)

@@ -406,6 +406,24 @@ fn process_row<'a>(
     )
 }
 
+/// Goes behind a process behind those before, of which it is the one of that number.
+fn whole_process<'a>(
+    alloc: Global,
+    judge: &Judge<'_, 'a>,
+    walk: &mut Walk<'a>,
+    before: &[Entry<'a>],
+    number: u64,
+    process: &Process,
+) -> Result<(), AllocError>
+    ensures { OnOk result
+        (state_of walk.new
+        ≡ spec.process (judge_of judge.now) (entries_of before.now) number
+        (view.process_of (names_of judge.now) process.now) (state_of walk.old)) }
+{
+    process_row(judge, walk, before, number, process)?;
+    stack_and_body(alloc, judge, walk, &process.stack, &process.body)
+}
+
 /// Goes behind the processes.
 fn processes<'a>(
     alloc: Global,
@@ -422,8 +440,7 @@ fn processes<'a>(
     let mut count = 0;
     for process in list {
         count = one_more(count);
-        process_row(judge, walk, before.as_slice(), count, process)?;
-        stack_and_body(alloc, judge, walk, &process.stack, &process.body)?;
+        whole_process(alloc, judge, walk, before.as_slice(), count, process)?;
         before.push(process_entry(judge.names, process))?;
     }
     Ok(())

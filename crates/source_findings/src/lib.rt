@@ -15,8 +15,6 @@ mod phrases;
 mod roles;
 mod sought;
 mod tally;
-#[cfg(test)]
-mod tests;
 mod texts;
 mod unfit;
 mod walk;

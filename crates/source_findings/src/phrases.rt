@@ -221,11 +221,20 @@ fn sign_text(negative: bool) -> &'static str
     if negative { "-" } else { "" }
 }
 
+/// How many somebody has of something.
+fn has_text(alloc: Global, many: Many, number: u64) -> Result<String, AllocError>
+    ensures { IfOk result (λ text. string_bytes text ≡ spec.has_text many number) }
+{
+    let (holder, noun) = (holder_text(many), noun_text(many));
+    format!(in alloc; "{holder}{number}{noun}")
+}
+
 fn many_text(alloc: Global, many: Many, number: u64, most: u64) -> Result<String, AllocError>
     ensures { IfOk result (λ text. string_bytes text ≡ spec.many_text many number most) }
 {
-    let (holder, noun) = (holder_text(many), noun_text(many));
-    format!(in alloc; "{holder}{number}{noun}, and may have {most}")
+    let has = has_text(alloc, many, number)?;
+    let has = has.as_str();
+    format!(in alloc; "{has}, and may have {most}")
 }
 
 fn frame_text(alloc: Global, words: u64, stack: u64) -> Result<String, AllocError>

@@ -1,6 +1,6 @@
 //! The walk through the words of expressions and statements, beside their tree.
 
-ghost use Rattle.std.specs.Prelude.{◌≡◌, map, true, OnOk, option_map};
+ghost use Rattle.std.specs.Prelude.{◌≡◌, List, ℕ, map, true, OnOk, option_map};
 ghost use Rattle.pal_base.specs.View as view;
 ghost use Rattle.pal_base.specs.View.{block_of, expr_of, exprs_of, links_of, name_of, number_of};
 ghost use Rattle.source_findings.specs.Views.{judge_of, names_of, state_of, what_of};
@@ -334,7 +334,6 @@ fn targets<'a>(
 }
 
 /// Goes behind a service, its arguments and its targets, but for the semicolon.
-#[tactic(auto, using(pal::proofs::Counted::counted))]
 fn service_call<'a>(
     alloc: Global,
     judge: &Judge<'_, 'a>,
@@ -348,12 +347,31 @@ fn service_call<'a>(
         ≡ spec.service_call (judge_of judge.now) service (exprs_of (names_of judge.now) arguments.now)
         (map (name_of (names_of judge.now)) names.now) (state_of walk.old)) }
 {
-    walk.note(arguments_wrong(judge.rule, service, arguments.len()))?;
-    walk.judge(targets_wrong(judge.rule, service, names.len()))?;
+    asked(judge.rule, walk, service, arguments, names)?;
     walk.step();
     all_given(alloc, judge, walk, service.arguments(), arguments)?;
     walk.step();
-    targets(alloc, judge, walk, names)
+    targets(alloc, judge, walk, names)?;
+    Ok(())
+}
+
+/// Goes behind the name of a service, at which the numbers of its arguments and targets are judged.
+#[tactic(auto, using(pal::proofs::Counted::counted, crate::proofs::Lists::mapped_length))]
+fn asked(
+    rule: Refusal,
+    walk: &mut Walk<'_>,
+    service: Service,
+    arguments: &[Expr],
+    names: &[Identifier],
+) -> Result<(), AllocError>
+    ensures { (texts : List (List ℕ))
+        → OnOk result
+        (state_of walk.new
+        ≡ spec.asked rule service (exprs_of texts arguments.now)
+        (map (name_of texts) names.now) (state_of walk.old)) }
+{
+    walk.note(arguments_wrong(rule, service, arguments.len()))?;
+    walk.judge(targets_wrong(rule, service, names.len()))
 }
 
 /// Goes behind statements.

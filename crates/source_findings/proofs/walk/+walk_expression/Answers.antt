@@ -1,5 +1,6 @@
 use Rattle.std.proofs.Common.{◌∙◌, ap, sym}
 use Rattle.pal.proofs.SyntaxRows.{seen_apply, seen_chain}
+use Rattle.pal_base.specs.View.{links_of}
 use Rattle.source_findings.specs.Views.{judge_of, names_of, state_of}
 use Rattle.source_findings.specs.Walk as spec
 use Rattle.source_findings.proofs.walk.+walk_expression.Goals as goal
@@ -13,5 +14,5 @@ pub expression-returns-in_ok-links-in-Chain : goal.expression-returns-in_ok-link
 expression-returns-in_ok-links-in-Chain t c =
     let seen = ap (λ e. spec.expr (judge_of c.args.judge.now) e (state_of c.args.walk.now)) (seen_chain (names_of c.args.judge.now) _ _ _ _ _ c.in-Chain.is c.deref-in-Chain.ensures c.deref-in-Chain-2.ensures.value) in
     c.in_ok-links-in-Chain.ensures
-    ∙ ap (λ s. spec.links (judge_of c.args.judge.now) _ s) c.in_ok-expression-in-Chain.ensures
+    ∙ ap (λ s. spec.links (judge_of c.args.judge.now) (links_of (names_of c.args.judge.now) c.deref-in-Chain-2.result.now) s) c.in_ok-expression-in-Chain.ensures
     ∙ sym seen

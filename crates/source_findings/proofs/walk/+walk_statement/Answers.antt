@@ -1,5 +1,6 @@
 use Rattle.std.proofs.Common.{◌∙◌, ap, rules, sym}
 use Rattle.pal.proofs.SyntaxRows.{seen_if, seen_if_else, seen_while}
+use Rattle.pal_base.specs.View.{block_of}
 use Rattle.source_findings.specs.Views.{judge_of, names_of, state_of}
 use Rattle.source_findings.specs.Walk as spec
 use Rattle.source_findings.proofs.walk.+walk_statement.Goals as goal
@@ -18,5 +19,5 @@ pub statement-returns-in_ok-otherwise-in-IfElse : goal.statement-returns-in_ok-o
 statement-returns-in_ok-otherwise-in-IfElse t c =
     let seen = ap (λ s. spec.stmt (judge_of c.args.judge.now) c.args.returns s (state_of c.args.walk.now)) (seen_if_else (names_of c.args.judge.now) _ _ _ _ _ _ c.in-IfElse.is c.deref-in-IfElse.ensures.value c.deref-in-IfElse-2.ensures.value) in
     c.in_ok-otherwise-in-IfElse.ensures
-    ∙ ap (λ s. spec.otherwise (judge_of c.args.judge.now) c.args.returns _ s) c.in_ok-branch-in-IfElse.ensures
+    ∙ ap (λ s. spec.otherwise (judge_of c.args.judge.now) c.args.returns (block_of (names_of c.args.judge.now) c.deref-in-IfElse-2.result.now) s) c.in_ok-branch-in-IfElse.ensures
     ∙ sym seen
