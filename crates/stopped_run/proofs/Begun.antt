@@ -1,11 +1,11 @@
 -- A run that waits for a line, by the run that does not.
-use Rattle.std.proofs.Common.{◌≡◌, ◌≤◌, inl, inr, ℕ, Bool, List, Option, Result, Ok, Err, sym, ap, subst, ◌∙◌}
+use Rattle.std.proofs.Common.{◌≡◌, ◌≤◌, inl, inr, ℕ, Bool, List, Option, Result, Ok, Err, sym, subst}
 use Rattle.apex_types.specs.declared.limits.TheConstants.{MOST_TICKS}
 use Rattle.apex_types.specs.declared.device.DeviceLine.{DeviceLine}
 use Rattle.machine_meaning.specs.Image.{Image}
 use Rattle.machine_meaning.specs.ImageReading.{Fault}
 use Rattle.machine_meaning.specs.MachineMeaning.{verdict_for}
-use Rattle.module.specs.Runs.{IsRun, Runs}
+use Rattle.module.specs.Runs.{Runs}
 use Rattle.module.specs.declared.fault.RunFault.{RunFault}
 use Rattle.module.specs.declared.fault.RunFault.TheVariants as fault
 use Rattle.stopped_run.specs.Ends.{EndsImage, RunsUntil}

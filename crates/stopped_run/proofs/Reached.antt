@@ -1,5 +1,5 @@
 -- How far a run is that waits for a line, and how it ends.
-use Rattle.std.proofs.Common.{◌≡◌, ◌≤◌, ◌<◌, ◌⊎◌, inl, inr, ◌+◌, ◌-◌, ℕ, zero, suc, Bool, true, false, List, [], ◌++◌, Option, Result, Ok, Err, refl, sym, ap, subst, ◌∙◌, arith}
+use Rattle.std.proofs.Common.{◌≡◌, ◌≤◌, ◌<◌, ◌⊎◌, inl, inr, ◌+◌, ◌-◌, ℕ, suc, Bool, true, false, List, [], ◌++◌, Option, Result, Ok, Err, refl, sym, ap, subst, ◌∙◌, arith}
 use Rattle.std.specs.Prelude.{is_none}
 use Rattle.std.specs.Io.KnownBytes.{Appends, Keeps}
 use Rattle.std.proofs.KnownBytes.{Appends-kept, Appends-nil, Appends-trans}
@@ -13,7 +13,7 @@ use Rattle.module.specs.Pieces.{LeadsTo}
 use Rattle.module.specs.Written.{AreFrom}
 use Rattle.module.specs.declared.fault.RunFault.{RunFault}
 use Rattle.module.specs.declared.fault.RunFault.TheVariants as fault
-use Rattle.stopped_run.specs.Ends.{EndsImage, IsEnd, text_to}
+use Rattle.stopped_run.specs.Ends.{EndsImage, text_to}
 use Rattle.stopped_run.specs.Steps.{IsHeld}
 use Rattle.stopped_run.specs.Words.{has_line}
 use Rattle.stopped_run.proofs.Ahead.{IsAhead, NoneCame, ahead_first, ahead_skipped, ahead_ticked, down_same, line_ticked, none_first, none_later, none_ticked, now_ticked, text_on, text_skipped, text_ticked, tick_on}

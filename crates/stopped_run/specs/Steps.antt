@@ -1,5 +1,5 @@
 -- A tick whose text is held before it is handed on.
-use Rattle.std.specs.Prelude.{◌≡◌, ◌<◌, ℕ, Bool, false, List}
+use Rattle.std.specs.Prelude.{◌≡◌, ◌<◌, ℕ, false, List}
 use Rattle.apex_types.specs.Line.{text_of}
 use Rattle.apex_types.specs.declared.device.DeviceLine.{DeviceLine}
 use Rattle.module_meaning.specs.Module.{of_tick}

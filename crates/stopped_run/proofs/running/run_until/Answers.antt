@@ -1,4 +1,4 @@
-use Rattle.std.proofs.Common.{rules, ◌≡◌, ◌≤◌, List, map, Err, sym, ap, subst, ◌∙◌}
+use Rattle.std.proofs.Common.{rules, ◌≤◌, map, ap, subst}
 use Rattle.apex_types.specs.declared.limits.TheConstants.{MOST_TICKS}
 use Rattle.machine_meaning.specs.Image.{Image}
 use Rattle.machine_meaning.specs.ImageReading.{image_at}
@@ -7,7 +7,7 @@ use Rattle.image.specs.Views.{image_of}
 use Rattle.module.specs.Machines.{Machine}
 use Rattle.module.specs.Running.{AreRefused}
 use Rattle.module.proofs.Runs.{device_refused}
-use Rattle.stopped_run.proofs.Begun.{begun_with, refused_with}
+use Rattle.stopped_run.proofs.Begun.{refused_with}
 use Rattle.stopped_run.proofs.running.run_until.Goals as goal
 
 pub returns-in_err-lines-clause-trace : goal.returns-in_err-lines-clause-trace
