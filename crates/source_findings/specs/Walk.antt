@@ -106,9 +106,9 @@ abbrev mutual
   block j returns written.NoStmt s = s
   block j returns (written.MoreStmts first rest) s = block j returns rest (step (stmt j returns first s))
 
--- behind a test, and the statements in braces, but for the closing brace
-abbrev pub branch : Judge → Bool → written.Expr → written.Block → State → State
-branch j returns test inside s = block j returns inside (step (expr j test (step s)))
+-- behind `if` or `while`, a test and an opening brace
+abbrev pub tested : Judge → written.Expr → State → State
+tested j test s = step (expr j test (step s))
 
 -- behind the brace that closes a branch, `else`, and the statements in braces, but for the closing brace
 abbrev pub otherwise : Judge → Bool → written.Block → State → State

@@ -422,15 +422,18 @@ fn statement<'a>(
             expression(alloc, judge, walk, value)
         }
         StmtKind::If(test, inside) => {
-            branch(alloc, judge, walk, returns, test, inside)?;
+            tested(alloc, judge, walk, test)?;
+            block(alloc, judge, walk, returns, inside)?;
             Ok(())
         }
         StmtKind::While(test, inside) => {
-            branch(alloc, judge, walk, returns, test, inside)?;
+            tested(alloc, judge, walk, test)?;
+            block(alloc, judge, walk, returns, inside)?;
             Ok(())
         }
         StmtKind::IfElse(test, inside, other) => {
-            branch(alloc, judge, walk, returns, test, inside)?;
+            tested(alloc, judge, walk, test)?;
+            block(alloc, judge, walk, returns, inside)?;
             otherwise(alloc, judge, walk, returns, other)?;
             Ok(())
         }
@@ -445,25 +448,22 @@ fn statement<'a>(
     }
 }
 
-/// Goes behind a test and the statements in braces, but for the closing brace.
-#[cycle(walk_statement)]
-fn branch<'a>(
+/// Goes behind `if` or `while`, a test and an opening brace.
+fn tested<'a>(
     alloc: Global,
     judge: &Judge<'_, 'a>,
     walk: &mut Walk<'a>,
-    returns: bool,
     test: &Expr,
-    inside: &[Stmt],
 ) -> Result<(), AllocError>
     ensures { OnOk result
         (state_of walk.new
-        ≡ spec.branch (judge_of judge.now) returns (expr_of (names_of judge.now) test.now)
-        (block_of (names_of judge.now) inside.now) (state_of walk.old)) }
+        ≡ spec.tested (judge_of judge.now) (expr_of (names_of judge.now) test.now)
+        (state_of walk.old)) }
 {
     walk.step();
     expression(alloc, judge, walk, test)?;
     walk.step();
-    block(alloc, judge, walk, returns, inside)
+    Ok(())
 }
 
 /// Goes behind the brace that closes a branch, `else`, and the statements in braces behind it, but
