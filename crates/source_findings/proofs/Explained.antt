@@ -1,5 +1,6 @@
 -- What is said of a source, if there is memory for it.
 use Rattle.std.proofs.Common.{◌≡◌, ℕ, List, Option, Some, None, IfSome}
+use Rattle.finding_lines.specs.Reports.{Report}
 use Rattle.pal_base.specs.Next.{IsLookedFor}
 use Rattle.pal_base.specs.declared.fault.Refusal.{Refusal}
 use Rattle.pal_base.specs.declared.looking.LookedFor.{LookedFor}
@@ -15,12 +16,12 @@ pub place_found : (text : List ℕ) (place : Option LookedFor) → IsLookedFor t
 place_found text None h = tt
 place_found text (Some l) h = h
 
-pub with_place : {A : Type 0} (view : A → List ℕ) (file text : List ℕ) (place : LookedFor) (answer : Option A)
-    → IsLookedFor text (Some place) → IfSome answer (λ a. IsUnfitAt file text place (view a)) → IfSome answer (λ a. IsUnfit file text (view a))
-with_place view file text place None is told = tt
-with_place view file text place (Some a) is told = (place, is, told)
+pub with_place : {A : Type 0} (view : A → List ℕ) (r : Report) (text : List ℕ) (place : LookedFor) (answer : Option A)
+    → IsLookedFor text (Some place) → IfSome answer (λ a. IsUnfitAt r text place (view a)) → IfSome answer (λ a. IsUnfit r text (view a))
+with_place view r text place None is told = tt
+with_place view r text place (Some a) is told = (place, is, told)
 
-pub with_program : {A : Type 0} (view : A → List ℕ) (file : List ℕ) (period : ℕ) (text : List ℕ) (rule : Refusal) (program : written.Program) (answer : Option A)
-    → IsProgramOf text program → IfSome answer (λ a. view a ≡ all_lines file text (wrongs rule period text program)) → IfSome answer (λ a. IsOfProgram file period text rule (view a))
-with_program view file period text rule program None is told = tt
-with_program view file period text rule program (Some a) is told = (program, is, told)
+pub with_program : {A : Type 0} (view : A → List ℕ) (r : Report) (period : ℕ) (text : List ℕ) (rule : Refusal) (program : written.Program) (answer : Option A)
+    → IsProgramOf text program → IfSome answer (λ a. view a ≡ all_lines r text (wrongs rule period text program)) → IfSome answer (λ a. IsOfProgram r period text rule (view a))
+with_program view r period text rule program None is told = tt
+with_program view r period text rule program (Some a) is told = (program, is, told)
