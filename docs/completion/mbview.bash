@@ -1,0 +1,23 @@
+# Completion of the words of mbview for bash.
+_mbview() {
+    local word=${COMP_WORDS[COMP_CWORD]} commands=' summary svg vcd list check diff html help' options=''
+    case ${COMP_WORDS[1]} in
+        help) options=' --man --completion' ;;
+        summary) options=' --from --to --partition --process --kind --port --ticks --table --csv -h --help' ;;
+        svg) options=' --from --to --partition --process --kind --port --ticks -h --help' ;;
+        vcd) options=' --from --to --partition --process --kind --port --ticks --table -h --help' ;;
+        list) options=' --from --to --partition --process --kind --port -h --help' ;;
+        check) options=' --from --to --partition --no --at-most --missed -h --help' ;;
+        diff) options=' --partition -h --help' ;;
+        html) options=' --partition --process --kind --port --ticks --table -h --help' ;;
+        help) options='' ;;
+        *) options=' -h --help -V --version' ;;
+    esac
+    COMPREPLY=()
+    if [[ $word == -* ]]; then
+        COMPREPLY=($(compgen -W "$options" -- "$word"))
+    elif [[ $COMP_CWORD == 1 || ($COMP_CWORD == 2 && ${COMP_WORDS[1]} == help) ]]; then
+        COMPREPLY=($(compgen -W "$commands" -- "$word"))
+    fi
+}
+complete -o default -F _mbview mbview
