@@ -14,7 +14,7 @@ use Rattle.command_words.specs.Kinds.{IsMistake}
 use Rattle.command_words.specs.Numbers.{ReadsNumber, number_in}
 use Rattle.command_words.specs.declared.failure.Failure.{Failure}
 use Rattle.command_words.specs.declared.failure.Failure.TheVariants.{Refused, Usage}
-use Rattle.view_command.specs.Answers.{IsEndFailure, IsFailureOfWords, IsKindFailure, IsLimitFailure, IsNothingAsked, IsRunFailure, IsTickFailure, IsWordsFailure}
+use Rattle.view_command.specs.Answers.{IsEndFailure, IsFailureOfWords, IsKindFailure, IsLimitFailure, IsNothingAsked, IsRunFailure, IsTickFailure, IsWidthFailure, IsWordsFailure}
 use Rattle.text_lines.specs.Pieces.{pieces_of}
 use Rattle.trace_filter.specs.KindSets.{no_kinds, with_words}
 use Rattle.trace_filter.specs.declared.kinds.Kinds.{Kinds}
@@ -102,6 +102,20 @@ limit_wrong rows (Refused (refusal.Table fault shown)) h = absurd h
 limit_wrong rows (Refused (refusal.Foreign partition)) h = absurd h
 limit_wrong rows (Refused refusal.Memory) h = tt
 limit_wrong rows (Refused refusal.Write) h = absurd h
+
+-- the word is no width of a picture
+pub width_wrong : (rows : List Row) (f : Failure Refusal) → IsWidthFailure (first_of (codes "width") rows) f → IsWordsFailure rows f
+width_wrong rows (Usage e) h = (inr (inr (inr (inr (inr h.0)))), h.1)
+width_wrong rows (Refused (refusal.Open shown)) h = absurd h
+width_wrong rows (Refused (refusal.Read shown)) h = absurd h
+width_wrong rows (Refused (refusal.Line number shown)) h = absurd h
+width_wrong rows (Refused (refusal.Late number shown)) h = absurd h
+width_wrong rows (Refused refusal.TooMany) h = absurd h
+width_wrong rows (Refused (refusal.Crowded from until elements)) h = absurd h
+width_wrong rows (Refused (refusal.Table fault shown)) h = absurd h
+width_wrong rows (Refused (refusal.Foreign partition)) h = absurd h
+width_wrong rows (Refused refusal.Memory) h = tt
+width_wrong rows (Refused refusal.Write) h = absurd h
 
 -- the words for ticks leave none
 pub end_wrong : (rows : List Row) (from : ℕ) (end : Option ℕ) (f : Failure Refusal) → (EndsBefore from end → AreWrongTicks rows) → IsEndFailure from end f → IsWordsFailure rows f
