@@ -17,8 +17,11 @@ pub within : (a : Axis) (t : ℕ) → (1500 ≤ place a t) × (place a t ≤ 150
 within a t = (omega arith, omega (arith, part a.long (min t a.span.until.0 - a.span.from.0) (a.span.until.0 - a.span.from.0) (omega arith)))
 
 pub in_order : (a : Axis) (t u : ℕ) → t ≤ u → place a t ≤ place a u
-in_order a t u h = omega (arith, above ((min t a.span.until.0 - a.span.from.0) * a.long) ((min u a.span.until.0 - a.span.from.0) * a.long) (max 1 (a.span.until.0 - a.span.from.0)) (omega arith)
-    (scaled a.long (min t a.span.until.0 - a.span.from.0) (min u a.span.until.0 - a.span.from.0) (omega (arith, h))))
+in_order a t u h = omega (
+  arith,
+  above ((min t a.span.until.0 - a.span.from.0) * a.long) ((min u a.span.until.0 - a.span.from.0) * a.long) (max 1 (a.span.until.0 - a.span.from.0)) (omega arith)
+      (scaled a.long (min t a.span.until.0 - a.span.from.0) (min u a.span.until.0 - a.span.from.0) (omega (arith, h))),
+)
 
 pub left : (a : Axis) → place a a.span.from.0 ≡ 1500
 left a =

@@ -1,6 +1,6 @@
 -- The elements of a picture, by the ticks in which they begin: its windows, and its shapes, of which a stay that is cut has a piece for each
 -- window, or time between windows, in which it has ticks.
-use Rattle.std.specs.Prelude.{◌≡◌, ℕ, ◌+◌, ◌<◌, ◌≤◌, nat_lt, Bool, ◌||◌, ◌==◌, is_some, is_none, if◌then◌else◌, List, [], ◌∷◌, ◌++◌, flat_map, Option, Some, None}
+use Rattle.std.specs.Prelude.{◌≡◌, ℕ, ◌+◌, ◌<◌, ◌≤◌, nat_lt, ◌==◌, is_some, if◌then◌else◌, List, [], ◌∷◌, ◌++◌, flat_map, Option, Some, None}
 use Rattle.apex_types.specs.declared.identity.Ticks.{Ticks}
 use Rattle.trace_picture.specs.Windows.{is_cut}
 use Rattle.trace_picture.specs.declared.excess.Excess.{Excess}

@@ -1,7 +1,6 @@
 -- The lane of windows, and the stays that are cut at their ends.
-use Rattle.std.specs.Prelude.{ℕ, Bool, true, false, ◌==◌, if◌then◌else◌, List, [], ◌∷◌, ◌++◌, flat_map, Option, Some, None, slice_get, codes}
+use Rattle.std.specs.Prelude.{ℕ, Bool, true, false, ◌==◌, if◌then◌else◌, List, [], ◌++◌, flat_map, Option, Some, None, slice_get, codes}
 use Rattle.std.specs.Fmt.{decimal}
-use Rattle.apex_types.specs.CodeWords.{state_word}
 use Rattle.apex_types.specs.Places.{place_of_number}
 use Rattle.apex_types.specs.declared.codes.ProcessState.{ProcessState}
 use Rattle.apex_types.specs.declared.codes.ProcessState.TheVariants as state

@@ -1,6 +1,6 @@
 //! The elements of a picture, by the ticks in which they begin.
 
-ghost use Rattle.std.specs.Prelude.{◌≡◌, ◌≤◌, ◌<◌, ◌+◌, ◌++◌, List, length, vec_len, IfOk, OnOk};
+ghost use Rattle.std.specs.Prelude.{◌≡◌, ◌<◌, ◌+◌, ◌++◌, length, IfOk, OnOk};
 ghost use Rattle.trace_picture.specs.Elements as spec;
 ghost use Rattle.trace_picture.specs.declared.excess.Excess.{Excess};
 

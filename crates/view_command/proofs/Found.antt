@@ -14,7 +14,7 @@ use Rattle.command_words.specs.Kinds.{IsMistake}
 use Rattle.command_words.specs.Numbers.{ReadsNumber, number_in}
 use Rattle.command_words.specs.declared.failure.Failure.{Failure}
 use Rattle.command_words.specs.declared.failure.Failure.TheVariants.{Refused, Usage}
-use Rattle.view_command.specs.Answers.{IsEndFailure, IsFailureOfWords, IsKindFailure, IsLimitFailure, IsNothingAsked, IsRunFailure, IsTickFailure, IsWordsFailure}
+use Rattle.view_command.specs.Answers.{IsEndFailure, IsFailureOfWords, IsKindFailure, IsLimitFailure, IsNothingAsked, IsRunFailure, IsTickFailure, IsWidthFailure, IsWordsFailure}
 use Rattle.text_lines.specs.Pieces.{pieces_of}
 use Rattle.trace_filter.specs.KindSets.{no_kinds, with_words}
 use Rattle.trace_filter.specs.declared.kinds.Kinds.{Kinds}
@@ -71,7 +71,7 @@ tick_wrong name rows (Refused (refusal.Read shown)) is h = absurd h
 tick_wrong name rows (Refused (refusal.Line number shown)) is h = absurd h
 tick_wrong name rows (Refused (refusal.Late number shown)) is h = absurd h
 tick_wrong name rows (Refused refusal.TooMany) is h = absurd h
-tick_wrong name rows (Refused (refusal.Crowded excess)) is h = absurd h
+tick_wrong name rows (Refused (refusal.Crowded from until elements)) is h = absurd h
 tick_wrong name rows (Refused (refusal.Table fault shown)) is h = absurd h
 tick_wrong name rows (Refused (refusal.Foreign partition)) is h = absurd h
 tick_wrong name rows (Refused refusal.Memory) is h = tt
@@ -84,7 +84,7 @@ kind_wrong name rows (Refused (refusal.Read shown)) is h = absurd h
 kind_wrong name rows (Refused (refusal.Line number shown)) is h = absurd h
 kind_wrong name rows (Refused (refusal.Late number shown)) is h = absurd h
 kind_wrong name rows (Refused refusal.TooMany) is h = absurd h
-kind_wrong name rows (Refused (refusal.Crowded excess)) is h = absurd h
+kind_wrong name rows (Refused (refusal.Crowded from until elements)) is h = absurd h
 kind_wrong name rows (Refused (refusal.Table fault shown)) is h = absurd h
 kind_wrong name rows (Refused (refusal.Foreign partition)) is h = absurd h
 kind_wrong name rows (Refused refusal.Memory) is h = tt
@@ -97,11 +97,25 @@ limit_wrong rows (Refused (refusal.Read shown)) h = absurd h
 limit_wrong rows (Refused (refusal.Line number shown)) h = absurd h
 limit_wrong rows (Refused (refusal.Late number shown)) h = absurd h
 limit_wrong rows (Refused refusal.TooMany) h = absurd h
-limit_wrong rows (Refused (refusal.Crowded excess)) h = absurd h
+limit_wrong rows (Refused (refusal.Crowded from until elements)) h = absurd h
 limit_wrong rows (Refused (refusal.Table fault shown)) h = absurd h
 limit_wrong rows (Refused (refusal.Foreign partition)) h = absurd h
 limit_wrong rows (Refused refusal.Memory) h = tt
 limit_wrong rows (Refused refusal.Write) h = absurd h
+
+-- the word is no width of a picture
+pub width_wrong : (rows : List Row) (f : Failure Refusal) → IsWidthFailure (first_of (codes "width") rows) f → IsWordsFailure rows f
+width_wrong rows (Usage e) h = (inr (inr (inr (inr (inr h.0)))), h.1)
+width_wrong rows (Refused (refusal.Open shown)) h = absurd h
+width_wrong rows (Refused (refusal.Read shown)) h = absurd h
+width_wrong rows (Refused (refusal.Line number shown)) h = absurd h
+width_wrong rows (Refused (refusal.Late number shown)) h = absurd h
+width_wrong rows (Refused refusal.TooMany) h = absurd h
+width_wrong rows (Refused (refusal.Crowded from until elements)) h = absurd h
+width_wrong rows (Refused (refusal.Table fault shown)) h = absurd h
+width_wrong rows (Refused (refusal.Foreign partition)) h = absurd h
+width_wrong rows (Refused refusal.Memory) h = tt
+width_wrong rows (Refused refusal.Write) h = absurd h
 
 -- the words for ticks leave none
 pub end_wrong : (rows : List Row) (from : ℕ) (end : Option ℕ) (f : Failure Refusal) → (EndsBefore from end → AreWrongTicks rows) → IsEndFailure from end f → IsWordsFailure rows f
@@ -111,7 +125,7 @@ end_wrong rows from end (Refused (refusal.Read shown)) is h = absurd h
 end_wrong rows from end (Refused (refusal.Line number shown)) is h = absurd h
 end_wrong rows from end (Refused (refusal.Late number shown)) is h = absurd h
 end_wrong rows from end (Refused refusal.TooMany) is h = absurd h
-end_wrong rows from end (Refused (refusal.Crowded excess)) is h = absurd h
+end_wrong rows from end (Refused (refusal.Crowded first until elements)) is h = absurd h
 end_wrong rows from end (Refused (refusal.Table fault shown)) is h = absurd h
 end_wrong rows from end (Refused (refusal.Foreign partition)) is h = absurd h
 end_wrong rows from end (Refused refusal.Memory) is h = tt
@@ -133,7 +147,7 @@ run_wrong rows (Refused (refusal.Read shown)) h = absurd h
 run_wrong rows (Refused (refusal.Line number shown)) h = absurd h
 run_wrong rows (Refused (refusal.Late number shown)) h = absurd h
 run_wrong rows (Refused refusal.TooMany) h = absurd h
-run_wrong rows (Refused (refusal.Crowded excess)) h = absurd h
+run_wrong rows (Refused (refusal.Crowded from until elements)) h = absurd h
 run_wrong rows (Refused (refusal.Table fault shown)) h = absurd h
 run_wrong rows (Refused (refusal.Foreign partition)) h = absurd h
 run_wrong rows (Refused refusal.Memory) h = tt
@@ -156,7 +170,7 @@ nothing_asked kinds own entered answer none same h = go answer (subst (λ o. IfE
     go (Err (Refused (refusal.Line number shown))) h = h
     go (Err (Refused (refusal.Late number shown))) h = h
     go (Err (Refused refusal.TooMany)) h = h
-    go (Err (Refused (refusal.Crowded excess))) h = h
+    go (Err (Refused (refusal.Crowded from until elements))) h = h
     go (Err (Refused (refusal.Table fault shown))) h = h
     go (Err (Refused (refusal.Foreign partition))) h = h
     go (Err (Refused refusal.Memory)) h = tt

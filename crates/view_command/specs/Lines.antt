@@ -1,8 +1,7 @@
 -- The line of each refusal, without its line feed.
-use Rattle.std.specs.Prelude.{ℕ, List, ◌++◌, codes, string_bytes, nat_le, if◌then◌else◌}
+use Rattle.std.specs.Prelude.{ℕ, List, ◌++◌, codes, string_bytes, if◌then◌else◌}
 use Rattle.std.specs.Fmt.{decimal}
 use Rattle.std.specs.Str.{bytes_eq}
-use Rattle.trace_picture.specs.declared.excess.Excess.{Excess}
 use Rattle.window_table.specs.Answers.{number_of}
 use Rattle.view_command.specs.declared.refusal.Refusal.{Refusal}
 use Rattle.view_command.specs.declared.refusal.Refusal.TheVariants.{Open, Read, Line, Late, TooMany, Crowded, Table, Foreign, Memory, Write}
@@ -11,20 +10,15 @@ use Rattle.view_command.specs.declared.refusal.Refusal.TheVariants.{Open, Read, 
 abbrev pub called : List ℕ → List ℕ
 called name = if bytes_eq name (codes "-") then codes "the standard input" else name
 
--- a picture has too many elements in one tick, or with one
-abbrev pub crowded_line : Excess → List ℕ
-crowded_line e =
-    if nat_le e.until.0 e.from.0 then codes "mbview: tick " ++ decimal e.from.0 ++ codes " alone has more than 5000 elements, the most of a picture" else
-    (codes "mbview: with tick " ++ decimal e.until.0 ++ codes " the picture would have more than 5000 elements; --from " ++ decimal e.from.0
-    ++ codes " --to " ++ decimal e.until.0 ++ codes " has " ++ decimal e.elements)
-
 abbrev pub line_of : Refusal → List ℕ
 line_of (Open trace) = codes "mbview: " ++ string_bytes trace ++ codes " cannot be opened"
 line_of (Read trace) = codes "mbview: " ++ string_bytes trace ++ codes " cannot be read to its end"
 line_of (Line number trace) = codes "mbview: line " ++ decimal number ++ codes " of " ++ string_bytes trace ++ codes " is no line of a trace"
 line_of (Late number trace) = codes "mbview: line " ++ decimal number ++ codes " of " ++ string_bytes trace ++ codes " is behind the last tick of the run"
 line_of TooMany = codes "mbview: the view would have too many windows; choose fewer ticks with --from and --to"
-line_of (Crowded excess) = crowded_line excess
+line_of (Crowded from until elements) =
+    codes "mbview: from tick " ++ decimal from ++ codes " on the picture has " ++ decimal elements ++ codes " elements before tick " ++ decimal until
+    ++ codes ", and more than 5000 with it; end it there with --to " ++ decimal until
 line_of (Table fault table) = codes "mbview: " ++ (string_bytes table ++ (codes " breaks rule " ++ (decimal (number_of fault) ++ codes " of a module table")))
 line_of (Foreign partition) = codes "mbview: the trace has a partition that the module table has not: " ++ partition
 line_of Memory = codes "mbview: there is too little memory"

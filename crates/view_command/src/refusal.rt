@@ -8,7 +8,6 @@ use apex_types::{Name, SinkFault};
 use command_words::WantOfMemory;
 use std::alloc::{AllocError, AllocFailed};
 use std::fmt;
-use trace_picture::Excess;
 use trace_stays::MemoryFull;
 use window_table::TableFault;
 
@@ -20,15 +19,28 @@ pub enum Refusal {
     /// The text of that name was not read to its end.
     Read(String),
     /// The line of that number in the text of that name is no line of a trace.
-    Line { number: u64, trace: String },
+    Line {
+        number: u64,
+        trace: String,
+    },
     /// The line of that number in the text of that name is of a tick that the run did not have.
-    Late { number: u64, trace: String },
+    Late {
+        number: u64,
+        trace: String,
+    },
     /// The picture or the dump would have too many windows.
     TooMany,
-    /// The picture would have too many elements.
-    Crowded(Excess),
+    /// From a tick on the picture has so many elements before another tick, and with that too many.
+    Crowded {
+        from: u64,
+        until: u64,
+        elements: usize,
+    },
     /// The text of that name breaks a rule of a module table.
-    Table { fault: TableFault, table: String },
+    Table {
+        fault: TableFault,
+        table: String,
+    },
     /// The module table has no partition of this name, and the trace has.
     Foreign(Name),
     Memory,
@@ -59,15 +71,14 @@ impl fmt::Display for Refusal {
                 f,
                 "mbview: the view would have too many windows; choose fewer ticks with --from and --to"
             ),
-            Refusal::Crowded(excess) if excess.until.0 <= excess.from.0 => write!(
+            Refusal::Crowded {
+                from,
+                until,
+                elements,
+            } => write!(
                 f,
-                "mbview: tick {} alone has more than 5000 elements, the most of a picture",
-                excess.from.0
-            ),
-            Refusal::Crowded(excess) => write!(
-                f,
-                "mbview: with tick {} the picture would have more than 5000 elements; --from {} --to {} has {}",
-                excess.until.0, excess.from.0, excess.until.0, excess.elements
+                "mbview: from tick {} on the picture has {} elements before tick {}, and more than 5000 with it; end it there with --to {}",
+                *from, *elements, *until, *until
             ),
             Refusal::Table { fault, table } => write!(
                 f,

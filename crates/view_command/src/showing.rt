@@ -150,7 +150,11 @@ fn of_view(fault: ViewFault) -> Refusal
     match fault {
         ViewFault::Memory => Refusal::Memory,
         ViewFault::TooMany => Refusal::TooMany,
-        ViewFault::Crowded(excess) => Refusal::Crowded(excess),
+        ViewFault::Crowded(excess) => Refusal::Crowded {
+            from: excess.from.0,
+            until: excess.until.0,
+            elements: excess.elements,
+        },
         ViewFault::Foreign(partition) => Refusal::Foreign(partition),
     }
 }
