@@ -1,4 +1,5 @@
 use Rattle.std.proofs.Common.{map, rules, string_bytes}
+use Rattle.finding_lines.specs.Reports.{form_of, report_of}
 use Rattle.window_table.specs.Views.{table_of}
 use Rattle.command_line.specs.Explained.{source_file}
 use Rattle.command_line.proofs.Noted.{with_source}
@@ -6,5 +7,5 @@ use Rattle.command_line.proofs.explaining.explained_with.Goals as goal
 
 pub returns : goal.returns
 returns c =
-    with_source string_bytes (table_of c.args.table.now) (map (λ s. s.now) c.args.files.now) (map (λ s. s.now) c.args.sources.now) c.args.partition.now c.args.fault (source_file c.in_ok-source.source) c.explain_source.result
-    (search rules) c.explain_source.ensures
+    with_source string_bytes (form_of c.args.form) (table_of c.args.table.now) (map (λ s. s.now) c.args.files.now) (map (λ s. s.now) c.args.sources.now) c.args.partition.now c.args.fault (source_file c.in_ok-source.source)
+    (report_of c.report_on.result) c.explain_source.result c.report_on.ensures (search rules) c.explain_source.ensures
