@@ -2,7 +2,6 @@
 
 ghost use Rattle.std.specs.Prelude.{◌≡◌, ◌<◌, ◌+◌, ◌++◌, length, IfOk, OnOk};
 ghost use Rattle.trace_picture.specs.Elements as spec;
-ghost use Rattle.trace_picture.specs.declared.excess.Excess.{Excess};
 
 use crate::excess::Excess;
 use crate::shape::{MOST_SHAPES, Shape};

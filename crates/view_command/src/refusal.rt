@@ -82,7 +82,8 @@ impl fmt::Display for Refusal {
             ),
             Refusal::Table { fault, table } => write!(
                 f,
-                "mbview: {table} breaks rule {} of a module table",
+                "mbview: {} breaks rule {} of a module table",
+                table.as_str(),
                 fault.number()
             ),
             Refusal::Foreign(partition) => write!(
