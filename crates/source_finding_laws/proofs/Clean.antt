@@ -16,7 +16,7 @@ use Rattle.source_findings.specs.Frames.{body_frame, held, procedure_frame}
 use Rattle.source_findings.specs.Judged.{Judge, arguments_wrong, by_limit, capacity_wrong, frame_wrong, many_wrong, name_wrong, new_wrong, no_name_wrong, number_wrong, outside_wrong, period_wrong, return_wrong, targets_wrong}
 use Rattle.source_findings.specs.Roles.{Entry, declaration_entry, own_entry, process_entry}
 use Rattle.source_findings.specs.Tally.{Tally, counted, no_tally, tally_wrong}
-use Rattle.source_findings.specs.Walk.{all_given, block, comma, element, expr, exprs, given, links, named, service_call, stmt, targets, used, work}
+use Rattle.source_findings.specs.Walk.{all_given, block, comma, element, expr, exprs, given, links, named, service_call, stmt, targets, used}
 use Rattle.source_findings.specs.What.{State, What, Wrong, judged, noted, pushed, step}
 use Rattle.source_findings.specs.declared.finding.Many.TheVariants as many
 use Rattle.source_findings.specs.declared.finding.Thing.TheVariants as thing

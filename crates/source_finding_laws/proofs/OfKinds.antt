@@ -1,6 +1,6 @@
 -- The rule on kinds: nothing is found if and only if it holds.
 use Rattle.std.proofs.Math.Dec.{eqb-suc-suc, eqb-suc-zero, eqb-zero-suc}
-use Rattle.std.proofs.Common.{arith, ◌≡◌, ℕ, suc, ◌+◌, Bool, true, false, not, ◌&&◌, List, [], ◌∷◌, ◌++◌, length, map, Option, Some, None, is_none, refl, sym, ap, ◌∙◌}
+use Rattle.std.proofs.Common.{arith, ◌≡◌, ℕ, suc, ◌+◌, Bool, true, false, ◌&&◌, List, [], ◌∷◌, ◌++◌, length, map, Option, Some, None, is_none, refl, sym, ap, ◌∙◌}
 use Rattle.std.specs.List.{list_all}
 use Rattle.std.specs.Prelude.{nat_eq}
 use Rattle.apex_types.specs.ServiceShape.{answer_words, arguments_of}
@@ -15,16 +15,16 @@ use Rattle.pal_base.specs.declared.fault.Refusal.TheVariants as rule
 use Rattle.pal_meaning.specs.Resolve as meant
 use Rattle.pal_meaning.specs.Resolve.{Scope, own_entries, scope_of}
 use Rattle.pal_meaning.specs.Syntax as written
-use Rattle.pal_meaning.specs.WellFormed.{expr_count, fits_argument, fits_arguments, fits_block, fits_expr, fits_exprs, fits_links, fits_stmt, holds_of_bodies, holds_of_handler, holds_of_procedure, is_array, is_object, is_procedure, is_scalar, kinds_hold, kinds_hold_in_body}
+use Rattle.pal_meaning.specs.WellFormed.{expr_count, fits_argument, fits_arguments, fits_block, fits_expr, fits_exprs, fits_links, fits_stmt, holds_of_handler, holds_of_procedure, is_array, is_object, is_procedure, is_scalar, kinds_hold, kinds_hold_in_body}
 use Rattle.source_finding_laws.specs.Found.{has_none}
 use Rattle.source_findings.specs.Bodies as walk
 use Rattle.source_findings.specs.Frames.{body_frame, held}
-use Rattle.source_findings.specs.Judged.{Judge, frame_wrong, meant as found_role, number_wrong}
+use Rattle.source_findings.specs.Judged.{Judge, frame_wrong, meant as found_role}
 use Rattle.source_findings.specs.Roles.{Entry, declaration_entry, fits, own_entry, process_entry}
 use Rattle.source_findings.specs.Tally.{Tally, counted as tallied, no_tally, tally_wrong}
 use Rattle.source_findings.specs.declared.roles.Role.{Role}
 use Rattle.source_findings.specs.declared.roles.Role.TheVariants as role
-use Rattle.source_finding_laws.proofs.Clean.{and_assoc, and_true, fine_all_given, fine_block, fine_declarations, fine_expr, fine_exprs, fine_given, fine_handler, fine_links, fine_name, fine_named, fine_new, fine_own, fine_processes, fine_program, fine_row, fine_stack, fine_stmt, fine_targets, fine_words, none_found}
+use Rattle.source_finding_laws.proofs.Clean.{and_assoc, and_true, fine_all_given, fine_block, fine_declarations, fine_expr, fine_exprs, fine_given, fine_handler, fine_links, fine_name, fine_own, fine_processes, fine_program, fine_row, fine_stack, fine_stmt, fine_targets, fine_words, none_found}
 use Rattle.source_finding_laws.proofs.OfNames.{and_false, both, found_unless}
 use Rattle.source_finding_laws.proofs.OfRoles.{all_are, in_scope, own_are, own_both, role_as, to_role}
 

@@ -1,5 +1,5 @@
 -- The rule on names: nothing is found if and only if it holds.
-use Rattle.std.proofs.Common.{◌≡◌, ℕ, ◌+◌, Bool, true, false, cond, not, ◌&&◌, List, [], ◌∷◌, ◌++◌, length, map, Option, Some, None, is_some, is_none, refl, sym, ap, ◌∙◌, append_assoc, append-nil}
+use Rattle.std.proofs.Common.{◌≡◌, ℕ, ◌+◌, Bool, true, false, cond, not, ◌&&◌, List, [], ◌∷◌, ◌++◌, map, Option, Some, None, is_some, is_none, refl, sym, ap, ◌∙◌, append_assoc, append-nil}
 use Rattle.std.specs.List.{list_all}
 use Rattle.std.specs.Option.{unwrap_or}
 use Rattle.apex_types.specs.ServiceShape.{arguments_of}
@@ -9,7 +9,6 @@ use Rattle.apex_types.specs.declared.denotation.ObjectKind.TheVariants as object
 use Rattle.apex_types.specs.declared.limits.TheConstants.{MOST_PROCESSES}
 use Rattle.apex_types.specs.declared.place.Place.TheVariants.{Slot}
 use Rattle.apex_types.specs.declared.row.PortRow.{PortRow}
-use Rattle.apex_types.specs.declared.service.Service.{Service}
 use Rattle.apex_types.specs.declared.shape.ArgumentKind.{ArgumentKind}
 use Rattle.apex_types.specs.declared.shape.ArgumentKind.TheVariants as argument
 use Rattle.pal_base.specs.declared.fault.Refusal.TheVariants as rule
@@ -19,14 +18,14 @@ use Rattle.pal_meaning.specs.Syntax as written
 use Rattle.pal_meaning.specs.WellFormed.{are_new, expr_count, holds_of_bodies, holds_of_handler, holds_of_procedure, knows_block, knows_expr, knows_exprs, knows_links, knows_stmt, names_hold, names_hold_in_body}
 use Rattle.source_finding_laws.specs.Found.{has_none}
 use Rattle.source_findings.specs.Bodies as walk
-use Rattle.source_findings.specs.Frames.{body_frame, held, procedure_frame}
-use Rattle.source_findings.specs.Judged.{Judge, frame_wrong, meant as found_role, name_wrong, new_wrong, no_name_wrong, number_wrong}
-use Rattle.source_findings.specs.Roles.{Entry, declaration_entry, is_nothing, or_else, own_entry, process_entry, role_of}
+use Rattle.source_findings.specs.Frames.{body_frame, held}
+use Rattle.source_findings.specs.Judged.{Judge, frame_wrong, meant as found_role, number_wrong}
+use Rattle.source_findings.specs.Roles.{Entry, is_nothing, or_else, own_entry, role_of}
 use Rattle.source_findings.specs.Tally.{Tally, counted as tallied, no_tally, tally_wrong}
 use Rattle.source_findings.specs.What.{What}
 use Rattle.source_findings.specs.declared.roles.Role.{Role}
 use Rattle.source_findings.specs.declared.roles.Role.TheVariants as role
-use Rattle.source_finding_laws.proofs.Clean.{and_assoc, and_true, fine_all_given, fine_block, fine_body, fine_call, fine_declaration, fine_declarations, fine_expr, fine_exprs, fine_given, fine_handler, fine_links, fine_name, fine_named, fine_new, fine_own, fine_process, fine_processes, fine_program, fine_row, fine_stack, fine_stmt, fine_targets, fine_words, none_found}
+use Rattle.source_finding_laws.proofs.Clean.{and_assoc, and_true, fine_all_given, fine_block, fine_declarations, fine_expr, fine_exprs, fine_given, fine_handler, fine_links, fine_name, fine_named, fine_new, fine_own, fine_processes, fine_program, fine_row, fine_stack, fine_stmt, fine_targets, fine_words, none_found}
 use Rattle.source_finding_laws.proofs.OfRoles.{all_are, before_processes, declaration_is, declarations_are, in_scope, known, next_counts, one_more, own_are, own_both, role_as, same_role, to_role, unknown}
 
 pub both : {a b c d : Bool} → a ≡ b → c ≡ d → (a && c) ≡ (b && d)

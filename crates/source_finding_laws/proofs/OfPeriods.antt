@@ -1,5 +1,5 @@
 -- The rule on periods: nothing is found if and only if it holds.
-use Rattle.std.proofs.Common.{◌≡◌, ℕ, ◌+◌, Bool, true, false, cond, ◌&&◌, List, [], ◌∷◌, ◌++◌, length, Option, Some, None, is_none, refl, sym, ap, ◌∙◌}
+use Rattle.std.proofs.Common.{◌≡◌, ℕ, ◌+◌, Bool, true, false, cond, ◌&&◌, List, [], ◌∷◌, ◌++◌, Option, Some, None, is_none, refl, sym, ◌∙◌}
 use Rattle.std.specs.List.{list_all}
 use Rattle.std.specs.Prelude.{◌%◌, nat_eq, nat_lt}
 use Rattle.apex_types.specs.ServiceShape.{arguments_of}
@@ -11,12 +11,12 @@ use Rattle.pal_meaning.specs.WellFormed.{is_written_multiple, keeps_period, peri
 use Rattle.source_finding_laws.specs.Found.{has_none}
 use Rattle.source_findings.specs.Bodies as walk
 use Rattle.source_findings.specs.Frames.{body_frame, held}
-use Rattle.source_findings.specs.Judged.{Judge, frame_wrong, odd, odd_number}
+use Rattle.source_findings.specs.Judged.{Judge, frame_wrong, odd}
 use Rattle.source_findings.specs.Roles.{Entry, declaration_entry, declared_entries, own_entry, process_entry}
 use Rattle.source_findings.specs.Tally.{Tally, counted, no_tally, tally_wrong}
 use Rattle.source_findings.specs.declared.roles.Role.{Role}
 use Rattle.source_findings.specs.declared.roles.Role.TheVariants as role
-use Rattle.source_finding_laws.proofs.Clean.{fine_all_given, fine_block, fine_declarations, fine_expr, fine_exprs, fine_given, fine_handler, fine_links, fine_named, fine_own, fine_processes, fine_program, fine_row, fine_stack, fine_stmt, fine_targets, fine_words, none_found}
+use Rattle.source_finding_laws.proofs.Clean.{fine_all_given, fine_block, fine_declarations, fine_expr, fine_exprs, fine_given, fine_handler, fine_links, fine_named, fine_own, fine_processes, fine_row, fine_stack, fine_stmt, fine_targets, fine_words, none_found}
 use Rattle.source_finding_laws.proofs.OfNames.{both, found_unless}
 
 module _ (period : ℕ) (declared own : List Entry) where

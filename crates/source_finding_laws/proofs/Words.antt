@@ -1,9 +1,8 @@
 -- A walk keeps to the words of the text, and what it finds is said of the word where it is.
-use Rattle.std.proofs.Common.{◌≡◌, ℕ, suc, zero, ◌+◌, Bool, true, false, cond, ◌&&◌, List, [], ◌∷◌, ◌++◌, length, codes, Option, Some, None, IfSome, refl, sym, ap, ◌∙◌}
-use Rattle.std.specs.Prelude.{nat_eq, nat_le, nat_lt}
-use Rattle.apex_types.specs.NameText.{is_name}
-use Rattle.apex_types.specs.ServiceShape.{answer_words, arguments_of}
-use Rattle.apex_types.specs.declared.limits.TheConstants.{GREATEST_PRIORITY, LEAST_STACK_WORDS, MOST_DEPTH, MOST_LOCALS, MOST_PARAMETERS, MOST_PROCESSES, MOST_SEMAPHORE_VALUE, MOST_STACK_WORDS, MOST_TICKS, MOST_WORDS, MOST_WORK_TICKS}
+use Rattle.std.proofs.Common.{◌≡◌, ℕ, suc, zero, ◌+◌, Bool, true, false, cond, List, [], ◌∷◌, ◌++◌, length, codes, Option, Some, None, IfSome, refl, sym, ap, ◌∙◌}
+use Rattle.std.specs.Prelude.{nat_lt}
+use Rattle.apex_types.specs.ServiceShape.{arguments_of}
+use Rattle.apex_types.specs.declared.limits.TheConstants.{GREATEST_PRIORITY, LEAST_STACK_WORDS, MOST_DEPTH, MOST_LOCALS, MOST_PARAMETERS, MOST_PROCESSES, MOST_SEMAPHORE_VALUE, MOST_STACK_WORDS, MOST_WORDS, MOST_WORK_TICKS}
 use Rattle.apex_types.specs.declared.service.Service.{Service}
 use Rattle.apex_types.specs.declared.shape.ArgumentKind.{ArgumentKind}
 use Rattle.apex_types.specs.declared.shape.ArgumentKind.TheVariants as argument
@@ -15,13 +14,13 @@ use Rattle.pal_meaning.specs.Grammar as grammar
 use Rattle.pal_meaning.specs.Lines.{from_word}
 use Rattle.pal_meaning.specs.Syntax as written
 use Rattle.pal_meaning.specs.WellFormed.{expr_count}
-use Rattle.source_finding_laws.specs.Placed.{ArePlaced, IsPlaced, IsSaidOf, IsWordAt}
+use Rattle.source_finding_laws.specs.Placed.{ArePlaced, IsPlaced, IsSaidOf}
 use Rattle.source_findings.specs.Bodies as walk
 use Rattle.source_findings.specs.Frames.{body_frame, held, procedure_frame}
 use Rattle.source_findings.specs.Judged.{Judge, arguments_wrong, by_kind, by_limit, by_rule, capacity_wrong, frame_wrong, long, many_wrong, name_wrong, new_wrong, no_name_wrong, no_time, number_wrong, odd, other, outside, outside_wrong, period_wrong, return_wrong, small, targets_wrong, too_large, unknown, unless}
 use Rattle.source_findings.specs.Roles.{Entry, declaration_entry, own_entry, process_entry}
 use Rattle.source_findings.specs.Tally.{Tally, counted, no_tally, tally_wrong}
-use Rattle.source_findings.specs.Walk.{all_given, block, comma, element, expr, exprs, given, links, named, service_call, stmt, targets, used}
+use Rattle.source_findings.specs.Walk.{all_given, block, comma, expr, exprs, given, links, named, service_call, stmt, targets, used}
 use Rattle.source_findings.specs.What.{State, What, Wrong, judged, noted, pushed, step}
 use Rattle.source_findings.specs.declared.finding.Many.{Many}
 use Rattle.source_findings.specs.declared.finding.Thing.{Thing}
