@@ -5,7 +5,7 @@ pub mod Found
 pub mod Linted
 pub mod Loaded
 pub mod Noted
-pub mod Pages
+pub mod PageTexts
 pub mod Ran
 pub mod Read
 pub mod Replayed
