@@ -44,7 +44,6 @@ fn write_page<O: Stream>(alloc: Global, page: Page, out: &mut O) -> Result<(), R
 }
 
 /// The text of a page.
-#[tactic(auto, using(crate::proofs::PageTexts::of_grammar))]
 fn text_of(alloc: Global, page: Page) -> Result<String, AllocError>
     ensures { IfOk result (λ text. IsTextOf page (string_bytes text)) }
 {
