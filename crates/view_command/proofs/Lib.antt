@@ -3,3 +3,4 @@ pub mod Compared
 pub mod Found
 pub mod SoFar
 pub mod Tables
+pub mod PageTexts
