@@ -81,9 +81,12 @@ order_of None = First
 order_of (Some entered) = order_named entered.0 entered.1
 
 -- whether the words ask for an explanation of a refusal, and how
+abbrev pub is_asked : List Row → Bool
+is_asked rows = is_flagged (codes "explain") rows || is_flagged (codes "explain-json") rows
+
 abbrev pub asks : Entered → Bool
 asks None = false
-asks (Some entered) = is_flagged (codes "explain") entered.1 || is_flagged (codes "explain-json") entered.1
+asks (Some entered) = is_asked entered.1
 
 abbrev pub style_of : Entered → Style
 style_of None = Plain

@@ -6,7 +6,7 @@ ghost use Rattle.clap.specs.Matches.{found_of};
 ghost use Rattle.clap.specs.Simple.{subcommand_of, subcommand_rows_of};
 ghost use Rattle.clap.specs.Walk.{rows_of};
 ghost use Rattle.command_line.specs.Done.{IsDone, IsDoneWith};
-ghost use Rattle.command_line.specs.Orders.{Build, Check, Upgrade, asks, form_of, is_flagged, order_of, style_of};
+ghost use Rattle.command_line.specs.Orders.{Build, Check, Upgrade, asks, is_asked, form_of, is_flagged, order_of, style_of};
 ghost use Rattle.command_line.specs.Refusals.{IsBuildRefused, IsCheckRefused, IsFailure, IsFailureOfWords, IsUpgradeRefused};
 ghost use Rattle.command_line.specs.Spelled.{spelled};
 ghost use Rattle.command_line.specs.States.{state};
@@ -77,9 +77,16 @@ fn asks(matches: &ArgMatches<'_>) -> bool
     ensures { result ≡ asks (subcommand_rows_of matches.now) }
 {
     match matches.subcommand() {
-        Some((_, found)) => is_flagged(found, "explain") || is_flagged(found, "explain-json"),
+        Some((_, found)) => is_asked(found),
         None => false,
     }
+}
+
+/// Returns true if the words of a command ask for an explanation of its refusal.
+fn is_asked(found: &ArgMatches<'_>) -> bool
+    ensures { result ≡ is_asked (rows_of (found_of found.now)) }
+{
+    is_flagged(found, "explain") || is_flagged(found, "explain-json")
 }
 
 fn is_flagged(found: &ArgMatches<'_>, name: &str) -> bool

@@ -53,7 +53,8 @@ pub fn show<F: Sources, O: Stream>(
         kept,
     } = request;
     let table = table_asked(alloc, &table, sources)?;
-    let name = String::from_str(alloc, called(trace.as_str()))?;
+    let title = called(trace.as_str());
+    let name = String::from_str(alloc, title)?;
     let reader = match sources.open(trace.as_str()) {
         Ok(reader) => reader,
         Err(fault) => return Err(of_source(name, fault)),
@@ -64,7 +65,7 @@ pub fn show<F: Sources, O: Stream>(
     };
     read_all(alloc, name, reader, ran, &kept, &mut shown)?;
     let outcome = shown.outcome();
-    let bytes = match shown.into_bytes(alloc, called(trace.as_str())) {
+    let bytes = match shown.into_bytes(alloc, title) {
         Ok(bytes) => bytes,
         Err(fault) => return Err(of_view(fault)),
     };
