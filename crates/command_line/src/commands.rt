@@ -65,8 +65,43 @@ pub fn perform<S: AsStr, F: Files, O: Stream, W: Watch>(
     ensures noted { OnOk result (F.failed files.new ≡ F.failed files.old) }
     ensures named { IfErr result (λ f. IsOfFailedFile (F.failed files.old) (F.failed files.new) f) }
 {
-    let words = spelled(alloc, words)?;
-    let matches = grammar(alloc)?.try_get_matches_from(words.as_slice())?;
+    match spelled(alloc, words) {
+        Ok(words) => obey_words(alloc, words.as_slice(), files, out, watch, asked, note),
+        Err(_) => Err(Failure::Refused(Refusal::Memory)),
+    }
+}
+
+/// The same of words as the library of command lines takes them.
+fn obey_words<F: Files, O: Stream, W: Watch>(
+    alloc: Global,
+    words: &[&str],
+    files: &mut F,
+    out: &mut O,
+    watch: &mut W,
+    asked: &mut bool,
+    note: &mut Note,
+) -> Result<Outcome, Failure<Refusal>>
+    requires { O.failures out.old < 2 ^ 64 - 1 }
+    ensures asked { asked.old ≡ false → asks (subcommand_of mb_app (map (λ s. s.now) words.now)) ≡ false
+        → asked.new ≡ false }
+    ensures command { OnOk result (fault_of mb_app (map (λ s. s.now) words.now) ≡ []) }
+    ensures done { IfOk result
+        (λ outcome.
+        IsDoneWith outcome (order_of (subcommand_of mb_app (map (λ s. s.now) words.now)))
+        (state (F.contents files.old) (seen O.taken O.failures O.is_flushed out.old))
+        (state (F.contents files.new) (seen O.taken O.failures O.is_flushed out.new))) }
+    ensures flushed { OnOk result
+        (IsFlushed (seen O.taken O.failures O.is_flushed out.old)
+        (seen O.taken O.failures O.is_flushed out.new)) }
+    ensures failed { IfErr result
+        (λ f. IsFailureOfWords (fault_of mb_app (map (λ s. s.now) words.now))
+        (order_of (subcommand_of mb_app (map (λ s. s.now) words.now)))
+        (state (F.contents files.old) (seen O.taken O.failures O.is_flushed out.old))
+        (state (F.contents files.new) (seen O.taken O.failures O.is_flushed out.new)) f) }
+    ensures noted { OnOk result (F.failed files.new ≡ F.failed files.old) }
+    ensures named { IfErr result (λ f. IsOfFailedFile (F.failed files.old) (F.failed files.new) f) }
+{
+    let matches = grammar(alloc)?.try_get_matches_from(words)?;
     *asked = asks(&matches);
     *note = Note::new(*asked, style_of(&matches));
     obey(alloc, &matches, files, out, watch, note)

@@ -15,7 +15,7 @@ use Rattle.view_command.specs.declared.refusal.Refusal.TheVariants.{Write}
 use Rattle.view_command.specs.Answers.{IsRefused, IsRefusedByTable, IsTableRefused, IsUnread}
 use Rattle.view_command.specs.Lines.{called}
 use Rattle.view_command.specs.States.{IsUntouched, State}
-use Rattle.view_command.specs.Texts.{IsTable, IsTraceIn}
+use Rattle.view_command.specs.Texts.{IsTable, IsTraceIn, IsTraceOf}
 use Rattle.view_command.specs.declared.refusal.Refusal.{Refusal}
 use Rattle.view_command.proofs.Compared.{unread_in}
 use Rattle.window_table.specs.Answers.{AnswersText}
@@ -60,3 +60,9 @@ pub unread_or : {A : Type 0} (Q : Refusal → Type 0) (texts : Option Contents) 
 unread_or Q texts ran name shown text before after r (Ok x) opens is same h passed = tt
 unread_or Q texts ran name shown text before after r (Err e) opens is same h passed =
     inl (subst (λ (v : Refusal). IsRefused texts ran name before after v) (sym passed.1) (unread_in texts ran name shown text before after r opens is same h))
+
+-- what was read to its end is the trace of that name
+pub traced_in : (texts : Option Contents) (ran : Option ℕ) (name : List ℕ) (left : Option (List ℕ)) → Opens texts name left → IsTraceOf left ran → IsTraceIn texts ran name
+traced_in None ran name left opens is = tt
+traced_in (Some files) ran name None opens is = absurd opens
+traced_in (Some files) ran name (Some bytes) opens (events, read, run) = (bytes, opens, events, read, run)

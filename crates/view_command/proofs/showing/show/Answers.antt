@@ -1,7 +1,7 @@
 use Rattle.std.proofs.Common.{rules, string_bytes, subst}
 use Rattle.streams.specs.Contents.{Opens}
 use Rattle.view_command.specs.Orders.{number_of}
-use Rattle.view_command.proofs.Tables.{unopened_or, unread_or}
+use Rattle.view_command.proofs.Tables.{traced_in, unopened_or, unread_or, unwritten_or}
 use Rattle.view_command.proofs.showing.show.Goals as goal
 
 pub returns-in_err-read_all-clause-refused : goal.returns-in_err-read_all-clause-refused
@@ -18,3 +18,20 @@ returns-in-Err-clause-refused g c =
     let mid = g.F.Sources.unopened c.table_asked.new.sources in
     unopened_or _ _ (number_of c.args.request.ran) (string_bytes c.args.request.trace) c.in_ok-name.name _ _ mid c.in-Err.fault c.of_source.result c.of_source.ensures
     (search rules) (search rules) (search rules) (search rules)
+
+pub returns-clause-trace : goal.returns-clause-trace
+returns-clause-trace g c =
+    let texts = g.F.Sources.texts c.args.sources.now in
+    let left = g.F.Reader.Read.remaining c.in-Ok.reader in
+    let opens : Opens texts (string_bytes c.args.request.trace) left =
+    subst (λ n. Opens texts n left) c.as_str-2.ensures.value (subst (λ t. Opens t c.as_str-2.result.now left) c.table_asked.ensures.kept c.in-Ok.ensures.opened) in
+    traced_in texts (number_of c.args.request.ran) (string_bytes c.args.request.trace) left opens c.in_ok-read_all.ensures.trace
+
+pub returns-in_err-write_bytes-clause-refused : goal.returns-in_err-write_bytes-clause-refused
+returns-in_err-write_bytes-clause-refused g c =
+    let texts = g.F.Sources.texts c.args.sources.now in
+    let left = g.F.Reader.Read.remaining c.in-Ok.reader in
+    let opens : Opens texts (string_bytes c.args.request.trace) left =
+    subst (λ n. Opens texts n left) c.as_str-2.ensures.value (subst (λ t. Opens t c.as_str-2.result.now left) c.table_asked.ensures.kept c.in-Ok.ensures.opened) in
+    unwritten_or _ texts (number_of c.args.request.ran) (string_bytes c.args.request.trace) _ _ c.from_residual-in_err-write_bytes.result (search rules) (search rules)
+    (traced_in texts (number_of c.args.request.ran) (string_bytes c.args.request.trace) left opens c.in_ok-read_all.ensures.trace) c.from_residual-in_err-write_bytes.ensures
