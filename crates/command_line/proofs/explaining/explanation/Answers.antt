@@ -5,5 +5,5 @@ use Rattle.command_line.proofs.explaining.explanation.Goals as goal
 
 pub returns-in_ok-shown-in-Pal : goal.returns-in_ok-shown-in-Pal
 returns-in_ok-shown-in-Pal c =
-    of_source string_bytes c.args.style c.args.file.now c.args.table.now (map (λ s. s.now) c.args.files.now) (map (λ s. s.now) c.args.sources.now) c.args.fault.now c.in-Pal.partition.now c.in-Pal.refused (form_of c.form-form.result)
+    of_source string_bytes c.args.style c.args.file.now c.args.table.now (map (λ s. s.now) c.args.files.now) (map (λ s. s.now) c.args.sources.now) c.args.fault.now c.in-Pal.partition c.in-Pal.refused (form_of c.form-form.result)
     c.explained.result c.in-Pal.is (search rules) c.explained.ensures
