@@ -5,7 +5,7 @@ _mb() {
         help) options=' --man --completion' ;;
         check) options=' --explain --explain-json -h --help' ;;
         build) options=' --explain --explain-json -h --help' ;;
-        run) options=' --explain --explain-json --progress -h --help' ;;
+        run) options=' --explain --explain-json --progress --until -h --help' ;;
         replay) options=' --explain --explain-json -h --help' ;;
         inputs) options=' --explain --explain-json -h --help' ;;
         cost) options=' --explain --explain-json -h --help' ;;

@@ -4,7 +4,7 @@ _mbview() {
     case ${COMP_WORDS[1]} in
         help) options=' --man --completion' ;;
         summary) options=' --from --to --partition --process --kind --port --ticks --table --csv -h --help' ;;
-        svg) options=' --from --to --partition --process --kind --port --ticks -h --help' ;;
+        svg) options=' --from --to --partition --process --kind --port --ticks --table --width -h --help' ;;
         vcd) options=' --from --to --partition --process --kind --port --ticks --table -h --help' ;;
         list) options=' --from --to --partition --process --kind --port -h --help' ;;
         check) options=' --from --to --partition --no --at-most --missed -h --help' ;;
