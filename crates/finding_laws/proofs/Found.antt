@@ -31,7 +31,7 @@ placed_any frame before i w =
     ∙ ap (λ (b : Bool). b || has_any (late frame i w)) (any_if (int_lt w.offset before) _ _ refl refl)
     ∙ ap (λ (b : Bool). int_lt w.offset before || b) (any_if (int_lt frame (window_end w)) _ _ refl refl)
 
-or_assoc : (a b c : Bool) → (a || b) || c ≡ a || (b || c)
+pub or_assoc : (a b c : Bool) → (a || b) || c ≡ a || (b || c)
 or_assoc true b c = refl
 or_assoc false b c = refl
 
@@ -45,12 +45,12 @@ overlaps_any frame before i (w ∷ ws) =
 
 -- ---- limits
 
-any_unless : (test : Bool) (xs ys : List Finding) → has_any xs ≡ false → has_any ys ≡ true → has_any (cond test xs ys) ≡ not test
+pub any_unless : (test : Bool) (xs ys : List Finding) → has_any xs ≡ false → has_any ys ≡ true → has_any (cond test xs ys) ≡ not test
 any_unless true xs ys none some = none
 any_unless false xs ys none some = some
 
 -- the findings of two parts
-two : (xs ys : List Finding) (a b : Bool) → a ≡ has_any xs → b ≡ has_any ys → a || b ≡ has_any (xs ++ ys)
+pub two : (xs ys : List Finding) (a b : Bool) → a ≡ has_any xs → b ≡ has_any ys → a || b ≡ has_any (xs ++ ys)
 two xs ys a b one other = rw (one, other) (sym (any_append xs ys))
 
 outside_any : (s : Subject) (key : List ℕ) (low : ℕ) (high z : ℤ) → is_outside low high z ≡ has_any (outside s key low high z)
@@ -165,11 +165,11 @@ limits_any t few =
 
 -- ---- periods
 
-or_first : (a b : Bool) → a || b ≡ false → a ≡ false
+pub or_first : (a b : Bool) → a || b ≡ false → a ≡ false
 or_first true b h = h
 or_first false b h = refl
 
-or_second : (a b : Bool) → a || b ≡ false → b ≡ false
+pub or_second : (a b : Bool) → a || b ≡ false → b ≡ false
 or_second true b h = absurd (false≢true (sym h))
 or_second false b h = h
 

@@ -1,1 +1,4 @@
 pub mod Found
+pub mod Numbers
+pub mod Releases
+pub mod Names

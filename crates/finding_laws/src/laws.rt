@@ -1,16 +1,22 @@
 //! A rule is broken if and only if there is a finding.
 
-ghost use Rattle.std.specs.Prelude.{◌≡◌, false, map, nat_abs};
-ghost use Rattle.module_meaning.specs.Table.{has_odd_period};
+ghost use Rattle.std.specs.Prelude.{◌≡◌, ◌||◌, false, map, nat_abs};
+ghost use Rattle.module_meaning.specs.Table.{has_odd_period, lacks_release};
 ghost use Rattle.module_meaning.specs.TableRules as rule;
 ghost use Rattle.finding_laws.specs.Any.{AreFew, has_any};
 ghost use Rattle.table_findings.specs.Limits.{limits};
-ghost use Rattle.table_findings.specs.Schedule.{odd_periods, overlaps};
+ghost use Rattle.table_findings.specs.Names.{names};
+ghost use Rattle.table_findings.specs.Schedule.{odd_periods, overlaps, without_release};
 
 /// A table has a number, a count or a name outside its limits if and only if one is found. Its costs
 /// are not more than there are keys for them, as those of each document are.
 pub fn limits_are_found()
     ensures { (t : rule.TableText) → AreFew t.costs → rule.exceeds_limits t ≡ has_any (limits t) }
+{}
+
+/// Two rows have one name, or a name stands for nothing, if and only if one such name is found.
+pub fn wrong_names_are_found()
+    ensures { (t : rule.TableText) → rule.has_same_names t || rule.has_unknown_name t ≡ has_any (names t) }
 {}
 
 /// A window begins before the end of the one before it, or ends past the frame, if and only if one
@@ -24,4 +30,11 @@ pub fn odd_periods_are_found()
     ensures { (t : rule.TableText) → rule.exceeds_limits t ≡ false
         → has_odd_period (nat_abs t.frame) (map rule.partition_row t.partitions)
         ≡ has_any (odd_periods t) }
+{}
+
+/// Where partitions differ in name, one has no release window if and only if one is found.
+pub fn missing_releases_are_found()
+    ensures { (t : rule.TableText) → rule.has_same_names t ≡ false
+        → lacks_release (rule.numbered t).schedule.windows (rule.numbered t).partitions
+        ≡ has_any (without_release t) }
 {}
