@@ -1,4 +1,5 @@
+pub mod Durations
 pub mod Found
+pub mod Names
 pub mod Numbers
 pub mod Releases
-pub mod Names

@@ -1,9 +1,10 @@
 //! A rule is broken if and only if there is a finding.
 
 ghost use Rattle.std.specs.Prelude.{◌≡◌, ◌||◌, false, map, nat_abs};
-ghost use Rattle.module_meaning.specs.Table.{has_odd_period, lacks_release};
+ghost use Rattle.module_meaning.specs.Table.{has_odd_period, has_short_period, lacks_release};
 ghost use Rattle.module_meaning.specs.TableRules as rule;
 ghost use Rattle.finding_laws.specs.Any.{AreFew, has_any};
+ghost use Rattle.table_findings.specs.Durations.{short_periods};
 ghost use Rattle.table_findings.specs.Limits.{limits};
 ghost use Rattle.table_findings.specs.Names.{names};
 ghost use Rattle.table_findings.specs.Schedule.{odd_periods, overlaps, without_release};
@@ -16,7 +17,8 @@ pub fn limits_are_found()
 
 /// Two rows have one name, or a name stands for nothing, if and only if one such name is found.
 pub fn wrong_names_are_found()
-    ensures { (t : rule.TableText) → rule.has_same_names t || rule.has_unknown_name t ≡ has_any (names t) }
+    ensures { (t : rule.TableText) → rule.has_same_names t || rule.has_unknown_name t
+        ≡ has_any (names t) }
 {}
 
 /// A window begins before the end of the one before it, or ends past the frame, if and only if one
@@ -30,6 +32,14 @@ pub fn odd_periods_are_found()
     ensures { (t : rule.TableText) → rule.exceeds_limits t ≡ false
         → has_odd_period (nat_abs t.frame) (map rule.partition_row t.partitions)
         ≡ has_any (odd_periods t) }
+{}
+
+/// In a table within its limits whose partitions differ in name, one of its periods offers a partition
+/// less than its duration if and only if one is found.
+pub fn short_periods_are_found()
+    ensures { (t : rule.TableText) → rule.exceeds_limits t ≡ false → rule.has_same_names t ≡ false
+        → has_short_period (rule.numbered t).schedule (rule.numbered t).partitions
+        ≡ has_any (short_periods t) }
 {}
 
 /// Where partitions differ in name, one has no release window if and only if one is found.
