@@ -2,7 +2,6 @@
 use Rattle.std.proofs.Common.{◌≡◌, arith, ℕ, ◌+◌, ◌&&◌, ◌||◌, Bool, true, false, not, List, [], ◌∷◌, ◌++◌, Option, Some, None, length, map, refl, sym, ap, ◌∙◌, append_assoc, inl, inr}
 use Rattle.std.proofs.lemmas.Bool.{cases_Bool, lt-ltb, le-ltb}
 use Rattle.std.proofs.lemmas.List.{length-append}
-use Rattle.std.proofs.lemmas.List.Folds.{list_any-append}
 use Rattle.std.specs.List.{list_any}
 use Rattle.std.specs.Prelude.{codes, nat_lt, is_none, if◌then◌else◌}
 use Rattle.apex_types.specs.declared.row.ChannelEnd.{ChannelEnd}
@@ -11,6 +10,7 @@ use Rattle.module_meaning.specs.Table.{has_twice}
 use Rattle.module_meaning.specs.TableRules.{ChannelText, PartitionText, TableText, WindowText, end_of, has_same_names, has_unknown_end, has_unknown_name, is_unknown_window, number_from, port_from, port_number, same}
 use Rattle.finding_laws.specs.Any.{has_any}
 use Rattle.finding_laws.proofs.Found.{any_unless, or_assoc, or_first, two}
+use Rattle.finding_laws.proofs.Twice.{behind_none, twice_behind}
 use Rattle.finding_laws.proofs.Numbers.{same_itself, same_symm}
 use Rattle.table_findings.specs.Findings.{SameName}
 use Rattle.table_findings.specs.Limits.{partition_row}
@@ -19,50 +19,6 @@ use Rattle.table_findings.specs.Shape.{one}
 use Rattle.table_findings.specs.Subjects.{Row}
 
 -- ---- names that stand twice
-
-or_swap : (a b c d : Bool) → (a || b) || (c || d) ≡ (a || c) || (b || d)
-or_swap true b c d = refl
-or_swap false true true d = refl
-or_swap false true false d = refl
-or_swap false false true d = refl
-or_swap false false false d = refl
-
-or_parts_of : (a b c d : Bool) → a || ((b || c) || d) ≡ (a || b) || (c || d)
-or_parts_of true b c d = refl
-or_parts_of false b c d = or_assoc b c d
-
-or_false : (a : Bool) → a || false ≡ a
-or_false true = refl
-or_false false = refl
-
--- one of the names is one of those before them
-stand_before : List (List ℕ) → List (List ℕ) → Bool
-stand_before front names = list_any (λ name. list_any (same name) front) names
-
--- one of the names is one of those before it
-twice_behind : List (List ℕ) → List (List ℕ) → Bool
-twice_behind front [] = false
-twice_behind front (name ∷ names) = list_any (same name) front || twice_behind (front ++ name ∷ []) names
-
-before_more : (name : List ℕ) (front names : List (List ℕ)) → stand_before (front ++ name ∷ []) names ≡ stand_before front names || list_any (same name) names
-unfolding stand_before
-before_more name front [] = refl
-before_more name front (x ∷ names) =
-    ap (λ (b : Bool). b || stand_before (front ++ name ∷ []) names) (list_any-append (same x) front (name ∷ []) ∙ ap (λ (b : Bool). list_any (same x) front || b) (or_false (same x name) ∙ same_symm x name))
-    ∙ ap (λ (b : Bool). (list_any (same x) front || same name x) || b) (before_more name front names)
-    ∙ or_swap (list_any (same x) front) (same name x) (stand_before front names) (list_any (same name) names)
-
-behind_is : (front names : List (List ℕ)) → twice_behind front names ≡ stand_before front names || has_twice same names
-unfolding twice_behind stand_before has_twice
-behind_is front [] = refl
-behind_is front (name ∷ names) =
-    ap (λ (b : Bool). list_any (same name) front || b) (behind_is (front ++ name ∷ []) names ∙ ap (λ (b : Bool). b || has_twice same names) (before_more name front names))
-    ∙ or_parts_of (list_any (same name) front) (stand_before front names) (list_any (same name) names) (has_twice same names)
-
-none_before : (names : List (List ℕ)) → stand_before [] names ≡ false
-unfolding stand_before
-none_before [] = refl
-none_before (name ∷ names) = none_before names
 
 -- the names of some rows
 twice_named : {A : Type 0} (name : A → List ℕ) (xs : List A) → has_twice (λ x y. same (name x) (name y)) xs ≡ has_twice same (map name xs)
@@ -83,15 +39,14 @@ same_any named (f ∷ front) k i name rest is = elim (cases_Bool (same name f)) 
   | inr e ↦ rw e (same_any named front (k + 1) i name rest (omega arith))
 ]
 
-same_from_any : (named : Named) (all front names : List (List ℕ)) (i : ℕ) → all ≡ front ++ names → i ≡ length front → twice_behind front names ≡ has_any (same_from named all i names)
-unfolding twice_behind
+same_from_any : (named : Named) (all front names : List (List ℕ)) (i : ℕ) → all ≡ front ++ names → i ≡ length front → twice_behind same front names ≡ has_any (same_from named all i names)
 same_from_any named all front [] i whole is = refl
 same_from_any named all front (name ∷ names) i whole is =
     two _ _ _ _ (rw whole (sym (same_any named front 0 i name names (omega arith))))
     (same_from_any named all (front ++ name ∷ []) names (i + 1) (whole ∙ sym (append_assoc front (name ∷ []) names)) (rw (length-append front (name ∷ [])) (omega arith)))
 
 same_names_any : (named : Named) (all : List (List ℕ)) → has_twice same all ≡ has_any (same_names named all)
-same_names_any named all = sym (behind_is [] all ∙ ap (λ (b : Bool). b || has_twice same all) (none_before all)) ∙ same_from_any named all [] all 0 refl refl
+same_names_any named all = behind_none same same_symm all ∙ same_from_any named all [] all 0 refl refl
 
 same_ports_any : (i : ℕ) (ps : List PartitionText) → list_any (λ p. has_twice (λ q r. same q.name r.name) p.ports) ps ≡ has_any (same_ports_from i ps)
 same_ports_any i [] = refl

@@ -1,10 +1,11 @@
 //! A rule is broken if and only if there is a finding.
 
 ghost use Rattle.std.specs.Prelude.{◌≡◌, ◌||◌, false, map, nat_abs};
-ghost use Rattle.module_meaning.specs.Table.{has_odd_period, has_short_period, lacks_release};
+ghost use Rattle.module_meaning.specs.Table.{has_odd_period, has_short_period, has_wrong_ends, lacks_release};
 ghost use Rattle.module_meaning.specs.TableRules as rule;
 ghost use Rattle.finding_laws.specs.Any.{AreFew, has_any};
 ghost use Rattle.table_findings.specs.Durations.{short_periods};
+ghost use Rattle.table_findings.specs.Ends.{ends};
 ghost use Rattle.table_findings.specs.Limits.{limits};
 ghost use Rattle.table_findings.specs.Names.{names};
 ghost use Rattle.table_findings.specs.Schedule.{odd_periods, overlaps, without_release};
@@ -47,4 +48,12 @@ pub fn missing_releases_are_found()
     ensures { (t : rule.TableText) → rule.has_same_names t ≡ false
         → lacks_release (rule.numbered t).schedule.windows (rule.numbered t).partitions
         ≡ has_any (without_release t) }
+{}
+
+/// In a table within its limits whose names all stand for something, the ends of channels do not fit
+/// together if and only if one such end is found.
+pub fn wrong_ends_are_found()
+    ensures { (t : rule.TableText) → rule.exceeds_limits t ≡ false
+        → rule.has_unknown_name t ≡ false
+        → has_wrong_ends (rule.numbered t).partitions (rule.numbered t).channels ≡ has_any (ends t) }
 {}
