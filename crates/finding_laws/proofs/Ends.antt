@@ -1,5 +1,5 @@
 -- Ends of channels do not fit together if and only if such an end is found.
-use Rattle.std.proofs.Common.{◌≡◌, arith, ℕ, ◌+◌, ◌-◌, ℤ, pos, negsuc, nat_abs, ◌&&◌, ◌||◌, Bool, true, false, not, cond, List, [], ◌∷◌, ◌++◌, eqb, Option, Some, None, length, map, refl, sym, ap, ◌∙◌, codes, inl, inr}
+use Rattle.std.proofs.Common.{◌≡◌, arith, ℕ, ◌+◌, ◌-◌, ℤ, pos, negsuc, nat_abs, ◌&&◌, ◌||◌, Bool, true, false, not, cond, List, [], ◌∷◌, ◌++◌, Option, Some, None, length, map, refl, sym, ap, ◌∙◌, codes, inl, inr}
 use Rattle.std.proofs.lemmas.Bool.{and_from, and_parts, and_right, cases_Bool, cases_order, le-ltb, lt-ltb, eq-eqb, eqb-false, eqb-true, false≢true, ne_eqb, not-false, or_from, or_left, or_right, true≢false}
 use Rattle.std.proofs.lemmas.Cmp.{and_equiv, nat_eq_equiv, nat_list_eq_equiv, on_equiv}
 use Rattle.std.specs.Cmp.{IsEquivalence}
@@ -23,6 +23,7 @@ use Rattle.module_meaning.specs.TableRules as rule
 use Rattle.finding_laws.specs.Any.{has_any}
 use Rattle.finding_laws.proofs.Found.{any_if, any_unless, or_first, or_second, two}
 use Rattle.finding_laws.proofs.Twice.{both_or}
+use Rattle.finding_laws.proofs.Numbers.{same_list}
 use Rattle.finding_laws.proofs.Places.{AreMet, Met, all_met, device, end_at, met_append, port}
 use Rattle.finding_laws.proofs.Twice.{behind_append, behind_none, or_swap, twice_behind}
 use Rattle.table_findings.specs.Ends.{End, destination, destination_end, destinations_from, destinations_twice, differ, direction, first_port, is_as, is_device, is_same_kind, itself, mixed, one_at, port_at, source_end, twice, twice_from}
@@ -430,12 +431,6 @@ same_slice xs n m x y h k e = same_Some x y (sym h ∙ ap (λ (i : ℕ). slice_g
 
 same_texts : (a b c : List ℕ) → same a c ≡ true → same b c ≡ true → same a b ≡ true
 same_texts a b c h k = nat_list_eq_equiv.symm a b ∙ nat_list_eq_equiv.congr b c a k ∙ nat_list_eq_equiv.symm c a ∙ h
-
-same_list : (a b : List ℕ) → same a b ≡ true → a ≡ b
-same_list [] [] h = refl
-same_list [] (y ∷ b) h = absurd (false≢true h)
-same_list (x ∷ a) [] h = absurd (false≢true h)
-same_list (x ∷ a) (y ∷ b) h = let parts = and_parts (eqb x y) (same a b) h in ap (λ (z : ℕ). z ∷ a) (eqb-true x y parts.0) ∙ ap (λ (zs : List ℕ). y ∷ zs) (same_list a b parts.1)
 
 -- the device is no port
 device_differs : (a b : List ℕ) → is_device a ≡ false → is_device b ≡ true → same a b ≡ false

@@ -1,8 +1,12 @@
 pub mod Durations
 pub mod Ends
 pub mod Found
+pub mod Health
+pub mod Keys
 pub mod Names
 pub mod Numbers
+pub mod Ors
+pub mod Parts
 pub mod Places
 pub mod Releases
 pub mod Twice

@@ -1,7 +1,7 @@
 -- Where partitions differ in name, the number of one stands for its name.
-use Rattle.std.proofs.Common.{◌≡◌, ◌<◌, arith, ℕ, ◌+◌, Bool, true, false, List, [], ◌∷◌, ◌++◌, Some, length, refl, sym, ◌∙◌, append_assoc}
+use Rattle.std.proofs.Common.{◌≡◌, ◌<◌, arith, ℕ, ◌+◌, Bool, true, false, eqb, List, [], ◌∷◌, ◌++◌, Some, length, refl, sym, ap, ◌∙◌, append_assoc}
 use Rattle.std.proofs.Common.{inl, inr, length-append}
-use Rattle.std.proofs.lemmas.Bool.{cases_Bool, eq-eqb, ne_eqb, or_parts}
+use Rattle.std.proofs.lemmas.Bool.{false≢true, and_parts, cases_Bool, eq-eqb, eqb-true, ne_eqb, or_parts}
 use Rattle.std.proofs.lemmas.Cmp.{nat_list_eq_equiv}
 use Rattle.std.specs.List.{list_any}
 use Rattle.std.specs.Prelude.{◌==◌, if◌then◌else◌, unwrap_or}
@@ -24,6 +24,12 @@ same_symm = nat_list_eq_equiv.symm
 
 pub same_itself : (a : List ℕ) → same a a ≡ true
 same_itself = nat_list_eq_equiv.refl
+
+pub same_list : (a b : List ℕ) → same a b ≡ true → a ≡ b
+same_list [] [] h = refl
+same_list [] (y ∷ b) h = absurd (false≢true h)
+same_list (x ∷ a) [] h = absurd (false≢true h)
+same_list (x ∷ a) (y ∷ b) h = let parts = and_parts (eqb x y) (same a b) h in ap (λ (z : ℕ). z ∷ a) (eqb-true x y parts.0) ∙ ap (λ (zs : List ℕ). y ∷ zs) (same_list a b parts.1)
 
 -- no number is below the one that is counted from
 not_below : (m n : ℕ) (name : List ℕ) (ps : List PartitionText) → n < m → 0 < n → (unwrap_or (number_from m (is_of_name name) ps) 0 == n) ≡ false

@@ -1,11 +1,13 @@
 //! A rule is broken if and only if there is a finding.
 
-ghost use Rattle.std.specs.Prelude.{◌≡◌, ◌||◌, false, map, nat_abs};
+ghost use Rattle.std.specs.Prelude.{◌≡◌, ◌||◌, Some, false, map, nat_abs, true};
+ghost use Rattle.toml.specs.Data.{Members, members_are_sorted};
 ghost use Rattle.module_meaning.specs.Table.{has_odd_period, has_short_period, has_wrong_ends, lacks_release};
 ghost use Rattle.module_meaning.specs.TableRules as rule;
 ghost use Rattle.finding_laws.specs.Any.{AreFew, has_any};
 ghost use Rattle.table_findings.specs.Durations.{short_periods};
 ghost use Rattle.table_findings.specs.Ends.{ends};
+ghost use Rattle.table_findings.specs.Health.{health};
 ghost use Rattle.table_findings.specs.Limits.{limits};
 ghost use Rattle.table_findings.specs.Names.{names};
 ghost use Rattle.table_findings.specs.Schedule.{odd_periods, overlaps, without_release};
@@ -56,4 +58,11 @@ pub fn wrong_ends_are_found()
     ensures { (t : rule.TableText) → rule.exceeds_limits t ≡ false
         → rule.has_unknown_name t ≡ false
         → has_wrong_ends (rule.numbered t).partitions (rule.numbered t).channels ≡ has_any (ends t) }
+{}
+
+/// A document of a table, whose keys ascend as those of each TOML document do, has a wrong health
+/// table or an unknown action if and only if one is found.
+pub fn wrong_health_is_found()
+    ensures { (ms : Members) (t : rule.TableText) → members_are_sorted ms ≡ true
+        → rule.table_text_of ms ≡ Some t → rule.has_unknown_action t ≡ has_any (health ms) }
 {}
