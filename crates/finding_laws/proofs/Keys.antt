@@ -14,7 +14,7 @@ use Rattle.module_meaning.specs.TableRules.{array_at, has_only, is_one_of, same,
 use Rattle.finding_laws.proofs.Numbers.{same_list, same_symm}
 use Rattle.finding_laws.proofs.Twice.{both_or, or_swap}
 
-same_cmp : (k l : List ℕ) (o : Ordering) → o ≡ slice_cmp nat_cmp k l → is_eq o ≡ same k l
+pub same_cmp : (k l : List ℕ) (o : Ordering) → o ≡ slice_cmp nat_cmp k l → is_eq o ≡ same k l
 same_cmp = same_from_slice_cmp nat_cmp is_eq same refl (λ _ _. refl) (λ _ _. refl) (λ x y xs ys o h. grind (arith, nat_tests))
 
 is_less : (o : Ordering) → is_lt o ≡ true → o ≡ Less
@@ -44,7 +44,7 @@ any_member test (member k d ms) = test k d || any_member test ms
 abbrev pub at_key : (List ℕ → Data → Bool) → Members → List ℕ → Bool
 at_key test ms k = elim (get_member k ms) [ None ↦ false | Some d ↦ test k d ]
 
-or_false : (a : Bool) → a || false ≡ a
+pub or_false : (a : Bool) → a || false ≡ a
 or_false true = refl
 or_false false = refl
 

@@ -9,4 +9,5 @@ pub mod Ors
 pub mod Parts
 pub mod Places
 pub mod Releases
+pub mod Shape
 pub mod Twice

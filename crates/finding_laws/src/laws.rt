@@ -1,6 +1,6 @@
 //! A rule is broken if and only if there is a finding.
 
-ghost use Rattle.std.specs.Prelude.{◌≡◌, ◌||◌, Some, false, map, nat_abs, true};
+ghost use Rattle.std.specs.Prelude.{◌≡◌, ◌||◌, Some, false, is_none, map, nat_abs, true};
 ghost use Rattle.toml.specs.Data.{Members, members_are_sorted};
 ghost use Rattle.module_meaning.specs.Table.{has_odd_period, has_short_period, has_wrong_ends, lacks_release};
 ghost use Rattle.module_meaning.specs.TableRules as rule;
@@ -11,6 +11,14 @@ ghost use Rattle.table_findings.specs.Health.{health};
 ghost use Rattle.table_findings.specs.Limits.{limits};
 ghost use Rattle.table_findings.specs.Names.{names};
 ghost use Rattle.table_findings.specs.Schedule.{odd_periods, overlaps, without_release};
+ghost use Rattle.table_findings.specs.Shape.{shape};
+
+/// A document, whose keys ascend as those of each TOML document do, lacks the keys, the types or the
+/// words of a table if and only if one place is found where it does.
+pub fn wrong_shapes_are_found()
+    ensures { (ms : Members) → members_are_sorted ms ≡ true
+        → is_none (rule.table_text_of ms) ≡ has_any (shape ms) }
+{}
 
 /// A table has a number, a count or a name outside its limits if and only if one is found. Its costs
 /// are not more than there are keys for them, as those of each document are.
