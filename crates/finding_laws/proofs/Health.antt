@@ -167,9 +167,9 @@ partitions_any i (item d ds) ps h sorted =
 
 -- ---- the document
 
-actions_read : (frame : Option ℤ) (fault : Option (List ℕ)) (costs : Option (Option (List ℤ))) (partitions : Option (List PartitionText)) (windows : Option (List WindowText)) (channels : Option (List ChannelText)) (only : Bool) (t : TableText)
+pub actions_read : (frame : Option ℤ) (fault : Option (List ℕ)) (costs : Option (Option (List ℤ))) (partitions : Option (List PartitionText)) (windows : Option (List WindowText)) (channels : Option (List ChannelText)) (only : Bool) (t : TableText)
     → (frame >>= λ f. fault >>= λ word. costs >>= λ c. partitions >>= λ ps. windows >>= λ ws. channels >>= λ cs. if only then Some (record { frame = f; fault = module_action_of word; costs = c; partitions = ps; windows = ws; channels = cs }) else None) ≡ Some t
-    → (word : List ℕ) × (fault ≡ Some word) × (t.fault ≡ module_action_of word) × (partitions ≡ Some t.partitions)
+    → (word : List ℕ) × (fault ≡ Some word) × (t.fault ≡ module_action_of word) × (partitions ≡ Some t.partitions) × (costs ≡ Some t.costs)
 actions_read None fault costs ps ws cs only t e = absurd (none-some t e)
 actions_read (Some f) None costs ps ws cs only t e = absurd (none-some t e)
 actions_read (Some f) (Some word) None ps ws cs only t e = absurd (none-some t e)
@@ -179,7 +179,7 @@ actions_read (Some f) (Some word) (Some c) (Some ps) (Some ws) None only t e = a
 actions_read (Some f) (Some word) (Some c) (Some ps) (Some ws) (Some cs) false t e = absurd (none-some t e)
 actions_read (Some f) (Some word) (Some c) (Some ps) (Some ws) (Some cs) true t e =
     let is = same_Some (record { frame = f; fault = module_action_of word; costs = c; partitions = ps; windows = ws; channels = cs }) t e in
-    (word, refl, ap (λ (x : TableText). x.fault) (sym is), ap (λ (x : TableText). Some x.partitions) is)
+    (word, refl, ap (λ (x : TableText). x.fault) (sym is), ap (λ (x : TableText). Some x.partitions) is, ap (λ (x : TableText). Some x.costs) is)
 
 -- an array that was read
 array_read : {A : Type 0} (ds : Option Items) (read : Items → Option A) (x : A) → (ds >>= read) ≡ Some x → (es : Items) × (ds ≡ Some es) × (read es ≡ Some x)

@@ -8,6 +8,8 @@ pub mod Numbers
 pub mod Ors
 pub mod Parts
 pub mod Places
+pub mod Refusals
 pub mod Releases
 pub mod Shape
+pub mod Sorted
 pub mod Twice

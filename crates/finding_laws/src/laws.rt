@@ -1,22 +1,27 @@
 //! A rule is broken if and only if there is a finding.
 
-ghost use Rattle.std.specs.Prelude.{◌≡◌, ◌||◌, Some, false, is_none, map, nat_abs, true};
-ghost use Rattle.toml.specs.Data.{Members, members_are_sorted};
+ghost use Rattle.std.specs.Prelude.{◌≡◌, ◌≢◌, ◌||◌, ℕ, List, Some, false, is_none, map, nat_abs, true};
+ghost use Rattle.toml.specs.Data.{Members};
+ghost use Rattle.module_meaning.specs.Accepted.{IsDocument};
 ghost use Rattle.module_meaning.specs.Table.{has_odd_period, has_short_period, has_wrong_ends, lacks_release};
 ghost use Rattle.module_meaning.specs.TableRules as rule;
+ghost use Rattle.window_table.specs.Refusals.{IsOf};
+ghost use Rattle.window_table.specs.declared.fault.TableFault.{TableFault};
+ghost use Rattle.window_table.specs.declared.fault.TableFault.TheVariants.{Memory};
 ghost use Rattle.finding_laws.specs.Any.{AreFew, has_any};
 ghost use Rattle.table_findings.specs.Durations.{short_periods};
 ghost use Rattle.table_findings.specs.Ends.{ends};
 ghost use Rattle.table_findings.specs.Health.{health};
 ghost use Rattle.table_findings.specs.Limits.{limits};
 ghost use Rattle.table_findings.specs.Names.{names};
+ghost use Rattle.table_findings.specs.Refused.{findings};
 ghost use Rattle.table_findings.specs.Schedule.{odd_periods, overlaps, without_release};
 ghost use Rattle.table_findings.specs.Shape.{shape};
 
-/// A document, whose keys ascend as those of each TOML document do, lacks the keys, the types or the
-/// words of a table if and only if one place is found where it does.
+/// A document lacks the keys, the types or the words of a table if and only if a place is found
+/// where it does.
 pub fn wrong_shapes_are_found()
-    ensures { (ms : Members) → members_are_sorted ms ≡ true
+    ensures { (bytes : List ℕ) (ms : Members) → IsDocument bytes ms
         → is_none (rule.table_text_of ms) ≡ has_any (shape ms) }
 {}
 
@@ -68,9 +73,14 @@ pub fn wrong_ends_are_found()
         → has_wrong_ends (rule.numbered t).partitions (rule.numbered t).channels ≡ has_any (ends t) }
 {}
 
-/// A document of a table, whose keys ascend as those of each TOML document do, has a wrong health
-/// table or an unknown action if and only if one is found.
+/// A document of a table has a wrong health table or an unknown action if and only if one is found.
 pub fn wrong_health_is_found()
-    ensures { (ms : Members) (t : rule.TableText) → members_are_sorted ms ≡ true
+    ensures { (bytes : List ℕ) (ms : Members) (t : rule.TableText) → IsDocument bytes ms
         → rule.table_text_of ms ≡ Some t → rule.has_unknown_action t ≡ has_any (health ms) }
+{}
+
+/// A document that a rule refuses has a place where it breaks this rule.
+pub fn each_refusal_is_found()
+    ensures { (bytes : List ℕ) (ms : Members) (f : TableFault) → IsDocument bytes ms
+        → IsOf f (rule.verdict ms) → f ≢ Memory → has_any (findings f ms) ≡ true }
 {}
