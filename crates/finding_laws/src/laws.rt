@@ -50,8 +50,8 @@ pub fn odd_periods_are_found()
         ≡ has_any (odd_periods t) }
 {}
 
-/// In a table within its limits whose partitions differ in name, one of its periods offers a partition
-/// less than its duration if and only if one is found.
+/// In a table within its limits whose partitions differ in name, one of its periods offers a
+/// partition less than its duration if and only if one is found.
 pub fn short_periods_are_found()
     ensures { (t : rule.TableText) → rule.exceeds_limits t ≡ false → rule.has_same_names t ≡ false
         → has_short_period (rule.numbered t).schedule (rule.numbered t).partitions
@@ -65,12 +65,13 @@ pub fn missing_releases_are_found()
         ≡ has_any (without_release t) }
 {}
 
-/// In a table within its limits whose names all stand for something, the ends of channels do not fit
-/// together if and only if one such end is found.
+/// In a table within its limits whose names all stand for something, the ends of channels do not
+/// fit together if and only if one such end is found.
 pub fn wrong_ends_are_found()
     ensures { (t : rule.TableText) → rule.exceeds_limits t ≡ false
         → rule.has_unknown_name t ≡ false
-        → has_wrong_ends (rule.numbered t).partitions (rule.numbered t).channels ≡ has_any (ends t) }
+        → has_wrong_ends (rule.numbered t).partitions (rule.numbered t).channels
+        ≡ has_any (ends t) }
 {}
 
 /// A document of a table has a wrong health table or an unknown action if and only if one is found.
