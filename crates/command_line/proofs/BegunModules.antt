@@ -16,11 +16,10 @@ use Rattle.pal_meaning.specs.Program.{Program}
 use Rattle.pal_meaning.specs.Syntax as written
 use Rattle.pal_base.specs.WrittenView.{program_of}
 use Rattle.pal_base.specs.declared.checked.Checked.{Checked}
-use Rattle.schedule_load.specs.declared.load.FrameLoad.{FrameLoad}
 use Rattle.window_table.specs.Views.{table_of}
 use Rattle.module.specs.Sources.{AreSources, IsSource}
 use Rattle.command_line.specs.Linting.{AreTrees, IsReadModule}
-use Rattle.command_line.specs.Loading.{AreLoaded}
+use Rattle.command_line.specs.Loading.{AreLoaded, Shown}
 use Rattle.command_line.specs.declared.linting.ReadModule.{ReadModule}
 use Rattle.window_table.specs.Refusals as table_refusals
 use Rattle.window_table.specs.declared.fault.TableFault.{TableFault}
@@ -222,8 +221,8 @@ module _ (table bytes : List ℕ) (wholes texts : List (List ℕ)) (begun : IsBe
         trees = all_trees wholes texts (map program_of m.trees.items) all h.trees;
       }
 
-  load_whole : (load : FrameLoad) → AreLoaded bytes texts load → AreLoaded table wholes load
-  load_whole load h = record {
+  load_whole : (shown : Shown) → AreLoaded bytes texts shown → AreLoaded table wholes shown
+  load_whole shown h = record {
     rows = h.rows;
     accepted = table_whole table bytes begun h.rows h.accepted;
     given = h.given;
@@ -272,9 +271,9 @@ module _ (files now : Option Contents) (table : List ℕ) (names : List (List �
     read_of_files (Ok m) h = record { texts = texts_of_files; read = module_whole own_table.0 given own_sources.0 texts own_table.2 own_sources.2 m h }
     read_of_files (Err e) h = tt
 
-    pub loaded_of_files : (load : FrameLoad) → AreLoaded given texts load → (whole : Texts files table names) × AreLoaded whole.table_text whole.source_texts load
+    pub loaded_of_files : (shown : Shown) → AreLoaded given texts shown → (whole : Texts files table names) × AreLoaded whole.table_text whole.source_texts shown
     unfolding texts_of_files own_table own_sources
-    loaded_of_files load h = (texts_of_files, load_whole own_table.0 given own_sources.0 texts own_table.2 own_sources.2 load h)
+    loaded_of_files shown h = (texts_of_files, load_whole own_table.0 given own_sources.0 texts own_table.2 own_sources.2 shown h)
 
     pub refused_of_files : {A : Type 0} (answer : Result A refusal.Refusal) → IfErr answer (λ r. IsRefusedText given texts r) → IfErr answer (λ r. IsNotBuilt files table names r)
     unfolding texts_of_files own_table own_sources

@@ -3,12 +3,11 @@ use Rattle.std.proofs.Common.{◌≡◌, ℕ, List, [], ◌∷◌, Option, Resul
 use Rattle.module.specs.Building.{IsTableRefusal}
 use Rattle.module.specs.declared.fault.BuildFault.{BuildFault}
 use Rattle.module.specs.declared.fault.BuildFault.TheVariants as fault
-use Rattle.schedule_load.specs.declared.load.FrameLoad.{FrameLoad}
 use Rattle.streams.specs.Beginnings.{HoldsFrom, IsBeginningOf}
 use Rattle.streams.specs.Contents.{Contents, Holds}
 use Rattle.text_beginnings.specs.Settled.{settles_source, settles_table}
 use Rattle.command_line.specs.Done.{IsLoadIn}
-use Rattle.command_line.specs.Loading.{AreLoaded, IsLoadOfText, IsRefusedTable}
+use Rattle.command_line.specs.Loading.{AreLoaded, IsLoadOfText, IsRefusedTable, Shown}
 use Rattle.command_line.specs.Reading.{HoldAllFrom, IsUncostedText}
 use Rattle.command_line.specs.Refusals.{IsNoTableIn, IsNotLoadedFrom}
 use Rattle.command_line.specs.Told.{IsOfFailed}
@@ -25,15 +24,15 @@ module _ (files : Option Contents) (table bytes given : List ℕ) (is : given �
       let whole = whole_of settles_table files table bytes held in
       (whole.0, whole.1, subst (λ b. IsBeginningOf settles_table whole.0 b) (sym is) whole.2)
 
-  load_in : (load : FrameLoad) → IsLoadOfText given load → IsLoadIn files table [] load
-  load_in load h =
+  load_in : (shown : Shown) → IsLoadOfText given shown → IsLoadIn files table [] shown
+  load_in shown h =
       let whole = own_table in
       (whole.0, whole.1, record { rows = h.rows; accepted = table_whole whole.0 given whole.2 h.rows h.accepted; loaded = h.loaded })
 
-  pub alone : {A E : Type 0} (load : A → FrameLoad) (names : List (List ℕ)) (answer : Result A E) → names ≡ [] → IfOk answer (λ x. IsLoadOfText given (load x)) → IfOk answer (λ x. IsLoadIn files table names (load x))
-  alone load [] (Ok x) none h = load_in (load x) h
-  alone load (n ∷ names) (Ok x) none h = absurd cc
-  alone load names (Err e) none h = tt
+  pub alone : {A E : Type 0} (view : A → Shown) (names : List (List ℕ)) (answer : Result A E) → names ≡ [] → IfOk answer (λ x. IsLoadOfText given (view x)) → IfOk answer (λ x. IsLoadIn files table names (view x))
+  alone view [] (Ok x) none h = load_in (view x) h
+  alone view (n ∷ names) (Ok x) none h = absurd cc
+  alone view names (Err e) none h = tt
 
   refusal_of_whole : (whole : List ℕ) → IsBeginningOf settles_table whole given → (f : BuildFault) → IsTableRefusal given f → IsTableRefusal whole f
   refusal_of_whole whole begun (fault.Table f) h = (h.0, table_refused whole given begun f h.1)
@@ -58,12 +57,12 @@ module _ (files : Option Contents) (table bytes given : List ℕ) (is : given �
 
 -- ---- sources are named
 
-pub together : {A E : Type 0} (load : A → FrameLoad) (files now : Option Contents) (table : List ℕ) (names : List (List ℕ)) (first : List ℕ) (rest : List (List ℕ)) (bytes given : List ℕ) (texts : List (List ℕ)) (answer : Result A E)
-    → names ≡ first ∷ rest → now ≡ files → given ≡ bytes → HoldsFrom settles_table files table bytes → HoldAllFrom settles_source now names texts → IfOk answer (λ x. AreLoaded given texts (load x)) → IfOk answer (λ x. IsLoadIn files table names (load x))
-together load files now table [] first rest bytes given texts (Ok x) some same is in_table in_sources h = absurd cc
-together load files now table (n ∷ names) first rest bytes given texts (Ok x) some same is in_table in_sources h =
-    loaded_of_files files now table (n ∷ names) bytes given texts same is in_table in_sources (load x) h
-together load files now table names first rest bytes given texts (Err e) some same is in_table in_sources h = tt
+pub together : {A E : Type 0} (view : A → Shown) (files now : Option Contents) (table : List ℕ) (names : List (List ℕ)) (first : List ℕ) (rest : List (List ℕ)) (bytes given : List ℕ) (texts : List (List ℕ)) (answer : Result A E)
+    → names ≡ first ∷ rest → now ≡ files → given ≡ bytes → HoldsFrom settles_table files table bytes → HoldAllFrom settles_source now names texts → IfOk answer (λ x. AreLoaded given texts (view x)) → IfOk answer (λ x. IsLoadIn files table names (view x))
+together view files now table [] first rest bytes given texts (Ok x) some same is in_table in_sources h = absurd cc
+together view files now table (n ∷ names) first rest bytes given texts (Ok x) some same is in_table in_sources h =
+    loaded_of_files files now table (n ∷ names) bytes given texts same is in_table in_sources (view x) h
+together view files now table names first rest bytes given texts (Err e) some same is in_table in_sources h = tt
 
 pub together_refused : {A : Type 0} (files now : Option Contents) (table : List ℕ) (names : List (List ℕ)) (first : List ℕ) (rest : List (List ℕ)) (bytes given : List ℕ) (texts : List (List ℕ)) (answer : Result A Refusal)
     → names ≡ first ∷ rest → now ≡ files → given ≡ bytes → HoldsFrom settles_table files table bytes → HoldAllFrom settles_source now names texts → IfErr answer (λ r. IsUncostedText given texts r) → IfErr answer (λ r. IsNotLoadedFrom files table names r)

@@ -21,14 +21,13 @@ use Rattle.module.specs.declared.fault.RunFault.{RunFault}
 use Rattle.streams.specs.Contents.{Contents, Holds, HoldAll, Spares}
 use Rattle.stopped_run.specs.Ends.{RunsUntil}
 use Rattle.command_line.specs.Orders.{Order, First, Check, Build, Run, Replay, Inputs, Cost, Dis, Upgrade, Load, Lint}
-use Rattle.command_line.specs.Loading.{AreLoaded, IsLoadOfText, IsShown}
+use Rattle.command_line.specs.Loading.{AreLoaded, IsLoadOfText, IsTextOf, Shown}
 use Rattle.command_line.specs.Linting.{AreFound, IsReadModule}
 use Rattle.command_line.specs.declared.linting.ReadModule.{ReadModule}
 use Rattle.command_line.specs.declared.outcome.Outcome.{Outcome}
 use Rattle.command_line.specs.declared.outcome.Outcome.TheVariants.{Usual, Remarkable}
 use Rattle.lint.specs.Sentences.{findings_text, have_findings}
 use Rattle.lint.specs.declared.report.PartitionFindings.{PartitionFindings}
-use Rattle.schedule_load.specs.declared.load.FrameLoad.{FrameLoad}
 use Rattle.command_line.specs.States.{State}
 use Rattle.command_line.specs.declared.first_run.TheConstants.{SOURCE, TABLE, TICKS}
 
@@ -61,10 +60,10 @@ pub record AreFoundIn (files : Option Contents) (table : List ℕ) (sources : Li
   pub texts : Texts files table sources
   pub of_texts : AreFound texts.table_text texts.source_texts found
 
--- The load of a table; of a table with its sources, all of them accepted.
-abbrev pub IsLoadIn : Option Contents → List ℕ → List (List ℕ) → FrameLoad → Type 0
-IsLoadIn files table [] load = (text : List ℕ) × Holds files table text × IsLoadOfText text load
-IsLoadIn files table (source ∷ sources) load = (texts : Texts files table (source ∷ sources)) × AreLoaded texts.table_text texts.source_texts load
+-- This is shown of a table; of a table with its sources, all of them accepted.
+abbrev pub IsLoadIn : Option Contents → List ℕ → List (List ℕ) → Shown → Type 0
+IsLoadIn files table [] shown = (text : List ℕ) × Holds files table text × IsLoadOfText text shown
+IsLoadIn files table (source ∷ sources) shown = (texts : Texts files table (source ∷ sources)) × AreLoaded texts.table_text texts.source_texts shown
 
 -- This image, in the file of this name.
 pub record IsImageIn (files : Option Contents) (name : List ℕ) (image : Image) : Type 0 where
@@ -165,8 +164,8 @@ IsDone (Cost table sources) before after =
 IsDone (Dis name) before after =
     (after.files ≡ before.files) × (image : Image) × IsImageIn before.files name image × Appends before.out.taken after.out.taken (code_text image)
 IsDone (Load form table sources) before after =
-    (after.files ≡ before.files) × ((load : FrameLoad) × IsLoadIn before.files table sources load)
-    × (text : List ℕ) × IsShown form text × Appends before.out.taken after.out.taken text
+    (after.files ≡ before.files) × (shown : Shown) × IsLoadIn before.files table sources shown
+    × (text : List ℕ) × IsTextOf form shown text × Appends before.out.taken after.out.taken text
 IsDone (Upgrade old new) before after =
     (bytes : List ℕ) × IsUpgradedIn before.files old bytes × Holds after.files new bytes × Spares new before.files after.files
     × Appends before.out.taken after.out.taken (upgraded_text (length bytes))

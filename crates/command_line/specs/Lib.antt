@@ -3,6 +3,7 @@ pub mod Done
 pub mod Explained
 pub mod Lines
 pub mod Linting
+pub mod Loaded
 pub mod Loading
 pub mod Outcomes
 pub mod Orders

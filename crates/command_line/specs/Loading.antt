@@ -1,11 +1,18 @@
 -- The load of a schedule, as it is shown.
-use Rattle.std.specs.Prelude.{ℕ, List}
+use Rattle.std.specs.Prelude.{◌≡◌, ℕ, List, [], ◌∷◌, map}
+use Rattle.apex_types.specs.declared.cost.Costs.{Costs}
+use Rattle.apex_types.specs.declared.row.WindowRow.{WindowRow}
 use Rattle.module_meaning.specs.Accepted.{IsTable}
-use Rattle.module_meaning.specs.Table.{Table}
+use Rattle.module_meaning.specs.Table.{Partition, Table}
 use Rattle.module.specs.Building.{IsTableRefusal}
 use Rattle.module.specs.Sources.{AreSources}
 use Rattle.pal_base.specs.declared.checked.Checked.{Checked}
+use Rattle.load_views.specs.Records.{all_records}
+use Rattle.load_views.specs.Tables.{tables_text}
+use Rattle.load_views.specs.declared.report.PartitionBodies.{PartitionBodies}
+use Rattle.schedule_load.specs.Bodies.{loads_of}
 use Rattle.schedule_load.specs.Load.{IsLoadOf}
+use Rattle.schedule_load.specs.declared.bodies.BodyLoad.{BodyLoad}
 use Rattle.schedule_load.specs.declared.load.FrameLoad.{FrameLoad}
 use Rattle.trace_picture.specs.Page.{IsPicture}
 use Rattle.command_line.specs.declared.form.Form.{Form}
@@ -13,19 +20,48 @@ use Rattle.command_line.specs.declared.form.Form.TheVariants.{Tables, Rows, Pict
 use Rattle.command_line.specs.declared.refusal.Refusal.{Refusal}
 use Rattle.command_line.specs.declared.refusal.Refusal.TheVariants.{Build, Memory}
 
--- The table is accepted, and this is its load.
-pub record IsLoadOfText (table : List ℕ) (load : FrameLoad) : Type 0 where
+-- ---- what is shown
+
+-- the loads of the bodies of a partition's source
+pub record SourceLoads : Type 0 where
+  pub partition : List ℕ
+  pub bodies : List BodyLoad
+
+abbrev pub source_loads : PartitionBodies → SourceLoads
+source_loads b = record { partition = b.partition; bodies = b.bodies.items }
+
+-- those of accepted sources, one for each partition, in order
+abbrev pub loads_of_sources : Costs → List Partition → List Checked → List SourceLoads
+loads_of_sources costs [] given = []
+loads_of_sources costs (row ∷ rows) [] = []
+loads_of_sources costs (row ∷ rows) (source ∷ given) =
+    record { partition = row.name; bodies = loads_of costs source.program } ∷ loads_of_sources costs rows given
+
+-- What is shown of a module: its load, its windows, and the bodies of its sources.
+pub record Shown : Type 0 where
+  pub load : FrameLoad
+  pub windows : List WindowRow
+  pub bodies : List PartitionBodies
+
+-- This is shown of a table and its accepted sources; without sources, of the table alone.
+pub record IsShownOf (t : Table) (given : List Checked) (shown : Shown) : Type 0 where
+  pub load : IsLoadOf t shown.load
+  pub windows : shown.windows ≡ t.schedule.windows
+  pub bodies : map source_loads shown.bodies ≡ loads_of_sources t.costs t.partitions given
+
+-- The table is accepted, and this is shown of it.
+pub record IsLoadOfText (table : List ℕ) (shown : Shown) : Type 0 where
   pub rows : Table
   pub accepted : IsTable table rows
-  pub loaded : IsLoadOf rows load
+  pub loaded : IsShownOf rows [] shown
 
--- The table and the sources are accepted, and this is the load of the table.
-pub record AreLoaded (table : List ℕ) (sources : List (List ℕ)) (load : FrameLoad) : Type 0 where
+-- The table and the sources are accepted, and this is shown of them.
+pub record AreLoaded (table : List ℕ) (sources : List (List ℕ)) (shown : Shown) : Type 0 where
   pub rows : Table
   pub accepted : IsTable table rows
   pub given : List Checked
   pub programs : AreSources rows.partitions sources given
-  pub loaded : IsLoadOf rows load
+  pub loaded : IsShownOf rows given shown
 
 -- why there is no load of the table
 abbrev pub IsRefusedTable : List ℕ → Refusal → Type 0
@@ -33,8 +69,8 @@ IsRefusedTable table (Build fault) = IsTableRefusal table fault
 IsRefusedTable table Memory = Unit {0}
 IsRefusedTable table _ = ⊥
 
--- the text of a load; what stands in the tables and the rows is not said
-abbrev pub IsShown : Form → List ℕ → Type 0
-IsShown Tables text = Unit {0}
-IsShown Rows text = Unit {0}
-IsShown Picture text = ∥ IsPicture text ∥₁
+-- the text in this form; which lines and marks the picture has is not said
+abbrev pub IsTextOf : Form → Shown → List ℕ → Type 0
+IsTextOf Tables shown text = text ≡ tables_text shown.load shown.windows shown.bodies
+IsTextOf Rows shown text = text ≡ all_records shown.load shown.windows shown.bodies
+IsTextOf Picture shown text = ∥ IsPicture text ∥₁

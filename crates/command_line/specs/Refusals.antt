@@ -23,10 +23,9 @@ use Rattle.module.specs.declared.fault.RunFault.TheVariants as faults
 use Rattle.streams.specs.Contents.{Contents, Holds, Spares}
 use Rattle.command_line.specs.Done.{Texts, IsBuilt, AreCosted, AreFoundIn, IsLoadIn, IsImageIn, IsUpgradedIn, ImageAndText, IsRunOf, IsRunDone, IsReplayOf, IsReplayDone, AreInputsOf, AreInputsDone, IsFirstRun, is_ok}
 use Rattle.command_line.specs.Orders.{Order, First as first, Check as check, Build as build, Run as run, Replay as replay, Inputs as inputs, Cost as cost, Dis as dis, Upgrade as upgrade, Load as load, Lint as lint}
-use Rattle.command_line.specs.Loading.{IsRefusedTable}
+use Rattle.command_line.specs.Loading.{IsRefusedTable, Shown}
 use Rattle.lint.specs.Sentences.{findings_text}
 use Rattle.lint.specs.declared.report.PartitionFindings.{PartitionFindings}
-use Rattle.schedule_load.specs.declared.load.FrameLoad.{FrameLoad}
 use Rattle.command_line.specs.States.{IsSilent, IsUntouched, State}
 use Rattle.command_line.specs.declared.outcome.Outcome.{Outcome}
 use Rattle.command_line.specs.declared.refusal.Refusal.{Refusal}
@@ -168,7 +167,7 @@ IsCostRefused table sources before after r = IsUntouched before after × IsNotCo
 
 abbrev pub IsLoadRefused : List ℕ → List (List ℕ) → State → State → Refusal → Type 0
 IsLoadRefused table sources before after Write =
-    HasFailed before.out after.out × (after.files ≡ before.files) × ((load : FrameLoad) × IsLoadIn before.files table sources load)
+    HasFailed before.out after.out × (after.files ≡ before.files) × ((shown : Shown) × IsLoadIn before.files table sources shown)
 IsLoadRefused table sources before after r = IsUntouched before after × IsNotLoadedFrom before.files table sources r
 
 abbrev pub IsLintRefused : List ℕ → List (List ℕ) → State → State → Refusal → Type 0

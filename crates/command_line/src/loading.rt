@@ -1,29 +1,30 @@
 //! The load of a schedule.
 
-ghost use Rattle.std.specs.Prelude.{◌≡◌, ◌-◌, ◌^◌, ◌<◌, map, IfOk, IfErr, OnOk};
+ghost use Rattle.std.specs.Prelude.{◌≡◌, ◌-◌, ◌^◌, ◌<◌, ◌++◌, map, IfOk, IfErr, OnOk};
 ghost use Rattle.command_line.specs.Done.{IsDone, IsLoadIn};
-ghost use Rattle.command_line.specs.Loading.{AreLoaded, IsLoadOfText, IsRefusedTable, IsShown};
+ghost use Rattle.command_line.specs.Loading.{AreLoaded, IsLoadOfText, IsRefusedTable, IsShownOf, IsTextOf, loads_of_sources, source_loads};
+ghost use Rattle.command_line.specs.Loaded.{shown_of};
 ghost use Rattle.command_line.specs.Orders.{Load};
 ghost use Rattle.command_line.specs.Reading.{IsUncostedText, texts_of};
 ghost use Rattle.command_line.specs.Refusals.{IsLoadRefused, IsNotLoadedFrom};
 ghost use Rattle.command_line.specs.States.{state};
 ghost use Rattle.command_line.specs.Told.{IsOfFailed};
 ghost use Rattle.streams.specs.States.{IsFlushed, seen};
-ghost use Rattle.window_table.specs.Views.{table_of};
-ghost use Rattle.schedule_load.specs.Load.{IsLoadOf};
+ghost use Rattle.window_table.specs.Views.{partition_view, table_of};
 ghost use Rattle.trace_picture.specs.Page.{IsPicture};
 
 use crate::explaining::Note;
 use crate::form::Form;
 use crate::reading::{module_of_texts, read_sources, read_table};
 use crate::refusal::Refusal;
+use apex_types::Costs;
 use load_views::{LoadReport, PartitionBodies};
 use module::{AcceptedModule, accept_table};
 use pal::Checked;
 use schedule_load::{FrameLoad, body_loads, frame_load};
 use std::alloc::{AllocError, Global};
 use streams::{Files, Stream, write_bytes};
-use window_table::ModuleTable;
+use window_table::{ModuleTable, PartitionRow};
 
 /// The load of a module table, and of the bodies of its sources if these are given.
 #[derive(Drop)]
@@ -74,7 +75,8 @@ fn loaded_named<F: Files>(
 ) -> Result<Loaded, Refusal>
     ensures loaded { IfOk result
         (λ loaded.
-        IsLoadIn (F.contents files.old) table.now (map (λ s. s.now) sources.now) loaded.load) }
+        IsLoadIn (F.contents files.old) table.now (map (λ s. s.now) sources.now)
+        (shown_of loaded)) }
     ensures refused { IfErr result
         (λ r. IsNotLoadedFrom (F.contents files.old) table.now (map (λ s. s.now) sources.now) r) }
     ensures unchanged { F.contents files.new ≡ F.contents files.old }
@@ -101,7 +103,7 @@ fn loaded_named<F: Files>(
 
 /// The load of a table.
 fn load_of_text(alloc: Global, name: &str, table: &[u8], note: &mut Note) -> Result<Loaded, Refusal>
-    ensures loaded { IfOk result (λ loaded. IsLoadOfText table.now loaded.load) }
+    ensures loaded { IfOk result (λ loaded. IsLoadOfText table.now (shown_of loaded)) }
     ensures refused { IfErr result (λ r. IsRefusedTable table.now r) }
 {
     match accept_table(alloc, table) {
@@ -122,7 +124,8 @@ fn load_of_texts(
     sources: &[Vec<u8>],
     note: &mut Note,
 ) -> Result<Loaded, Refusal>
-    ensures loaded { IfOk result (λ loaded. AreLoaded table.now (texts_of sources.now) loaded.load) }
+    ensures loaded { IfOk result
+        (λ loaded. AreLoaded table.now (texts_of sources.now) (shown_of loaded)) }
     ensures refused { IfErr result (λ r. IsUncostedText table.now (texts_of sources.now) r) }
 {
     let AcceptedModule { table, sources } = module_of_texts(
@@ -137,10 +140,12 @@ fn load_of_accepted(
     table: ModuleTable,
     sources: Vec<Checked>,
 ) -> Result<Loaded, AllocError>
-    ensures { IfOk result (λ loaded. IsLoadOf (table_of table) loaded.load) }
+    ensures { IfOk result (λ loaded. IsShownOf (table_of table) sources.items (shown_of loaded)) }
 {
     let load = frame_load(alloc, &table)?;
-    let bodies = bodies_of(alloc, &table, sources.as_slice())?;
+    let mut bodies = Vec::new(alloc);
+    let rows = table.partitions.as_slice();
+    add_bodies(alloc, &table.costs, rows, sources.as_slice(), &mut bodies)?;
     Ok(Loaded {
         table,
         load,
@@ -148,30 +153,36 @@ fn load_of_accepted(
     })
 }
 
-/// The costs of the bodies of accepted sources, for the partitions in their order.
-fn bodies_of(
+/// Adds the costs of the bodies of accepted sources, for the partitions of these rows.
+#[tactic(auto, using(std::proofs::lemmas::List::map_push))]
+fn add_bodies(
     alloc: Global,
-    table: &ModuleTable,
+    costs: &Costs,
+    rows: &[PartitionRow],
     sources: &[Checked],
-) -> Result<Vec<PartitionBodies>, AllocError> {
-    let mut bodies = Vec::with_capacity(alloc, sources.len())?;
-    let mut place = 0usize;
-    for source in sources {
-        let Some(row) = table.partitions.get(place) else {
-            break;
-        };
-        bodies.push(PartitionBodies {
-            partition: row.name,
-            bodies: body_loads(alloc, &table.costs, &source.program)?,
-        })?;
-        place += 1;
-    }
-    Ok(bodies)
+    bodies: &mut Vec<PartitionBodies>,
+) -> Result<(), AllocError>
+    ensures { OnOk result
+        (map source_loads bodies.new.items
+        ≡ map source_loads bodies.old.items
+        ++ loads_of_sources costs.now (map partition_view rows.now) sources.now) }
+{
+    let Some((row, rows)) = rows.split_first() else {
+        return Ok(());
+    };
+    let Some((source, sources)) = sources.split_first() else {
+        return Ok(());
+    };
+    bodies.push(PartitionBodies {
+        partition: row.name,
+        bodies: body_loads(alloc, costs, &source.program)?,
+    })?;
+    add_bodies(alloc, costs, rows, sources, bodies)
 }
 
 /// The text of a load.
 fn shown(alloc: Global, form: Form, loaded: &Loaded) -> Result<Vec<u8>, AllocError>
-    ensures { IfOk result (λ text. IsShown form text.items) }
+    ensures { IfOk result (λ text. IsTextOf form (shown_of loaded.now) text.items) }
 {
     let report = LoadReport {
         load: &loaded.load,

@@ -1,1 +1,4 @@
+pub mod Cells
+pub mod Records
 pub mod Report
+pub mod Tables

@@ -25,12 +25,19 @@ pub struct LoadReport<'a> {
 }
 
 impl<'a> LoadReport<'a> {
+    ghost use Rattle.load_views.specs.Records.{all_records};
+    ghost use Rattle.load_views.specs.Tables.{tables_text};
+
     /// The load as tables, each with a line that says what it shows, and a line of headings.
     ///
     /// # Errors
     ///
     /// Memory ran out.
-    pub fn tables(&self, alloc: Global) -> Result<Vec<u8>, AllocError> {
+    pub fn tables(&self, alloc: Global) -> Result<Vec<u8>, AllocError>
+        ensures { IfOk result
+            (λ text. text.items
+            ≡ tables_text self.now.load.now self.now.windows.now self.now.bodies.now) }
+    {
         let mut text = Vec::new(alloc);
         tables::write_tables(alloc, self, &mut text)?;
         Ok(text)
@@ -41,7 +48,11 @@ impl<'a> LoadReport<'a> {
     /// # Errors
     ///
     /// Memory ran out.
-    pub fn sheet(&self, alloc: Global) -> Result<Vec<u8>, AllocError> {
+    pub fn sheet(&self, alloc: Global) -> Result<Vec<u8>, AllocError>
+        ensures { IfOk result
+            (λ text. text.items
+            ≡ all_records self.now.load.now self.now.windows.now self.now.bodies.now) }
+    {
         let mut text = Vec::new(alloc);
         sheet::write_sheet(alloc, self, &mut text)?;
         Ok(text)
@@ -72,14 +83,14 @@ impl<'a> LoadReport<'a> {
         }
     }
 
-    /// How many windows a partition has.
+    /// How many windows the partition with this number has.
     #[tactic(auto, using(std::proofs::lemmas::List::drop_more))]
-    pub fn windows_of(&self, partition: PartitionId) -> u64
-        ensures { result ≡ windows_of partition.0 self.now.windows.now }
+    pub fn windows_of(&self, number: usize) -> u64
+        ensures { result ≡ windows_of number self.now.windows.now }
     {
         let mut count: usize = 0;
         for window in self.windows {
-            count += one_if(window.partition.0 == partition.0);
+            count += one_if(usize::from(window.partition.0) == number);
         }
         count as u64
     }

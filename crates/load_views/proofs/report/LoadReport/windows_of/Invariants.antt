@@ -5,5 +5,5 @@ use Rattle.load_views.proofs.report.LoadReport.windows_of.Given as goal
 abbrev pub invariant-loop-window : goal.invariant-loop-window
 invariant-loop-window l = record {
   small : l.count ≤ l.window-index;
-  left : l.count + windows_of l.partition.0 (drop l.window-index l.self.windows.now) ≡ windows_of l.partition.0 l.self.windows.now;
+  left : l.count + windows_of l.number (drop l.window-index l.self.windows.now) ≡ windows_of l.number l.self.windows.now;
 }
