@@ -21,7 +21,7 @@ pub kept_same : (one other : Lanes) → other ≡ one → AreKept one other
 kept_same one other same = subst (AreKept one) (sym same) (record { held = λ name word. refl; mode = λ name. refl })
 
 -- where it is known whether the line is early
-IsTakenIf : Bool → Event → Picture → Picture → List Ended → Lanes → Type 0
+abbrev IsTakenIf : Bool → Event → Picture → Picture → List Ended → Lanes → Type 0
 IsTakenIf early e old new over between =
     HasFollowed e old.lanes between [] over → AreKept between new.lanes → new.way ≡ way_if early e old.way new.lanes
     → new.shapes.items ≡ (old.shapes.items ++ bars_of_stays (open_ticks old.shown) over) ++ marks_if early e old.way new.lanes → IsTaken e old new

@@ -1,6 +1,6 @@
 //! The events in the ticks of a picture.
 
-ghost use Rattle.std.specs.Prelude.{◌≡◌, ◌*◌, ◌-◌, ◌≤◌, ◌++◌, ◌∷◌, [], IfErr, IfOk, None, OnErr, OnOk, Some};
+ghost use Rattle.std.specs.Prelude.{◌≡◌, ◌*◌, ◌-◌, ◌≤◌, ◌++◌, ◌∷◌, [], IfErr, IfOk, None, OnErr, OnOk, Some, true};
 ghost use Rattle.apex_types.specs.Line.{subject_text};
 ghost use Rattle.trace_picture.specs.Elements.{IsCrowded, beginnings};
 ghost use Rattle.trace_picture.specs.Marked.{bar_of_stay, bars_of_stays, beside, flag_at, is_port, is_under_way, marks_in, marks_of_module, message_at, one_of, owner_in, report_at, way_from, way_in, way_to};
@@ -74,7 +74,8 @@ impl Picture {
         }
         let before = self.shapes.len();
         self.take(event)?;
-        self.gather(before)
+        self.gather(before)?;
+        Ok(())
     }
 
     /// Keeps all shapes of an event whose tick stands before the end of the ticks.
