@@ -3,7 +3,7 @@ use Rattle.std.proofs.Common.{arith, ◌≡◌, ℕ, ◌-◌, Bool, true, false,
 use Rattle.std.proofs.lemmas.List.{take_at}
 use Rattle.std.specs.Prelude.{nat_lt, Option, Some, None}
 use Rattle.apex_types.specs.declared.event.Event.{Event}
-use Rattle.trace_picture.specs.Added.{AreGathered, AreKeptFrom, AreKeptIf, HasShapes, IsAdded, IsAddedIf, IsFilled, IsGathered, IsSteady, IsTaken, counted, first_if, is_early, left_if, marks_if, way_if}
+use Rattle.trace_picture.specs.Added.{AreKeptFrom, AreKeptIf, HasShapes, IsAdded, IsAddedIf, IsFilled, IsGathered, IsTaken, counted, first_if, is_early, left_if, marks_if, way_if}
 use Rattle.trace_picture.specs.Marked.{bars_of_stays}
 use Rattle.trace_picture.specs.declared.picture.Picture.{Picture}
 use Rattle.trace_picture.specs.declared.shape.Shape.{Shape}

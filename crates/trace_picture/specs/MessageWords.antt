@@ -31,7 +31,7 @@ abbrev pub words_left : Axis → Message → Length
 words_left axis m = behind (message_place axis m) (tenths 60)
 
 abbrev pub words_line : Length → Length → Length
-words_line from to = if ltb to.0 from.0 then behind to (tenths 215) else before to (tenths 20)
+words_line from to = if ltb to.0 from.0 then before (behind to (tenths 220)) (tenths 5) else before to (tenths 20)
 
 -- ---- their room
 

@@ -28,7 +28,7 @@ const FOOT: Length = Length(5);
 const CHARACTER: Length = Length(75);
 
 /// The room of words: the row with this top, from an arrow up to where its words end.
-#[derive(Clone, Copy, Debug, PartialEq, Eq)]
+#[derive(Clone, Copy)]
 pub struct Room {
     pub top: Length,
     pub left: Length,
@@ -193,12 +193,43 @@ fn draw_words_beside(
         return Ok(());
     };
     let text = numbers_text(alloc, &message.words)?;
-    let room = room_of(axis, message, to, text.as_str());
+    draw_if_free(
+        page,
+        axis,
+        rows,
+        message,
+        earlier,
+        later,
+        text.as_str(),
+        from,
+        to,
+    )
+}
+
+/// Draws this text of a message beside its arrow from the row with one top to the row with the other,
+/// if there is room.
+fn draw_if_free(
+    page: &mut Page,
+    axis: Axis,
+    rows: &Rows,
+    message: &Message,
+    earlier: &[Shape],
+    later: &[Shape],
+    text: &str,
+    from: Length,
+    to: Length,
+) -> Result<(), AllocError>
+    ensures { OnOk result
+        (string_bytes page.new.text
+        ≡ string_bytes page.old.text
+        ++ spec.words_if_free axis rows.now message.now earlier.now later.now text.now from to) }
+{
+    let room = room_of(axis, message, to, text);
     if !is_free(axis, rows, room, earlier, later) {
         return Ok(());
     }
     let left = words_left(axis, message);
-    draw_text(page, "mode", left, words_line(from, to), text.as_str())
+    draw_text(page, "mode", left, words_line(from, to), text)
 }
 
 /// Draws the words beside a shape, if it is a message and there is room.

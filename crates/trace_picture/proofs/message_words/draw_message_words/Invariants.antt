@@ -3,7 +3,7 @@ use Rattle.trace_picture.specs.MessageWords.{message_words, words_behind}
 use Rattle.trace_picture.proofs.message_words.draw_message_words.Given as goal
 
 -- the words so far, and those of the rest, are all
-abbrev pub invariant-loop-shape : goal.invariant-loop-shape
-invariant-loop-shape l =
+abbrev pub invariant-loop-place : goal.invariant-loop-place
+invariant-loop-place l =
     string_bytes l.page.text ++ words_behind l.axis l.rows (take l.place l.shapes) (drop l.place l.shapes)
     ≡ string_bytes l.initial.page.text ++ message_words l.axis l.rows l.shapes

@@ -1,6 +1,5 @@
-use Rattle.std.proofs.Common.{rules, ◌≡◌, ℕ, true, false, List, [], ◌++◌, ap, ◌∙◌, subst}
+use Rattle.std.proofs.Common.{rules, ◌≡◌, true, false, List, [], ◌++◌, ap, ◌∙◌, subst}
 use Rattle.std.specs.Prelude.{nat_lt, Option}
-use Rattle.trace_picture.specs.Added.{is_early}
 use Rattle.trace_picture.specs.Marked.{bars_of_stays, marks_of, way_behind}
 use Rattle.trace_picture.proofs.Added.{before_first, kept_same, taken}
 use Rattle.trace_stays.specs.Following.{AreKept, HasFollowed}
