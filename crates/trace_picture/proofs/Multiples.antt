@@ -1,5 +1,5 @@
 -- The multiples of a step that have marks.
-use Rattle.std.proofs.Common.{rules, ◌≡◌, ℕ, ◌+◌, ◌-◌, ◌*◌, ◌/◌, ◌≤◌, ◌<◌, suc, nat_eq, true, length, get_or, List, ◌++◌, map, ap, sym, ◌∙◌, arith, append-nil, refl}
+use Rattle.std.proofs.Common.{rules, ◌≡◌, ℕ, ◌+◌, ◌-◌, ◌*◌, ◌/◌, ◌≤◌, ◌<◌, suc, nat_eq, true, List, ◌++◌, map, ap, sym, ◌∙◌, arith, append-nil}
 use Rattle.std.specs.Prelude.{flat_map}
 use Rattle.std.specs.List.{range_with_len, list_any}
 use Rattle.std.specs.Int.{div_ceil}

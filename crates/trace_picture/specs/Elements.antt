@@ -59,14 +59,15 @@ abbrev pub count_before : ℕ → List Ticks → ℕ
 count_before t [] = 0
 count_before t (first ∷ rest) = (if nat_lt first.0 t then 1 else 0) + count_before t rest
 
--- The end before which at most 5,000 elements begin, and with whose tick there are more.
-pub record IsExcess (shown : Span) (begun : List Ticks) (e : Excess) : Type 0 where
+-- The end before which at most 5,000 elements begin, and with whose tick there are more; and the number of all shapes.
+pub record IsExcess (shown : Span) (begun : List Ticks) (all : ℕ) (e : Excess) : Type 0 where
+  pub shapes : e.shapes ≡ all
   pub from : e.from ≡ shown.from
   pub elements : e.elements ≡ count_before e.until.0 begun
   pub few : e.elements ≤ 5000
   pub many : 5000 < count_before (e.until.0 + 1) begun
 
--- why a picture with these elements is not drawn
-abbrev pub IsCrowded : Span → List Ticks → PictureFault → Type 0
-IsCrowded shown begun Memory = Unit {0}
-IsCrowded shown begun (Crowded e) = IsExcess shown begun e
+-- why a picture with these elements, and so many shapes in the whole trace, is not drawn
+abbrev pub IsCrowded : Span → List Ticks → ℕ → PictureFault → Type 0
+IsCrowded shown begun all Memory = Unit {0}
+IsCrowded shown begun all (Crowded e) = IsExcess shown begun all e

@@ -10,6 +10,7 @@ pub mod Rows
 pub mod Titles
 pub mod Windows
 pub mod FlagWords
+pub mod MessageWords
 pub mod Elements
 pub mod Shapes
 pub mod Added

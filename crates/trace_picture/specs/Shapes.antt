@@ -1,8 +1,9 @@
--- The text of the shapes of a picture: first the windows and the bars, then what stands on them, and the words beside flags.
+-- The text of the shapes of a picture: first the windows and the bars, then what stands on them, and the words beside messages and flags.
 use Rattle.std.specs.Prelude.{ℕ, List, [], ◌++◌, flat_map, Option, is_some}
 use Rattle.trace_picture.specs.Bars.{mode_text}
 use Rattle.trace_picture.specs.FlagWords.{words_text}
 use Rattle.trace_picture.specs.Marks.{flag_text, message_text, report_text}
+use Rattle.trace_picture.specs.MessageWords.{message_words}
 use Rattle.trace_picture.specs.Titles.{heading, heading_text}
 use Rattle.trace_picture.specs.Windows.{stay_text, windows_text}
 use Rattle.trace_picture.specs.declared.axis.Axis.{Axis}
@@ -35,7 +36,8 @@ abbrev pub shapes_text : Drawing → List ℕ
 shapes_text d =
     windows_text d.axis d.rows d.windows
     ++ (bars_text d.axis d.lanes d.rows d.windows d.shapes.items
-    ++ (marks_text d.axis d.lanes d.rows d.shapes.items ++ words_text d.axis d.rows d.shapes.items))
+    ++ (marks_text d.axis d.lanes d.rows d.shapes.items
+    ++ (message_words d.axis d.rows d.shapes.items ++ words_text d.axis d.rows d.shapes.items)))
 
 -- what a picture of the trace of this name shows: its title, its windows and its shapes
 abbrev pub picture_text : List ℕ → Drawing → List ℕ

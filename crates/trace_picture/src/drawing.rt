@@ -12,6 +12,7 @@ use crate::flag_words::draw_flag_words;
 use crate::frame::{draw_axis, draw_heading, draw_legend, draw_names};
 use crate::length::Length;
 use crate::marks::{draw_flag, draw_message, draw_report};
+use crate::message_words::draw_message_words;
 use crate::page::Page;
 use crate::rows::Rows;
 use crate::shape::Shape;
@@ -133,7 +134,7 @@ impl Drawing {
     }
 
     /// Draws the shapes: first the windows and the bars, then what stands on them, and the words
-    /// beside flags.
+    /// beside messages and flags.
     fn draw_shapes(&self, page: &mut Page) -> Result<(), AllocError>
         ensures { OnOk result
             (string_bytes page.new.text
@@ -142,6 +143,13 @@ impl Drawing {
         draw_windows(page, self.alloc, self.axis, &self.rows, &self.windows)?;
         self.draw_bars(page)?;
         self.draw_marks(page)?;
+        draw_message_words(
+            page,
+            self.alloc,
+            self.axis,
+            &self.rows,
+            self.shapes.as_slice(),
+        )?;
         draw_flag_words(page, self.axis, &self.rows, self.shapes.as_slice())
     }
 

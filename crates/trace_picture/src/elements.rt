@@ -152,11 +152,11 @@ fn latest(begun: &[Ticks]) -> u64
     latest
 }
 
-/// The last tick before which there are not too many elements.
+/// The last tick before which there are not too many elements. `shapes` is the number of all shapes.
 #[tactic(auto, using(crate::proofs::Counts::none))]
-pub fn excess_of(shown: Span, begun: &[Ticks]) -> Excess
+pub fn excess_of(shown: Span, begun: &[Ticks], shapes: u64) -> Excess
     requires { 5000 < length begun.now }
-    ensures { spec.IsExcess shown begun.now result }
+    ensures { spec.IsExcess shown begun.now shapes result }
 {
     let mut low: u64 = 0;
     let mut high = latest(begun);
@@ -169,6 +169,7 @@ pub fn excess_of(shown: Span, begun: &[Ticks]) -> Excess
         }
     }
     Excess {
+        shapes,
         from: shown.from,
         until: Ticks(low),
         elements: count_before(begun, low),

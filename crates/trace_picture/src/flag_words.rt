@@ -21,7 +21,7 @@ const ABOVE: Length = Length(100);
 const CHARACTER: Length = Length(75);
 
 /// The place where the word of a flag ends.
-fn word_end(axis: Axis, flag: &Flag) -> Length
+pub fn word_end(axis: Axis, flag: &Flag) -> Length
     ensures { result ≡ spec.word_end axis flag.now }
 {
     axis.place(flag.tick) + BESIDE + CHARACTER.times(flag.error.word().len() as u64)

@@ -15,6 +15,7 @@ mod frame;
 pub mod laws;
 mod length;
 mod marks;
+mod message_words;
 mod page;
 mod picture;
 mod rows;

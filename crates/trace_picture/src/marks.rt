@@ -99,7 +99,7 @@ fn end_of(from: Length, to: Length, fan: Length) -> Length
 }
 
 /// The place of the arrow of a message.
-fn message_place(axis: Axis, message: &Message) -> Length
+pub fn message_place(axis: Axis, message: &Message) -> Length
     ensures { result ≡ message_place axis message.now }
 {
     axis.place(message.tick)

@@ -1,6 +1,6 @@
 //! The events in the ticks of a picture.
 
-ghost use Rattle.std.specs.Prelude.{◌≡◌, ◌*◌, ◌-◌, ◌<◌, ◌≤◌, ◌++◌, ◌∷◌, [], vec_len, IfErr, IfOk, OnErr, OnOk, Some};
+ghost use Rattle.std.specs.Prelude.{◌≡◌, ◌*◌, ◌-◌, ◌≤◌, ◌++◌, ◌∷◌, [], IfErr, IfOk, None, OnErr, OnOk, Some, true};
 ghost use Rattle.apex_types.specs.Line.{subject_text};
 ghost use Rattle.trace_picture.specs.Elements.{IsCrowded, beginnings};
 ghost use Rattle.trace_picture.specs.Marked.{bar_of_stay, bars_of_stays, beside, flag_at, is_port, is_under_way, marks_in, marks_of_module, message_at, one_of, owner_in, report_at, way_from, way_in, way_to};
@@ -16,23 +16,28 @@ use crate::shape::{Flag, MOST_SHAPES, Message, Owner, Report, Shape, Stop, Way};
 use crate::width::Width;
 use apex_types::{ErrorKind, Event, EventKind, Name, Response, Subject, Ticks, Words, copied};
 use std::alloc::Global;
-use trace_stays::{Ended, Lanes, MemoryFull, ModeStay, ShownTicks, Stay};
+use trace_stays::{Ended, Lanes, MemoryFull, ModeStay, ShownTicks, Span, Stay};
 use trace_windows::Windows;
 
-/// A picture of some ticks of a trace. It keeps what these ticks show, and nothing else.
+/// A picture of some ticks of a trace. It keeps what these ticks show, and nothing else. Once it has
+/// too many shapes it keeps no more of them, and counts them alone.
 #[derive(Drop)]
 pub struct Picture {
     alloc: Global,
-    /// The ticks that the picture has.
+    /// The ticks that are shown.
     shown: ShownTicks,
     lanes: Lanes,
     shapes: Vec<Shape>,
     /// The way of the message that moved last.
     way: Option<Way>,
+    /// The number of shapes, also of those that are not kept.
+    count: u64,
+    /// The ticks up to the line that filled the picture, once there is one.
+    full: Option<ShownTicks>,
 }
 
 impl Picture {
-    ghost use Rattle.trace_picture.specs.Added.{IsAdded, IsLike, IsLikeButLanes, IsMarked, all_shapes};
+    ghost use Rattle.trace_picture.specs.Added.{AreKeptFrom, IsAdded, IsFilled, IsGathered, IsLike, IsLikeButLanes, IsMarked, IsSteady, IsTaken, all_counted, all_shapes, bars_left, first_if, kept_ticks};
     ghost use Rattle.trace_stays.specs.Shown.{shown_from, shown_ticks, with_read};
 
     /// A picture of the ticks from the first one on and before the second; with none, up to the tick
@@ -40,6 +45,8 @@ impl Picture {
     pub fn new(alloc: Global, from: Ticks, to: Option<Ticks>) -> Picture
         ensures shown { result.shown ≡ shown_from from to }
         ensures shapes { result.shapes.items ≡ [] }
+        ensures count { result.count ≡ 0 }
+        ensures full { result.full ≡ None }
     {
         Picture {
             alloc,
@@ -47,36 +54,35 @@ impl Picture {
             lanes: Lanes::new(alloc),
             shapes: Vec::new(alloc),
             way: None,
+            count: 0,
+            full: None,
         }
     }
 
-    /// Adds an event. The events come in the order of their lines. A picture that has too many shapes
-    /// already takes no more: nothing that follows changes that.
+    /// Adds an event. The events come in the order of their lines. All shapes are counted; a picture
+    /// that has too many already keeps no more of them.
     ///
     /// # Errors
     ///
     /// Memory ran out.
     pub fn add(&mut self, event: &Event) -> Result<(), MemoryFull>
-        ensures full { 5000 < vec_len self.old.shapes → self.new ≡ self.old }
-        ensures shown { vec_len self.old.shapes ≤ 5000
-            → self.new.shown ≡ with_read event.now.tick.0 self.old.shown }
-        ensures added { OnOk result
-            (vec_len self.old.shapes ≤ 5000 → IsAdded event.now self.old self.new) }
-    {
-        if self.shapes.len() > MOST_SHAPES {
-            return Ok(());
-        }
-        self.take(event)
-    }
-
-    /// Adds an event to what the picture has so far.
-    fn take(&mut self, event: &Event) -> Result<(), MemoryFull>
         ensures shown { self.new.shown ≡ with_read event.now.tick.0 self.old.shown }
         ensures added { OnOk result (IsAdded event.now self.old self.new) }
     {
         if !self.shown.read(event.tick) {
             return Ok(());
         }
+        let before = self.shapes.len();
+        self.take(event)?;
+        self.gather(before)?;
+        Ok(())
+    }
+
+    /// Keeps all shapes of an event whose tick stands before the end of the ticks.
+    fn take(&mut self, event: &Event) -> Result<(), MemoryFull>
+        ensures taken { OnOk result (IsTaken event.now self.old self.new) }
+        ensures others { IsSteady self.old self.new }
+    {
         let mut ended = Vec::new(self.alloc);
         self.lanes.follow(event, &mut ended)?;
         self.keep_stays(ended.as_slice())?;
@@ -87,11 +93,67 @@ impl Picture {
         Ok(())
     }
 
+    /// Counts the shapes behind the first ones, and lets go of them if the picture is full.
+    fn gather(&mut self, before: usize) -> Result<(), MemoryFull>
+        ensures gathered { OnOk result (IsGathered before self.old self.new) }
+        ensures shown { self.new.shown ≡ self.old.shown }
+        ensures lanes { self.new.lanes ≡ self.old.lanes }
+        ensures way { self.new.way ≡ self.old.way }
+    {
+        let more = self.shapes.len().saturating_sub(before);
+        self.count = self.count.saturating_add(more as u64);
+        self.settle(before)
+    }
+
+    /// Lets go of the shapes behind the first ones if the picture is full already. Otherwise it is full
+    /// if it has too many now.
+    fn settle(&mut self, before: usize) -> Result<(), MemoryFull>
+        ensures settled { OnOk result (AreKeptFrom self.old.full before self.old self.new) }
+        ensures shown { self.new.shown ≡ self.old.shown }
+        ensures lanes { self.new.lanes ≡ self.old.lanes }
+        ensures way { self.new.way ≡ self.old.way }
+        ensures count { self.new.count ≡ self.old.count }
+    {
+        match self.full {
+            Some(_) => {
+                self.shapes.truncate(before);
+                Ok(())
+            }
+            None if self.shapes.len() <= MOST_SHAPES => Ok(()),
+            None => self.fill(),
+        }
+    }
+
+    /// Keeps the bars of the stays that are not over. The picture is full.
+    fn fill(&mut self) -> Result<(), MemoryFull>
+        ensures filled { OnOk result (IsFilled true self.old.shapes.items self.new) }
+        ensures shown { self.new.shown ≡ self.old.shown }
+        ensures lanes { self.new.lanes ≡ self.old.lanes }
+        ensures way { self.new.way ≡ self.old.way }
+        ensures count { self.new.count ≡ self.old.count }
+    {
+        let until = self.shown.span().until;
+        self.keep_rest(until)?;
+        self.full = Some(self.shown);
+        Ok(())
+    }
+
+    /// The ticks that are shown or, once the picture is full, those up to the line that filled it.
+    fn span(&self) -> Span
+        ensures value { result ≡ kept_ticks self.now }
+        ensures in_order { result.from.0 ≤ result.until.0 }
+    {
+        match self.full {
+            Some(end) => end.span(),
+            None => self.shown.span(),
+        }
+    }
+
     /// The tick before which the picture ends, if no line follows.
     pub fn until(&self) -> Ticks
-        ensures { result ≡ (shown_ticks self.now.shown).until }
+        ensures { result ≡ (kept_ticks self.now).until }
     {
-        self.shown.span().until
+        self.span().until
     }
 
     /// The picture as it is drawn, so wide, with these windows up to its end, if they are known. No
@@ -104,17 +166,17 @@ impl Picture {
         ensures windows { IfOk result (λ drawing. drawing.windows ≡ windows) }
         ensures wide { IfOk result (λ drawing. drawing.axis.long ≡ width.pixels * 10 - 1800) }
         ensures refused { IfErr result
-            (IsCrowded (shown_ticks self.shown)
-            (beginnings (shown_ticks self.shown) windows (all_shapes self))) }
-        ensures span { IfOk result (λ drawing. drawing.axis.span ≡ shown_ticks self.shown) }
+            (IsCrowded (kept_ticks self)
+            (beginnings (kept_ticks self) windows (all_shapes self)) (all_counted self)) }
+        ensures span { IfOk result (λ drawing. drawing.axis.span ≡ kept_ticks self) }
         ensures lanes { IfOk result (λ drawing. drawing.lanes ≡ self.lanes) }
         ensures shapes { IfOk result (λ drawing. drawing.shapes.items ≡ all_shapes self) }
     {
-        let span = self.shown.span();
-        self.keep_rest(span.until)?;
+        let span = self.span();
+        let count = self.end()?;
         let begun = beginnings(self.alloc, span, &windows, self.shapes.as_slice())?;
         if begun.len() > MOST_SHAPES {
-            return Err(PictureFault::Crowded(excess_of(span, begun.as_slice())));
+            return Err(PictureFault::Crowded(excess_of(span, begun.as_slice(), count)));
         }
         let rows = Rows::new(self.alloc, &self.lanes, &self.shapes, windows.is_some())?;
         Ok(Drawing {
@@ -131,10 +193,38 @@ impl Picture {
         })
     }
 
-    /// Keeps the bars of the stays that end with the picture.
+    /// Keeps the bars of the stays that end with the trace, unless the picture is full. Returns how many
+    /// shapes the whole trace has.
+    fn end(&mut self) -> Result<u64, MemoryFull>
+        ensures count { IfOk result (λ count. count ≡ all_counted self.old) }
+        ensures kept { OnOk result (self.new.shapes.items ≡ all_shapes self.old) }
+        ensures others { IsLike self.old self.new }
+    {
+        let before = self.shapes.len();
+        let until = self.shown.span().until;
+        self.keep_rest(until)?;
+        let more = self.shapes.len().saturating_sub(before);
+        self.leave(before);
+        Ok(self.count.saturating_add(more as u64))
+    }
+
+    /// Lets go of the shapes behind the first ones if the picture is full.
+    fn leave(&mut self, before: usize)
+        ensures shapes { self.new.shapes.items
+            ≡ first_if self.old.full before self.old.shapes.items }
+        ensures others { IsLike self.old self.new }
+    {
+        match self.full {
+            Some(_) => self.shapes.truncate(before),
+            None => {}
+        }
+    }
+
+    /// Keeps the bars of the stays that are not over.
     fn keep_rest(&mut self, until: Ticks) -> Result<(), MemoryFull>
         requires { until ≡ (shown_ticks self.now.shown).until }
-        ensures kept { OnOk result (self.new.shapes.items ≡ all_shapes self.old) }
+        ensures kept { OnOk result
+            (self.new.shapes.items ≡ self.old.shapes.items ++ bars_left self.old) }
         ensures others { IsLike self.old self.new }
     {
         let mut ended = Vec::new(self.alloc);
@@ -192,7 +282,7 @@ impl Picture {
 
     /// Keeps what an event of these ticks shows beside states and modes.
     fn mark(&mut self, event: &Event) -> Result<(), MemoryFull>
-        ensures shown { self.new.shown ≡ self.old.shown }
+        ensures others { IsSteady self.old self.new }
         ensures marked { OnOk result (IsMarked event.now self.old self.new) }
     {
         match &event.partition {
@@ -203,7 +293,7 @@ impl Picture {
 
     /// Keeps what an event of the partition with this name shows.
     fn mark_in(&mut self, name: &Name, kind: &EventKind, tick: Ticks) -> Result<(), MemoryFull>
-        ensures shown { self.new.shown ≡ self.old.shown }
+        ensures others { IsSteady self.old self.new }
         ensures kept { OnOk result (AreKept self.old.lanes self.new.lanes) }
         ensures marks { OnOk result
             (self.new.shapes.items
@@ -301,7 +391,7 @@ impl Picture {
             ++ one_of (process_at partition.now (subject_text who.now) self.new.lanes)
             (report_at tick.0 words.now)) }
         ensures way { self.new.way ≡ self.old.way }
-        ensures shown { self.new.shown ≡ self.old.shown }
+        ensures others { IsSteady self.old self.new }
     {
         let process = self.lanes.process_place(partition, who)?;
         self.keep(Shape::Report(Report {
@@ -324,7 +414,7 @@ impl Picture {
             ≡ self.old.shapes.items ++ message_at tick.0 self.old.way to lost words.now ∷ []) }
         ensures way { self.new.way ≡ Some (way_to tick.0 self.old.way) }
         ensures lanes { self.new.lanes ≡ self.old.lanes }
-        ensures shown { self.new.shown ≡ self.old.shown }
+        ensures others { IsSteady self.old self.new }
     {
         let Way { from, beside, .. } = self.take_way(tick);
         self.keep(Shape::Message(Message {
@@ -343,7 +433,7 @@ impl Picture {
         ensures way { self.new.way ≡ Some (way_to tick.0 self.old.way) }
         ensures shapes { self.new.shapes ≡ self.old.shapes }
         ensures lanes { self.new.lanes ≡ self.old.lanes }
-        ensures shown { self.new.shown ≡ self.old.shown }
+        ensures others { IsSteady self.old self.new }
     {
         let before = self.way;
         self.way = Some(way_to(tick, &before));

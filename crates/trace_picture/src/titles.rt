@@ -93,8 +93,9 @@ fn words_text(alloc: Global, words: &Words) -> Result<String, AllocError>
     Ok(text)
 }
 
+/// Appends the words of a message, a space before each.
 #[tactic(auto, using(std::proofs::lemmas::List::drop_more))]
-fn push_words(text: &mut String, words: &[i64]) -> Result<(), AllocError>
+pub fn push_words(text: &mut String, words: &[i64]) -> Result<(), AllocError>
     ensures { OnOk result (string_bytes text.new ≡ string_bytes text.old ++ words_text words.now) }
 {
     for word in words {

@@ -300,7 +300,7 @@ unread_in texts ran name shown text before after (Late number s) opens is same h
     late_in (Some files) name None opens h = absurd opens
     late_in (Some files) name (Some bytes) opens h = (bytes, opens, h)
 unread_in texts ran name shown text before after TooMany opens is same h = same
-unread_in texts ran name shown text before after (Crowded from until elements) opens is same h = same
+unread_in texts ran name shown text before after (Crowded shapes from until elements) opens is same h = same
 unread_in texts ran name shown text before after (Table fault s) opens is same h = absurd h
 unread_in texts ran name shown text before after (Foreign partition) opens is same h = same
 unread_in texts ran name shown text before after Memory opens is same h = same

@@ -25,5 +25,5 @@ of_stream called stream.Memory = Memory
 abbrev pub of_view : ViewFault → Refusal
 of_view view.Memory = Memory
 of_view view.TooMany = TooMany
-of_view (view.Crowded excess) = Crowded excess.from.0 excess.until.0 excess.elements
+of_view (view.Crowded excess) = Crowded excess.shapes excess.from.0 excess.until.0 excess.elements
 of_view (view.Foreign partition) = Foreign partition

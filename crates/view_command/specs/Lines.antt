@@ -16,12 +16,14 @@ line_of (Read trace) = codes "mbview: " ++ string_bytes trace ++ codes " cannot 
 line_of (Line number trace) = codes "mbview: line " ++ decimal number ++ codes " of " ++ string_bytes trace ++ codes " is no line of a trace"
 line_of (Late number trace) = codes "mbview: line " ++ decimal number ++ codes " of " ++ string_bytes trace ++ codes " is behind the last tick of the run"
 line_of TooMany = codes "mbview: the view would have too many windows; choose fewer ticks with --from and --to"
-line_of (Crowded from until elements) =
-    codes "mbview: from tick "
+line_of (Crowded shapes from until elements) =
+    codes "mbview: the picture would have "
+    ++ (decimal shapes
+    ++ (codes " bars, arrows, flags and marks; from tick "
     ++ (decimal from
-    ++ (codes " on the picture has "
+    ++ (codes " on it has "
     ++ (decimal elements
-    ++ (codes " elements before tick " ++ (decimal until ++ (codes ", and more than 5000 with it; end it there with --to " ++ decimal until))))))
+    ++ (codes " elements before tick " ++ (decimal until ++ (codes ", and more than 5000 with it; end it there with --to " ++ decimal until))))))))
 line_of (Table fault table) = codes "mbview: " ++ (string_bytes table ++ (codes " breaks rule " ++ (decimal (number_of fault) ++ codes " of a module table")))
 line_of (Foreign partition) = codes "mbview: the trace has a partition that the module table has not: " ++ partition
 line_of Memory = codes "mbview: there is too little memory"

@@ -30,8 +30,10 @@ pub enum Refusal {
     },
     /// The picture or the dump would have too many windows.
     TooMany,
-    /// From a tick on the picture has so many elements before another tick, and with that too many.
+    /// The picture would have so many bars, arrows, flags and marks. From a tick on it has so many
+    /// elements before another tick, and with that too many.
     Crowded {
+        shapes: u64,
         from: u64,
         until: u64,
         elements: usize,
@@ -72,13 +74,14 @@ impl fmt::Display for Refusal {
                 "mbview: the view would have too many windows; choose fewer ticks with --from and --to"
             ),
             Refusal::Crowded {
+                shapes,
                 from,
                 until,
                 elements,
             } => write!(
                 f,
-                "mbview: from tick {} on the picture has {} elements before tick {}, and more than 5000 with it; end it there with --to {}",
-                *from, *elements, *until, *until
+                "mbview: the picture would have {} bars, arrows, flags and marks; from tick {} on it has {} elements before tick {}, and more than 5000 with it; end it there with --to {}",
+                *shapes, *from, *elements, *until, *until
             ),
             Refusal::Table { fault, table } => write!(
                 f,

@@ -152,6 +152,7 @@ fn of_view(fault: ViewFault) -> Refusal
         ViewFault::Memory => Refusal::Memory,
         ViewFault::TooMany => Refusal::TooMany,
         ViewFault::Crowded(excess) => Refusal::Crowded {
+            shapes: excess.shapes,
             from: excess.from.0,
             until: excess.until.0,
             elements: excess.elements,

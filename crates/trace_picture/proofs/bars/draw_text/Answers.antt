@@ -1,4 +1,4 @@
-use Rattle.std.proofs.Common.{rules, ◌≡◌, ◌++◌, ◌∷◌, [], ap, ◌∙◌, string_bytes}
+use Rattle.std.proofs.Common.{rules, ◌≡◌, ◌++◌, ◌∷◌, [], string_bytes}
 use Rattle.trace_picture.specs.Element.{end_text, text_start}
 use Rattle.trace_picture.specs.Escaped.{escaped}
 use Rattle.trace_picture.specs.declared.element.Tag.TheVariants.{Text}
