@@ -43,7 +43,7 @@ same_text (x ∷ xs) = and_from (x == x) (same xs xs) (eq-eqb x x refl) (same_te
 of_some : {A : Type 0} {x y : A} → Some x ≡ Some y → x ≡ y
 of_some e = cc
 
-no_some : {A : Type 0} {x : A} → None ≡ Some x → ⊥
+pub no_some : {A : Type 0} {x : A} → None ≡ Some x → ⊥
 no_some e = cc
 
 found_step : {A : Type 0} (n : ℕ) (test : A → Bool) (x : A) (xs : List A) (o : Option ℕ) (k : ℕ) (b : Bool) → test x ≡ b → (if b then Some n else o) ≡ Some k
@@ -453,27 +453,27 @@ found_below name lanes place h = let x = found (has_name name) lanes place h in 
 
 -- ---- the stays that are over
 
-stays_two_at : (k : ℕ) (es fs : List Ended) → stays_at k (es ++ fs) ≡ stays_at k es ++ stays_at k fs
+pub stays_two_at : (k : ℕ) (es fs : List Ended) → stays_at k (es ++ fs) ≡ stays_at k es ++ stays_at k fs
 unfolding stays_at
 stays_two_at k [] fs = refl
 stays_two_at k (ended.State other stay ∷ es) fs = ap (λ (ss : List Stay). if_at (other == k) stay ++ ss) (stays_two_at k es fs) ∙ sym (append_assoc (if_at (other == k) stay) (stays_at k es) (stays_at k fs))
 stays_two_at k (ended.Mode other stay ∷ es) fs = stays_two_at k es fs
 
-stays_two : (o : Option ℕ) (es fs : List Ended) → stays_of o (es ++ fs) ≡ stays_of o es ++ stays_of o fs
+pub stays_two : (o : Option ℕ) (es fs : List Ended) → stays_of o (es ++ fs) ≡ stays_of o es ++ stays_of o fs
 stays_two None es fs = refl
 stays_two (Some k) es fs = stays_two_at k es fs
 
-one_over : (k : ℕ) (o : Option Stay) → stays_at k (state_over k o) ≡ and_one o
+pub one_over : (k : ℕ) (o : Option Stay) → stays_at k (state_over k o) ≡ and_one o
 unfolding stays_at
 one_over k None = refl
 one_over k (Some stay) = ap (λ (b : Bool). if_at b stay ++ []) (eq-eqb k k refl)
 
-none_over : (j k : ℕ) (o : Option Stay) → (j ≡ k → ⊥) → stays_at j (state_over k o) ≡ []
+pub none_over : (j k : ℕ) (o : Option Stay) → (j ≡ k → ⊥) → stays_at j (state_over k o) ≡ []
 unfolding stays_at
 none_over j k None apart = refl
 none_over j k (Some stay) apart = ap (λ (b : Bool). if_at b stay ++ []) (apart_eqb k j (λ e. apart (sym e)))
 
-no_modes_at : (j k : ℕ) (m : Option ModeStay) → stays_at j (mode_over k m) ≡ []
+pub no_modes_at : (j k : ℕ) (m : Option ModeStay) → stays_at j (mode_over k m) ≡ []
 unfolding stays_at
 no_modes_at j k None = refl
 no_modes_at j k (Some stay) = refl
@@ -483,28 +483,28 @@ no_modes None k m = refl
 no_modes (Some j) k m = no_modes_at j k m
 
 -- those of partitions
-modes_two_at : (k : ℕ) (es fs : List Ended) → mode_stays_at k (es ++ fs) ≡ mode_stays_at k es ++ mode_stays_at k fs
+pub modes_two_at : (k : ℕ) (es fs : List Ended) → mode_stays_at k (es ++ fs) ≡ mode_stays_at k es ++ mode_stays_at k fs
 unfolding mode_stays_at
 modes_two_at k [] fs = refl
 modes_two_at k (ended.State other stay ∷ es) fs = modes_two_at k es fs
 modes_two_at k (ended.Mode other stay ∷ es) fs =
     ap (λ (ss : List ModeStay). if_in (other == k) stay ++ ss) (modes_two_at k es fs) ∙ sym (append_assoc (if_in (other == k) stay) (mode_stays_at k es) (mode_stays_at k fs))
 
-modes_two : (o : Option ℕ) (es fs : List Ended) → mode_stays_of o (es ++ fs) ≡ mode_stays_of o es ++ mode_stays_of o fs
+pub modes_two : (o : Option ℕ) (es fs : List Ended) → mode_stays_of o (es ++ fs) ≡ mode_stays_of o es ++ mode_stays_of o fs
 modes_two None es fs = refl
 modes_two (Some k) es fs = modes_two_at k es fs
 
-one_mode : (k : ℕ) (o : Option ModeStay) → mode_stays_at k (mode_over k o) ≡ and_one o
+pub one_mode : (k : ℕ) (o : Option ModeStay) → mode_stays_at k (mode_over k o) ≡ and_one o
 unfolding mode_stays_at
 one_mode k None = refl
 one_mode k (Some stay) = ap (λ (b : Bool). if_in b stay ++ []) (eq-eqb k k refl)
 
-none_mode : (j k : ℕ) (o : Option ModeStay) → (j ≡ k → ⊥) → mode_stays_at j (mode_over k o) ≡ []
+pub none_mode : (j k : ℕ) (o : Option ModeStay) → (j ≡ k → ⊥) → mode_stays_at j (mode_over k o) ≡ []
 unfolding mode_stays_at
 none_mode j k None apart = refl
 none_mode j k (Some stay) apart = ap (λ (b : Bool). if_in b stay ++ []) (apart_eqb k j (λ e. apart (sym e)))
 
-no_states_at : (j k : ℕ) (o : Option Stay) → mode_stays_at j (state_over k o) ≡ []
+pub no_states_at : (j k : ℕ) (o : Option Stay) → mode_stays_at j (state_over k o) ≡ []
 unfolding mode_stays_at
 no_states_at j k None = refl
 no_states_at j k (Some stay) = refl
@@ -976,9 +976,9 @@ no_modes_with n p t (lane ∷ qs) j = by (lane.partition == p) (no_modes_with (n
         modes_two_at j (state_over n (stay_ended lane.watch.held None t)) (over_with (n + 1) p t qs)
         ∙ (ap (λ (ss : List ModeStay). ss ++ mode_stays_at j (over_with (n + 1) p t qs)) (no_states_at j n (stay_ended lane.watch.held None t)) ∙ rest)
 
-no_modes_in : (o : Option ℕ) (p t : ℕ) (qs : List ProcessLane) → mode_stays_of o (over_with 0 p t qs) ≡ []
-no_modes_in None p t qs = refl
-no_modes_in (Some j) p t qs = no_modes_with 0 p t qs j
+no_modes_in : (o : Option ℕ) (p t : ℕ) (lanes : List ProcessLane) → mode_stays_of o (over_with 0 p t lanes) ≡ []
+no_modes_in None p t lanes = refl
+no_modes_in (Some j) p t lanes = no_modes_with 0 p t lanes j
 
 gone_there : (p t partitions : ℕ) (qs : List ProcessLane) → AreThereIn (length qs) partitions (over_with 0 p t qs)
 gone_there p t partitions qs = (λ j past. none_past 0 p t qs j (omega (arith, past)), λ j past. no_modes_with 0 p t qs j)
