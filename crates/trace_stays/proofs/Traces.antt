@@ -2,7 +2,7 @@
 use Rattle.std.proofs.Common.{◌≡◌, ℕ, zero, suc, ◌+◌, ◌<◌, ◌≤◌, List, [], ◌∷◌, ◌++◌, length, Option, Some, None, refl, sym, ap, ◌∙◌, arith, append-nil, append_assoc}
 use Rattle.std.specs.Prelude.{slice_get}
 use Rattle.apex_types.specs.declared.event.Event.{Event}
-use Rattle.trace_stays.specs.Following.{AreInPlace, AreThere, HasFollowed, KeepsPlace, and_one, held_at, held_by, held_in, mode_at, mode_by, mode_held, mode_over, mode_stay_over, mode_stays_at, mode_stays_of, modes_left, partition_at, place_from, process_at, process_in, state_over, states_left, stay_over, stays_at, stays_of}
+use Rattle.trace_stays.specs.Following.{AreThere, HasFollowed, KeepsPlace, and_one, held_at, held_by, held_in, mode_at, mode_by, mode_held, mode_over, mode_stay_over, mode_stays_at, mode_stays_of, modes_left, partition_at, place_from, process_at, process_in, state_over, states_left, stay_over, stays_at, stays_of}
 use Rattle.trace_stays.specs.Stays.{mode_ended, stay_left}
 use Rattle.trace_stays.specs.Traces.{AreStaysOf, mode_behind_all, modes_in, state_after, stays_in}
 use Rattle.trace_stays.specs.declared.lanes.Ended.{Ended}
