@@ -10,7 +10,7 @@ use Rattle.apex_types.specs.declared.event.EventKind.{EventKind}
 use Rattle.apex_types.specs.declared.event.EventKind.TheVariants as event
 use Rattle.apex_types.specs.declared.event.Subject.{Subject}
 use Rattle.engine_meaning.specs.Digits.{same}
-use Rattle.trace_stays.specs.Following.{AreKept, HasPartition, HasProcess, HasRead, and_one, change_at, entered, gone_from, has_name, held_at, held_by, held_in, if_at, is_of, is_process, mode_after, mode_at, mode_by, mode_held, mode_in, mode_over, mode_over_at, new_partition, new_process, over_at, over_with, partition_at, place_from, process_at, process_in, starts_again, state_behind, state_in, state_left, state_over, stay_in, stay_left_by, stay_over, stays_at, stays_of, turned}
+use Rattle.trace_stays.specs.Following.{AreInPlace, AreKept, AreThere, HasPartition, HasProcess, HasRead, KeepsPlace, and_one, change_at, entered, gone_from, has_name, held_at, held_by, held_in, if_at, if_in, is_of, is_process, mode_after, mode_at, mode_by, mode_held, mode_in, mode_over, mode_over_at, mode_stay_in, mode_stay_over, mode_stays_at, mode_stays_of, new_partition, new_process, over_at, over_with, partition_at, place_from, process_at, process_in, starts_again, state_behind, state_in, state_left, state_over, stay_in, stay_left_by, stay_over, stays_at, stays_of, turned}
 use Rattle.trace_stays.specs.Within.{AreWithin}
 use Rattle.trace_stays.specs.Stays.{held_behind, mode_behind, mode_ended, stay_ended}
 use Rattle.trace_stays.specs.declared.fault.MemoryFull.{MemoryFull}
@@ -43,7 +43,7 @@ same_text (x ∷ xs) = and_from (x == x) (same xs xs) (eq-eqb x x refl) (same_te
 of_some : {A : Type 0} {x y : A} → Some x ≡ Some y → x ≡ y
 of_some e = cc
 
-no_some : {A : Type 0} {x : A} → None ≡ Some x → ⊥
+pub no_some : {A : Type 0} {x : A} → None ≡ Some x → ⊥
 no_some e = cc
 
 found_step : {A : Type 0} (n : ℕ) (test : A → Bool) (x : A) (xs : List A) (o : Option ℕ) (k : ℕ) (b : Bool) → test x ≡ b → (if b then Some n else o) ≡ Some k
@@ -229,22 +229,27 @@ nobody_of count word lanes within = by (process_in (Some count) word lanes) refl
         let low = within k x.0 x.1 in
         absurd (omega (arith, here, low))
 
-longer_held : (ps : List PartitionLane) (qs : List ProcessLane) (name m w : List ℕ) → AreWithin (length ps) qs → partition_at name ps ≡ None
-    → held_at (process_in (partition_at m (ps ++ new_partition name ∷ [])) w qs) qs ≡ held_at (process_in (partition_at m ps) w qs) qs
-longer_held ps qs name m w within none = by (partition_at m ps) refl
+-- a partition more changes no process's place
+longer_place : (ps : List PartitionLane) (qs : List ProcessLane) (name m w : List ℕ) → AreWithin (length ps) qs → partition_at name ps ≡ None
+    → process_in (partition_at m (ps ++ new_partition name ∷ [])) w qs ≡ process_in (partition_at m ps) w qs
+longer_place ps qs name m w within none = by (partition_at m ps) refl
   where
-    last : (b : Bool) → held_at (process_in (if b then Some (0 + length ps) else None) w qs) qs ≡ None
+    last : (b : Bool) → process_in (if b then Some (0 + length ps) else None) w qs ≡ None
     last false = refl
     last true =
         let here : 0 + length ps ≡ length ps = omega arith in
-        ap (λ (k : ℕ). held_at (process_in (Some k) w qs) qs) here ∙ ap (λ (o : Option ℕ). held_at o qs) (nobody_of (length ps) w qs within)
+        ap (λ (k : ℕ). process_in (Some k) w qs) here ∙ nobody_of (length ps) w qs within
 
-    by : (o : Option ℕ) → partition_at m ps ≡ o → held_at (process_in (partition_at m (ps ++ new_partition name ∷ [])) w qs) qs ≡ held_at (process_in (partition_at m ps) w qs) qs
+    by : (o : Option ℕ) → partition_at m ps ≡ o → process_in (partition_at m (ps ++ new_partition name ∷ [])) w qs ≡ process_in (partition_at m ps) w qs
     by (Some k) e =
-        ap (λ (o : Option ℕ). held_at (process_in o w qs) qs) (kept_place 0 (has_name m) ps (new_partition name) k e ∙ sym e)
+        ap (λ (o : Option ℕ). process_in o w qs) (kept_place 0 (has_name m) ps (new_partition name) k e ∙ sym e)
     by None e =
-        ap (λ (o : Option ℕ). held_at (process_in o w qs) qs) (last_place 0 (has_name m) ps (new_partition name) e)
-        ∙ (last (has_name m (new_partition name)) ∙ ap (λ (o : Option ℕ). held_at (process_in o w qs) qs) (sym e))
+        ap (λ (o : Option ℕ). process_in o w qs) (last_place 0 (has_name m) ps (new_partition name) e)
+        ∙ (last (has_name m (new_partition name)) ∙ ap (λ (o : Option ℕ). process_in o w qs) (sym e))
+
+longer_held : (ps : List PartitionLane) (qs : List ProcessLane) (name m w : List ℕ) → AreWithin (length ps) qs → partition_at name ps ≡ None
+    → held_at (process_in (partition_at m (ps ++ new_partition name ∷ [])) w qs) qs ≡ held_at (process_in (partition_at m ps) w qs) qs
+longer_held ps qs name m w within none = ap (λ (o : Option ℕ). held_at o qs) (longer_place ps qs name m w within none)
 
 longer_mode : (ps : List PartitionLane) (name m : List ℕ) → mode_at (partition_at m (ps ++ new_partition name ∷ [])) (ps ++ new_partition name ∷ []) ≡ mode_at (partition_at m ps) ps
 longer_mode ps name m = by (partition_at m ps) refl
@@ -333,6 +338,101 @@ process_kept mid new partition who place (inr (none, more, last)) same_partition
 pub both_kept : (old mid new : Lanes) → AreKept old mid → AreKept mid new → AreKept old new
 both_kept old mid new a b = record { held = λ m w. b.held m w ∙ a.held m w; mode = λ m. b.mode m ∙ a.mode m }
 
+-- ---- each keeps its place
+
+same_place : (count : ℕ) (o p : Option ℕ) → p ≡ o → KeepsPlace count o p
+same_place count None None e = tt
+same_place count None (Some k) e = absurd (no_some (sym e))
+same_place count (Some k) p e = e
+
+-- one more at the end
+longer_keeps : {A : Type 0} (test : A → Bool) (xs : List A) (y : A) → KeepsPlace (length xs) (place_from 0 test xs) (place_from 0 test (xs ++ y ∷ []))
+longer_keeps {A = A} test xs y = by (place_from 0 test xs) refl
+  where
+    last : (b : Bool) → KeepsPlace (length xs) None (if b then Some (0 + length xs) else None)
+    last false = tt
+    last true = omega arith
+
+    by : (o : Option ℕ) → place_from 0 test xs ≡ o → KeepsPlace (length xs) (place_from 0 test xs) (place_from 0 test (xs ++ y ∷ []))
+    by (Some k) e = subst (λ (o : Option ℕ). KeepsPlace (length xs) o (place_from 0 test (xs ++ y ∷ []))) (sym e) (kept_place 0 test xs y k e)
+    by None e = subst (λ (o : Option ℕ). KeepsPlace (length xs) o (place_from 0 test (xs ++ y ∷ []))) (sym e)
+        (subst (KeepsPlace (length xs) None) (sym (last_place 0 test xs y e)) (last (test y)))
+
+longer_length : {A : Type 0} (xs : List A) (y : A) → length xs ≤ length (xs ++ y ∷ [])
+longer_length [] y = omega arith
+longer_length (x ∷ xs) y = let rest = longer_length xs y in omega (arith, rest)
+
+same_length : {A : Type 0} (xs ys : List A) → ys ≡ xs → length xs ≤ length ys
+same_length xs ys e = let all : length ys ≡ length xs = ap length e in omega (arith, all)
+
+-- nothing but what they hold is changed
+pub in_same_place : (old new : Lanes) → ((m w : List ℕ) → process_at m w new ≡ process_at m w old) → ((m : List ℕ) → partition_at m new.partitions.items ≡ partition_at m old.partitions.items)
+    → length new.processes.items ≡ length old.processes.items → length new.partitions.items ≡ length old.partitions.items → AreInPlace old new
+in_same_place old new process partition processes partitions = record {
+  process = λ m w. same_place (length old.processes.items) (process_at m w old) (process_at m w new) (process m w);
+  partition = λ m. same_place (length old.partitions.items) (partition_at m old.partitions.items) (partition_at m new.partitions.items) (partition m);
+  processes = omega (arith, processes);
+  partitions = omega (arith, partitions);
+}
+
+pub partition_in_place : (old new : Lanes) (name : List ℕ) (place : ℕ) → HasPartition name old.partitions.items new.partitions.items place → new.processes.items ≡ old.processes.items → AreInPlace old new
+partition_in_place old new name place (inl (same_ones, at)) same_processes = in_same_place old new
+    (λ m w. ap (λ (ps : List PartitionLane). process_in (partition_at m ps) w new.processes.items) same_ones ∙ ap (λ (qs : List ProcessLane). process_in (partition_at m old.partitions.items) w qs) same_processes)
+    (λ m. ap (partition_at m) same_ones) (ap length same_processes) (ap length same_ones)
+partition_in_place old new name place (inr (none, more, last)) same_processes = record {
+  process = λ m w. same_place (length old.processes.items) (process_at m w old) (process_at m w new)
+      (ap (λ (ps : List PartitionLane). process_in (partition_at m ps) w new.processes.items) more
+      ∙ (ap (λ (qs : List ProcessLane). process_in (partition_at m (old.partitions.items ++ new_partition name ∷ [])) w qs) same_processes
+      ∙ longer_place old.partitions.items old.processes.items name m w old.within none));
+  partition = λ m. subst (λ (ps : List PartitionLane). KeepsPlace (length old.partitions.items) (partition_at m old.partitions.items) (partition_at m ps)) (sym more)
+      (longer_keeps (has_name m) old.partitions.items (new_partition name));
+  processes = same_length old.processes.items new.processes.items same_processes;
+  partitions = subst (λ (ps : List PartitionLane). length old.partitions.items ≤ length ps) (sym more) (longer_length old.partitions.items (new_partition name));
+}
+
+more_keeps : (qs : List ProcessLane) (p : ℕ) (who : Subject) (o : Option ℕ) (w : List ℕ) → KeepsPlace (length qs) (process_in o w qs) (process_in o w (qs ++ new_process p who ∷ []))
+more_keeps qs p who None w = tt
+more_keeps qs p who (Some q) w = longer_keeps (is_process q w) qs (new_process p who)
+
+pub process_in_place : (mid new : Lanes) (partition : ℕ) (who : Subject) (place : ℕ) → HasProcess partition who mid.processes.items new.processes.items place → new.partitions.items ≡ mid.partitions.items → AreInPlace mid new
+process_in_place mid new partition who place (inl (same_ones, at)) same_partitions = in_same_place mid new
+    (λ m w. ap (λ (qs : List ProcessLane). process_in (partition_at m new.partitions.items) w qs) same_ones ∙ ap (λ (ps : List PartitionLane). process_in (partition_at m ps) w mid.processes.items) same_partitions)
+    (λ m. ap (partition_at m) same_partitions) (ap length same_ones) (ap length same_partitions)
+process_in_place mid new partition who place (inr (none, more, last)) same_partitions = record {
+  process = λ m w. subst (λ (qs : List ProcessLane). KeepsPlace (length mid.processes.items) (process_at m w mid) (process_in (partition_at m new.partitions.items) w qs)) (sym more)
+      (subst (λ (ps : List PartitionLane). KeepsPlace (length mid.processes.items) (process_at m w mid) (process_in (partition_at m ps) w (mid.processes.items ++ new_process partition who ∷ []))) (sym same_partitions)
+      (more_keeps mid.processes.items partition who (partition_at m mid.partitions.items) w));
+  partition = λ m. same_place (length mid.partitions.items) (partition_at m mid.partitions.items) (partition_at m new.partitions.items) (ap (partition_at m) same_partitions);
+  processes = subst (λ (qs : List ProcessLane). length mid.processes.items ≤ length qs) (sym more) (longer_length mid.processes.items (new_process partition who));
+  partitions = same_length mid.partitions.items new.partitions.items same_partitions;
+}
+
+keeps_both : (a b : ℕ) (o p q : Option ℕ) → a ≤ b → KeepsPlace a o p → KeepsPlace b p q → KeepsPlace a o q
+keeps_both a b (Some k) p q h first second = by p first second
+  where
+    by : (p : Option ℕ) → p ≡ Some k → KeepsPlace b p q → q ≡ Some k
+    by None e second = absurd (no_some e)
+    by (Some j) e second = second ∙ e
+keeps_both a b None (Some j) q h first second = by q second
+  where
+    by : (q : Option ℕ) → q ≡ Some j → KeepsPlace a None q
+    by None e = absurd (no_some e)
+    by (Some i) e = let here : i ≡ j = of_some e in omega (arith, here, first)
+keeps_both a b None None None h first second = tt
+keeps_both a b None None (Some i) h first second = omega (arith, h, second)
+
+pub both_in_place : (old mid new : Lanes) → AreInPlace old mid → AreInPlace mid new → AreInPlace old new
+both_in_place old mid new a b = record {
+  process = λ m w. keeps_both (length old.processes.items) (length mid.processes.items) (process_at m w old) (process_at m w mid) (process_at m w new) a.processes (a.process m w) (b.process m w);
+  partition = λ m. keeps_both (length old.partitions.items) (length mid.partitions.items) (partition_at m old.partitions.items) (partition_at m mid.partitions.items) (partition_at m new.partitions.items)
+      a.partitions (a.partition m) (b.partition m);
+  processes = let first = a.processes in let second = b.processes in omega (arith, first, second);
+  partitions = let first = a.partitions in let second = b.partitions in omega (arith, first, second);
+}
+
+pub in_own_place : (l : Lanes) → AreInPlace l l
+in_own_place l = in_same_place l l (λ m w. refl) (λ m. refl) refl refl
+
 -- a new process is of a partition that is there
 pub within_more : (count partition : ℕ) (who : Subject) (old new : List ProcessLane) (place : ℕ) → partition < count → HasProcess partition who old new place → AreWithin count old → AreWithin count new
 within_more count partition who old new place low (inl (same_ones, at)) within = subst (AreWithin count) (sym same_ones) within
@@ -353,31 +453,91 @@ found_below name lanes place h = let x = found (has_name name) lanes place h in 
 
 -- ---- the stays that are over
 
-stays_two_at : (k : ℕ) (es fs : List Ended) → stays_at k (es ++ fs) ≡ stays_at k es ++ stays_at k fs
+pub stays_two_at : (k : ℕ) (es fs : List Ended) → stays_at k (es ++ fs) ≡ stays_at k es ++ stays_at k fs
 unfolding stays_at
 stays_two_at k [] fs = refl
 stays_two_at k (ended.State other stay ∷ es) fs = ap (λ (ss : List Stay). if_at (other == k) stay ++ ss) (stays_two_at k es fs) ∙ sym (append_assoc (if_at (other == k) stay) (stays_at k es) (stays_at k fs))
 stays_two_at k (ended.Mode other stay ∷ es) fs = stays_two_at k es fs
 
-stays_two : (o : Option ℕ) (es fs : List Ended) → stays_of o (es ++ fs) ≡ stays_of o es ++ stays_of o fs
+pub stays_two : (o : Option ℕ) (es fs : List Ended) → stays_of o (es ++ fs) ≡ stays_of o es ++ stays_of o fs
 stays_two None es fs = refl
 stays_two (Some k) es fs = stays_two_at k es fs
 
-one_over : (k : ℕ) (o : Option Stay) → stays_at k (state_over k o) ≡ and_one o
+pub one_over : (k : ℕ) (o : Option Stay) → stays_at k (state_over k o) ≡ and_one o
 unfolding stays_at
 one_over k None = refl
 one_over k (Some stay) = ap (λ (b : Bool). if_at b stay ++ []) (eq-eqb k k refl)
 
-none_over : (j k : ℕ) (o : Option Stay) → (j ≡ k → ⊥) → stays_at j (state_over k o) ≡ []
+pub none_over : (j k : ℕ) (o : Option Stay) → (j ≡ k → ⊥) → stays_at j (state_over k o) ≡ []
 unfolding stays_at
 none_over j k None apart = refl
 none_over j k (Some stay) apart = ap (λ (b : Bool). if_at b stay ++ []) (apart_eqb k j (λ e. apart (sym e)))
 
-no_modes : (o : Option ℕ) (k : ℕ) (m : Option ModeStay) → stays_of o (mode_over k m) ≡ []
+pub no_modes_at : (j k : ℕ) (m : Option ModeStay) → stays_at j (mode_over k m) ≡ []
 unfolding stays_at
+no_modes_at j k None = refl
+no_modes_at j k (Some stay) = refl
+
+no_modes : (o : Option ℕ) (k : ℕ) (m : Option ModeStay) → stays_of o (mode_over k m) ≡ []
 no_modes None k m = refl
-no_modes (Some j) k None = refl
-no_modes (Some j) k (Some stay) = refl
+no_modes (Some j) k m = no_modes_at j k m
+
+-- those of partitions
+pub modes_two_at : (k : ℕ) (es fs : List Ended) → mode_stays_at k (es ++ fs) ≡ mode_stays_at k es ++ mode_stays_at k fs
+unfolding mode_stays_at
+modes_two_at k [] fs = refl
+modes_two_at k (ended.State other stay ∷ es) fs = modes_two_at k es fs
+modes_two_at k (ended.Mode other stay ∷ es) fs =
+    ap (λ (ss : List ModeStay). if_in (other == k) stay ++ ss) (modes_two_at k es fs) ∙ sym (append_assoc (if_in (other == k) stay) (mode_stays_at k es) (mode_stays_at k fs))
+
+pub modes_two : (o : Option ℕ) (es fs : List Ended) → mode_stays_of o (es ++ fs) ≡ mode_stays_of o es ++ mode_stays_of o fs
+modes_two None es fs = refl
+modes_two (Some k) es fs = modes_two_at k es fs
+
+pub one_mode : (k : ℕ) (o : Option ModeStay) → mode_stays_at k (mode_over k o) ≡ and_one o
+unfolding mode_stays_at
+one_mode k None = refl
+one_mode k (Some stay) = ap (λ (b : Bool). if_in b stay ++ []) (eq-eqb k k refl)
+
+pub none_mode : (j k : ℕ) (o : Option ModeStay) → (j ≡ k → ⊥) → mode_stays_at j (mode_over k o) ≡ []
+unfolding mode_stays_at
+none_mode j k None apart = refl
+none_mode j k (Some stay) apart = ap (λ (b : Bool). if_in b stay ++ []) (apart_eqb k j (λ e. apart (sym e)))
+
+pub no_states_at : (j k : ℕ) (o : Option Stay) → mode_stays_at j (state_over k o) ≡ []
+unfolding mode_stays_at
+no_states_at j k None = refl
+no_states_at j k (Some stay) = refl
+
+-- what is added has no stay at this place
+without_stays : (o : Option ℕ) (es more after : List Ended) → after ≡ es ++ more → stays_of o more ≡ [] → stays_of o after ≡ stays_of o es
+without_stays o es more after is none = ap (stays_of o) is ∙ (stays_two o es more ∙ (ap (λ (ss : List Stay). stays_of o es ++ ss) none ∙ append-nil (stays_of o es)))
+
+without_modes : (o : Option ℕ) (es more after : List Ended) → after ≡ es ++ more → mode_stays_of o more ≡ [] → mode_stays_of o after ≡ mode_stays_of o es
+without_modes o es more after is none = ap (mode_stays_of o) is ∙ (modes_two o es more ∙ (ap (λ (ss : List ModeStay). mode_stays_of o es ++ ss) none ∙ append-nil (mode_stays_of o es)))
+
+-- all are of those that are there
+abbrev pub AreThereIn : (processes partitions : ℕ) → List Ended → Type 0
+AreThereIn processes partitions es = ((j : ℕ) → processes ≤ j → stays_at j es ≡ []) × ((j : ℕ) → partitions ≤ j → mode_stays_at j es ≡ [])
+
+still_there : (old new : Lanes) (before more after : List Ended) → AreInPlace old new → after ≡ before ++ more → AreThereIn (length new.processes.items) (length new.partitions.items) more
+    → AreThere old before → AreThere new after
+still_there old new before more after places is here there =
+    let grown = places.processes in
+    let longer = places.partitions in
+    record {
+      states = λ j past. without_stays (Some j) before more after is (here.0 j past) ∙ there.states j (omega (arith, past, grown));
+      modes = λ j past. without_modes (Some j) before more after is (here.1 j past) ∙ there.modes j (omega (arith, past, longer));
+    }
+
+length_changed : {A : Type 0} (k : ℕ) (f : A → A) (xs : List A) → length (change_at k f xs) ≡ length xs
+length_changed k f [] = refl
+length_changed zero f (x ∷ xs) = refl
+length_changed (suc k) f (x ∷ xs) = ap suc (length_changed k f xs)
+
+length_mapped : {A : Type 0} (f : A → A) (xs : List A) → length (map f xs) ≡ length xs
+length_mapped f [] = refl
+length_mapped f (x ∷ xs) = ap suc (length_mapped f xs)
 
 -- ---- a process enters a state
 
@@ -471,11 +631,28 @@ module _ (mid : Lanes) (name word : List ℕ) (who : Subject) (s : ProcessState)
       by true e false f = other_over (place_of m w) (λ g. false≢true (sym f ∙ (ap (λ (v : List ℕ). same (subject_text who) v) ((one_process mid m w name word k g at).1 ∙ sym is) ∙ same_text (subject_text who))))
       by false e c f = other_over (place_of m w) (λ g. false≢true (sym e ∙ (ap (λ (n : List ℕ). same name n) ((one_process mid m w name word k g at).0) ∙ same_text name)))
 
-pub has_turned : (old mid new : Lanes) (name : List ℕ) (who : Subject) (s : ProcessState) (t k : ℕ) (before after : List Ended) → AreKept old mid → process_at name (subject_text who) mid ≡ Some k
+over_there : (k : ℕ) (s : ProcessState) (t partitions : ℕ) (qs : List ProcessLane) (o : Option ProcessLane) → slice_get qs k ≡ o → AreThereIn (length qs) partitions (over_at k (Some s) t o)
+unfolding stays_at mode_stays_at
+over_there k s t partitions qs None e = (λ j past. refl, λ j past. refl)
+over_there k s t partitions qs (Some lane) e =
+    let low = get_below qs k lane e in
+    (λ j past. none_over j k (stay_ended lane.watch.held (Some s) t) (λ same. omega (arith, low, past, same)), λ j past. no_states_at j k (stay_ended lane.watch.held (Some s) t))
+
+over_no_mode : (o : Option ℕ) (k : ℕ) (s : ProcessState) (t : ℕ) (p : Option ProcessLane) → mode_stays_of o (over_at k (Some s) t p) ≡ []
+unfolding mode_stays_at
+over_no_mode None k s t p = refl
+over_no_mode (Some j) k s t None = refl
+over_no_mode (Some j) k s t (Some lane) = no_states_at j k (stay_ended lane.watch.held (Some s) t)
+
+-- nothing comes behind
+and_none : {A : Type 0} (xs : List A) (o : Option A) → o ≡ None → xs ≡ xs ++ and_one o
+and_none xs o none = sym (append-nil xs) ∙ ap (λ p. xs ++ and_one p) (sym none)
+
+pub has_turned : (old mid new : Lanes) (name : List ℕ) (who : Subject) (s : ProcessState) (t k : ℕ) (before after : List Ended) → AreKept old mid → AreInPlace old mid → process_at name (subject_text who) mid ≡ Some k
     → new.partitions.items ≡ mid.partitions.items → new.processes.items ≡ change_at k (turned (Some s) t) mid.processes.items
     → after ≡ before ++ over_at k (Some s) t (slice_get mid.processes.items k)
     → HasRead (Some name) (event.State who s) t old new before after
-has_turned old mid new name who s t k before after kept at same_partitions same_processes more = record {
+has_turned old mid new name who s t k before after kept in_place at same_partitions same_processes more = record {
   held = λ m w. ap (λ (o : Option ℕ). held_at o new.processes.items) (place m w)
       ∙ (ap (λ (l : List ProcessLane). held_at (process_at m w mid) l) same_processes
       ∙ (state_turned mid name (subject_text who) who s t k refl at m w
@@ -487,13 +664,27 @@ has_turned old mid new name who s t k before after kept at same_partitions same_
       (ap (λ (o : Option ℕ). stays_of o (over_at k (Some s) t (slice_get mid.processes.items k))) (place m w)
       ∙ (over_turned mid name (subject_text who) who s t k refl at m w
       ∙ ap (λ (h : Option Held). and_one (stay_over (Some name) (event.State who s) t m w h)) (kept.held m w))));
+  left = λ m. without_modes (partition_at m new.partitions.items) before over after more (over_no_mode (partition_at m new.partitions.items) k s t (slice_get mid.processes.items k))
+      ∙ and_none (mode_stays_of (partition_at m new.partitions.items) before) (if same name m then None else None) (sym (if_alike (same name m) None));
+  places = places;
+  there = still_there old new before over after places more (subst (λ (n : ℕ). AreThereIn n (length new.partitions.items) over) (sym count)
+      (over_there k s t (length new.partitions.items) mid.processes.items (slice_get mid.processes.items k) refl));
 }
   where
+    over : List Ended
+    over = over_at k (Some s) t (slice_get mid.processes.items k)
+
+    count : length new.processes.items ≡ length mid.processes.items
+    count = ap length same_processes ∙ length_changed k (turned (Some s) t) mid.processes.items
+
     place : (m w : List ℕ) → process_at m w new ≡ process_at m w mid
     place m w =
         ap (λ (l : List PartitionLane). process_in (partition_at m l) w new.processes.items) same_partitions
         ∙ (ap (λ (l : List ProcessLane). process_in (partition_at m mid.partitions.items) w l) same_processes
         ∙ blind_turns k (Some s) t (partition_at m mid.partitions.items) w mid.processes.items)
+
+    places : AreInPlace old new
+    places = both_in_place old mid new in_place (in_same_place mid new place (λ m. ap (partition_at m) same_partitions) count (ap length same_partitions))
 
 pub within_turned : (count k : ℕ) (next : Option ProcessState) (t : ℕ) (lanes : List ProcessLane) → AreWithin count lanes → AreWithin count (change_at k (turned next t) lanes)
 within_turned count k next t lanes within place lane at =
@@ -549,12 +740,32 @@ if_same_then : {A : Type 0} (b : Bool) (x y : A) → y ≡ x → x ≡ (if b the
 if_same_then true x y e = sym e
 if_same_then false x y e = refl
 
-pub has_read_other : (old new : Lanes) (partition : Option (List ℕ)) (kind : EventKind) (t : ℕ) (es : List Ended) → AreKept old new → IsOther kind → HasRead partition kind t old new es es
-has_read_other old new partition kind t es kept other = record {
+other_mode_stay_in : (kind : EventKind) (t : ℕ) (h : Option HeldMode) → IsOther kind → mode_stay_in kind t h ≡ None
+other_mode_stay_in (event.State who s) t h other = absurd other
+other_mode_stay_in (event.Mode m) t h other = absurd other
+other_mode_stay_in (event.Return who service code) t h other = refl
+other_mode_stay_in (event.Error error who answer) t h other = refl
+other_mode_stay_in (event.Report who words) t h other = refl
+other_mode_stay_in (event.Move port words) t h other = refl
+other_mode_stay_in (event.Arrive port words) t h other = refl
+other_mode_stay_in (event.Lost port words) t h other = refl
+other_mode_stay_in (event.Out channel words) t h other = refl
+
+-- those that were over are of those that are there still
+same_there : (old new : Lanes) (es : List Ended) → AreInPlace old new → AreThere old es → AreThere new es
+unfolding stays_at mode_stays_at
+same_there old new es places there = still_there old new es [] es places (sym (append-nil es)) (λ j past. refl, λ j past. refl) there
+
+pub has_read_other : (old new : Lanes) (partition : Option (List ℕ)) (kind : EventKind) (t : ℕ) (es : List Ended) → AreKept old new → AreInPlace old new → IsOther kind → HasRead partition kind t old new es es
+has_read_other old new partition kind t es kept places other = record {
   held = λ m w. kept.held m w ∙ if_same_then (is_of m partition) (held_by m w old) (state_in kind t w (held_by m w old)) (other_state_in kind t w (held_by m w old) other);
   mode = λ m. kept.mode m ∙ if_same_then (is_of m partition) (mode_by m old) (mode_in kind t (mode_by m old)) (other_mode_in kind t (mode_by m old) other);
   ended = λ m w. sym (append-nil (stays_of (process_at m w new) es))
       ∙ ap (λ (o : Option Stay). stays_of (process_at m w new) es ++ and_one o) (if_same_then (is_of m partition) None (stay_in kind t w (held_by m w old)) (other_stay_in kind t w (held_by m w old) other));
+  left = λ m. and_none (mode_stays_of (partition_at m new.partitions.items) es) (mode_stay_over partition kind t m (mode_by m old))
+      (sym (if_same_then (is_of m partition) None (mode_stay_in kind t (mode_by m old)) (other_mode_stay_in kind t (mode_by m old) other)));
+  places = places;
+  there = same_there old new es places;
 }
 
 -- a line of the module
@@ -563,6 +774,9 @@ has_read_none l kind t es = record {
   held = λ m w. refl;
   mode = λ m. refl;
   ended = λ m w. sym (append-nil (stays_of (process_at m w l) es));
+  left = λ m. sym (append-nil (mode_stays_of (partition_at m l.partitions.items) es));
+  places = in_own_place l;
+  there = λ there. there;
 }
 
 -- ---- a partition enters a mode
@@ -706,6 +920,75 @@ mode_changed ps name m t p at n = by (same name n) refl
         at_other None f = refl
         at_other (Some q) f = ap mode_held (get_other p (entered m t) ps q (λ g. false≢true (sym e ∙ (ap (λ (v : List ℕ). same name v) (sym (one_partition ps name n p at (f ∙ ap Some g))) ∙ same_text name))))
 
+-- the mode that is over is that of this partition
+left_in : (ps : List PartitionLane) (name : List ℕ) (m : Mode) (t p : ℕ) → partition_at name ps ≡ Some p → (n : List ℕ)
+    → mode_stays_of (partition_at n ps) (mode_over_at p t (slice_get ps p)) ≡ and_one (if same name n then mode_ended (mode_at (partition_at n ps) ps) t else None)
+left_in ps name m t p at n = by (same name n) refl
+  where
+    lane : (x : PartitionLane) × (slice_get ps p ≡ Some x) × (has_name name x ≡ true)
+    lane = found (has_name name) ps p at
+
+    over : (o : Option ℕ) → mode_stays_of o (mode_over_at p t (slice_get ps p)) ≡ mode_stays_of o (mode_over p (mode_ended lane.0.watch.held t))
+    over o = ap (λ (x : Option PartitionLane). mode_stays_of o (mode_over_at p t x)) lane.1
+
+    by : (b : Bool) → same name n ≡ b → mode_stays_of (partition_at n ps) (mode_over_at p t (slice_get ps p)) ≡ and_one (if b then mode_ended (mode_at (partition_at n ps) ps) t else None)
+    by true e =
+        let named = same_is name n e in
+        let here : partition_at n ps ≡ Some p = ap (λ (v : List ℕ). partition_at v ps) (sym named) ∙ at in
+        over (partition_at n ps)
+        ∙ (ap (λ (o : Option ℕ). mode_stays_of o (mode_over p (mode_ended lane.0.watch.held t))) here
+        ∙ (one_mode p (mode_ended lane.0.watch.held t)
+        ∙ ap (λ (h : Option HeldMode). and_one (mode_ended h t)) (ap mode_held (sym lane.1) ∙ ap (λ (o : Option ℕ). mode_at o ps) (sym here))))
+    by false e = over (partition_at n ps) ∙ at_other (partition_at n ps) refl
+      where
+        at_other : (o : Option ℕ) → partition_at n ps ≡ o → mode_stays_of o (mode_over p (mode_ended lane.0.watch.held t)) ≡ []
+        at_other None f = refl
+        at_other (Some q) f =
+            none_mode q p (mode_ended lane.0.watch.held t) (λ g. false≢true (sym e ∙ (ap (λ (v : List ℕ). same name v) (sym (one_partition ps name n p at (f ∙ ap Some g))) ∙ same_text name)))
+
+mode_there : (p t processes : ℕ) (ps : List PartitionLane) (o : Option PartitionLane) → slice_get ps p ≡ o → AreThereIn processes (length ps) (mode_over_at p t o)
+unfolding stays_at mode_stays_at
+mode_there p t processes ps None e = (λ j past. refl, λ j past. refl)
+mode_there p t processes ps (Some lane) e =
+    let low = get_below ps p lane e in
+    (λ j past. no_modes_at j p (mode_ended lane.watch.held t), λ j past. none_mode j p (mode_ended lane.watch.held t) (λ same. omega (arith, low, past, same)))
+
+-- what is over with a start is of the processes that are there, and of no partition
+none_past : (n p t : ℕ) (qs : List ProcessLane) (j : ℕ) → n + length qs ≤ j → stays_at j (over_with n p t qs) ≡ []
+unfolding over_with stays_at
+none_past n p t [] j past = refl
+none_past n p t (lane ∷ qs) j past = by (lane.partition == p) (none_past (n + 1) p t qs j (omega (arith, past)))
+  where
+    by : (b : Bool) → stays_at j (over_with (n + 1) p t qs) ≡ [] → stays_at j ((if b then state_over n (stay_ended lane.watch.held None t) else []) ++ over_with (n + 1) p t qs) ≡ []
+    by false rest = rest
+    by true rest =
+        stays_two_at j (state_over n (stay_ended lane.watch.held None t)) (over_with (n + 1) p t qs)
+        ∙ (ap (λ (ss : List Stay). ss ++ stays_at j (over_with (n + 1) p t qs)) (none_over j n (stay_ended lane.watch.held None t) (λ e. omega (arith, past, e))) ∙ rest)
+
+no_modes_with : (n p t : ℕ) (qs : List ProcessLane) (j : ℕ) → mode_stays_at j (over_with n p t qs) ≡ []
+unfolding over_with mode_stays_at
+no_modes_with n p t [] j = refl
+no_modes_with n p t (lane ∷ qs) j = by (lane.partition == p) (no_modes_with (n + 1) p t qs j)
+  where
+    by : (b : Bool) → mode_stays_at j (over_with (n + 1) p t qs) ≡ [] → mode_stays_at j ((if b then state_over n (stay_ended lane.watch.held None t) else []) ++ over_with (n + 1) p t qs) ≡ []
+    by false rest = rest
+    by true rest =
+        modes_two_at j (state_over n (stay_ended lane.watch.held None t)) (over_with (n + 1) p t qs)
+        ∙ (ap (λ (ss : List ModeStay). ss ++ mode_stays_at j (over_with (n + 1) p t qs)) (no_states_at j n (stay_ended lane.watch.held None t)) ∙ rest)
+
+no_modes_in : (o : Option ℕ) (p t : ℕ) (lanes : List ProcessLane) → mode_stays_of o (over_with 0 p t lanes) ≡ []
+no_modes_in None p t lanes = refl
+no_modes_in (Some j) p t lanes = no_modes_with 0 p t lanes j
+
+gone_there : (p t partitions : ℕ) (qs : List ProcessLane) → AreThereIn (length qs) partitions (over_with 0 p t qs)
+gone_there p t partitions qs = (λ j past. none_past 0 p t qs j (omega (arith, past)), λ j past. no_modes_with 0 p t qs j)
+
+both_there : (processes partitions : ℕ) (es fs : List Ended) → AreThereIn processes partitions es → AreThereIn processes partitions fs → AreThereIn processes partitions (es ++ fs)
+both_there processes partitions es fs a b = (
+  λ j past. stays_two_at j es fs ∙ (ap (λ (ss : List Stay). ss ++ stays_at j fs) (a.0 j past) ∙ b.0 j past),
+  λ j past. modes_two_at j es fs ∙ (ap (λ (ss : List ModeStay). ss ++ mode_stays_at j fs) (a.1 j past) ∙ b.1 j past),
+)
+
 blind_entered : (p : ℕ) (m : Mode) (t : ℕ) (n : List ℕ) (ps : List PartitionLane) → partition_at n (change_at p (entered m t) ps) ≡ partition_at n ps
 blind_entered p m t n ps = change_place 0 (has_name n) (entered m t) p ps (λ lane. refl)
 
@@ -729,19 +1012,36 @@ stay_by mode.WarmStart true h t other = refl
 stay_by mode.WarmStart false h t other = refl
 
 -- NORMAL: the processes go on
-pub has_entered_normal : (old mid new : Lanes) (name : List ℕ) (t p : ℕ) (before after : List Ended) → AreKept old mid → partition_at name mid.partitions.items ≡ Some p
+pub has_entered_normal : (old mid new : Lanes) (name : List ℕ) (t p : ℕ) (before after : List Ended) → AreKept old mid → AreInPlace old mid → partition_at name mid.partitions.items ≡ Some p
     → new.partitions.items ≡ change_at p (entered mode.Normal t) mid.partitions.items → new.processes.items ≡ mid.processes.items
     → after ≡ before ++ mode_over_at p t (slice_get mid.partitions.items p)
     → HasRead (Some name) (event.Mode mode.Normal) t old new before after
-has_entered_normal old mid new name t p before after kept at changed same_processes more = record {
+has_entered_normal old mid new name t p before after kept in_place at changed same_processes more = record {
   held = λ n w. ap (λ (o : Option ℕ). held_at o new.processes.items) (place n w)
       ∙ (ap (λ (l : List ProcessLane). held_at (process_at n w mid) l) same_processes ∙ (kept.held n w ∙ if_alike (same name n) (held_by n w old)));
   mode = λ n. modes n;
   ended = λ n w. ap (stays_of (process_at n w new)) more
       ∙ (stays_two (process_at n w new) before (mode_over_at p t (slice_get mid.partitions.items p))
       ∙ ap (λ (ss : List Stay). stays_of (process_at n w new) before ++ ss) (only_modes (process_at n w new) (slice_get mid.partitions.items p) ∙ ap and_one (if_alike (same name n) None)));
+  left = λ n. ap (mode_stays_of (partition_at n new.partitions.items)) more
+      ∙ (modes_two (partition_at n new.partitions.items) before over
+      ∙ ap (λ (ss : List ModeStay). mode_stays_of (partition_at n new.partitions.items) before ++ ss)
+      (ap (λ (o : Option ℕ). mode_stays_of o over) (same_partition n)
+      ∙ (left_in mid.partitions.items name mode.Normal t p at n ∙ ap (λ (h : Option HeldMode). and_one (if same name n then mode_ended h t else None)) (kept.mode n))));
+  places = places;
+  there = still_there old new before over after places more (subst (λ (k : ℕ). AreThereIn (length new.processes.items) k over) (sym count)
+      (mode_there p t (length new.processes.items) mid.partitions.items (slice_get mid.partitions.items p) refl));
 }
   where
+    over : List Ended
+    over = mode_over_at p t (slice_get mid.partitions.items p)
+
+    count : length new.partitions.items ≡ length mid.partitions.items
+    count = ap length changed ∙ length_changed p (entered mode.Normal t) mid.partitions.items
+
+    same_partition : (n : List ℕ) → partition_at n new.partitions.items ≡ partition_at n mid.partitions.items
+    same_partition n = ap (partition_at n) changed ∙ blind_entered p mode.Normal t n mid.partitions.items
+
     only_modes : (o : Option ℕ) (lane : Option PartitionLane) → stays_of o (mode_over_at p t lane) ≡ []
     only_modes o None = no_modes o p None
     only_modes o (Some lane) = no_modes o p (mode_ended lane.watch.held t)
@@ -752,6 +1052,9 @@ has_entered_normal old mid new name t p before after kept at changed same_proces
         ∙ (ap (λ (o : Option ℕ). process_in o w new.processes.items) (blind_entered p mode.Normal t n mid.partitions.items)
         ∙ ap (λ (l : List ProcessLane). process_in (partition_at n mid.partitions.items) w l) same_processes)
 
+    places : AreInPlace old new
+    places = both_in_place old mid new in_place (in_same_place mid new place same_partition (ap length same_processes) count)
+
     modes : (n : List ℕ) → mode_by n new ≡ mode_after (Some name) (event.Mode mode.Normal) t n (mode_by n old)
     modes n =
         ap (λ (l : List PartitionLane). mode_at (partition_at n l) l) changed
@@ -760,11 +1063,11 @@ has_entered_normal old mid new name t p before after kept at changed same_proces
         ∙ ap (λ (h : Option HeldMode). mode_after (Some name) (event.Mode mode.Normal) t n h) (kept.mode n)))
 
 -- another mode: they are gone
-pub has_entered : (old mid new : Lanes) (name : List ℕ) (m : Mode) (t p : ℕ) (before after : List Ended) → (m ≡ mode.Normal → ⊥) → AreKept old mid → partition_at name mid.partitions.items ≡ Some p
+pub has_entered : (old mid new : Lanes) (name : List ℕ) (m : Mode) (t p : ℕ) (before after : List Ended) → (m ≡ mode.Normal → ⊥) → AreKept old mid → AreInPlace old mid → partition_at name mid.partitions.items ≡ Some p
     → new.partitions.items ≡ change_at p (entered m t) mid.partitions.items → new.processes.items ≡ map (gone_from p t) mid.processes.items
     → after ≡ (before ++ mode_over_at p t (slice_get mid.partitions.items p)) ++ over_with 0 p t mid.processes.items
     → HasRead (Some name) (event.Mode m) t old new before after
-has_entered old mid new name m t p before after other kept at changed left more = record {
+has_entered old mid new name m t p before after other kept in_place at changed left more = record {
   held = λ n w. ap (λ (o : Option ℕ). held_at o new.processes.items) (place n w)
       ∙ (ap (λ (l : List ProcessLane). held_at (process_at n w mid) l) left
       ∙ ((own_or_not mid name m t p at n w).0
@@ -781,8 +1084,33 @@ has_entered old mid new name m t p before after other kept at changed left more 
       ∙ ((own_or_not mid name m t p at n w).1
       ∙ (ap and_one (stay_by m (same name n) (held_by n w mid) t other)
       ∙ ap (λ (h : Option Held). and_one (if same name n then stay_left_by m h t else None)) (kept.held n w))))));
+  left = λ n. without_modes (partition_at n new.partitions.items) (before ++ over) gone after more (no_modes_in (partition_at n new.partitions.items) p t mid.processes.items)
+      ∙ (modes_two (partition_at n new.partitions.items) before over
+      ∙ ap (λ (ss : List ModeStay). mode_stays_of (partition_at n new.partitions.items) before ++ ss)
+      (ap (λ (o : Option ℕ). mode_stays_of o over) (same_partition n)
+      ∙ (left_in mid.partitions.items name m t p at n ∙ ap (λ (h : Option HeldMode). and_one (if same name n then mode_ended h t else None)) (kept.mode n))));
+  places = places;
+  there = still_there old new before (over ++ gone) after places (more ∙ append_assoc before over gone)
+      (both_there (length new.processes.items) (length new.partitions.items) over gone
+      (subst (λ (k : ℕ). AreThereIn (length new.processes.items) k over) (sym count) (mode_there p t (length new.processes.items) mid.partitions.items (slice_get mid.partitions.items p) refl))
+      (subst (λ (k : ℕ). AreThereIn k (length new.partitions.items) gone) (sym mapped) (gone_there p t (length new.partitions.items) mid.processes.items)));
 }
   where
+    over : List Ended
+    over = mode_over_at p t (slice_get mid.partitions.items p)
+
+    gone : List Ended
+    gone = over_with 0 p t mid.processes.items
+
+    count : length new.partitions.items ≡ length mid.partitions.items
+    count = ap length changed ∙ length_changed p (entered m t) mid.partitions.items
+
+    mapped : length new.processes.items ≡ length mid.processes.items
+    mapped = ap length left ∙ length_mapped (gone_from p t) mid.processes.items
+
+    same_partition : (n : List ℕ) → partition_at n new.partitions.items ≡ partition_at n mid.partitions.items
+    same_partition n = ap (partition_at n) changed ∙ blind_entered p m t n mid.partitions.items
+
     only_modes : (o : Option ℕ) (lane : Option PartitionLane) → stays_of o (mode_over_at p t lane) ≡ []
     only_modes o None = no_modes o p None
     only_modes o (Some lane) = no_modes o p (mode_ended lane.watch.held t)
@@ -798,17 +1126,15 @@ has_entered old mid new name m t p before after other kept at changed left more 
         ∙ (ap (λ (l : List ProcessLane). process_in (partition_at n mid.partitions.items) w l) left
         ∙ blind_map (partition_at n mid.partitions.items) w))
 
+    places : AreInPlace old new
+    places = both_in_place old mid new in_place (in_same_place mid new place same_partition mapped count)
+
     modes : (n : List ℕ) → mode_by n new ≡ mode_after (Some name) (event.Mode m) t n (mode_by n old)
     modes n =
         ap (λ (l : List PartitionLane). mode_at (partition_at n l) l) changed
         ∙ (ap (λ (o : Option ℕ). mode_at o (change_at p (entered m t) mid.partitions.items)) (blind_entered p m t n mid.partitions.items)
         ∙ (mode_changed mid.partitions.items name m t p at n
         ∙ ap (λ (h : Option HeldMode). mode_after (Some name) (event.Mode m) t n h) (kept.mode n)))
-
-length_changed : {A : Type 0} (k : ℕ) (f : A → A) (xs : List A) → length (change_at k f xs) ≡ length xs
-length_changed k f [] = refl
-length_changed zero f (x ∷ xs) = refl
-length_changed (suc k) f (x ∷ xs) = ap suc (length_changed k f xs)
 
 pub within_entered : (k : ℕ) (m : Mode) (t : ℕ) (ps new : List PartitionLane) (qs : List ProcessLane) → new ≡ change_at k (entered m t) ps → AreWithin (length ps) qs → AreWithin (length new) qs
 within_entered k m t ps new qs changed within = subst (λ (n : ℕ). AreWithin n qs) (sym (ap length changed ∙ length_changed k (entered m t) ps)) within
@@ -827,18 +1153,18 @@ pub within_gone : (count p t : ℕ) (qs new : List ProcessLane) → new ≡ map 
 within_gone count p t qs new left within = subst (AreWithin count) (sym left) (among_gone count p t qs within)
 
 -- as the code meets them
-pub has_gone_on : (old mid new : Lanes) (name : List ℕ) (m : Mode) (t p : ℕ) (before after : List Ended) → starts_again m ≡ false → AreKept old mid → partition_at name mid.partitions.items ≡ Some p
+pub has_gone_on : (old mid new : Lanes) (name : List ℕ) (m : Mode) (t p : ℕ) (before after : List Ended) → starts_again m ≡ false → AreKept old mid → AreInPlace old mid → partition_at name mid.partitions.items ≡ Some p
     → new.partitions.items ≡ change_at p (entered m t) mid.partitions.items → new.processes.items ≡ mid.processes.items
     → after ≡ before ++ mode_over_at p t (slice_get mid.partitions.items p)
     → HasRead (Some name) (event.Mode m) t old new before after
-has_gone_on old mid new name mode.Normal t p before after on kept at changed same_processes more = has_entered_normal old mid new name t p before after kept at changed same_processes more
-has_gone_on old mid new name mode.Idle t p before after on kept at changed same_processes more = absurd (false≢true (sym on))
-has_gone_on old mid new name mode.ColdStart t p before after on kept at changed same_processes more = absurd (false≢true (sym on))
-has_gone_on old mid new name mode.WarmStart t p before after on kept at changed same_processes more = absurd (false≢true (sym on))
+has_gone_on old mid new name mode.Normal t p before after on kept in_place at changed same_processes more = has_entered_normal old mid new name t p before after kept in_place at changed same_processes more
+has_gone_on old mid new name mode.Idle t p before after on kept in_place at changed same_processes more = absurd (false≢true (sym on))
+has_gone_on old mid new name mode.ColdStart t p before after on kept in_place at changed same_processes more = absurd (false≢true (sym on))
+has_gone_on old mid new name mode.WarmStart t p before after on kept in_place at changed same_processes more = absurd (false≢true (sym on))
 
 pub is_another : (m : Mode) → starts_again m ≡ true → m ≡ mode.Normal → ⊥
 is_another m h e = false≢true (sym (ap starts_again e) ∙ h)
 
 pub ruleset lanes_left = (within_entered, within_gone)
 
-pub ruleset lanes_found = (partition_found, partition_kept, process_found, process_kept, both_kept, within_longer, within_more, found_below)
+pub ruleset lanes_found = (partition_found, partition_kept, partition_in_place, process_found, process_kept, process_in_place, both_kept, both_in_place, within_longer, within_more, found_below)

@@ -1,5 +1,5 @@
 -- The states of processes and the modes of partitions behind the lines of a trace.
-use Rattle.std.specs.Prelude.{◌≡◌, ◌⊎◌, ℕ, zero, suc, ◌+◌, Bool, true, false, ◌==◌, ◌&&◌, if◌then◌else◌, List, [], ◌∷◌, ◌++◌, length, Option, Some, None, slice_get}
+use Rattle.std.specs.Prelude.{◌≡◌, ◌⊎◌, ℕ, zero, suc, ◌+◌, ◌≤◌, Bool, true, false, ◌==◌, ◌&&◌, if◌then◌else◌, List, [], ◌∷◌, ◌++◌, length, Option, Some, None, slice_get}
 use Rattle.apex_types.specs.Line.{subject_text}
 use Rattle.apex_types.specs.declared.codes.Mode.{Mode}
 use Rattle.apex_types.specs.declared.codes.Mode.TheVariants as mode
@@ -73,6 +73,14 @@ mode_in _ t held = held
 abbrev pub mode_after : Option (List ℕ) → EventKind → ℕ → List ℕ → Option HeldMode → Option HeldMode
 mode_after partition kind t name held = if is_of name partition then mode_in kind t held else held
 
+-- the stay in a mode that a line ends
+abbrev pub mode_stay_in : EventKind → ℕ → Option HeldMode → Option ModeStay
+mode_stay_in (event.Mode m) t held = mode_ended held t
+mode_stay_in _ t held = None
+
+abbrev pub mode_stay_over : Option (List ℕ) → EventKind → ℕ → List ℕ → Option HeldMode → Option ModeStay
+mode_stay_over partition kind t name held = if is_of name partition then mode_stay_in kind t held else None
+
 -- ---- where a process and a partition stand
 
 -- the place of the first of these that passes the test, where the first one has the place n
@@ -138,15 +146,51 @@ abbrev pub stays_of : Option ℕ → List Ended → List Stay
 stays_of None es = []
 stays_of (Some place) es = stays_at place es
 
-abbrev pub and_one : Option Stay → List Stay
+abbrev pub if_in : Bool → ModeStay → List ModeStay
+if_in true stay = stay ∷ []
+if_in false stay = []
+
+-- those of the partition at this place
+unfoldable pub mode_stays_at : ℕ → List Ended → List ModeStay
+mode_stays_at place [] = []
+mode_stays_at place (ended.State other stay ∷ es) = mode_stays_at place es
+mode_stays_at place (ended.Mode other stay ∷ es) = if_in (other == place) stay ++ mode_stays_at place es
+
+abbrev pub mode_stays_of : Option ℕ → List Ended → List ModeStay
+mode_stays_of None es = []
+mode_stays_of (Some place) es = mode_stays_at place es
+
+abbrev pub and_one : {A : Type 0} → Option A → List A
 and_one None = []
 and_one (Some stay) = stay ∷ []
 
--- Behind a line of this partition each process holds the state of the definition, and the stay that the line ends is the one that was added for it.
+-- each is of a process or of a partition that is there
+pub record AreThere (l : Lanes) (es : List Ended) : Type 0 where
+  pub states : (place : ℕ) → length l.processes.items ≤ place → stays_at place es ≡ []
+  pub modes : (place : ℕ) → length l.partitions.items ≤ place → mode_stays_at place es ≡ []
+
+-- who has a place keeps it, and who gets one stands behind all that had one
+abbrev pub KeepsPlace : ℕ → Option ℕ → Option ℕ → Type 0
+KeepsPlace count (Some place) new = new ≡ Some place
+KeepsPlace count None None = Unit {0}
+KeepsPlace count None (Some place) = count ≤ place
+
+pub record AreInPlace (old new : Lanes) : Type 0 where
+  pub process : (name word : List ℕ) → KeepsPlace (length old.processes.items) (process_at name word old) (process_at name word new)
+  pub partition : (name : List ℕ) → KeepsPlace (length old.partitions.items) (partition_at name old.partitions.items) (partition_at name new.partitions.items)
+  pub processes : length old.processes.items ≤ length new.processes.items
+  pub partitions : length old.partitions.items ≤ length new.partitions.items
+
+-- Behind a line of this partition each process holds the state of the definition, and the stay that the line ends is the one that was added for it. So it is with
+-- the modes. Each keeps its place.
 pub record HasRead (partition : Option (List ℕ)) (kind : EventKind) (t : ℕ) (old new : Lanes) (before after : List Ended) : Type 0 where
   pub held : (name word : List ℕ) → held_by name word new ≡ state_behind partition kind t name word (held_by name word old)
   pub mode : (name : List ℕ) → mode_by name new ≡ mode_after partition kind t name (mode_by name old)
   pub ended : (name word : List ℕ) → stays_of (process_at name word new) after ≡ stays_of (process_at name word new) before ++ and_one (stay_over partition kind t name word (held_by name word old))
+  pub left : (name : List ℕ)
+      → mode_stays_of (partition_at name new.partitions.items) after ≡ mode_stays_of (partition_at name new.partitions.items) before ++ and_one (mode_stay_over partition kind t name (mode_by name old))
+  pub places : AreInPlace old new
+  pub there : AreThere old before → AreThere new after
 
 abbrev pub HasFollowed : Event → Lanes → Lanes → List Ended → List Ended → Type 0
 HasFollowed e old new before after = HasRead e.partition e.kind e.tick.0 old new before after

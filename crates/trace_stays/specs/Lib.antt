@@ -2,4 +2,5 @@ pub mod Shown
 pub mod Stays
 pub mod Following
 pub mod Same
+pub mod Traces
 pub mod Within

@@ -3,7 +3,7 @@
 ghost use Rattle.std.specs.Prelude.{◌≡◌, ◌≤◌, ◌++◌, length, map, slice_get, IfOk, OnErr, OnOk, Some};
 ghost use Rattle.apex_types.specs.Line.{subject_text};
 ghost use Rattle.apex_types.specs.declared.event.EventKind.TheVariants as event;
-ghost use Rattle.trace_stays.specs.Following.{AreKept, HasFollowed, HasPartition, HasProcess, HasRead, change_at, entered, gone_from, mode_over, mode_over_at, modes_left, over_at, over_with, partition_at, process_at, process_in, starts_again, state_over, states_left, turned};
+ghost use Rattle.trace_stays.specs.Following.{AreInPlace, AreKept, HasFollowed, HasPartition, HasProcess, HasRead, change_at, entered, gone_from, mode_over, mode_over_at, modes_left, over_at, over_with, partition_at, process_at, process_in, starts_again, state_over, states_left, turned};
 ghost use Rattle.trace_stays.specs.Stays.{mode_ended, stay_ended};
 
 use crate::fault::MemoryFull;
@@ -23,6 +23,7 @@ impl Lanes {
         ensures place { IfOk result
             (λ place. partition_at name.now self.new.partitions.items ≡ Some place) }
         ensures kept { OnOk result (AreKept self.old self.new) }
+        ensures places { OnOk result (AreInPlace self.old self.new) }
         ensures processes { self.new.processes ≡ self.old.processes }
     {
         place_of_partition(&mut self.partitions, name)
@@ -38,6 +39,7 @@ impl Lanes {
         ensures place { IfOk result
             (λ place. process_at partition.now (subject_text who.now) self.new ≡ Some place) }
         ensures kept { OnOk result (AreKept self.old self.new) }
+        ensures places { OnOk result (AreInPlace self.old self.new) }
     {
         let place = self.partition_place(partition)?;
         place_of_process(&mut self.processes, place, who)

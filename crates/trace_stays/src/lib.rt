@@ -8,6 +8,7 @@
 mod fault;
 mod following;
 mod lanes;
+pub mod laws;
 mod same;
 mod shown;
 mod span;

@@ -6,3 +6,4 @@ pub mod MeasuredTimes
 pub mod Percentiles
 pub mod Rows
 pub mod Sums
+pub mod Reading

@@ -2,8 +2,6 @@
 use Rattle.std.specs.Prelude.{◌≡◌, ℕ, Bool, true, false, List, Option, Some, None}
 use Rattle.apex_types.specs.declared.event.EventKind.{EventKind}
 use Rattle.apex_types.specs.declared.event.EventKind.TheVariants as event
-use Rattle.trace_stays.specs.Following.{partition_at}
-use Rattle.trace_stays.specs.declared.lanes.PartitionLane.{PartitionLane}
 use Rattle.trace_view.specs.Counting.{route_of}
 use Rattle.trace_view.specs.Errors as errors
 use Rattle.trace_view.specs.Traffic as traffic
@@ -32,13 +30,12 @@ HasErrorIf false partition kind old new = new ≡ old
 
 -- ---- messages
 
--- The message of a line is counted at its port or channel, of the partition that has this name. A line without a message changes nothing.
-abbrev pub HasMessage : Option (List ℕ) → Option Route → EventKind → List PartitionLane → Traffic → Traffic → Type 0
-HasMessage None route kind lanes old new = new ≡ old
-HasMessage (Some name) None kind lanes old new = new ≡ old
-HasMessage (Some name) (Some route) kind lanes old new =
-    (place : ℕ) × (partition_at name lanes ≡ Some place) × traffic.IsCounted place route kind old.passages.items new.passages.items
+-- The message of a line is counted at its port or channel, of its partition. A line without a message changes nothing.
+abbrev pub HasMessage : Option (List ℕ) → Option Route → EventKind → Traffic → Traffic → Type 0
+HasMessage None route kind old new = new ≡ old
+HasMessage (Some name) None kind old new = new ≡ old
+HasMessage (Some name) (Some route) kind old new = traffic.IsCounted name route kind old.passages.items new.passages.items
 
-abbrev pub HasMessageIf : Bool → Option (List ℕ) → EventKind → List PartitionLane → Traffic → Traffic → Type 0
-HasMessageIf true partition kind lanes old new = HasMessage partition (route_of kind) kind lanes old new
-HasMessageIf false partition kind lanes old new = new ≡ old
+abbrev pub HasMessageIf : Bool → Option (List ℕ) → EventKind → Traffic → Traffic → Type 0
+HasMessageIf true partition kind old new = HasMessage partition (route_of kind) kind old new
+HasMessageIf false partition kind old new = new ≡ old

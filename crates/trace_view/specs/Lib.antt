@@ -10,3 +10,4 @@ pub mod Turns
 pub mod Percentiles
 pub mod Errors
 pub mod Records
+pub mod Whole

@@ -1,6 +1,6 @@
 //! The counts so far, by partitions, processes, ports and channels.
 
-ghost use Rattle.std.specs.Prelude.{◌≡◌, [], Some, IfOk, OnOk};
+ghost use Rattle.std.specs.Prelude.{◌≡◌, [], IfOk, OnOk};
 ghost use Rattle.trace_view.specs.Counted.{HasError, HasErrorIf, HasMessage, HasMessageIf};
 ghost use Rattle.trace_view.specs.Counting.{route_of};
 ghost use Rattle.trace_view.specs.Tallies.{has_tick};
@@ -8,7 +8,7 @@ ghost use Rattle.trace_view.specs.Traffic.{totals_from};
 
 use crate::errors::Errors;
 use crate::extent::{Extent, has_tick};
-use crate::messages::{Route, route_of};
+use crate::messages::route_of;
 use crate::modes::ModeTicks;
 use crate::report::{PartitionTotal, ProcessTotal, Report, RouteTotal};
 use crate::responses::Responses;
@@ -72,7 +72,7 @@ impl Counts {
             self.old.errors self.new.errors) }
         ensures messages { OnOk result
             (HasMessageIf (has_tick window event.now.tick.0) event.now.partition event.now.kind
-            self.new.lanes.partitions.items self.old.traffic self.new.traffic) }
+            self.old.traffic self.new.traffic) }
     {
         self.follow(event, window)?;
         if has_tick(window, event.tick) {
@@ -108,7 +108,7 @@ impl Counts {
         ensures extent { IfOk result (λ report. report.extent ≡ extent) }
         ensures routes { IfOk result
             (λ report. report.routes.items
-            ≡ totals_from 0 report.partitions.items self.traffic.passages.items) }
+            ≡ totals_from report.partitions.items self.traffic.passages.items) }
         ensures errors { IfOk result (λ report. report.errors ≡ self.errors.totals) }
     {
         self.finish_stays(extent.window)?;
@@ -251,7 +251,7 @@ impl Counts {
             (HasError event.now.partition event.now.kind self.old.errors self.new.errors) }
         ensures messages { OnOk result
             (HasMessage event.now.partition (route_of event.now.kind) event.now.kind
-            self.new.lanes.partitions.items self.old.traffic self.new.traffic) }
+            self.old.traffic self.new.traffic) }
     {
         self.count_error(event)?;
         self.count_own(event, told)
@@ -276,7 +276,7 @@ impl Counts {
         ensures errors { self.new.errors ≡ self.old.errors }
         ensures messages { OnOk result
             (HasMessage event.now.partition (route_of event.now.kind) event.now.kind
-            self.new.lanes.partitions.items self.old.traffic self.new.traffic) }
+            self.old.traffic self.new.traffic) }
     {
         let Some(name) = &event.partition else {
             return Ok(());
@@ -287,7 +287,7 @@ impl Counts {
             EventKind::Report(who, _) => self.report(name, who),
             EventKind::Mode(mode) => self.start(name, *mode, told),
             kind => match route_of(kind) {
-                Some(route) => self.pass(name, route, kind),
+                Some(route) => self.traffic.count(name, &route, kind),
                 None => Ok(()),
             },
         }
@@ -344,17 +344,6 @@ impl Counts {
         Ok(())
     }
 
-    /// Counts a message that passes.
-    fn pass(&mut self, partition: &Name, route: Route, kind: &EventKind) -> Result<(), MemoryFull>
-        ensures errors { self.new.errors ≡ self.old.errors }
-        ensures messages { OnOk result
-            (HasMessage (Some partition.now) (Some route) kind.now
-            self.new.lanes.partitions.items self.old.traffic self.new.traffic) }
-    {
-        let partition = self.lanes.partition_place(partition)?;
-        self.traffic.count(partition, &route, kind)
-    }
-
     fn partition_totals(&self) -> Result<Vec<PartitionTotal>, MemoryFull> {
         let mut totals = Vec::new(self.alloc);
         let counts = self.modes.iter().zip(&self.starts);
@@ -395,11 +384,11 @@ impl Counts {
     fn route_totals(&self, partitions: &[PartitionTotal]) -> Result<Vec<RouteTotal>, MemoryFull>
         ensures { IfOk result
             (λ totals.
-            totals.items ≡ totals_from 0 partitions.now self.now.traffic.passages.items) }
+            totals.items ≡ totals_from partitions.now self.now.traffic.passages.items) }
     {
         let mut totals = Vec::new(self.alloc);
-        for (place, partition) in partitions.iter().enumerate() {
-            self.traffic.add_totals(place, partition, &mut totals)?;
+        for partition in partitions {
+            self.traffic.add_totals(partition, &mut totals)?;
         }
         Ok(totals)
     }

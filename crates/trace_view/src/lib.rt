@@ -27,6 +27,7 @@ mod times;
 mod told;
 mod traffic;
 mod usage;
+mod whole;
 mod writing;
 
 pub use conditions::Conditions;
@@ -44,3 +45,4 @@ pub use summary::Summary;
 pub use tally::{Measured, Tally, Turn};
 pub use times::{Percentile, Spread, Times};
 pub use told::Told;
+pub use whole::summary_of;

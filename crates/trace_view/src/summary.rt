@@ -1,6 +1,6 @@
 //! Counts the events of a trace.
 
-ghost use Rattle.std.specs.Prelude.{◌≡◌, IfOk};
+ghost use Rattle.std.specs.Prelude.{◌≡◌, [], IfOk, OnOk};
 
 use crate::counts::Counts;
 use crate::extent::Extent;
@@ -25,8 +25,11 @@ pub struct Summary {
 }
 
 impl Summary {
+    ghost use Rattle.trace_view.specs.Counted.{HasErrorIf, HasMessageIf};
     ghost use Rattle.trace_view.specs.Extents.{closed, opened, with_line};
     ghost use Rattle.trace_view.specs.Starts.{told_behind, told_first};
+    ghost use Rattle.trace_view.specs.Tallies.{has_tick};
+    ghost use Rattle.trace_view.specs.Traffic.{totals_from};
 
     /// Nothing is counted yet. The ticks `from` and later will count: those before `to`, or, with
     /// `None`, those up to the last line. `shares` counts what the processor does in them.
@@ -35,6 +38,8 @@ impl Summary {
         ensures extent { result.extent ≡ opened from to }
         ensures told { result.told ≡ told_first }
         ensures shares { result.shares ≡ shares }
+        ensures errors { result.counts.errors.totals.items ≡ [] }
+        ensures messages { result.counts.traffic.passages.items ≡ [] }
     {
         Summary {
             to,
@@ -50,15 +55,24 @@ impl Summary {
     /// # Errors
     ///
     /// Memory ran out, or the line is of a partition that the module table has not.
+    #[tactic(auto, using(crate::proofs::Reading::passed_over))]
     pub fn count(&mut self, event: &Event) -> Result<(), SharesFault>
         ensures to { self.new.to ≡ self.old.to }
         ensures extent { self.new.extent ≡ with_line event.now.tick self.old.extent }
         ensures told { self.new.told ≡ told_behind event.now self.old.told }
+        ensures errors { OnOk result
+            (HasErrorIf (has_tick self.old.extent.window event.now.tick.0)
+            event.now.partition event.now.kind self.old.counts.errors
+            self.new.counts.errors) }
+        ensures messages { OnOk result
+            (HasMessageIf (has_tick self.old.extent.window event.now.tick.0)
+            event.now.partition event.now.kind self.old.counts.traffic
+            self.new.counts.traffic) }
     {
         let told = self.told;
+        let window = self.extent.window;
         self.told.read(event);
         self.extent.count(event.tick);
-        let window = self.extent.window;
         if event.tick.0 < window.until.0 {
             self.counts.count(event, window, &told)?;
             if let Some(shares) = &mut self.shares {
@@ -95,7 +109,11 @@ impl Summary {
     ///
     /// Memory ran out.
     pub fn finish(self) -> Result<Report, SharesFault>
-        ensures { IfOk result (λ report. report.extent ≡ closed self.to self.extent) }
+        ensures extent { IfOk result (λ report. report.extent ≡ closed self.to self.extent) }
+        ensures errors { IfOk result (λ report. report.errors ≡ self.counts.errors.totals) }
+        ensures routes { IfOk result
+            (λ report. report.routes.items
+            ≡ totals_from report.partitions.items self.counts.traffic.passages.items) }
     {
         let Summary {
             to,

@@ -5,26 +5,24 @@ ghost use Rattle.trace_view.specs.Traffic.{IsCounted, IsNoneOf, IsOf, totals_at}
 
 use crate::messages::{Messages, Route};
 use crate::report::{PartitionTotal, RouteTotal};
-use apex_types::EventKind;
+use apex_types::{EventKind, Name};
 use std::alloc::Global;
 use trace_stays::MemoryFull;
 
 /// The messages of a port or a channel of a partition.
 #[derive(Clone, Copy, Debug, PartialEq, Eq)]
 pub struct Passage {
-    /// The place of the partition.
-    pub partition: usize,
+    pub partition: Name,
     pub route: Route,
     pub messages: Messages,
 }
 
 impl Passage {
-    /// Returns true if these are the messages of this port or channel of the partition at this
-    /// place.
-    fn is_of(&self, partition: usize, route: &Route) -> bool
-        ensures { IsTrue result ↔ IsOf partition route.now self.now }
+    /// Returns true if these are the messages of this port or channel of this partition.
+    fn is_of(&self, partition: &Name, route: &Route) -> bool
+        ensures { IsTrue result ↔ IsOf partition.now route.now self.now }
     {
-        self.partition == partition && is_same(&self.route, route)
+        self.partition.as_bytes() == partition.as_bytes() && is_same(&self.route, route)
     }
 }
 
@@ -56,19 +54,19 @@ impl Traffic {
         }
     }
 
-    /// Counts the message of a line at this port or channel of the partition at this place.
+    /// Counts the message of a line at this port or channel of this partition.
     ///
     /// # Errors
     ///
     /// Memory ran out. Then nothing is counted.
     pub fn count(
         &mut self,
-        partition: usize,
+        partition: &Name,
         route: &Route,
         kind: &EventKind,
     ) -> Result<(), MemoryFull>
         ensures counted { OnOk result
-            (IsCounted partition route.now kind.now self.old.passages.items
+            (IsCounted partition.now route.now kind.now self.old.passages.items
             self.new.passages.items) }
         ensures kept { OnErr result (self.new.passages.items ≡ self.old.passages.items) }
     {
@@ -78,7 +76,7 @@ impl Traffic {
                 let mut messages = Messages::new();
                 messages.count(kind);
                 self.passages.push(Passage {
-                    partition,
+                    partition: *partition,
                     route: *route,
                     messages,
                 })?;
@@ -89,11 +87,12 @@ impl Traffic {
 
     /// The place where the messages of this port or channel are counted; `None` if they are not
     /// counted.
-    fn place_of(&self, partition: usize, route: &Route) -> Option<usize>
-        ensures { MatchOption result (IsNoneOf partition route.now self.now.passages.items)
+    fn place_of(&self, partition: &Name, route: &Route) -> Option<usize>
+        ensures { MatchOption result
+            (IsNoneOf partition.now route.now self.now.passages.items)
             (λ place. (one : Passage)
             × ((slice_get self.now.passages.items place ≡ Some one)
-            × IsOf partition route.now one)) }
+            × IsOf partition.now route.now one)) }
     {
         for (place, passage) in self.passages.iter().enumerate() {
             if passage.is_of(partition, route) {
@@ -103,7 +102,7 @@ impl Traffic {
         None
     }
 
-    /// Adds the totals of a partition, which is at this place.
+    /// Adds the totals of a partition.
     ///
     /// # Errors
     ///
@@ -111,16 +110,15 @@ impl Traffic {
     #[tactic(auto, using(std::proofs::lemmas::List::drop_more))]
     pub fn add_totals(
         &self,
-        place: usize,
         partition: &PartitionTotal,
         totals: &mut Vec<RouteTotal>,
     ) -> Result<(), MemoryFull>
         ensures { OnOk result
             (totals.new.items
-            ≡ totals.old.items ++ totals_at place partition.now self.now.passages.items) }
+            ≡ totals.old.items ++ totals_at partition.now self.now.passages.items) }
     {
         for passage in &self.passages {
-            if passage.partition == place {
+            if passage.partition.as_bytes() == partition.name.as_bytes() {
                 totals.push(RouteTotal {
                     partition: partition.name,
                     route: passage.route,

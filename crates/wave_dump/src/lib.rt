@@ -7,6 +7,7 @@
 mod change;
 mod dump;
 mod header;
+pub mod laws;
 mod pulse;
 mod text;
 mod variable;

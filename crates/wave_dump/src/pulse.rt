@@ -1,6 +1,6 @@
 //! The events of a single tick: messages, reports and errors.
 
-ghost use Rattle.std.specs.Prelude.{◌≡◌};
+ghost use Rattle.std.specs.Prelude.{◌≡◌, ◌↔◌, IsTrue};
 ghost use Rattle.wave_dump.specs.Names.{group_of, group_word, pulse_of};
 
 use apex_types::{ErrorKind, EventKind, Name, Subject};
@@ -77,6 +77,33 @@ impl Pulse {
             Pulse::Report(_) => Group::Reports,
             Pulse::Error(_) => Group::Errors,
         }
+    }
+}
+
+/// Returns true if both are pulses of one kind, port, channel or process.
+pub fn is_same_pulse(one: &Pulse, other: &Pulse) -> bool
+    ensures { IsTrue result ↔ (one.now ≡ other.now) }
+{
+    match (one, other) {
+        (Pulse::Move(one), Pulse::Move(other)) => one.as_bytes() == other.as_bytes(),
+        (Pulse::Arrive(one), Pulse::Arrive(other)) => one.as_bytes() == other.as_bytes(),
+        (Pulse::Lost(one), Pulse::Lost(other)) => one.as_bytes() == other.as_bytes(),
+        (Pulse::Out(one), Pulse::Out(other)) => one.as_bytes() == other.as_bytes(),
+        (Pulse::Report(one), Pulse::Report(other)) => is_same_process(one, other),
+        (Pulse::Error(one), Pulse::Error(other)) => *one == *other,
+        _ => false,
+    }
+}
+
+/// Returns true if both are the same process, INIT or the error handler.
+fn is_same_process(one: &Subject, other: &Subject) -> bool
+    ensures { IsTrue result ↔ (one.now ≡ other.now) }
+{
+    match (one, other) {
+        (Subject::Process(one), Subject::Process(other)) => one.as_bytes() == other.as_bytes(),
+        (Subject::Init, Subject::Init) => true,
+        (Subject::Handler, Subject::Handler) => true,
+        _ => false,
     }
 }
 

@@ -3,5 +3,5 @@ use Rattle.std.proofs.lemmas.List.Sorted.{IsNonDecreasingBy-from_sort_by_key}
 use Rattle.wave_dump.proofs.dump.in_order.Goals as goal
 
 -- src/dump.rt
-pub returns : goal.returns
-returns c = IsNonDecreasingBy-from_sort_by_key (λ change. change.tick.0) _ c.in_ok-sort_by_key.ensures.sorted (λ a r q k. search rules)
+pub returns-clause-sorted : goal.returns-clause-sorted
+returns-clause-sorted c = IsNonDecreasingBy-from_sort_by_key (λ change. change.tick.0) _ c.in_ok-sort_by_key.ensures.sorted (λ a r q k. search rules)

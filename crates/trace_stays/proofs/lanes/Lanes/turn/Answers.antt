@@ -13,4 +13,4 @@ returns c =
     let mid = c.process_place.new.self in
     on_ok_weaker c.turn_at.result
     (λ more. has_turned c.args.self.now mid _ c.args.partition.now c.args.who.now c.args.state c.args.tick.0 c.in_ok-place.place c.args.ended.now.items c.turn_at.new.ended.items
-    c.in_ok-place.ensures.kept c.in_ok-place.ensures.place refl c.turn_at.ensures.lanes more) c.turn_at.ensures.ended
+    c.in_ok-place.ensures.kept c.in_ok-place.ensures.places c.in_ok-place.ensures.place refl c.turn_at.ensures.lanes more) c.turn_at.ensures.ended
