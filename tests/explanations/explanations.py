@@ -11,8 +11,8 @@ stands beside this one.
 the image is changed; behind a line `--`, all that standard error says. `\\r` at the end of a line is a carriage return, and `\\` leaves its line feed
 out. LENGTH is how many bytes the image has, and LONGER one more. The replay is that of `display`.
 
-`source_rows` has those in the source of `flight`: what it is; the lines of the source, in which `\\xHH` is the byte of that number; behind a line
-`--`, all that standard error says.
+`source_rows` has those in the source of `flight`: what it is; the lines of the source, in which `\\xHH` is the byte of that number, and a line that
+begins with `N times:` stands for N lines with what follows; behind a line `--`, all that standard error says.
 
 Each mistake is tried with `--explain`, and with `--explain=json`, where what is wanted is read off the lines for people.
 
@@ -93,6 +93,7 @@ def read_source_rows():
         title, rest = block.rstrip("\n").split("\n", 1)
         source, said = rest.split("\n--\n")
         source = re.sub(rb"\\x([0-9a-f]{2})", lambda it: bytes([int(it[1], 16)]), source.encode() + b"\n")
+        source = re.sub(rb"(?m)^(\d+) times:(.*\n)", lambda it: int(it[1]) * it[2], source)
         yield title.removeprefix("# "), source, said + "\n"
 
 

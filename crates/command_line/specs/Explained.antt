@@ -7,24 +7,28 @@ use Rattle.finding_lines.specs.Lines.{rule_line}
 use Rattle.finding_lines.specs.Reports.{Form, Report, json, plain}
 use Rattle.image.specs.declared.fault.ImageFault.{ImageFault}
 use Rattle.module_meaning.specs.Table.{Partition, Table}
-use Rattle.explanations.specs.Explanation.{IsSourceExplanation, IsTableExplanation}
+use Rattle.explanations.specs.Explanation.{IsSourceExplanation, IsTableExplanation, length_explanation}
 use Rattle.explanations.specs.Files.{IsDeviceExplanation, IsImageExplanation, IsReplayExplanation}
 use Rattle.explanations.specs.Sentences.{command_sentence, device_sentence, file_sentence, image_sentence, replay_sentence, source_sentence, table_sentence}
 use Rattle.explanations.specs.declared.sentences.CommandFault.TheVariants as command
 use Rattle.module_meaning.specs.Accepted.{IsTable}
+use Rattle.module.specs.Costs.{AreCosts}
 use Rattle.module.specs.Lines.{build_line, inputs_line, run_line}
+use Rattle.module.specs.declared.costing.PartitionCosts.{PartitionCosts}
 use Rattle.module.specs.declared.fault.BuildFault.{BuildFault}
 use Rattle.module.specs.declared.fault.BuildFault.TheVariants as build
 use Rattle.module.specs.declared.inputs_fault.InputsFault.{InputsFault}
 use Rattle.module.specs.declared.inputs_fault.InputsFault.TheVariants as inputs
 use Rattle.module.specs.declared.fault.RunFault.{RunFault}
 use Rattle.module.specs.declared.fault.RunFault.TheVariants as run
+use Rattle.pal.specs.declared.report.BodyCost.{BodyCost}
 use Rattle.pal_base.specs.declared.fault.PalFault.{PalFault}
 use Rattle.command_line.specs.Lines.{line_of, rule_of}
 use Rattle.command_line.specs.declared.explaining.Style.{Style}
 use Rattle.command_line.specs.declared.explaining.Style.TheVariants as styled
 use Rattle.command_line.specs.declared.outcome.Outcome.{Outcome}
 use Rattle.command_line.specs.declared.explaining.RunFiles.{RunFiles}
+use Rattle.command_line.specs.declared.explaining.CostedFile.{CostedFile}
 use Rattle.command_line.specs.declared.explaining.SourceFile.{SourceFile}
 use Rattle.command_line.specs.declared.explaining.Note.{Note}
 use Rattle.command_line.specs.declared.explaining.Note.TheVariants.{Unwanted, Wanted, Explained}
@@ -109,8 +113,8 @@ pub record Source : Type 0 where
   pub text : List ℕ
   pub period : ℕ
 
-abbrev pub report_on : Form → Source → Report
-report_on form source = record { file = source.file; form = form }
+abbrev pub report_on : Form → List ℕ → Report
+report_on form file = record { file = file; form = form }
 
 abbrev pub source_file : SourceFile → Source
 source_file s = record { file = s.file.now; text = s.text.now; period = s.period }
@@ -124,16 +128,41 @@ source_of _ _ _ name = None
 -- with this table the text explains the refusal of the source of the partition of this name
 abbrev pub IsExplainedWith : Form → Table → List (List ℕ) → List (List ℕ) → List ℕ → PalFault → List ℕ → Type 0
 IsExplainedWith form t files sources name fault text =
-    (source : Source) × (source_of t.partitions files sources name ≡ Some source) × IsSourceExplanation (report_on form source) source.period source.text fault.refusal text
+    (source : Source) × (source_of t.partitions files sources name ≡ Some source) × IsSourceExplanation (report_on form source.file) source.period source.text fault.refusal text
 
 -- the text explains it with the table of this text, which is accepted
 abbrev pub IsExplained : Form → List ℕ → List (List ℕ) → List (List ℕ) → List ℕ → PalFault → List ℕ → Type 0
 IsExplained form table files sources name fault text = (t : Table) × IsTable table t × IsExplainedWith form t files sources name fault text
 
+-- a source: the name of its file, its text, and the costs of the bodies of its program
+pub record Costed : Type 0 where
+  pub file : List ℕ
+  pub text : List ℕ
+  pub bodies : List BodyCost
+
+abbrev pub costed_file : CostedFile → Costed
+costed_file c = record { file = c.file.now; text = c.text.now; bodies = c.bodies.now }
+
+-- the source of the partition of this name, one source standing for the costs of each partition
+abbrev pub costed_of : List PartitionCosts → List (List ℕ) → List (List ℕ) → List ℕ → Option Costed
+costed_of (row ∷ rows) (file ∷ files) (text ∷ texts) name =
+    if bytes_eq row.partition name then Some (record { file = file; text = text; bodies = row.bodies.items }) else costed_of rows files texts name
+costed_of _ _ _ name = None
+
+-- with these costs the text explains that the program of the partition of this name is too long
+abbrev pub IsLengthExplainedWith : Form → List PartitionCosts → List (List ℕ) → List (List ℕ) → List ℕ → List ℕ → Type 0
+IsLengthExplainedWith form costs files sources name text =
+    (c : Costed) × (costed_of costs files sources name ≡ Some c) × (text ≡ length_explanation (report_on form c.file) c.text c.bodies)
+
+-- the text explains it with the costs of the table and the sources, which are accepted
+abbrev pub IsLengthExplained : Form → List ℕ → List (List ℕ) → List (List ℕ) → List ℕ → List ℕ → Type 0
+IsLengthExplained form table files sources name text = (costs : List PartitionCosts) × AreCosts table sources costs × IsLengthExplainedWith form costs files sources name text
+
 -- the text explains the refusal of a table, which is that of this file, or of the source of the partition that the fault names
 abbrev pub IsNoted : Style → List ℕ → List ℕ → List (List ℕ) → List (List ℕ) → BuildFault → List ℕ → Type 0
 IsNoted style file table files sources (build.Table fault) text = IsTableExplanation (report_in style (build_line (build.Table fault)) file) table fault text
 IsNoted style file table files sources (build.Pal name fault) text = IsExplained (form_in style (build_line (build.Pal name fault))) table files sources name fault text
+IsNoted style file table files sources (build.Compile name fault) text = IsLengthExplained (form_in style (build_line (build.Compile name fault))) table files sources name text
 IsNoted style file table files sources fault text = ⊥
 
 -- If an explanation was wanted, the refused table or source may be explained.

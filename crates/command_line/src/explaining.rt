@@ -1,10 +1,11 @@
 //! Explanations of refusals.
 
 ghost use Rattle.std.specs.Prelude.{◌≡◌, Some, map, option_map, string_bytes, IfOk, IfSome};
+ghost use Rattle.module.specs.Costs.{AreCosts};
 ghost use Rattle.module_meaning.specs.Accepted.{IsTable};
 ghost use Rattle.window_table.specs.Views.{partition_view, table_of};
 ghost use Rattle.finding_lines.specs.Reports.{form_of, report_of};
-ghost use Rattle.command_line.specs.Explained.{IsCompleted, IsExplained, IsExplainedWith, IsNoted, IsNotedBy, IsNoteOf, IsOfImage, IsOfInputs, IsOfReplay, IsOfRun, build_sentence, files_of, form_in, inputs_sentence, object_of, report_in, report_on, run_sentence, sentence_of, sentence_of_replay, source_file, source_of, told_text};
+ghost use Rattle.command_line.specs.Explained.{IsCompleted, IsExplained, IsExplainedWith, IsLengthExplained, IsLengthExplainedWith, IsNoted, IsNotedBy, IsNoteOf, IsOfImage, IsOfInputs, IsOfReplay, IsOfRun, build_sentence, costed_file, costed_of, files_of, form_in, inputs_sentence, object_of, report_in, report_on, run_sentence, sentence_of, sentence_of_replay, source_file, source_of, told_text};
 
 use crate::outcome::Outcome;
 use crate::refusal::{Refusal, Rule};
@@ -12,12 +13,13 @@ use apex_types::Name;
 use command_words::Failure;
 use explanations::{
     CommandFault, command_sentence, device_sentence, explain_devices, explain_image,
-    explain_inputs, explain_source, explain_table, file_sentence, image_sentence, replay_sentence,
+    explain_inputs, explain_length, explain_source, explain_table, file_sentence, image_sentence, replay_sentence,
     source_sentence, table_sentence,
 };
 use finding_lines::{Form, Report, rule_line};
 use image::ImageFault;
-use module::{BuildFault, InputsFault, RunFault};
+use module::{BuildFault, InputsFault, PartitionCosts, RunFault, costs};
+use pal::BodyCost;
 use pal_base::fault::PalFault;
 use std::alloc::{AllocError, Global};
 use std::fmt;
@@ -300,6 +302,11 @@ fn explanation(
             let form = style.form(shown.as_str());
             explained(alloc, form, table, files, sources, partition, *refused)
         }
+        BuildFault::Compile { partition, .. } => {
+            let shown = format!(in alloc; "{fault}").ok()?;
+            let rule = shown.as_str();
+            length_explained(alloc, style.form(rule), table, files, sources, partition)
+        }
         _ => None,
     }
 }
@@ -350,18 +357,15 @@ fn explained_with(
         (map (λ s. s.now) sources.now) partition.now fault (string_bytes text)) }
 {
     let source = source_of(table.partitions.as_slice(), files, sources, partition)?;
-    let report = report_on(form, source);
+    let report = report_on(form, source.file);
     explain_source(alloc, report, source.period, source.text, fault.refusal)
 }
 
-/// How findings in that source are told.
-fn report_on<'a>(form: Form<'a>, source: SourceFile<'a>) -> Report<'a>
-    ensures { report_of result ≡ report_on (form_of form.entry) (source_file source.entry) }
+/// How findings in the source in that file are told.
+fn report_on<'a>(form: Form<'a>, file: &'a str) -> Report<'a>
+    ensures { report_of result ≡ report_on (form_of form.entry) file.now }
 {
-    Report {
-        file: source.file,
-        form,
-    }
+    Report { file, form }
 }
 
 /// A source: the name of its file, its text, and the period of its partition.
@@ -394,6 +398,87 @@ fn source_of<'a>(
         })
     } else {
         source_of(partitions, files, sources, name)
+    }
+}
+
+/// The explanation that the program of the partition of that name is too long, if there is memory for
+/// it.
+fn length_explained(
+    alloc: Global,
+    form: Form<'_>,
+    table: &[u8],
+    files: &[&str],
+    sources: &[&[u8]],
+    partition: &Name,
+) -> Option<String>
+    ensures { IfSome result
+        (λ text.
+        IsLengthExplained (form_of form.entry) table.now (map (λ s. s.now) files.now)
+        (map (λ s. s.now) sources.now) partition.now (string_bytes text)) }
+{
+    let costs = costs_of(alloc, table, sources)?;
+    length_explained_with(alloc, form, costs.as_slice(), files, sources, partition)
+}
+
+/// The costs of a table and its sources, if they are accepted and there is memory for them.
+fn costs_of(alloc: Global, table: &[u8], sources: &[&[u8]]) -> Option<Vec<PartitionCosts>>
+    ensures { IfSome result
+        (λ costs. AreCosts table.now (map (λ s. s.now) sources.now) costs.items) }
+{
+    match costs(alloc, table, sources) {
+        Ok(costs) => Some(costs),
+        Err(_) => None,
+    }
+}
+
+/// The explanation that the program of the partition of that name is too long, with these costs.
+fn length_explained_with(
+    alloc: Global,
+    form: Form<'_>,
+    costs: &[PartitionCosts],
+    files: &[&str],
+    sources: &[&[u8]],
+    partition: &Name,
+) -> Option<String>
+    ensures { IfSome result
+        (λ text.
+        IsLengthExplainedWith (form_of form.entry) costs.now (map (λ s. s.now) files.now)
+        (map (λ s. s.now) sources.now) partition.now (string_bytes text)) }
+{
+    let costed = costed_of(costs, files, sources, partition)?;
+    let report = report_on(form, costed.file);
+    explain_length(alloc, report, costed.text, costed.bodies)
+}
+
+/// A source: the name of its file, its text, and the costs of the bodies of its program.
+#[derive(Clone, Copy)]
+pub struct CostedFile<'a> {
+    pub file: &'a str,
+    pub text: &'a [u8],
+    pub bodies: &'a [BodyCost],
+}
+
+/// The source of the partition of that name, one source standing for the costs of each partition.
+fn costed_of<'a>(
+    costs: &'a [PartitionCosts],
+    files: &'a [&'a str],
+    sources: &'a [&'a [u8]],
+    name: &Name,
+) -> Option<CostedFile<'a>>
+    ensures { option_map costed_file result
+        ≡ costed_of costs.now (map (λ s. s.now) files.now) (map (λ s. s.now) sources.now) name.now }
+{
+    let (row, costs) = costs.split_first()?;
+    let (file, files) = files.split_first()?;
+    let (text, sources) = sources.split_first()?;
+    if row.partition.as_bytes() == name.as_bytes() {
+        Some(CostedFile {
+            file,
+            text,
+            bodies: row.bodies.as_slice(),
+        })
+    } else {
+        costed_of(costs, files, sources, name)
     }
 }
 

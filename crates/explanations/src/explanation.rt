@@ -1,12 +1,13 @@
-//! The explanations of a refused source and of a refused table.
+//! The explanations of a refused source, of a program that is too long, and of a refused table.
 
-ghost use Rattle.std.specs.Prelude.{IfSome, string_bytes};
-ghost use Rattle.explanations.specs.Explanation.{IsSourceExplanation, IsTableExplanation};
+ghost use Rattle.std.specs.Prelude.{◌≡◌, IfSome, string_bytes};
+ghost use Rattle.explanations.specs.Explanation.{IsSourceExplanation, IsTableExplanation, length_explanation};
 ghost use Rattle.finding_lines.specs.Reports.{report_of};
 
 use crate::report::explanation;
-use crate::sentences::{source_sentence, table_sentence};
+use crate::sentences::{CommandFault, command_sentence, source_sentence, table_sentence};
 use finding_lines::Report;
+use pal::BodyCost;
 use pal_base::fault::Refusal;
 use std::alloc::Global;
 use window_table::TableFault;
@@ -27,6 +28,24 @@ pub fn explain_source(
 {
     let lines = source_findings::explain_source(alloc, report, period, source, refusal)?;
     explanation(alloc, report.form, source_sentence(refusal), lines.as_str())
+}
+
+/// The explanation that the program of that source is too long, by the costs of its bodies: a line with
+/// the sentence of the rule, and the lines of the body with which it is. There is none if memory runs
+/// out.
+pub fn explain_length(
+    alloc: Global,
+    report: Report<'_>,
+    source: &[u8],
+    bodies: &[BodyCost],
+) -> Option<String>
+    ensures { IfSome result
+        (λ text.
+        string_bytes text ≡ length_explanation (report_of report.entry) source.now bodies.now) }
+{
+    let lines = source_findings::explain_length(alloc, report, source, bodies)?;
+    let sentence = command_sentence(CommandFault::Compile);
+    explanation(alloc, report.form, sentence, lines.as_str())
 }
 
 /// The explanation of a refusal of that table: a line with the sentence of the rule, and the lines of

@@ -7,7 +7,7 @@ mod files;
 mod report;
 mod sentences;
 
-pub use explanation::{explain_source, explain_table};
+pub use explanation::{explain_length, explain_source, explain_table};
 pub use files::{explain_devices, explain_image, explain_inputs};
 pub use sentences::{
     CommandFault, command_sentence, device_sentence, file_sentence, image_sentence,

@@ -102,11 +102,6 @@ impl<'a, R: rt::Files + AllocGlobal> Files for HostFiles<'a, R> {
 
     ghost reads = { λ files. Some (reads_of files.read) };
 
-    fn read(&mut self, alloc: Global, name: &str) -> Result<Vec<u8>, NameFault> {
-        let read = fs::read(self.runtime, name);
-        self.remembered(alloc, name, read)
-    }
-
     fn read_until<T: Reading>(
         &mut self,
         alloc: Global,

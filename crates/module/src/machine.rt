@@ -123,17 +123,14 @@ impl Machine {
         Ok(count)
     }
 
-    /// Skips some of `most` ticks in which nothing happens, all of them before the first of these
-    /// device lines, which are of the next tick or later; returns how many. If it returns 0, the
+    /// Skips some of `most` ticks in which nothing happens, unless a device line is of one of them;
+    /// returns how many. So whoever has device lines asks for no tick of theirs. If it returns 0, the
     /// next tick has to be made.
-    pub fn skip(&mut self, lines: &[DeviceLine], most: u32) -> u32
-        requires soon { (machine_of self.old).standing.now + most ≤ MOST_TICKS }
-        requires order { AreFrom (machine_of self.old).standing.now lines.now }
-        ensures order { AreFrom (machine_of self.new).standing.now lines.now }
-        ensures skipped { HasSkipped lines.now most (machine_of self.old) (machine_of self.new)
-            result }
+    pub fn skip(&mut self, most: u32) -> u32
+        ensures { (lines : List DeviceLine) → AreFrom (machine_of self.new).standing.now lines
+            → HasSkipped lines most (machine_of self.old) (machine_of self.new) result }
     {
-        self.module.skip_still(lines, most)
+        self.module.skip_still(most)
     }
 
     /// Makes the next tick, with its device lines in their order. The lines of its trace go into

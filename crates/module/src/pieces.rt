@@ -13,6 +13,7 @@ ghost use Rattle.module.specs.Written.{AreFrom};
 
 use crate::member::{Members, Module};
 use crate::step::number_at;
+use apex_types::limits::MOST_TICKS;
 use apex_types::{At, DeviceLine, Moment, Sink, Ticks};
 use lone_partition::{Output, write_advance};
 use partition_base::Executor;
@@ -216,15 +217,13 @@ impl<E: Executor<Mem = PartitionMem>> Module<E> {
         }
     }
 
-    /// Skips some of `most` ticks in which nothing happens, all of them before the first of these
-    /// device lines; returns how many.
-    pub fn skip_still(&mut self, lines: &[DeviceLine], most: u32) -> u32
-        requires soon { self.old.now.0 + most ≤ MOST_TICKS }
-        requires order { AreFrom self.old.now.0 lines.now }
+    /// Skips some of `most` ticks in which nothing happens, unless a device line is of one of them;
+    /// returns how many. None is skipped from tick 2^40 on.
+    pub fn skip_still(&mut self, most: u32) -> u32
         ensures image { self.new.image ≡ self.old.image }
-        ensures order { AreFrom self.new.now.0 lines.now }
-        ensures skipped { HasSkippedSome (plan_of self.old.image) lines.now most
-            (standing_of E.Executor self.old) (standing_of E.Executor self.new) result }
+        ensures skipped { (lines : List DeviceLine) → AreFrom self.new.now.0 lines
+            → HasSkippedSome (plan_of self.old.image) lines most (standing_of E.Executor self.old)
+            (standing_of E.Executor self.new) result }
     {
         let Some(moment) = self.moment() else {
             return 0;
@@ -232,8 +231,8 @@ impl<E: Executor<Mem = PartitionMem>> Module<E> {
         if self.now.0 == 0 {
             return 0;
         }
-        let quiet = until_line(lines, self.now, most);
-        let idle = self.members.still_ticks(moment, quiet);
+        let within = at_most(MOST_TICKS - self.now.0, most);
+        let idle = self.members.still_ticks(moment, within);
         if idle > 0 {
             self.skip(idle);
             return idle;

@@ -1,5 +1,6 @@
 pub mod Clean
 pub mod OfKinds
+pub mod OfLengths
 pub mod OfLimits
 pub mod OfNames
 pub mod OfPeriods

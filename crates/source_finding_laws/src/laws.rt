@@ -1,15 +1,22 @@
 //! A program breaks a rule if and only if something is found.
 
-ghost use Rattle.std.specs.Prelude.{◌≡◌, true, ℕ, List};
+ghost use Rattle.std.specs.Prelude.{◌≡◌, ◌<◌, false, true, ℕ, List};
+ghost use Rattle.apex_types.specs.declared.cost.Costs.{Costs};
+ghost use Rattle.apex_types.specs.declared.limits.TheConstants.{MOST_INSTRUCTIONS};
 ghost use Rattle.apex_types.specs.declared.row.PortRow.{PortRow};
+ghost use Rattle.pal.specs.Costs.{costs_of};
+ghost use Rattle.pal_base.specs.ProgramView.{program_of};
 ghost use Rattle.pal_base.specs.declared.fault.Refusal.{Refusal};
 ghost use Rattle.pal_base.specs.declared.fault.Refusal.TheVariants as rule;
+ghost use Rattle.pal_base.specs.declared.program.Program.{Program};
+ghost use Rattle.pal_meaning.specs.Program.{size_of};
 ghost use Rattle.pal_meaning.specs.Grammar.{IsProgramOf, IsText};
 ghost use Rattle.pal_meaning.specs.Syntax as written;
 ghost use Rattle.pal_meaning.specs.WellFormed.{kinds_hold, limits_hold, names_hold, periods_hold};
 ghost use Rattle.source_finding_laws.specs.Found.{has_none};
 ghost use Rattle.source_finding_laws.specs.Placed.{ArePlaced};
 ghost use Rattle.source_findings.specs.Bodies.{wrongs};
+ghost use Rattle.source_findings.specs.Lengths.{length_wrongs};
 ghost use Rattle.source_findings.specs.Texts.{text_wrongs};
 
 /// A text in which nothing is found by the rule on texts is ASCII, and no longer than it may be.
@@ -40,6 +47,13 @@ pub fn limits_are_found()
 pub fn periods_are_found()
     ensures { (period : ℕ) (text : List ℕ) (p : written.Program)
         → periods_hold period p ≡ has_none (wrongs rule.Period period text p) }
+{}
+
+/// A body is found whenever a program has more instructions than it may have.
+pub fn lengths_are_found()
+    ensures { (costs : Costs) (text : List ℕ) (p : Program)
+        → MOST_INSTRUCTIONS < size_of (program_of p)
+        → has_none (length_wrongs text (costs_of costs p)) ≡ false }
 {}
 
 /// Each place that is found in the text of a program is that of one of its words, and what is said

@@ -2,6 +2,7 @@
 use Rattle.std.specs.Prelude.{◌≡◌, ℕ, ◌-◌, List, flat_map, length, Option, Some}
 use Rattle.finding_lines.specs.Lines.{lines_at}
 use Rattle.finding_lines.specs.Reports.{Report}
+use Rattle.pal.specs.declared.report.BodyCost.{BodyCost}
 use Rattle.pal_base.specs.Next.{IsLookedFor}
 use Rattle.pal_base.specs.declared.fault.Refusal.{Refusal}
 use Rattle.pal_base.specs.declared.fault.Refusal.TheVariants as rule
@@ -9,6 +10,7 @@ use Rattle.pal_base.specs.declared.looking.LookedFor.{LookedFor}
 use Rattle.pal_meaning.specs.Grammar.{IsProgramOf}
 use Rattle.pal_meaning.specs.Syntax as written
 use Rattle.source_findings.specs.Bodies.{wrongs}
+use Rattle.source_findings.specs.Lengths.{length_wrongs}
 use Rattle.source_findings.specs.Phrases.{advice, said}
 use Rattle.source_findings.specs.Texts.{text_wrongs}
 use Rattle.source_findings.specs.Unfit.{unfit_lines}
@@ -39,3 +41,7 @@ abbrev pub IsExplanation : Report → ℕ → List ℕ → Refusal → List ℕ 
 IsExplanation r period text rule.Text lines = lines ≡ all_lines r text (text_wrongs text)
 IsExplanation r period text rule.Grammar lines = IsUnfit r text lines
 IsExplanation r period text rule lines = IsOfProgram r period text rule lines
+
+-- the lines of the body with which a program of this text is too long, by the costs of its bodies
+abbrev pub length_lines : Report → List ℕ → List BodyCost → List ℕ
+length_lines r text bodies = all_lines r text (length_wrongs text bodies)

@@ -2,6 +2,7 @@ pub mod Bodies
 pub mod Explained
 pub mod Frames
 pub mod Judged
+pub mod Lengths
 pub mod Phrases
 pub mod Roles
 pub mod Tally

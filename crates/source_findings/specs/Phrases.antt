@@ -8,7 +8,7 @@ use Rattle.apex_types.specs.declared.service.Service.{Service}
 use Rattle.apex_types.specs.declared.shape.ArgumentKind.{ArgumentKind}
 use Rattle.apex_types.specs.declared.shape.ArgumentKind.TheVariants as argument
 use Rattle.places.specs.Texts.{shown_start}
-use Rattle.source_findings.specs.What.{What, NoAscii, TooLong, Unknown, Again, Other, NoName, Arguments, Targets, Return, Long, TooLarge, Outside, NoTime, TooMany, Frame, Odd}
+use Rattle.source_findings.specs.What.{What, NoAscii, TooLong, Unknown, Again, Other, NoName, Arguments, Targets, Return, Long, TooLarge, Outside, NoTime, TooMany, Frame, Odd, Instructions}
 use Rattle.source_findings.specs.declared.finding.Many.{Many}
 use Rattle.source_findings.specs.declared.finding.Many.TheVariants as many
 use Rattle.source_findings.specs.declared.finding.Thing.{Thing}
@@ -127,6 +127,9 @@ frame_text words stack = codes "the frame of the body has " ++ (decimal words ++
 abbrev pub odd_text : ℕ → ℕ → List ℕ
 odd_text period partition = codes "the period " ++ (decimal period ++ (codes " is no multiple of " ++ (decimal partition ++ codes ", the period of the partition")))
 
+abbrev pub instructions_text : ℕ → ℕ → List ℕ
+instructions_text number here = codes "the program has " ++ (decimal number ++ (codes " instructions, " ++ (decimal here ++ codes " of them in this body, and may have 65536")))
+
 abbrev pub no_name_text : Role → List ℕ
 no_name_text wanted = codes "an expression stands where the name of " ++ (role_text wanted ++ codes " is wanted")
 
@@ -143,6 +146,7 @@ number_said (NoTime thing negative number) = time_text thing negative number
 number_said (TooMany thing number most) = many_text thing number most
 number_said (Frame words stack) = frame_text words stack
 number_said (Odd period partition) = odd_text period partition
+number_said (Instructions number here) = instructions_text number here
 number_said what = plain what
 
 abbrev pub said : What → List ℕ
@@ -216,6 +220,7 @@ plain_advice Return = codes "Leave it out, or move it into a procedure."
 plain_advice (Long name) = codes "Write a shorter name."
 plain_advice TooLarge = codes "Write a number up to 9223372036854775807."
 plain_advice (NoTime thing negative number) = codes "Write -1, or a number from 1 to 1099511627776."
+plain_advice (Instructions number here) = codes "Shorten a body, or call a procedure in place of text that stands twice: `mb cost` lists how many instructions each body has."
 plain_advice what = codes "Write a shorter text."
 
 abbrev pub number_advice : What → List ℕ

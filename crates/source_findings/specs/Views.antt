@@ -30,6 +30,7 @@ what_of (what.NoTime thing negative number) = spec_what.NoTime thing negative nu
 what_of (what.TooMany thing number most) = spec_what.TooMany thing number most
 what_of (what.Frame words stack) = spec_what.Frame words stack
 what_of (what.Odd period partition) = spec_what.Odd period partition
+what_of (what.Instructions number here) = spec_what.Instructions number here
 
 abbrev pub wrong_of : Wrong → spec_what.Wrong
 wrong_of w = record { left = w.left; what = what_of w.what }

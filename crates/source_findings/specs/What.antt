@@ -38,6 +38,8 @@ pub data What : Type 0 where
   Frame : (words stack : ℕ) → What
   -- the period of a process is no multiple of that of the partition
   Odd : (period partition : ℕ) → What
+  -- the program has so many instructions, and so many of them in this body
+  Instructions : (number here : ℕ) → What
 
 -- what is wrong, and how many bytes are left at the place where it is
 pub record Wrong : Type 0 where

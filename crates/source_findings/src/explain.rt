@@ -12,10 +12,12 @@ ghost use Rattle.source_findings.specs.Views.{wrong_of, wrongs_of};
 
 use crate::declarations::wrongs;
 use crate::finding::Wrong;
+use crate::lengths::length_wrongs;
 use crate::phrases::{advice, said};
 use crate::texts::text_wrongs;
 use crate::unfit::{hint_at, unfit_lines};
 use finding_lines::{Report, lines_at};
+use pal::BodyCost;
 use pal_base::fault::Refusal;
 use pal_base::looking::{LookedFor, looked_for};
 use pal_base::parse::parse;
@@ -40,6 +42,22 @@ pub fn explain_source(
         Refusal::Grammar => grammar_lines(alloc, report, text),
         _ => program_lines(alloc, report, period, text, rule),
     }
+}
+
+/// The body with which a program of this text is too long, by the costs of its bodies: its first
+/// word, how many instructions all bodies and this one have, the line with a mark, and what to do.
+/// There is none if memory runs out.
+pub fn explain_length(
+    alloc: Global,
+    report: Report<'_>,
+    text: &[u8],
+    bodies: &[BodyCost],
+) -> Option<String>
+    ensures { IfSome result
+        (λ lines. string_bytes lines ≡ spec.length_lines (report_of report.entry) text.now bodies.now) }
+{
+    let found = length_wrongs(alloc, text, bodies).ok()?;
+    all_lines(alloc, report, text, found.as_slice()).ok()
 }
 
 /// What is wrong with a text that is no source.

@@ -109,6 +109,11 @@ pub enum What<'a> {
         period: u64,
         partition: u32,
     },
+    /// The program has so many instructions, and so many of them in this body.
+    Instructions {
+        number: u64,
+        here: u64,
+    },
 }
 
 /// What is wrong, and how many bytes are left at the place where it is.

@@ -11,6 +11,7 @@ mod explain;
 mod finding;
 mod frames;
 mod judge;
+mod lengths;
 mod phrases;
 mod roles;
 mod sought;
@@ -20,4 +21,4 @@ mod unfit;
 mod walk;
 mod words;
 
-pub use explain::explain_source;
+pub use explain::{explain_length, explain_source};

@@ -251,6 +251,14 @@ fn odd_text(alloc: Global, period: u64, partition: u32) -> Result<String, AllocE
     )
 }
 
+fn instructions_text(alloc: Global, number: u64, here: u64) -> Result<String, AllocError>
+    ensures { IfOk result (λ text. string_bytes text ≡ spec.instructions_text number here) }
+{
+    format!(in alloc;
+        "the program has {number} instructions, {here} of them in this body, and may have 65536"
+    )
+}
+
 /// What is said without a name or a number of its own.
 fn plain(what: What<'_>) -> &'static str
     ensures { result.now ≡ spec.plain (what_of what.entry) }
@@ -285,6 +293,7 @@ fn number_said(alloc: Global, what: What<'_>) -> Result<String, AllocError>
         } => many_text(alloc, thing, number, most),
         What::Frame { words, stack } => frame_text(alloc, words, stack),
         What::Odd { period, partition } => odd_text(alloc, period, partition),
+        What::Instructions { number, here } => instructions_text(alloc, number, here),
         _ => String::from_str(alloc, plain(what)),
     }
 }
@@ -485,6 +494,9 @@ fn plain_advice(what: What<'_>) -> &'static str
         What::Long(_) => "Write a shorter name.",
         What::TooLarge => "Write a number up to 9223372036854775807.",
         What::NoTime { .. } => "Write -1, or a number from 1 to 1099511627776.",
+        What::Instructions { .. } => {
+            "Shorten a body, or call a procedure in place of text that stands twice: `mb cost` lists how many instructions each body has."
+        }
         _ => "Write a shorter text.",
     }
 }

@@ -13,6 +13,7 @@ use Rattle.module.specs.Pieces.{LeadsTo}
 use Rattle.module.specs.Written.{AreFrom}
 use Rattle.module.specs.declared.fault.RunFault.{RunFault}
 use Rattle.module.specs.declared.fault.RunFault.TheVariants as fault
+use Rattle.module.proofs.Bursts.{from_lower}
 use Rattle.stopped_run.specs.Ends.{EndsImage, text_to}
 use Rattle.stopped_run.specs.Steps.{IsHeld}
 use Rattle.stopped_run.specs.Words.{has_line}
@@ -52,6 +53,16 @@ reached_kept {old = old} {mid = mid} new i kept = record {
   none = i.none;
   taken = Appends-kept old mid new _ i.taken kept;
 }
+
+-- The ticks that are skipped come before these lines, if all that may be do.
+pub skipped_before : (m next : Machine) (most k : ℕ) (lines : List DeviceLine) → ((ls : List DeviceLine) → AreFrom next.standing.now ls → HasSkipped ls most m next k) → AreFrom (m.standing.now + most) lines
+    → AreFrom next.standing.now lines × HasSkipped lines most m next k
+skipped_before m next most k lines h from =
+    let none : HasSkipped [] most m next k = h [] tt in
+    let few : k ≤ most = none.2.0 in
+    let now : next.standing.now ≡ m.standing.now + k = none.2.1 in
+    let order = from_lower next.standing.now (m.standing.now + most) lines (omega (arith, few, now)) from in
+    (order, h lines order)
 
 -- ticks without lines are skipped
 pub reached_skipped : {asked : List (List ℕ)} {image : Image} {devices lines : List DeviceLine} {n left : ℕ} {old mid : Option (List ℕ)} {m : Machine} (next : Machine) (most k rest : ℕ) → IsReached asked image devices lines n left old mid m

@@ -7,7 +7,7 @@ ghost use Rattle.module.specs.Machines.{fresh_machine, machine_of};
 ghost use Rattle.module.specs.Written.{AreFrom};
 ghost use Rattle.stopped_run.specs.Ends.{EndsImage, RunsUntil};
 
-use crate::stepping::{MOST_UNTOLD, hand_on, tell, tick_held};
+use crate::stepping::{MOST_UNTOLD, hand_on, tell, tick_held, until_line};
 use crate::words::has_line;
 use apex_types::limits::MOST_TICKS;
 use apex_types::{DeviceLine, Sink, WriterSink};
@@ -84,7 +84,8 @@ fn ticks_until<S: Sink, W: Watch>(
     let mut held = WriterSink::new(Vec::new(alloc));
     while left > 0 && !machine.is_shut_down() {
         told = tell(told, machine.now(), ticks, sink, watch)?;
-        let count = machine.skip(lines, at_once(left));
+        let quiet = until_line(machine, lines, at_once(left));
+        let count = machine.skip(quiet);
         if count > 0 {
             left -= u64::from(count);
             continue;

@@ -1,6 +1,6 @@
 //! A tick of a run that waits for a line.
 
-ghost use Rattle.std.specs.Prelude.{◌≡◌, ◌<◌, ◌+◌, ◌-◌, ◌^◌, [], false, IfErr, IfOk, OnErr, OnOk};
+ghost use Rattle.std.specs.Prelude.{◌≡◌, ◌≤◌, ◌<◌, ◌+◌, ◌-◌, ◌^◌, [], false, IfErr, IfOk, OnErr, OnOk};
 ghost use Rattle.std.specs.Io.KnownBytes.{Appends, Keeps};
 ghost use Rattle.apex_types.specs.Line.{TakesBeginning};
 ghost use Rattle.apex_types.specs.declared.limits.TheConstants.{MOST_TICKS};
@@ -10,6 +10,27 @@ ghost use Rattle.stopped_run.specs.Steps.{IsHeld};
 
 use apex_types::{DeviceLine, Sink, WriterSink, put_all};
 use module::{Machine, RunFault, Watch, split_tick};
+
+/// How many of the next `most` ticks come before the first of these lines, which are of the next tick
+/// or later.
+pub fn until_line(machine: &Machine, lines: &[DeviceLine], most: u32) -> u32
+    requires order { AreFrom (machine_of machine.now).standing.now lines.now }
+    ensures within { result ≤ most }
+    ensures from { AreFrom ((machine_of machine.now).standing.now + result) lines.now }
+{
+    match lines.first() {
+        Some(line) => at_most(line.tick().saturating_sub(machine.now()), most),
+        None => most,
+    }
+}
+
+/// `ticks`, or `most` if there are more.
+fn at_most(ticks: u64, most: u32) -> u32
+    ensures within { result ≤ most }
+    ensures ticks { result ≤ ticks }
+{
+    ticks.min(u64::from(most)) as u32
+}
 
 /// The text of a tick.
 pub type Held = WriterSink<Vec<u8>>;

@@ -24,14 +24,6 @@ pub trait Files {
     /// known.
     ghost reads: { Self → Option (List (List ℕ)) } = { λ _. None };
 
-    /// The bytes of the file of that name. Nothing is changed.
-    fn read(&mut self, alloc: Global, name: &str) -> Result<Vec<u8>, NameFault>
-        ensures held { IfOk result (λ bytes. Holds (contents self.old) name.now bytes.items) }
-        ensures unchanged { contents self.new ≡ contents self.old }
-        ensures remembered { OnOk result (Remembers name.now (reads self.old) (reads self.new)) }
-        ensures forgotten { OnErr result (reads self.new ≡ reads self.old) }
-        ensures noted { IsNoted name.now (failed self.old) (failed self.new) result };
-
     /// The bytes of the file of that name, or a beginning of them that is enough. Nothing is changed.
     fn read_until<T: Reading>(
         &mut self,

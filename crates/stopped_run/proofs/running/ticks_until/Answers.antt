@@ -3,7 +3,7 @@ use Rattle.std.specs.Io.KnownBytes.{Appends}
 use Rattle.apex_types.specs.Line.{TakesBeginning}
 use Rattle.module.specs.Machines.{machine_of}
 use Rattle.stopped_run.specs.Words.{has_line}
-use Rattle.stopped_run.proofs.Reached.{breaks_between, breaks_in_tick, ends_all, ends_broken, ends_down, ends_found, reached_first, reached_kept, reached_skipped, reached_still, reached_ticked}
+use Rattle.stopped_run.proofs.Reached.{breaks_between, breaks_in_tick, ends_all, ends_broken, ends_down, ends_found, reached_first, reached_kept, reached_skipped, reached_still, reached_ticked, skipped_before}
 use Rattle.stopped_run.proofs.running.ticks_until.Goals as goal
 
 pub loop-left-init : goal.loop-left-init
@@ -24,10 +24,11 @@ loop-left-preserved-then-count-gt0 g c =
     let i = c.loop-left.invariant in
     let way = reached_kept (g.S.Sink.taken c.tell.new.sink) i.reached c.in_ok-told.ensures.kept in
     let rest = c.loop-left.left - c.from-left.result in
-    let few : c.skip-count.result ≤ c.at_once.result = c.skip-count.ensures.skipped.2.0 in
-    let count : c.loop-left.left ≡ c.skip-count.result + rest = omega (arith, few, c.at_once.ensures, c.from-left.ensures) in
+    let skipped = skipped_before _ (machine_of c.skip-count.new.self) c.until_line-quiet.result c.skip-count.result _ c.skip-count.ensures c.until_line-quiet.ensures.from in
+    let few : c.skip-count.result ≤ c.until_line-quiet.result = skipped.1.2.0 in
+    let count : c.loop-left.left ≡ c.skip-count.result + rest = omega (arith, few, c.until_line-quiet.ensures.within, c.at_once.ensures, c.from-left.ensures) in
     record {
-      reached = reached_skipped (machine_of c.skip-count.new.self) c.at_once.result c.skip-count.result rest way c.skip-count.ensures.skipped c.skip-count.ensures.order count;
+      reached = reached_skipped (machine_of c.skip-count.new.self) c.until_line-quiet.result c.skip-count.result rest way skipped.1 skipped.0 count;
       quiet = search rules;
       empty = i.empty;
       fresh = i.fresh;
@@ -42,7 +43,8 @@ pub returns-in_err-hand_on-clause-trace : goal.returns-in_err-hand_on-clause-tra
 returns-in_err-hand_on-clause-trace g c =
     let mid = g.S.Sink.taken c.tell.new.sink in
     let new = g.S.Sink.taken c.hand_on.new.sink in
-    let way = reached_still (machine_of c.skip-count.new.self) c.at_once.result c.skip-count.result (reached_kept mid c.loop-left.invariant.reached c.in_ok-told.ensures.kept) c.skip-count.ensures.skipped c.skip-count.ensures.order (omega (arith, c.if-count-gt0.false)) in
+    let skipped = skipped_before _ (machine_of c.skip-count.new.self) c.until_line-quiet.result c.skip-count.result _ c.skip-count.ensures c.until_line-quiet.ensures.from in
+    let way = reached_still (machine_of c.skip-count.new.self) c.until_line-quiet.result c.skip-count.result (reached_kept mid c.loop-left.invariant.reached c.in_ok-told.ensures.kept) skipped.1 skipped.0 (omega (arith, c.if-count-gt0.false)) in
     let part = subst (TakesBeginning mid new) c.as_slice.ensures.value c.in_err-hand_on.ensures.beginning in
     ends_broken _ _ _ _ _ _ c.in_err-hand_on.field-0.0 _ (search rules) (inl c.in_err-hand_on.ensures.write)
     (breaks_in_tick new (machine_of c.tick_held.new.machine) c.in_ok-lines.lines.now c.tick_held.new.held.writer.items way c.in_ok-lines.ensures.held (omega (arith, c.loop-left-test.true)) part)
@@ -52,7 +54,8 @@ returns-then-has_line-clause-trace g c =
     let mid = g.S.Sink.taken c.tell.new.sink in
     let new = g.S.Sink.taken c.hand_on.new.sink in
     let bytes = c.tick_held.new.held.writer.items in
-    let way = reached_still (machine_of c.skip-count.new.self) c.at_once.result c.skip-count.result (reached_kept mid c.loop-left.invariant.reached c.in_ok-told.ensures.kept) c.skip-count.ensures.skipped c.skip-count.ensures.order (omega (arith, c.if-count-gt0.false)) in
+    let skipped = skipped_before _ (machine_of c.skip-count.new.self) c.until_line-quiet.result c.skip-count.result _ c.skip-count.ensures c.until_line-quiet.ensures.from in
+    let way = reached_still (machine_of c.skip-count.new.self) c.until_line-quiet.result c.skip-count.result (reached_kept mid c.loop-left.invariant.reached c.in_ok-told.ensures.kept) skipped.1 skipped.0 (omega (arith, c.if-count-gt0.false)) in
     let more = subst (Appends mid new) c.as_slice.ensures.value c.in_ok-hand_on.ensures.taken in
     let found : has_line (map (λ a. a.now) c.args.asked.now) bytes ≡ true = subst (λ text. has_line (map (λ a. a.now) c.args.asked.now) text ≡ true) c.as_slice-in-loop-left.ensures.value (search rules) in
     ends_found new (machine_of c.tick_held.new.machine) c.in_ok-lines.lines.now bytes way c.in_ok-lines.ensures.held (omega (arith, c.loop-left-test.true)) more found
@@ -63,7 +66,8 @@ loop-left-preserved g c =
     let new = g.S.Sink.taken c.hand_on.new.sink in
     let bytes = c.tick_held.new.held.writer.items in
     let left = c.loop-left.left in
-    let way = reached_still (machine_of c.skip-count.new.self) c.at_once.result c.skip-count.result (reached_kept mid c.loop-left.invariant.reached c.in_ok-told.ensures.kept) c.skip-count.ensures.skipped c.skip-count.ensures.order (omega (arith, c.if-count-gt0.false)) in
+    let skipped = skipped_before _ (machine_of c.skip-count.new.self) c.until_line-quiet.result c.skip-count.result _ c.skip-count.ensures c.until_line-quiet.ensures.from in
+    let way = reached_still (machine_of c.skip-count.new.self) c.until_line-quiet.result c.skip-count.result (reached_kept mid c.loop-left.invariant.reached c.in_ok-told.ensures.kept) skipped.1 skipped.0 (omega (arith, c.if-count-gt0.false)) in
     let more = subst (Appends mid new) c.as_slice.ensures.value c.in_ok-hand_on.ensures.taken in
     let without : has_line (map (λ a. a.now) c.args.asked.now) bytes ≡ false = subst (λ text. has_line (map (λ a. a.now) c.args.asked.now) text ≡ false) c.as_slice-in-loop-left.ensures.value (search rules) in
     record {

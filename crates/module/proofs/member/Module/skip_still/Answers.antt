@@ -1,28 +1,19 @@
-use Rattle.std.proofs.Common.{◌≡◌, ◌≤◌, ◌<◌, ◌+◌, Some, refl, ap, sym, subst, ◌∙◌, arith, rules}
+use Rattle.std.proofs.Common.{◌≡◌, ◌≤◌, ◌<◌, ◌+◌, Some, ap, sym, subst, ◌∙◌, arith, rules}
 use Rattle.apex_types.specs.declared.identity.Ticks.{Ticks}
 use Rattle.lone_partition.specs.Outputs.{next_at}
 use Rattle.module.specs.Pieces.{HasSkippedSome}
 use Rattle.module.specs.Standing.{Standing, moment_of, ticks_in}
 use Rattle.module.specs.Views.{plan_of, standing_of}
 use Rattle.module.specs.Written.{AreFrom}
-use Rattle.module.proofs.Bursts.{from_lower, skip_ticks}
+use Rattle.module.proofs.Bursts.{skip_ticks}
 use Rattle.module.proofs.Standing.{moment_now, moment_origin}
 use Rattle.module.proofs.member.Module.skip_still.Goals as goal
 
-pub returns-then-idle-gt0-clause-order : goal.returns-then-idle-gt0-clause-order
-returns-then-idle-gt0-clause-order g c =
-    let t = c.args.self.now.now.0 in
-    let lines = c.args.lines.now in
-    let later : (standing_of g.E.Executor c.skip.new.self).now ≡ t + c.still_ticks-idle.result = ap (λ (s : Standing g.E.Executor.Control). s.now) c.skip.ensures.standing in
-    subst (λ u. AreFrom u lines) (sym later)
-    (from_lower (t + c.still_ticks-idle.result) (t + c.until_line-quiet.result) lines (omega (arith, c.still_ticks-idle.ensures.within)) c.until_line-quiet.ensures.from)
-
 pub returns-then-idle-gt0-clause-skipped : goal.returns-then-idle-gt0-clause-skipped
-returns-then-idle-gt0-clause-skipped g c =
+returns-then-idle-gt0-clause-skipped g c = λ lines order.
     let e = g.E.Executor in
     let s = standing_of e c.args.self.now in
     let plan = plan_of c.args.self.now.image in
-    let lines = c.args.lines.now in
     let at = c.in-Some.moment.at in
     let n = c.still_ticks-idle.result in
     let ahead : 0 < n = omega (arith, c.if-idle-gt0.true) in
@@ -30,8 +21,7 @@ returns-then-idle-gt0-clause-skipped g c =
     let is : Some at ≡ moment_of c.args.self.now.now c.args.self.now.origin = ap next_at (sym some) ∙ c.moment.ensures in
     let here : at.now.0 ≡ s.now = ap (λ (t : Ticks). t.0) (moment_now c.args.self.now.now c.args.self.now.origin at is) in
     let from : s.origin ≡ Some at.origin.0 = ap ticks_in (moment_origin c.args.self.now.now c.args.self.now.origin at is) in
-    let few : n ≤ c.args.most = omega (arith, c.still_ticks-idle.ensures.within, c.until_line-quiet.ensures.within) in
+    let few : n ≤ c.args.most = omega (arith, c.still_ticks-idle.ensures.within, c.at_most-within.ensures.within) in
+    let later : (standing_of e c.skip.new.self).now ≡ at.now.0 + n = ap (λ (x : Standing e.Control). x.now) c.skip.ensures.standing ∙ ap (λ t. t + n) (sym here) in
     subst (λ (next : Standing e.Control). HasSkippedSome plan lines c.args.most s next n) (sym c.skip.ensures.standing)
-    (skip_ticks plan lines c.args.most n at.now.0 at.origin.0 s here from few (omega (arith, here))
-    (subst (λ u. AreFrom (u + n) lines) (sym here) (from_lower (s.now + n) (s.now + c.until_line-quiet.result) lines (omega (arith, c.still_ticks-idle.ensures.within)) c.until_line-quiet.ensures.from))
-    (c.still_ticks-idle.ensures.still ahead))
+    (skip_ticks plan lines c.args.most n at.now.0 at.origin.0 s here from few (omega (arith, here)) (subst (λ u. AreFrom u lines) later order) (c.still_ticks-idle.ensures.still ahead))

@@ -1,0 +1,61 @@
+-- The length of a program: a body is found whenever there are more instructions than there may be.
+use Rattle.std.proofs.Common.{◌≡◌, ◌<◌, ℕ, ◌+◌, ◌-◌, Bool, true, false, cond, List, [], ◌∷◌, ◌++◌, map, Option, Some, None, refl, arith}
+use Rattle.std.specs.List.{sum_by}
+use Rattle.std.specs.Option.{option_map}
+use Rattle.std.specs.Prelude.{nat_lt}
+use Rattle.std.proofs.lemmas.List.Sums.{sum_by-cons}
+use Rattle.apex_types.specs.declared.cost.Costs.{Costs}
+use Rattle.apex_types.specs.declared.limits.TheConstants.{MOST_INSTRUCTIONS}
+use Rattle.pal.specs.Costs.{cost_of_handler, cost_of_procedure, cost_of_process, costs_of}
+use Rattle.pal.specs.declared.report.BodyCost.{BodyCost}
+use Rattle.pal_base.specs.ProgramView.{body_of, procedure_of, process_of, program_of}
+use Rattle.pal_base.specs.declared.program.Body.{Body}
+use Rattle.pal_base.specs.declared.program.Procedure.{Procedure}
+use Rattle.pal_base.specs.declared.program.Process.{Process}
+use Rattle.pal_base.specs.declared.program.Program.{Program}
+use Rattle.pal_meaning.specs.Program.{size_of, size_of_handler, size_of_procedure, size_of_process}
+use Rattle.source_finding_laws.specs.Found.{has_none}
+use Rattle.source_findings.specs.Lengths.{length_wrongs, passing, wrongs_at}
+
+abbrev total : List BodyCost → ℕ
+total [] = 0
+total (b ∷ bs) = b.instructions + total bs
+
+total_append : (xs ys : List BodyCost) → total (xs ++ ys) ≡ total xs + total ys
+total_append [] ys = omega arith
+total_append (x ∷ xs) ys = omega (arith, total_append xs ys)
+
+handler_total : (costs : Costs) (handler : Option Body) → total (cost_of_handler costs handler) ≡ size_of_handler (option_map body_of handler)
+handler_total costs None = refl
+handler_total costs (Some b) = omega arith
+
+processes_total : (costs : Costs) (ps : List Process) → total (map (cost_of_process costs) ps) ≡ sum_by size_of_process (map process_of ps)
+processes_total costs [] = refl
+processes_total costs (p ∷ ps) = omega (arith, sum_by-cons size_of_process (process_of p) (map process_of ps), processes_total costs ps)
+
+procedures_total : (costs : Costs) (ps : List Procedure) → total (map (cost_of_procedure costs) ps) ≡ sum_by size_of_procedure (map procedure_of ps)
+procedures_total costs [] = refl
+procedures_total costs (p ∷ ps) = omega (arith, sum_by-cons size_of_procedure (procedure_of p) (map procedure_of ps), procedures_total costs ps)
+
+-- the instructions of the bodies are those of the program
+program_total : (costs : Costs) (p : Program) → total (costs_of costs p) ≡ size_of (program_of p)
+program_total costs p =
+    let h = cost_of_handler costs p.handler in
+    let ps = map (cost_of_process costs) p.processes.items in
+    let rs = map (cost_of_procedure costs) p.procedures.items in
+    omega (arith, total_append h (ps ++ rs), total_append ps rs, handler_total costs p.handler, processes_total costs p.processes.items, procedures_total costs p.procedures.items)
+
+-- with some body more than so many instructions are passed
+passed : (text : List ℕ) (all bodies : List BodyCost) (most : ℕ) → most < total bodies → has_none (wrongs_at text all (passing most bodies)) ≡ false
+passed text all [] most above = absurd (omega (arith, above))
+passed text all (b ∷ bs) most above = by (nat_lt most b.instructions) refl (λ h. passed text all bs (most - b.instructions) h)
+  where
+    by : (is : Bool) → nat_lt most b.instructions ≡ is → (most - b.instructions < total bs → has_none (wrongs_at text all (passing (most - b.instructions) bs)) ≡ false)
+        → has_none (wrongs_at text all (cond is (Some b) (passing (most - b.instructions) bs))) ≡ false
+    by true e later = refl
+    by false e later = later (omega (arith, above, e))
+
+pub length_found : (costs : Costs) (text : List ℕ) (p : Program) → MOST_INSTRUCTIONS < size_of (program_of p) → has_none (length_wrongs text (costs_of costs p)) ≡ false
+length_found costs text p above =
+    let all : total (costs_of costs p) ≡ size_of (program_of p) = program_total costs p in
+    passed text (costs_of costs p) (costs_of costs p) MOST_INSTRUCTIONS (omega (arith, above, all))
