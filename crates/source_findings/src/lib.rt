@@ -13,7 +13,7 @@ mod frames;
 mod judge;
 mod phrases;
 mod roles;
-mod sought;
+mod suggestion;
 mod tally;
 mod texts;
 mod unfit;
