@@ -5,5 +5,6 @@ pub mod OfLimits
 pub mod OfNames
 pub mod OfPeriods
 pub mod OfRoles
+pub mod OfSuggestions
 pub mod OfTexts
 pub mod Words

@@ -7,17 +7,15 @@ use Rattle.pal_base.specs.declared.looking.LookedFor.{LookedFor}
 use Rattle.pal_meaning.specs.Grammar.{IsProgramOf}
 use Rattle.pal_meaning.specs.Syntax as written
 use Rattle.source_findings.specs.Bodies.{wrongs}
-use Rattle.source_findings.specs.Explained.{IsOfProgram, IsUnfit, IsUnfitAt, all_lines}
+use Rattle.source_findings.specs.Explained.{IsOfProgram, IsUnfit, all_lines}
 use Rattle.source_findings.specs.Unfit.{unfit_lines}
-use Rattle.source_findings.specs.Wanted.{phrase}
-use Rattle.source_findings.specs.declared.sought.Sought.{Sought}
 
 pub place_found : (text : List ℕ) (place : Option LookedFor) → IsLookedFor text place → IfSome place (λ l. IsLookedFor text (Some l))
 place_found text None h = tt
 place_found text (Some l) h = h
 
 pub with_place : {A : Type 0} (view : A → List ℕ) (r : Report) (text : List ℕ) (place : LookedFor) (answer : Option A)
-    → IsLookedFor text (Some place) → IfSome answer (λ a. IsUnfitAt r text place (view a)) → IfSome answer (λ a. IsUnfit r text (view a))
+    → IsLookedFor text (Some place) → IfSome answer (λ a. view a ≡ unfit_lines r text place) → IfSome answer (λ a. IsUnfit r text (view a))
 with_place view r text place None is told = tt
 with_place view r text place (Some a) is told = (place, is, told)
 

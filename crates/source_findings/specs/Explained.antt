@@ -1,5 +1,5 @@
 -- What is wrong with a refused source, as `--explain` shows it.
-use Rattle.std.specs.Prelude.{◌≡◌, ℕ, ◌-◌, List, flat_map, length, Option, Some}
+use Rattle.std.specs.Prelude.{◌≡◌, ℕ, ◌-◌, List, flat_map, length, Some}
 use Rattle.finding_lines.specs.Lines.{lines_at}
 use Rattle.finding_lines.specs.Reports.{Report}
 use Rattle.pal.specs.declared.report.BodyCost.{BodyCost}
@@ -14,9 +14,7 @@ use Rattle.source_findings.specs.Lengths.{length_wrongs}
 use Rattle.source_findings.specs.Phrases.{advice, said}
 use Rattle.source_findings.specs.Texts.{text_wrongs}
 use Rattle.source_findings.specs.Unfit.{unfit_lines}
-use Rattle.source_findings.specs.Wanted.{phrase}
 use Rattle.source_findings.specs.What.{Wrong}
-use Rattle.source_findings.specs.declared.sought.Sought.{Sought}
 
 -- the lines of a place where something is wrong, and of several
 abbrev pub wrong_lines : Report → List ℕ → Wrong → List ℕ
@@ -25,12 +23,9 @@ wrong_lines r text w = lines_at r text (length text - w.left) (said w.what) (adv
 abbrev pub all_lines : Report → List ℕ → List Wrong → List ℕ
 all_lines r text ws = flat_map (wrong_lines r text) ws
 
--- the place where a text leaves the grammar, and what is looked for there
-abbrev pub IsUnfitAt : Report → List ℕ → LookedFor → List ℕ → Type 0
-IsUnfitAt r text place lines = (sought : Sought) × (near : Option (List ℕ)) × (lines ≡ unfit_lines r text place.place place.is_too_deep (phrase sought) near)
-
+-- the place where a text leaves the grammar
 abbrev pub IsUnfit : Report → List ℕ → List ℕ → Type 0
-IsUnfit r text lines = (place : LookedFor) × IsLookedFor text (Some place) × IsUnfitAt r text place lines
+IsUnfit r text lines = (place : LookedFor) × IsLookedFor text (Some place) × (lines ≡ unfit_lines r text place)
 
 -- each place where a program breaks a rule
 abbrev pub IsOfProgram : Report → ℕ → List ℕ → Refusal → List ℕ → Type 0

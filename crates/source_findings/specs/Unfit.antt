@@ -3,9 +3,11 @@ use Rattle.std.specs.Prelude.{ℕ, zero, suc, ◌-◌, ◌==◌, Bool, if◌then
 use Rattle.std.specs.Fmt.{decimal}
 use Rattle.finding_lines.specs.Lines.{lines_at}
 use Rattle.finding_lines.specs.Reports.{Report}
+use Rattle.pal_base.specs.declared.looking.LookedFor.{LookedFor}
 use Rattle.pal_meaning.specs.Lines.{from_word}
 use Rattle.places.specs.Texts.{line_of, shown_start}
 use Rattle.source_findings.specs.Phrases.{did_you_mean, quoted}
+use Rattle.source_findings.specs.Wanted.{suggested, wanted}
 use Rattle.source_places.specs.Words.{first_word, next_word}
 
 -- ---- the braces that are open
@@ -60,7 +62,9 @@ abbrev pub unfit_advice : List ℕ → ℕ → Bool → List ℕ → Option (Lis
 unfit_advice text place is_too_deep wanted (Some near) = did_you_mean near
 unfit_advice text place is_too_deep wanted None = place_text text place is_too_deep wanted (from_word place text)
 
--- the lines of the place with so many words before it
-abbrev pub unfit_lines : Report → List ℕ → ℕ → Bool → List ℕ → Option (List ℕ) → List ℕ
-unfit_lines r text place is_too_deep wanted near =
-    lines_at r text (length text - length (from_word place text)) (unfit_said (from_word place text) is_too_deep wanted) (unfit_advice text place is_too_deep wanted near)
+-- the lines of the place where a text leaves the grammar
+abbrev pub unfit_lines : Report → List ℕ → LookedFor → List ℕ
+unfit_lines r text place =
+    lines_at r text (length text - length (from_word place.place text))
+    (unfit_said (from_word place.place text) place.is_too_deep (wanted place))
+    (unfit_advice text place.place place.is_too_deep (wanted place) (suggested text place))

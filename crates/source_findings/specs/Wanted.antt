@@ -1,13 +1,20 @@
--- The phrase for the words that the grammar looks for.
-use Rattle.std.specs.Prelude.{ℕ, List, ◌++◌, codes}
-use Rattle.source_findings.specs.declared.sought.Choice.{Choice}
-use Rattle.source_findings.specs.declared.sought.Choice.TheVariants as choice
-use Rattle.source_findings.specs.declared.sought.Sought.{Sought}
-use Rattle.source_findings.specs.declared.sought.Sought.TheVariants as sought
+-- What is looked for where a text leaves the grammar: what is said of the words that fit there, and which of them is suggested.
+use Rattle.std.specs.Prelude.{ℕ, Bool, false, ◌||◌, if◌then◌else◌, List, [], ◌∷◌, ◌++◌, codes, filter, map, Option}
+use Rattle.std.specs.List.{list_all, list_any}
+use Rattle.std.specs.Str.{bytes_eq}
+use Rattle.apex_types.specs.ServiceShape.{service_word, services}
 use Rattle.pal_base.specs.Marks.{mark_text}
+use Rattle.pal_base.specs.declared.looking.LookedFor.{LookedFor}
 use Rattle.pal_base.specs.declared.looking.WordKind.{WordKind}
 use Rattle.pal_base.specs.declared.looking.WordKind.TheVariants as kind
 use Rattle.pal_base.specs.declared.mark.Mark.{Mark}
+use Rattle.pal_base.specs.declared.mark.Mark.TheVariants as mark
+use Rattle.pal_meaning.specs.Grammar.{grammar_words}
+use Rattle.pal_meaning.specs.Lines.{from_word}
+use Rattle.places.specs.Nearest.{nearest}
+use Rattle.source_places.specs.Words.{first_word}
+
+-- ---- a kind of word, in words
 
 -- the spelling of a mark, in quotation marks
 abbrev pub mark_phrase : Mark → List ℕ
@@ -20,31 +27,124 @@ word_phrase kind.Service = codes "a service"
 word_phrase (kind.Mark mark) = mark_phrase mark
 word_phrase kind.End = codes "the end of the text"
 
-abbrev pub choice_phrase : Choice → List ℕ
-choice_phrase choice.DeclarationOrInit = codes "a declaration or `init`"
-choice_phrase choice.EqualOrSemicolon = codes "`=` or `;`"
-choice_phrase choice.NumberOrSemicolon = codes "a number or `;`"
-choice_phrase choice.SignedNumber = codes "a number"
-choice_phrase choice.FifoOrPriority = codes "`fifo` or `priority`"
-choice_phrase choice.NameOrParenthesis = codes "a name or `)`"
-choice_phrase choice.CommaOrParenthesis = codes "`,` or `)`"
-choice_phrase choice.HandlerProcessOrEnd = codes "`handler`, `process` or the end of the text"
-choice_phrase choice.ProcessOrEnd = codes "`process` or the end of the text"
-choice_phrase choice.LocalStatementOrBrace = codes "`local`, a statement or `}`"
-choice_phrase choice.StatementOrBrace = codes "a statement or `}`"
-choice_phrase choice.BecomesOrBracket = codes "`:=` or `[`"
-choice_phrase choice.ArrowOrSemicolon = codes "`->` or `;`"
-choice_phrase choice.CommaOrSemicolon = codes "`,` or `;`"
-choice_phrase choice.Expression = codes "an expression"
-choice_phrase choice.ExpressionOrParenthesis = codes "an expression or `)`"
-choice_phrase choice.OperatorCommaOrParenthesis = codes "an operator, `,` or `)`"
-choice_phrase choice.OperatorOrSemicolon = codes "an operator or `;`"
-choice_phrase choice.OperatorOrBrace = codes "an operator or `{`"
-choice_phrase choice.OperatorOrParenthesis = codes "an operator or `)`"
-choice_phrase choice.OperatorOrBracket = codes "an operator or `]`"
-choice_phrase choice.NoFurtherLevel = codes "a text of at most 64 levels"
-choice_phrase choice.Grammar = codes "a text of the grammar"
+-- ---- which words fit
 
-abbrev pub phrase : Sought → List ℕ
-phrase (sought.Word kind) = word_phrase kind
-phrase (sought.Choice choice) = choice_phrase choice
+-- two kinds are the same if the same is said of them
+abbrev pub is_same : WordKind → WordKind → Bool
+is_same kind other = bytes_eq (word_phrase kind) (word_phrase other)
+
+abbrev pub is_among : WordKind → List WordKind → Bool
+is_among kind kinds = list_any (is_same kind) kinds
+
+-- a word of this kind could stand at the place, with one more level if need be
+abbrev pub could_stand : LookedFor → WordKind → Bool
+could_stand place kind = is_among kind place.words.items || is_among kind place.deeper.items
+
+-- ---- what is said of them
+
+-- A part of what is said, and the kind of word that tells it. `var` tells that a declaration fits, `work` a statement, `not` an
+-- expression and `or` an operator.
+pub record Part : Type 0 where
+  pub said : List ℕ
+  pub told_by : WordKind
+
+abbrev pub word : WordKind → Part
+word kind = record { said = word_phrase kind; told_by = kind }
+
+abbrev pub the : Mark → Part
+the mark = word (kind.Mark mark)
+
+abbrev pub declaration : Part
+declaration = record { said = codes "a declaration"; told_by = kind.Mark mark.Var }
+
+abbrev pub statement : Part
+statement = record { said = codes "a statement"; told_by = kind.Mark mark.Work }
+
+abbrev pub expression : Part
+expression = record { said = codes "an expression"; told_by = kind.Mark mark.Not }
+
+abbrev pub operator : Part
+operator = record { said = codes "an operator"; told_by = kind.Mark mark.Or }
+
+-- parts, one behind another, with `or` before the last
+abbrev pub or_more : List Part → List ℕ
+or_more [] = []
+or_more (last ∷ []) = codes " or " ++ last.said
+or_more (part ∷ next ∷ parts) = codes ", " ++ (part.said ++ or_more (next ∷ parts))
+
+abbrev pub joined : List Part → List ℕ
+joined [] = []
+joined (part ∷ parts) = part.said ++ or_more parts
+
+-- what may be said of a place, and the kinds of words that have to fit there
+pub record Choice : Type 0 where
+  pub said : List ℕ
+  pub told_by : List WordKind
+
+abbrev pub one_of : List Part → Choice
+one_of parts = record { said = joined parts; told_by = map (λ part. part.told_by) parts }
+
+unfoldable pub choices : List Choice
+choices =
+    one_of (declaration ∷ the mark.Init ∷ [])
+    ∷ one_of (operator ∷ the mark.Comma ∷ the mark.ParenthesisCloses ∷ [])
+    ∷ one_of (operator ∷ the mark.Semicolon ∷ [])
+    ∷ one_of (operator ∷ the mark.BraceOpens ∷ [])
+    ∷ one_of (operator ∷ the mark.BracketCloses ∷ [])
+    ∷ one_of (operator ∷ the mark.ParenthesisCloses ∷ [])
+    ∷ one_of (the mark.Local ∷ statement ∷ the mark.BraceCloses ∷ [])
+    ∷ one_of (statement ∷ the mark.BraceCloses ∷ [])
+    ∷ one_of (expression ∷ the mark.ParenthesisCloses ∷ [])
+    ∷ one_of (expression ∷ [])
+    ∷ one_of (word kind.Number ∷ the mark.Semicolon ∷ [])
+    ∷ one_of (word kind.Number ∷ [])
+    ∷ one_of (the mark.Fifo ∷ the mark.Priority ∷ [])
+    ∷ one_of (word kind.Name ∷ the mark.ParenthesisCloses ∷ [])
+    ∷ one_of (the mark.Comma ∷ the mark.ParenthesisCloses ∷ [])
+    ∷ one_of (the mark.Comma ∷ the mark.Semicolon ∷ [])
+    ∷ one_of (the mark.Handler ∷ the mark.Process ∷ word kind.End ∷ [])
+    ∷ one_of (the mark.Process ∷ word kind.End ∷ [])
+    ∷ one_of (the mark.Becomes ∷ the mark.BracketOpens ∷ [])
+    ∷ one_of (the mark.Arrow ∷ the mark.Semicolon ∷ [])
+    ∷ one_of (the mark.Equal ∷ the mark.Semicolon ∷ [])
+    ∷ []
+
+abbrev pub first_phrase : List WordKind → List ℕ
+first_phrase [] = codes "a text of the grammar"
+first_phrase (kind ∷ kinds) = word_phrase kind
+
+-- what is said of the first choice of which all words could stand at the place, or else of the first word that may
+abbrev pub first_said : LookedFor → List Choice → List ℕ
+first_said place [] = first_phrase place.words.items
+first_said place (choice ∷ others) = if list_all (could_stand place) choice.told_by then choice.said else first_said place others
+
+abbrev pub wanted : LookedFor → List ℕ
+wanted place = if place.is_too_deep then codes "a text of at most 64 levels" else first_said place choices
+
+-- ---- which of them is suggested
+
+abbrev pub is_spelled : List ℕ → WordKind → Bool
+is_spelled text (kind.Mark mark) = bytes_eq (mark_text mark) text
+is_spelled text kind = false
+
+-- the word that is written so may stand there
+abbrev pub may_stand : List WordKind → List ℕ → Bool
+may_stand kinds text = list_any (is_spelled text) kinds
+
+-- all words in letters but for names: those of the grammar, and the names of services
+unfoldable pub small_words : List (List ℕ)
+small_words = grammar_words
+
+unfoldable pub service_words : List (List ℕ)
+service_words = map service_word services
+
+abbrev pub service_names : List WordKind → List (List ℕ)
+service_names kinds = if is_among kind.Service kinds then service_words else []
+
+-- those that may stand where these kinds fit
+abbrev pub candidates : List WordKind → List (List ℕ)
+candidates kinds = filter (may_stand kinds) small_words ++ service_names kinds
+
+-- the one that is nearest to the word which stands there
+abbrev pub suggested : List ℕ → LookedFor → Option (List ℕ)
+suggested text place = nearest (first_word (from_word place.place text)) (candidates place.words.items)

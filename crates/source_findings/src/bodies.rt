@@ -28,11 +28,8 @@ pub fn own_name<'a>(
         (name_of (names_of judge.now) name) (state_of walk.old)) }
 {
     let within = Judge {
-        rule: judge.rule,
-        period: judge.period,
-        names: judge.names,
-        declared: judge.declared,
         own: before,
+        ..*judge
     };
     walk.judge(new_wrong(&within, text_of(judge.names, name)))
 }
@@ -100,11 +97,8 @@ fn inside<'a>(
     let mut own = own;
     locals(judge, walk, &mut own, body.locals.as_slice())?;
     let within = Judge {
-        rule: judge.rule,
-        period: judge.period,
-        names: judge.names,
-        declared: judge.declared,
         own: own.as_slice(),
+        ..*judge
     };
     block(alloc, &within, walk, returns, body.statements.as_slice())?;
     walk.step();

@@ -1,141 +1,188 @@
-//! The phrase for the words that the grammar looks for.
+//! What is said of the words that fit where a text leaves the grammar.
 
-use crate::sought::{Choice, Sought};
+ghost use Rattle.std.specs.Prelude.{◌≡◌, map};
+ghost use Rattle.std.specs.List.{list_all};
+ghost use Rattle.source_findings.specs.Views.{choice_of};
+ghost use Rattle.source_findings.specs.Wanted as spec;
+
+use crate::words::{is_among, word_phrase};
 use pal_base::looking::{LookedFor, WordKind};
 use pal_base::mark::Mark;
 
-/// A choice, and the words that identify it: the choice applies where all of them may stand.
-struct Row {
-    choice: Choice,
+/// What may be said of a place, and the kinds of words that have to fit there.
+struct Choice {
+    phrase: &'static str,
     words: &'static [WordKind],
 }
 
-/// The choices between words of the grammar. The first that applies is reported.
-static ROWS: [Row; 21] = [
-    Row {
-        choice: Choice::DeclarationOrInit,
-        words: &[WordKind::Mark(Mark::Init)],
+/// The first of which all words fit is said.
+static CHOICES: [Choice; 21] = [
+    Choice {
+        phrase: "a declaration or `init`",
+        words: &[WordKind::Mark(Mark::Var), WordKind::Mark(Mark::Init)],
     },
-    Row {
-        choice: Choice::OperatorCommaOrParenthesis,
-        words: &[WordKind::Mark(Mark::Or), WordKind::Mark(Mark::Comma)],
+    Choice {
+        phrase: "an operator, `,` or `)`",
+        words: &[
+            WordKind::Mark(Mark::Or),
+            WordKind::Mark(Mark::Comma),
+            WordKind::Mark(Mark::ParenthesisCloses),
+        ],
     },
-    Row {
-        choice: Choice::OperatorOrSemicolon,
+    Choice {
+        phrase: "an operator or `;`",
         words: &[WordKind::Mark(Mark::Or), WordKind::Mark(Mark::Semicolon)],
     },
-    Row {
-        choice: Choice::OperatorOrBrace,
+    Choice {
+        phrase: "an operator or `{`",
         words: &[WordKind::Mark(Mark::Or), WordKind::Mark(Mark::BraceOpens)],
     },
-    Row {
-        choice: Choice::OperatorOrBracket,
+    Choice {
+        phrase: "an operator or `]`",
         words: &[
             WordKind::Mark(Mark::Or),
             WordKind::Mark(Mark::BracketCloses),
         ],
     },
-    Row {
-        choice: Choice::OperatorOrParenthesis,
+    Choice {
+        phrase: "an operator or `)`",
         words: &[
             WordKind::Mark(Mark::Or),
             WordKind::Mark(Mark::ParenthesisCloses),
         ],
     },
-    Row {
-        choice: Choice::LocalStatementOrBrace,
+    Choice {
+        phrase: "`local`, a statement or `}`",
         words: &[
             WordKind::Mark(Mark::Local),
+            WordKind::Mark(Mark::Work),
             WordKind::Mark(Mark::BraceCloses),
         ],
     },
-    Row {
-        choice: Choice::StatementOrBrace,
+    Choice {
+        phrase: "a statement or `}`",
         words: &[
             WordKind::Mark(Mark::Work),
             WordKind::Mark(Mark::BraceCloses),
         ],
     },
-    Row {
-        choice: Choice::ExpressionOrParenthesis,
+    Choice {
+        phrase: "an expression or `)`",
         words: &[
             WordKind::Mark(Mark::Not),
             WordKind::Mark(Mark::ParenthesisCloses),
         ],
     },
-    Row {
-        choice: Choice::Expression,
+    Choice {
+        phrase: "an expression",
         words: &[WordKind::Mark(Mark::Not)],
     },
-    Row {
-        choice: Choice::NumberOrSemicolon,
+    Choice {
+        phrase: "a number or `;`",
         words: &[WordKind::Number, WordKind::Mark(Mark::Semicolon)],
     },
-    Row {
-        choice: Choice::SignedNumber,
-        words: &[WordKind::Number, WordKind::Mark(Mark::Minus)],
+    Choice {
+        phrase: "a number",
+        words: &[WordKind::Number],
     },
-    Row {
-        choice: Choice::FifoOrPriority,
+    Choice {
+        phrase: "`fifo` or `priority`",
         words: &[WordKind::Mark(Mark::Fifo), WordKind::Mark(Mark::Priority)],
     },
-    Row {
-        choice: Choice::NameOrParenthesis,
+    Choice {
+        phrase: "a name or `)`",
         words: &[WordKind::Name, WordKind::Mark(Mark::ParenthesisCloses)],
     },
-    Row {
-        choice: Choice::CommaOrParenthesis,
+    Choice {
+        phrase: "`,` or `)`",
         words: &[
             WordKind::Mark(Mark::Comma),
             WordKind::Mark(Mark::ParenthesisCloses),
         ],
     },
-    Row {
-        choice: Choice::CommaOrSemicolon,
+    Choice {
+        phrase: "`,` or `;`",
         words: &[WordKind::Mark(Mark::Comma), WordKind::Mark(Mark::Semicolon)],
     },
-    Row {
-        choice: Choice::HandlerProcessOrEnd,
-        words: &[WordKind::Mark(Mark::Handler), WordKind::End],
+    Choice {
+        phrase: "`handler`, `process` or the end of the text",
+        words: &[
+            WordKind::Mark(Mark::Handler),
+            WordKind::Mark(Mark::Process),
+            WordKind::End,
+        ],
     },
-    Row {
-        choice: Choice::ProcessOrEnd,
+    Choice {
+        phrase: "`process` or the end of the text",
         words: &[WordKind::Mark(Mark::Process), WordKind::End],
     },
-    Row {
-        choice: Choice::BecomesOrBracket,
+    Choice {
+        phrase: "`:=` or `[`",
         words: &[
             WordKind::Mark(Mark::Becomes),
             WordKind::Mark(Mark::BracketOpens),
         ],
     },
-    Row {
-        choice: Choice::ArrowOrSemicolon,
+    Choice {
+        phrase: "`->` or `;`",
         words: &[WordKind::Mark(Mark::Arrow), WordKind::Mark(Mark::Semicolon)],
     },
-    Row {
-        choice: Choice::EqualOrSemicolon,
+    Choice {
+        phrase: "`=` or `;`",
         words: &[WordKind::Mark(Mark::Equal), WordKind::Mark(Mark::Semicolon)],
     },
 ];
 
-/// The report for a place where the grammar looks for these words.
-pub fn sought_of(looked_for: &LookedFor) -> Sought {
-    if looked_for.is_too_deep {
-        return Sought::Choice(Choice::NoFurtherLevel);
-    }
-    for row in ROWS.iter() {
-        if could_all_stand(looked_for, row.words) {
-            return Sought::Choice(row.choice);
-        }
-    }
-    match looked_for.words.first() {
-        Some(kind) => Sought::Word(*kind),
-        None => Sought::Choice(Choice::Grammar),
+/// What is said of the words that fit at a place.
+pub fn wanted(place: &LookedFor) -> &'static str
+    ensures { result.now ≡ spec.wanted place.now }
+{
+    if place.is_too_deep {
+        "a text of at most 64 levels"
+    } else {
+        first_said(place, choices())
     }
 }
 
-/// Returns true if each of these words may stand there, with one more level if necessary.
-fn could_all_stand(looked_for: &LookedFor, words: &[WordKind]) -> bool {
-    words.iter().all(|kind| looked_for.words.contains(kind) || looked_for.deeper.contains(kind))
+#[tactic(auto, unfolding(crate::specs::Wanted::choices))]
+fn choices() -> &'static [Choice]
+    ensures { map choice_of result.now ≡ spec.choices }
+{
+    &CHOICES
+}
+
+/// What is said of the first of these choices that fits, or else of the first word that may stand
+/// there.
+#[tactic(auto, using(std::proofs::lemmas::List::drop_more))]
+fn first_said(place: &LookedFor, choices: &[Choice]) -> &'static str
+    ensures { result.now ≡ spec.first_said place.now (map choice_of choices.now) }
+{
+    for choice in choices {
+        if all_could_stand(place, choice.words) {
+            return choice.phrase;
+        }
+    }
+    first_phrase(place.words.as_slice())
+}
+
+fn all_could_stand(place: &LookedFor, words: &[WordKind]) -> bool
+    ensures { result ≡ list_all (spec.could_stand place.now) words.now }
+{
+    words.iter().all(|kind| could_stand(place, *kind))
+}
+
+/// Returns true if a word of this kind could stand there, with one more level if necessary.
+fn could_stand(place: &LookedFor, kind: WordKind) -> bool
+    ensures { result ≡ spec.could_stand place.now kind }
+{
+    is_among(kind, place.words.as_slice()) || is_among(kind, place.deeper.as_slice())
+}
+
+fn first_phrase(kinds: &[WordKind]) -> &'static str
+    ensures { result.now ≡ spec.first_phrase kinds.now }
+{
+    match kinds.first() {
+        Some(kind) => word_phrase(*kind),
+        None => "a text of the grammar",
+    }
 }

@@ -322,11 +322,8 @@ fn declared_name<'a>(
         (name_of (names_of judge.now) name) (state_of walk.old)) }
 {
     let among = Judge {
-        rule: judge.rule,
-        period: judge.period,
-        names: judge.names,
         declared: before,
-        own: judge.own,
+        ..*judge
     };
     walk.judge(new_wrong(&among, text_of(judge.names, name)))
 }

@@ -8,6 +8,7 @@ ghost use Rattle.source_findings.specs.Bodies.{wrongs};
 ghost use Rattle.finding_lines.specs.Reports.{report_of};
 ghost use Rattle.source_findings.specs.Explained as spec;
 ghost use Rattle.source_findings.specs.Texts.{text_wrongs};
+ghost use Rattle.source_findings.specs.Unfit.{unfit_lines};
 ghost use Rattle.source_findings.specs.Views.{wrong_of, wrongs_of};
 
 use crate::declarations::wrongs;
@@ -15,7 +16,7 @@ use crate::finding::Wrong;
 use crate::lengths::length_wrongs;
 use crate::phrases::{advice, said};
 use crate::texts::text_wrongs;
-use crate::unfit::{hint_at, unfit_lines};
+use crate::unfit::unfit_lines;
 use finding_lines::{Report, lines_at};
 use pal::BodyCost;
 use pal_base::fault::Refusal;
@@ -90,14 +91,9 @@ fn unfit_place(alloc: Global, text: &[u8]) -> Option<LookedFor>
 /// The lines of the place where a text leaves the grammar.
 fn place_lines(alloc: Global, report: Report<'_>, text: &[u8], place: &LookedFor) -> Option<String>
     ensures { IfSome result
-        (λ lines. spec.IsUnfitAt (report_of report.entry) text.now place.now (string_bytes lines)) }
+        (λ lines. string_bytes lines ≡ unfit_lines (report_of report.entry) text.now place.now) }
 {
-    let hint = hint_at(alloc, text, place).ok()?;
-    let (wanted, near) = (hint.sought.phrase(), hint.near);
-    match unfit_lines(alloc, report, text, place, wanted, near) {
-        Ok(lines) => Some(lines),
-        Err(_) => None,
-    }
+    unfit_lines(alloc, report, text, place).ok()
 }
 
 /// Each place where the program of a text breaks a rule.

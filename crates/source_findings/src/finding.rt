@@ -4,7 +4,7 @@ use crate::roles::Role;
 use apex_types::Service;
 
 /// A number that a program gives.
-#[derive(Clone, Copy, Debug, PartialEq, Eq)]
+#[derive(Clone, Copy)]
 pub enum Thing {
     Stack,
     Priority,
@@ -23,7 +23,7 @@ pub enum Thing {
 }
 
 /// What a program has many of.
-#[derive(Clone, Copy, Debug, PartialEq, Eq)]
+#[derive(Clone, Copy)]
 pub enum Many {
     Locals,
     Parameters,

@@ -14,7 +14,7 @@ mod judge;
 mod lengths;
 mod phrases;
 mod roles;
-mod sought;
+mod suggestion;
 mod tally;
 mod texts;
 mod unfit;

@@ -14,7 +14,7 @@ use pal_base::syntax::{Declaration, DeclarationKind, Identifier, Process, Progra
 use std::alloc::{AllocError, Global};
 
 /// What a name stands for.
-#[derive(Clone, Copy, Debug, PartialEq, Eq)]
+#[derive(Clone, Copy)]
 pub enum Role {
     /// It is not declared.
     Nothing,

@@ -5,39 +5,16 @@ ghost use Rattle.pal_meaning.specs.Lines.{from_word};
 ghost use Rattle.finding_lines.specs.Reports.{report_of};
 ghost use Rattle.source_findings.specs.Unfit as spec;
 
-use crate::choices::sought_of;
+use crate::choices::wanted;
 use crate::phrases::{did_you_mean, quoted};
-use crate::sought::Sought;
-use crate::words::candidates;
+use crate::suggestion::suggested;
 use finding_lines::{Report, lines_at};
 use pal_base::looking::LookedFor;
-use places::{nearest, place_of};
+use places::place_of;
 use source_places::{first_word, from_word, next_word};
 use std::alloc::{AllocError, Global};
 
-/// What the grammar looks for at a place, in words, and a word that fits and is near to that there.
-#[derive(Clone, Copy)]
-pub struct Hint {
-    pub sought: Sought,
-    pub near: Option<&'static str>,
-}
-
-/// What the grammar looks for at a place of a text.
-///
-/// # Errors
-///
-/// Only if memory runs out.
-pub fn hint_at(alloc: Global, text: &[u8], looked_for: &LookedFor) -> Result<Hint, AllocError> {
-    let word = first_word(from_word(text, looked_for.place));
-    let fitting = candidates(alloc, looked_for)?;
-    Ok(Hint {
-        sought: sought_of(looked_for),
-        near: nearest(word, fitting.as_slice()),
-    })
-}
-
-/// The lines of the place where a text leaves the grammar. `wanted` says what is looked for there,
-/// and `near` is a word that fits there and is near to that which stands there.
+/// The lines of the place where a text leaves the grammar.
 ///
 /// # Errors
 ///
@@ -47,15 +24,14 @@ pub fn unfit_lines(
     report: Report<'_>,
     text: &[u8],
     looked_for: &LookedFor,
-    wanted: &str,
-    near: Option<&str>,
 ) -> Result<String, AllocError>
     ensures { IfOk result
         (λ lines. string_bytes lines
-        ≡ spec.unfit_lines (report_of report.entry) text.now looked_for.now.place looked_for.now.is_too_deep
-        wanted.now (option_copied near.entry)) }
+        ≡ spec.unfit_lines (report_of report.entry) text.now looked_for.now) }
 {
     let rest = from_word(text, looked_for.place);
+    let wanted = wanted(looked_for);
+    let near = suggested(alloc, text, looked_for)?;
     let said = unfit_said(alloc, rest, looked_for.is_too_deep, wanted)?;
     let advice = unfit_advice(alloc, text, looked_for, wanted, near)?;
     let offset = text.len().saturating_sub(rest.len());
