@@ -5,6 +5,6 @@
 mod laws;
 
 pub use laws::{
-    kinds_are_found, lengths_are_found, limits_are_found, names_are_found, periods_are_found, places_are_words,
-    texts_are_found,
+    kinds_are_found, lengths_are_found, limits_are_found, names_are_found, periods_are_found,
+    places_are_words, texts_are_found,
 };
