@@ -13,8 +13,8 @@ use apex_types::Name;
 use command_words::Failure;
 use explanations::{
     CommandFault, command_sentence, device_sentence, explain_devices, explain_image,
-    explain_inputs, explain_length, explain_source, explain_table, file_sentence, image_sentence, replay_sentence,
-    source_sentence, table_sentence,
+    explain_inputs, explain_length, explain_source, explain_table, file_sentence, image_sentence,
+    replay_sentence, source_sentence, table_sentence,
 };
 use finding_lines::{Form, Report, rule_line};
 use image::ImageFault;

@@ -1,13 +1,15 @@
 -- The length of a program: a body is found whenever there are more instructions than there may be.
-use Rattle.std.proofs.Common.{◌≡◌, ◌<◌, ℕ, ◌+◌, ◌-◌, Bool, true, false, cond, List, [], ◌∷◌, ◌++◌, map, Option, Some, None, refl, arith}
+use Rattle.std.proofs.Common.{◌≡◌, ◌<◌, ℕ, ◌+◌, ◌-◌, Bool, true, false, cond, List, [], ◌∷◌, ◌++◌, map, Option, Some, None, refl, ◌∙◌, ◌≤◌, arith}
 use Rattle.std.specs.List.{sum_by}
 use Rattle.std.specs.Option.{option_map}
 use Rattle.std.specs.Prelude.{nat_lt}
+use Rattle.std.proofs.lemmas.Bool.{ltb-false}
 use Rattle.std.proofs.lemmas.List.Sums.{sum_by-cons}
 use Rattle.apex_types.specs.declared.cost.Costs.{Costs}
 use Rattle.apex_types.specs.declared.limits.TheConstants.{MOST_INSTRUCTIONS}
-use Rattle.pal.specs.Costs.{cost_of_handler, cost_of_procedure, cost_of_process, costs_of}
+use Rattle.pal.specs.Costs.{cost_of_body, cost_of_handler, cost_of_procedure, cost_of_process, costs_of}
 use Rattle.pal.specs.declared.report.BodyCost.{BodyCost}
+use Rattle.pal.specs.declared.report.BodyName.TheVariants as name
 use Rattle.pal_base.specs.ProgramView.{body_of, procedure_of, process_of, program_of}
 use Rattle.pal_base.specs.declared.program.Body.{Body}
 use Rattle.pal_base.specs.declared.program.Procedure.{Procedure}
@@ -37,13 +39,14 @@ procedures_total : (costs : Costs) (ps : List Procedure) → total (map (cost_of
 procedures_total costs [] = refl
 procedures_total costs (p ∷ ps) = omega (arith, sum_by-cons size_of_procedure (procedure_of p) (map procedure_of ps), procedures_total costs ps)
 
+all_of : (x : BodyCost) (xs ys zs : List BodyCost) → total (x ∷ ((xs ++ ys) ++ zs)) ≡ x.instructions + total xs + total ys + total zs
+all_of x xs ys zs = omega (arith, total_append (xs ++ ys) zs, total_append xs ys)
+
 -- the instructions of the bodies are those of the program
 program_total : (costs : Costs) (p : Program) → total (costs_of costs p) ≡ size_of (program_of p)
 program_total costs p =
-    let h = cost_of_handler costs p.handler in
-    let ps = map (cost_of_process costs) p.processes.items in
-    let rs = map (cost_of_procedure costs) p.procedures.items in
-    omega (arith, total_append h (ps ++ rs), total_append ps rs, handler_total costs p.handler, processes_total costs p.processes.items, procedures_total costs p.procedures.items)
+    all_of (cost_of_body costs name.Init p.init) (cost_of_handler costs p.handler) (map (cost_of_process costs) p.processes.items) (map (cost_of_procedure costs) p.procedures.items)
+    ∙ omega (arith, handler_total costs p.handler, processes_total costs p.processes.items, procedures_total costs p.procedures.items)
 
 -- with some body more than so many instructions are passed
 passed : (text : List ℕ) (all bodies : List BodyCost) (most : ℕ) → most < total bodies → has_none (wrongs_at text all (passing most bodies)) ≡ false
@@ -53,7 +56,7 @@ passed text all (b ∷ bs) most above = by (nat_lt most b.instructions) refl (λ
     by : (is : Bool) → nat_lt most b.instructions ≡ is → (most - b.instructions < total bs → has_none (wrongs_at text all (passing (most - b.instructions) bs)) ≡ false)
         → has_none (wrongs_at text all (cond is (Some b) (passing (most - b.instructions) bs))) ≡ false
     by true e later = refl
-    by false e later = later (omega (arith, above, e))
+    by false e later = let few : b.instructions ≤ most = ltb-false most b.instructions e in later (omega (arith, above, few))
 
 pub length_found : (costs : Costs) (text : List ℕ) (p : Program) → MOST_INSTRUCTIONS < size_of (program_of p) → has_none (length_wrongs text (costs_of costs p)) ≡ false
 length_found costs text p above =
