@@ -6,3 +6,4 @@ pub mod Pages
 pub mod Pieces
 pub mod Places
 pub mod Plain
+pub mod Read

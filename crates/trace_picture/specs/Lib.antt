@@ -5,6 +5,7 @@ pub mod Element
 pub mod Lengths
 pub mod Marked
 pub mod Marks
+pub mod Read
 pub mod Page
 pub mod Rows
 pub mod Titles

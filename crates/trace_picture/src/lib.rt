@@ -18,6 +18,7 @@ mod marks;
 mod message_words;
 mod page;
 mod picture;
+pub mod reading;
 mod rows;
 mod shape;
 mod style;

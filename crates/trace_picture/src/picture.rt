@@ -43,6 +43,8 @@ impl Picture {
     /// A picture of the ticks from the first one on and before the second; with none, up to the tick
     /// of the last line.
     pub fn new(alloc: Global, from: Ticks, to: Option<Ticks>) -> Picture
+        ensures lanes { result.lanes.partitions.items ≡ [] }
+        ensures way { result.way ≡ None }
         ensures shown { result.shown ≡ shown_from from to }
         ensures shapes { result.shapes.items ≡ [] }
         ensures count { result.count ≡ 0 }
