@@ -31,9 +31,11 @@ pub taken : (early : Bool) (e : Event) (old new : Picture) (over : List Ended) (
     → new.shapes.items ≡ (old.shapes.items ++ bars_of_stays (open_ticks old.shown) over) ++ marks_if early e old.way new.lanes → IsTaken e old new
 taken early e old new over between is follows kept way shapes =
     let whole : IsTakenIf (is_early e old.shown) e old new over between =
-    λ f k w s.
-    (bars_of_stays (open_ticks old.shown) over ++ marks_if (is_early e old.shown) e old.way new.lanes, (over, (between, f, k, w, refl)),
-    s ∙ append_assoc old.shapes.items (bars_of_stays (open_ticks old.shown) over) (marks_if (is_early e old.shown) e old.way new.lanes)) in
+    λ f k w s. (
+      bars_of_stays (open_ticks old.shown) over ++ marks_if (is_early e old.shown) e old.way new.lanes,
+      (over, (between, f, k, w, refl)),
+      s ∙ append_assoc old.shapes.items (bars_of_stays (open_ticks old.shown) over) (marks_if (is_early e old.shown) e old.way new.lanes),
+    ) in
     subst (λ b. IsTakenIf b e old new over between) (sym is) whole follows kept way shapes
 
 -- a line before the first tick has none but bars
