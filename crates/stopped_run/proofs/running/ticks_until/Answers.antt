@@ -39,6 +39,29 @@ returns-in_err-lines-clause-trace g c =
     ends_broken _ _ _ _ _ _ c.in_err-lines.field-0.0 _ (search rules) (inr c.in_err-lines.ensures.memory)
     (breaks_between (g.S.Sink.taken c.tell.new.sink) c.loop-left.invariant.reached c.in_ok-told.ensures.kept)
 
+pub overflow_sub-left : goal.overflow_sub-left
+overflow_sub-left g c =
+    let skipped = skipped_before _ (machine_of c.skip-count.new.self) c.until_line-quiet.result c.skip-count.result _ c.skip-count.ensures c.until_line-quiet.ensures.from in
+    let few : c.skip-count.result ≤ c.until_line-quiet.result = skipped.1.2.0 in
+    omega (arith, few, c.until_line-quiet.ensures.within, c.at_once.ensures, c.from-left.ensures)
+
+pub tick_held-requires-clause-order : goal.tick_held-requires-clause-order
+tick_held-requires-clause-order g c =
+    let skipped = skipped_before _ (machine_of c.skip-count.new.self) c.until_line-quiet.result c.skip-count.result _ c.skip-count.ensures c.until_line-quiet.ensures.from in
+    skipped.0
+
+pub tick_held-requires-clause-sound : goal.tick_held-requires-clause-sound
+tick_held-requires-clause-sound g c =
+    let skipped = skipped_before _ (machine_of c.skip-count.new.self) c.until_line-quiet.result c.skip-count.result _ c.skip-count.ensures c.until_line-quiet.ensures.from in
+    let way = reached_still (machine_of c.skip-count.new.self) c.until_line-quiet.result c.skip-count.result (reached_kept (g.S.Sink.taken c.tell.new.sink) c.loop-left.invariant.reached c.in_ok-told.ensures.kept) skipped.1 skipped.0 (omega (arith, c.if-count-gt0.false)) in
+    way.sound
+
+pub tick_held-requires-clause-few : goal.tick_held-requires-clause-few
+tick_held-requires-clause-few g c =
+    let skipped = skipped_before _ (machine_of c.skip-count.new.self) c.until_line-quiet.result c.skip-count.result _ c.skip-count.ensures c.until_line-quiet.ensures.from in
+    let way = reached_still (machine_of c.skip-count.new.self) c.until_line-quiet.result c.skip-count.result (reached_kept (g.S.Sink.taken c.tell.new.sink) c.loop-left.invariant.reached c.in_ok-told.ensures.kept) skipped.1 skipped.0 (omega (arith, c.if-count-gt0.false)) in
+    omega (arith, way.count, c.requires.ticks, c.loop-left-test.true)
+
 pub returns-in_err-hand_on-clause-trace : goal.returns-in_err-hand_on-clause-trace
 returns-in_err-hand_on-clause-trace g c =
     let mid = g.S.Sink.taken c.tell.new.sink in
