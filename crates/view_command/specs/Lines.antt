@@ -17,7 +17,7 @@ line_of (Line number trace) = codes "mbview: line " ++ decimal number ++ codes "
 line_of (Late number trace) = codes "mbview: line " ++ decimal number ++ codes " of " ++ string_bytes trace ++ codes " is behind the last tick of the run"
 line_of TooMany = codes "mbview: the view would have too many windows; choose fewer ticks with --from and --to"
 line_of (Crowded shapes from until elements) =
-    codes "mbview: the picture would have "
+    codes "mbview: beside windows, the picture would have "
     ++ (decimal shapes
     ++ (codes " bars, arrows, flags and marks; from tick "
     ++ (decimal from

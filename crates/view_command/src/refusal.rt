@@ -80,7 +80,7 @@ impl fmt::Display for Refusal {
                 elements,
             } => write!(
                 f,
-                "mbview: the picture would have {} bars, arrows, flags and marks; from tick {} on it has {} elements before tick {}, and more than 5000 with it; end it there with --to {}",
+                "mbview: beside windows, the picture would have {} bars, arrows, flags and marks; from tick {} on it has {} elements before tick {}, and more than 5000 with it; end it there with --to {}",
                 *shapes, *from, *elements, *until, *until
             ),
             Refusal::Table { fault, table } => write!(
