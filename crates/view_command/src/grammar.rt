@@ -308,23 +308,68 @@ fn at_most<'a>(alloc: Global) -> Arg<'a>
         .help("There may be so many lines of these kinds together")
 }
 
-/// The usage error of a word that an option does not take.
-pub fn bad_value(alloc: Global, option: &str, value: &str, word: &str) -> Result<Error, AllocError>
+/// The usage error of a word that an option of the command of that name does not take.
+pub fn bad_value(
+    alloc: Global,
+    command: &str,
+    option: &str,
+    value: &str,
+    word: &str,
+) -> Result<Error, AllocError>
     ensures { IfOk result (λ error. kind_of error ≡ ValueValidation) }
 {
-    let message = format!(in alloc; "invalid value '{word}' for '--{option} <{value}>'")?;
-    grammar(alloc)?.error(ErrorKind::ValueValidation, message.as_str())
+    let wanted = wanted(value);
+    let message = format!(in alloc; "invalid value '{word}' for '--{option} <{value}>': {wanted}")?;
+    usage_error(alloc, command, message.as_str())
+}
+
+/// What a value has to be.
+fn wanted(value: &str) -> &'static str {
+    match value {
+        "TICKS" => "one or more digits, at most 1099511627776",
+        "PIXELS" => "a number from 1200 to 30000",
+        "KIND[,KIND]" => "of STATE, RET, MODE, HM, REPORT, MOVE, ARRIVE, LOST and OUT",
+        _ => "one or more digits",
+    }
 }
 
 /// The usage error of two ticks that have no tick between them: that of `--from`, and the end that
 /// another option gives.
-pub fn no_ticks(alloc: Global, from: u64, end: u64, option: &str) -> Result<Error, AllocError>
+pub fn no_ticks(
+    alloc: Global,
+    command: &str,
+    from: u64,
+    end: u64,
+    option: &str,
+) -> Result<Error, AllocError>
     ensures { IfOk result (λ error. kind_of error ≡ ValueValidation) }
 {
     let message = format!(in alloc;
         "there is no tick from {from} on before {end}: '--from' has to be below '--{option}'"
     )?;
-    grammar(alloc)?.error(ErrorKind::ValueValidation, message.as_str())
+    usage_error(alloc, command, message.as_str())
+}
+
+/// A usage error that shows the words of the command of that name.
+fn usage_error(alloc: Global, command: &str, message: &str) -> Result<Error, AllocError>
+    ensures { IfOk result (λ error. kind_of error ≡ ValueValidation) }
+{
+    let shown = format!(in alloc; "mbview {command}")?;
+    command_named(alloc, command)?
+        .bin_name(shown.as_str())?
+        .error(ErrorKind::ValueValidation, message)
+}
+
+/// The command of that name, which takes ticks or kinds of lines.
+fn command_named<'a>(alloc: Global, name: &str) -> Result<Command<'a>, AllocError> {
+    match name {
+        "summary" => summary(alloc),
+        "svg" => svg(alloc),
+        "vcd" => vcd(alloc),
+        "html" => html(alloc),
+        "list" => list(alloc),
+        _ => check(alloc),
+    }
 }
 
 /// The error of words without a command.

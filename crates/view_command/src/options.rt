@@ -31,15 +31,19 @@ pub struct AskedTicks {
 }
 
 /// The ticks that are asked for. They end with the run, if they would end later.
-pub fn ticks(alloc: Global, found: &ArgMatches<'_>) -> Result<AskedTicks, Failure<Refusal>>
+pub fn ticks(
+    alloc: Global,
+    command: &str,
+    found: &ArgMatches<'_>,
+) -> Result<AskedTicks, Failure<Refusal>>
     ensures ticks { IfOk result (λ t. AreTicksIn (rows_of (found_of found.now)) t.from t.to t.ran) }
     ensures failed { IfErr result (λ f. IsWordsFailure (rows_of (found_of found.now)) f) }
 {
-    let from = first_tick(alloc, found)?;
-    let to = number(alloc, found, "to", "TICK")?;
-    let ran = run_ticks(alloc, found)?;
-    check_end(alloc, from, to, "to")?;
-    check_end(alloc, from, ran, "ticks")?;
+    let from = first_tick(alloc, command, found)?;
+    let to = number(alloc, command, found, "to", "TICK")?;
+    let ran = run_ticks(alloc, command, found)?;
+    check_end(alloc, command, from, to, "to")?;
+    check_end(alloc, command, from, ran, "ticks")?;
     Ok(AskedTicks {
         from: Ticks(from),
         to: as_ticks(earlier(to, ran)),
@@ -57,25 +61,29 @@ fn as_ticks(number: Option<u64>) -> Option<Ticks>
 }
 
 /// The first tick that is shown.
-fn first_tick(alloc: Global, found: &ArgMatches<'_>) -> Result<u64, Failure<Refusal>>
+fn first_tick(alloc: Global, command: &str, found: &ArgMatches<'_>) -> Result<u64, Failure<Refusal>>
     ensures tick { IfOk result
         (λ t. t ≡ from_in (first_of (codes "from") (rows_of (found_of found.now)))) }
     ensures failed { IfErr result
         (λ f. IsTickFailure (first_of (codes "from") (rows_of (found_of found.now))) f) }
 {
-    Ok(number(alloc, found, "from", "TICK")?.unwrap_or(0))
+    Ok(number(alloc, command, found, "from", "TICK")?.unwrap_or(0))
 }
 
 /// For how many ticks the module ran, if that is given.
-fn run_ticks(alloc: Global, found: &ArgMatches<'_>) -> Result<Option<u64>, Failure<Refusal>>
+fn run_ticks(
+    alloc: Global,
+    command: &str,
+    found: &ArgMatches<'_>,
+) -> Result<Option<u64>, Failure<Refusal>>
     ensures ticks { IfOk result (λ t. t ≡ ran_in (rows_of (found_of found.now))) }
     ensures failed { IfErr result
         (λ f. IsRunFailure (first_of (codes "ticks") (rows_of (found_of found.now))) f) }
 {
-    let ticks = number(alloc, found, "ticks", "TICKS")?;
+    let ticks = number(alloc, command, found, "ticks", "TICKS")?;
     if is_beyond(ticks) {
         let word = found.get_str("ticks").unwrap_or("");
-        return Err(Failure::Usage(bad_value(alloc, "ticks", "TICKS", word)?));
+        return Err(Failure::Usage(bad_value(alloc, command, "ticks", "TICKS", word)?));
     }
     Ok(ticks)
 }
@@ -91,20 +99,24 @@ fn is_beyond(ticks: Option<u64>) -> bool
 }
 
 /// The width of a picture.
-pub fn width(alloc: Global, found: &ArgMatches<'_>) -> Result<Width, Failure<Refusal>>
+pub fn width(
+    alloc: Global,
+    command: &str,
+    found: &ArgMatches<'_>,
+) -> Result<Width, Failure<Refusal>>
     ensures width { IfOk result
         (λ w. w.pixels ≡ width_in (first_of (codes "width") (rows_of (found_of found.now)))) }
     ensures failed { IfErr result
         (λ f. IsWidthFailure (first_of (codes "width") (rows_of (found_of found.now))) f) }
 {
-    let Some(pixels) = number(alloc, found, "width", "PIXELS")? else {
+    let Some(pixels) = number(alloc, command, found, "width", "PIXELS")? else {
         return Ok(Width::usual());
     };
     match Width::new(pixels) {
         Some(width) => Ok(width),
         None => {
             let word = found.get_str("width").unwrap_or("");
-            Err(Failure::Usage(bad_value(alloc, "width", "PIXELS", word)?))
+            Err(Failure::Usage(bad_value(alloc, command, "width", "PIXELS", word)?))
         }
     }
 }
@@ -112,6 +124,7 @@ pub fn width(alloc: Global, found: &ArgMatches<'_>) -> Result<Width, Failure<Ref
 /// Checks that there is a tick from the first one on and before the end that this option gives.
 fn check_end(
     alloc: Global,
+    command: &str,
     from: u64,
     end: Option<u64>,
     option: &str,
@@ -120,7 +133,7 @@ fn check_end(
 {
     if let Some(end) = end {
         if end <= from {
-            return Err(Failure::Usage(no_ticks(alloc, from, end, option)?));
+            return Err(Failure::Usage(no_ticks(alloc, command, from, end, option)?));
         }
     }
     Ok(())
@@ -138,24 +151,33 @@ fn earlier(to: Option<u64>, ran: Option<u64>) -> Option<u64>
 }
 
 /// The filter of lines that is asked for, with its ticks.
-pub fn chosen(alloc: Global, found: &ArgMatches<'_>) -> Result<Filter, Failure<Refusal>>
+pub fn chosen(
+    alloc: Global,
+    command: &str,
+    found: &ArgMatches<'_>,
+) -> Result<Filter, Failure<Refusal>>
     ensures { IfErr result (λ f. IsWordsFailure (rows_of (found_of found.now)) f) }
 {
-    let asked = ticks(alloc, found)?;
-    filter(alloc, found, asked.from, asked.to)
+    let asked = ticks(alloc, command, found)?;
+    filter(alloc, command, found, asked.from, asked.to)
 }
 
 /// The filter of what lines name, in any tick.
-pub fn named(alloc: Global, found: &ArgMatches<'_>) -> Result<Filter, Failure<Refusal>>
+pub fn named(
+    alloc: Global,
+    command: &str,
+    found: &ArgMatches<'_>,
+) -> Result<Filter, Failure<Refusal>>
     ensures names { IfOk result (λ f. AreNamesIn (rows_of (found_of found.now)) f) }
     ensures failed { IfErr result (λ f. IsWordsFailure (rows_of (found_of found.now)) f) }
 {
-    filter(alloc, found, Ticks(0), None)
+    filter(alloc, command, found, Ticks(0), None)
 }
 
 /// The filter of what lines name, in these ticks.
 fn filter(
     alloc: Global,
+    command: &str,
     found: &ArgMatches<'_>,
     from: Ticks,
     to: Option<Ticks>,
@@ -163,7 +185,7 @@ fn filter(
     ensures names { IfOk result (λ f. AreNamesIn (rows_of (found_of found.now)) f) }
     ensures failed { IfErr result (λ f. IsWordsFailure (rows_of (found_of found.now)) f) }
 {
-    let kinds = kinds(alloc, found, "kind")?;
+    let kinds = kinds(alloc, command, found, "kind")?;
     Ok(Filter {
         from,
         to,
@@ -175,13 +197,17 @@ fn filter(
 }
 
 /// The limits that are asked for, and the lines that they count.
-pub fn checked(alloc: Global, found: &ArgMatches<'_>) -> Result<View, Failure<Refusal>>
+pub fn checked(
+    alloc: Global,
+    command: &str,
+    found: &ArgMatches<'_>,
+) -> Result<View, Failure<Refusal>>
     ensures { IfErr result (λ f. IsWordsFailure (rows_of (found_of found.now)) f) }
 {
-    let filter = chosen(alloc, found)?;
-    let no = kinds(alloc, found, "no")?.map(|kinds| Limit::new(Counted::Kinds(kinds), 0));
-    let at_most = limit(alloc, found)?;
-    let missed = number(alloc, found, "missed", "NUMBER")?.map(|most| Limit::new(
+    let filter = chosen(alloc, command, found)?;
+    let no = kinds(alloc, command, found, "no")?.map(|kinds| Limit::new(Counted::Kinds(kinds), 0));
+    let at_most = limit(alloc, command, found)?;
+    let missed = number(alloc, command, found, "missed", "NUMBER")?.map(|most| Limit::new(
         Counted::MissedDeadlines,
         most,
     ));
@@ -198,6 +224,7 @@ pub fn checked(alloc: Global, found: &ArgMatches<'_>) -> Result<View, Failure<Re
 /// The number of an option, if it is there.
 fn number(
     alloc: Global,
+    command: &str,
     found: &ArgMatches<'_>,
     option: &str,
     value: &str,
@@ -214,13 +241,14 @@ fn number(
     };
     match number_of(word) {
         Some(number) => Ok(Some(number)),
-        None => Err(Failure::Usage(bad_value(alloc, option, value, word)?)),
+        None => Err(Failure::Usage(bad_value(alloc, command, option, value, word)?)),
     }
 }
 
 /// The kinds of an option, if it is there.
 fn kinds(
     alloc: Global,
+    command: &str,
     found: &ArgMatches<'_>,
     option: &str,
 ) -> Result<Option<Kinds>, Failure<Refusal>>
@@ -234,41 +262,56 @@ fn kinds(
     };
     match Kinds::named(word.as_bytes()) {
         Some(kinds) => Ok(Some(kinds)),
-        None => Err(Failure::Usage(bad_value(alloc, option, "KIND[,KIND]", word)?)),
+        None => Err(Failure::Usage(bad_value(alloc, command, option, "KIND[,KIND]", word)?)),
     }
 }
 
 /// The limit of `--at-most`, if it is there.
-fn limit(alloc: Global, found: &ArgMatches<'_>) -> Result<Option<Limit>, Failure<Refusal>>
+fn limit(
+    alloc: Global,
+    command: &str,
+    found: &ArgMatches<'_>,
+) -> Result<Option<Limit>, Failure<Refusal>>
     ensures { IfErr result
         (λ f. IsLimitFailure (words_at (codes "at-most") (rows_of (found_of found.now))) f) }
 {
-    limit_in(alloc, found.get_strs("at-most").unwrap_or(&[]))
+    limit_in(alloc, command, found.get_strs("at-most").unwrap_or(&[]))
 }
 
 /// The limit of the words of `--at-most`; none without words.
-fn limit_in(alloc: Global, words: &[&str]) -> Result<Option<Limit>, Failure<Refusal>>
+fn limit_in(alloc: Global, command: &str, words: &[&str]) -> Result<Option<Limit>, Failure<Refusal>>
     ensures { IfErr result (λ f. IsLimitFailure (map (λ s. s.now) words.now) f) }
 {
     let Some((kinds, rest)) = words.split_first() else {
         return Ok(None);
     };
     match rest.split_first() {
-        Some((most, [])) => Ok(Some(limit_of(alloc, *kinds, *most)?)),
-        _ => Err(Failure::Usage(bad_value(alloc, "at-most", "KIND[,KIND] NUMBER", *kinds)?)),
+        Some((most, [])) => Ok(Some(limit_of(alloc, command, *kinds, *most)?)),
+        _ => Err(Failure::Usage(bad_value(
+            alloc,
+            command,
+            "at-most",
+            "KIND[,KIND] NUMBER",
+            *kinds,
+        )?)),
     }
 }
 
 /// At most so many lines of these kinds.
-fn limit_of(alloc: Global, kinds: &str, most: &str) -> Result<Limit, Failure<Refusal>>
+fn limit_of(
+    alloc: Global,
+    command: &str,
+    kinds: &str,
+    most: &str,
+) -> Result<Limit, Failure<Refusal>>
     ensures { IfErr result (λ f. IsLimitFailure (kinds.now ∷ most.now ∷ []) f) }
 {
     let Some(named) = Kinds::named(kinds.as_bytes()) else {
-        return Err(Failure::Usage(bad_value(alloc, "at-most", "KIND[,KIND]", kinds)?));
+        return Err(Failure::Usage(bad_value(alloc, command, "at-most", "KIND[,KIND]", kinds)?));
     };
     match number_of(most) {
         Some(number) => Ok(Limit::new(Counted::Kinds(named), number)),
-        None => Err(Failure::Usage(bad_value(alloc, "at-most", "NUMBER", most)?)),
+        None => Err(Failure::Usage(bad_value(alloc, command, "at-most", "NUMBER", most)?)),
     }
 }
 

@@ -67,12 +67,18 @@ fn requested(alloc: Global, matches: &ArgMatches<'_>) -> Result<Request, Failure
     ensures failed { IfErr result (λ f. IsNothingAsked (subcommand_rows_of matches.now) f) }
 {
     match matches.subcommand() {
-        Some(("summary", found)) => shown(alloc, table_or_rows(found), found),
-        Some(("svg", found)) => shown(alloc, View::Picture(width(alloc, found)?), found),
-        Some(("vcd", found)) => shown(alloc, View::Waves, found),
-        Some(("html", found)) => shown(alloc, View::Page, found),
-        Some(("list", found)) => shown(alloc, View::Lines(chosen(alloc, found)?), found),
-        Some(("check", found)) => shown(alloc, checked(alloc, found)?, found),
+        Some(("summary", found)) => shown(alloc, "summary", table_or_rows(found), found),
+        Some(("svg", found)) => {
+            let width = width(alloc, "svg", found)?;
+            shown(alloc, "svg", View::Picture(width), found)
+        }
+        Some(("vcd", found)) => shown(alloc, "vcd", View::Waves, found),
+        Some(("html", found)) => shown(alloc, "html", View::Page, found),
+        Some(("list", found)) => {
+            let chosen = chosen(alloc, "list", found)?;
+            shown(alloc, "list", View::Lines(chosen), found)
+        }
+        Some(("check", found)) => shown(alloc, "check", checked(alloc, "check", found)?, found),
         Some(("diff", found)) => compared(alloc, found),
         _ => Err(Failure::Usage(no_command(alloc)?)),
     }
@@ -88,14 +94,19 @@ fn table_or_rows(found: &ArgMatches<'_>) -> View {
 }
 
 /// The trace and the ticks that were found.
-fn shown(alloc: Global, view: View, found: &ArgMatches<'_>) -> Result<Request, Failure<Refusal>>
+fn shown(
+    alloc: Global,
+    command: &str,
+    view: View,
+    found: &ArgMatches<'_>,
+) -> Result<Request, Failure<Refusal>>
     ensures request { IfOk result (IsShown (rows_of (found_of found.now))) }
     ensures failed { IfErr result (λ f. IsWordsFailure (rows_of (found_of found.now)) f) }
 {
     let trace = String::from_str(alloc, word(found, "TRACE"))?;
     let table = text(alloc, found, "table")?;
-    let asked = ticks(alloc, found)?;
-    let kept = named(alloc, found)?;
+    let asked = ticks(alloc, command, found)?;
+    let kept = named(alloc, command, found)?;
     Ok(Request::Show(Showing {
         view,
         trace,
