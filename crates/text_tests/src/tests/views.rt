@@ -1,18 +1,18 @@
-//! What no command of `mbview` reaches: ticks that end where they begin, a name for which there is no
-//! memory, shares, and texts that are escaped. `tests/views` tries the commands.
+//! What no command of `mbview` reaches: ticks that end where they begin, shares, and texts that are
+//! escaped; and what the library's calls on whole traces answer. `tests/views` tries the commands.
 
-ghost use Rattle.std.specs.Prelude.{[]};
-
-use apex_types::Ticks;
+use apex_types::{Event, ProcessState, Ticks};
 use number_tables::Share;
 use std::alloc::Global;
 use std::process::Abort;
-use streams::{NameFault, Sources, WriterStream};
-use trace_picture::{Drawing, Picture, Width, push_escaped};
+use trace_page::laws::page_of;
+use trace_picture::reading::picture_of;
+use trace_picture::{Drawing, Width, push_escaped};
+use trace_stays::laws::follow_all;
+use trace_stays::{Ended, Span, Stay};
 use trace_text::TraceReader;
-use trace_view::{Report, Summary};
-use view_command::view;
-use wave_dump::Dump;
+use trace_view::{Report, summary_of};
+use wave_dump::laws::dump_of;
 
 const TRACE: &str = "0000000000000 a MODE NORMAL
 0000000000001 a STATE p READY
@@ -20,18 +20,26 @@ const TRACE: &str = "0000000000000 a MODE NORMAL
 0000000000009 a OUT c 1
 ";
 
-/// Ticks that end where they begin, or before.
-static NO_TICKS: [(u64, u64); 2] = [(7, 7), (9, 3)];
-
-fn picture_of(rt: &impl Abort, alloc: Global, from: u64, to: u64) -> Drawing {
-    let mut picture = Picture::new(alloc, Ticks(from), Some(Ticks(to)));
+/// The events of the trace.
+fn events(rt: &impl Abort, alloc: Global) -> Vec<Event> {
+    let mut events = Vec::new(alloc);
     let mut reader = TraceReader::new(TRACE.as_bytes());
     for _ in 0..u64::MAX {
         match reader.next_event().expect(rt, "a line") {
-            Some(event) => picture.add(&event).expect(rt, "memory"),
+            Some(event) => events.push(event).expect(rt, "memory"),
             None => break,
         }
     }
+    events
+}
+
+/// Ticks that end where they begin, or before.
+static NO_TICKS: [(u64, u64); 2] = [(7, 7), (9, 3)];
+
+fn drawing(rt: &impl Abort, alloc: Global, from: u64, to: u64) -> Drawing {
+    let events = events(rt, alloc);
+    let to = Some(Ticks(to));
+    let picture = picture_of(alloc, Ticks(from), to, events.as_slice()).expect(rt, "memory");
     picture.finish(None, Width::usual()).expect(rt, "memory")
 }
 
@@ -44,7 +52,7 @@ fn pictures_of_no_ticks(rt: HostRuntime) {
 }
 
 fn expect_empty(rt: &impl Abort, alloc: Global, from: u64, to: u64) {
-    let drawing = picture_of(rt, alloc, from, to);
+    let drawing = drawing(rt, alloc, from, to);
     assert_eq!(rt; drawing.elements(), 0);
     let svg = drawing.text("a trace").expect(rt, "memory");
     assert_eq!(rt; svg.as_str().matches("<title>").count(), 1);
@@ -54,37 +62,26 @@ fn expect_empty(rt: &impl Abort, alloc: Global, from: u64, to: u64) {
     assert!(rt; svg.as_str().contains(title.as_str()));
 }
 
-fn report_of(rt: &impl Abort, alloc: Global, from: u64, to: Option<u64>) -> Report {
-    let mut summary = Summary::new(alloc, Ticks(from), to.map(Ticks), None);
-    let mut reader = TraceReader::new(TRACE.as_bytes());
-    for _ in 0..u64::MAX {
-        match reader.next_event().expect(rt, "a line") {
-            Some(event) => summary.count(&event).expect(rt, "memory"),
-            None => break,
-        }
-    }
-    summary.finish().expect(rt, "memory")
+fn report(rt: &impl Abort, alloc: Global, from: u64, to: u64) -> Report {
+    let events = events(rt, alloc);
+    let to = Some(Ticks(to));
+    summary_of(alloc, Ticks(from), to, events.as_slice()).expect(rt, "memory")
 }
 
 /// No line and no tick counts.
 #[test]
 fn summaries_of_no_ticks(rt: HostRuntime) {
     for (from, to) in &NO_TICKS {
-        let report = report_of(&rt, rt.alloc(), *from, Some(*to));
+        let report = report(&rt, rt.alloc(), *from, *to);
         assert_eq!(rt; report.extent.lines, 0);
         assert_eq!(rt; report.extent.window.ticks(), 0);
     }
 }
 
-fn dump_of(rt: &impl Abort, alloc: Global, from: u64, to: u64) -> String {
-    let mut dump = Dump::new(alloc, Ticks(from), Some(Ticks(to)));
-    let mut reader = TraceReader::new(TRACE.as_bytes());
-    for _ in 0..u64::MAX {
-        match reader.next_event().expect(rt, "a line") {
-            Some(event) => dump.add(&event).expect(rt, "memory"),
-            None => break,
-        }
-    }
+fn dump(rt: &impl Abort, alloc: Global, from: u64, to: u64) -> String {
+    let events = events(rt, alloc);
+    let to = Some(Ticks(to));
+    let mut dump = dump_of(alloc, Ticks(from), to, events.as_slice()).expect(rt, "memory");
     dump.finish().expect(rt, "memory");
     dump.text(alloc).expect(rt, "memory")
 }
@@ -98,7 +95,7 @@ fn dumps_of_no_ticks(rt: HostRuntime) {
 }
 
 fn expect_unchanged(rt: &impl Abort, alloc: Global, from: u64, to: u64) {
-    let dump = dump_of(rt, alloc, from, to);
+    let dump = dump(rt, alloc, from, to);
     let shown = dump.as_str();
     let time = format!(in alloc; "\n#{from}\n$dumpvars\n").expect(rt, "memory");
     assert!(rt; shown.contains(time.as_str()));
@@ -106,36 +103,38 @@ fn expect_unchanged(rt: &impl Abort, alloc: Global, from: u64, to: u64) {
     assert!(rt; shown.ends_with("\n$end\n"));
 }
 
-/// Texts for whose names there is no memory.
-#[derive(Drop)]
-struct WithoutMemory;
-
-impl Sources for WithoutMemory {
-    type Reader = &'static [u8];
-
-    ghost unopened = { λ _. [] };
-
-    fn open(&mut self, _name: &str) -> Result<&'static [u8], NameFault> {
-        Err(NameFault::Memory)
-    }
-}
-
-/// Does what the words say, with these writers, and returns the status.
-fn view_into(alloc: Global, words: &[&str], out: &mut Vec<u8>, err: &mut Vec<u8>) -> u8 {
-    let mut out = WriterStream::new(out);
-    let mut err = WriterStream::new(err);
-    view(alloc, words, &mut WithoutMemory, &mut out, &mut err)
-}
-
+/// The process is READY for seven ticks, and RUNNING up to the end of the run.
 #[test]
-fn a_name_without_memory(rt: HostRuntime) {
-    let mut out = Vec::new(rt.alloc());
-    let mut err = Vec::new(rt.alloc());
-    let words = ["mbview", "svg", "trace.txt"];
-    let status = view_into(rt.alloc(), &words, &mut out, &mut err);
-    assert_eq!(rt; status, 1);
-    assert!(rt; out.is_empty());
-    assert!(rt; err.as_slice() == "mbview: there is too little memory\n".as_bytes());
+fn stays_of_a_trace(rt: HostRuntime) {
+    let events = events(&rt, rt.alloc());
+    let all = follow_all(rt.alloc(), events.as_slice(), Ticks(20)).expect(&rt, "memory");
+    let ready = Stay {
+        state: ProcessState::Ready,
+        span: Span {
+            from: Ticks(1),
+            until: Ticks(8),
+        },
+    };
+    let running = Stay {
+        state: ProcessState::Running,
+        span: Span {
+            from: Ticks(8),
+            until: Ticks(20),
+        },
+    };
+    assert_eq!(rt; all.ended.len(), 3);
+    assert!(rt; all.ended.first() == Some(&Ended::State(0, ready)));
+    assert!(rt; all.ended.last() == Some(&Ended::State(0, running)));
+}
+
+/// A page has the lines of the trace.
+#[test]
+fn page_of_a_trace(rt: HostRuntime) {
+    let events = events(&rt, rt.alloc());
+    let page = page_of(rt.alloc(), None, b"", events.as_slice()).expect(&rt, "memory");
+    let shown = str::from_utf8(page.as_slice()).expect(&rt, "a text");
+    assert!(rt; shown.starts_with("<!doctype html>"));
+    assert!(rt; shown.contains("0000000000008 a STATE p RUNNING"));
 }
 
 /// Parts, wholes, and their shares in tenths of a percent, halves rounded up.
