@@ -4,7 +4,7 @@ use Rattle.std.specs.Prelude.{◌&&◌, codes}
 use Rattle.std.proofs.lemmas.Bool.Decides.{leb_tells}
 use Rattle.std.proofs.lemmas.List.{length-append}
 use Rattle.std.proofs.lemmas.Slice.Eq.{bytes_eq-Decides}
-use Rattle.pal_laws.proofs.WordsOf.{blanks_shorter, words_from_more, words_from_none}
+use Rattle.pal_laws.proofs.WordsOf.{blanks_shorter, words_from_more}
 use Rattle.pal_meaning.specs.Grammar.{Word, Mark, Name, behind_blanks, word_at, words_from, words_of, words_within}
 use Rattle.pal_meaning.specs.Lines.{from_word}
 use Rattle.source_places.specs.Words.{first_word, next_word}
