@@ -1,10 +1,16 @@
 pub mod Clean
+pub mod Letters
+pub mod OfBodies
+pub mod OfBytes
 pub mod OfKinds
 pub mod OfLengths
 pub mod OfLimits
 pub mod OfNames
+pub mod OfPassed
 pub mod OfPeriods
 pub mod OfRoles
 pub mod OfSuggestions
 pub mod OfTexts
+pub mod Owners
+pub mod Starts
 pub mod Words

@@ -1,9 +1,10 @@
 -- The length of a program: a body is found whenever there are more instructions than there may be.
-use Rattle.std.proofs.Common.{◌≡◌, ◌<◌, ℕ, ◌+◌, ◌-◌, Bool, true, false, cond, List, [], ◌∷◌, ◌++◌, map, Option, Some, None, refl, ◌∙◌, ◌≤◌, arith}
+use Rattle.std.proofs.Common.{◌≡◌, ◌<◌, ℕ, ◌+◌, ◌-◌, Bool, true, false, cond, List, [], ◌∷◌, ◌++◌, map, Option, Some, None, refl, sym, ◌∙◌, ◌≤◌, arith, inl, inr}
 use Rattle.std.specs.List.{sum_by}
 use Rattle.std.specs.Option.{option_map}
-use Rattle.std.specs.Prelude.{nat_lt}
-use Rattle.std.proofs.lemmas.Bool.{ltb-false}
+use Rattle.std.specs.Prelude.{nat_le, nat_lt}
+use Rattle.std.proofs.lemmas.Bool.{ltb-false, ltb-true}
+use Rattle.std.proofs.lemmas.Bool.Decides.{leb_tells}
 use Rattle.std.proofs.lemmas.List.Sums.{sum_by-cons}
 use Rattle.apex_types.specs.declared.cost.Costs.{Costs}
 use Rattle.apex_types.specs.declared.limits.TheConstants.{MOST_INSTRUCTIONS}
@@ -58,7 +59,19 @@ passed text all (b ∷ bs) most above = by (nat_lt most b.instructions) refl (λ
     by true e later = refl
     by false e later = let few : b.instructions ≤ most = ltb-false most b.instructions e in later (omega (arith, above, few))
 
-pub length_found : (costs : Costs) (text : List ℕ) (p : Program) → MOST_INSTRUCTIONS < size_of (program_of p) → has_none (length_wrongs text (costs_of costs p)) ≡ false
-length_found costs text p above =
+-- with none of them, if there are no more in all
+not_passed : (text : List ℕ) (all bodies : List BodyCost) (most : ℕ) → total bodies ≤ most → has_none (wrongs_at text all (passing most bodies)) ≡ true
+not_passed text all [] most few = refl
+not_passed text all (b ∷ bs) most few = by (nat_lt most b.instructions) refl (not_passed text all bs (most - b.instructions) (omega (arith, few)))
+  where
+    by : (is : Bool) → nat_lt most b.instructions ≡ is → has_none (wrongs_at text all (passing (most - b.instructions) bs)) ≡ true → has_none (wrongs_at text all (cond is (Some b) (passing (most - b.instructions) bs))) ≡ true
+    by true e later = absurd (omega (arith, few, ltb-true most b.instructions e))
+    by false e later = later
+
+pub length_found : (costs : Costs) (text : List ℕ) (p : Program) → nat_le (size_of (program_of p)) MOST_INSTRUCTIONS ≡ has_none (length_wrongs text (costs_of costs p))
+length_found costs text p =
     let all : total (costs_of costs p) ≡ size_of (program_of p) = program_total costs p in
-    passed text (costs_of costs p) (costs_of costs p) MOST_INSTRUCTIONS (omega (arith, above, all))
+    elim (leb_tells (size_of (program_of p)) MOST_INSTRUCTIONS) [
+      | inl t ↦ t.0 ∙ sym (not_passed text (costs_of costs p) (costs_of costs p) MOST_INSTRUCTIONS (omega (arith, t.1, all)))
+      | inr f ↦ f.0 ∙ sym (passed text (costs_of costs p) (costs_of costs p) MOST_INSTRUCTIONS (omega (arith, f.1, all)))
+    ]

@@ -30,7 +30,7 @@ kept before (b ∷ bs) (w ∷ ws) h =
 below : (n : ℕ) → is_above n ≡ false → n ≤ 127
 below n h = elim (leb_tells 128 n) [ inl t ↦ (let k : true ≡ false = sym t.0 ∙ h in cc) | inr f ↦ omega (arith, f.1) ]
 
-none_above : (text : List ℕ) → has_none (strays false text []) ≡ true → IsAscii text
+pub none_above : (text : List ℕ) → has_none (strays false text []) ≡ true → IsAscii text
 none_above [] h = IsAscii-nil
 none_above (b ∷ bs) h = by (is_above b) refl h (λ g. none_above bs g)
   where

@@ -40,13 +40,13 @@ abbrev rest_of : List Word → List Word
 rest_of [] = []
 rest_of (w ∷ ws) = ws
 
-word_here : (t : List ℕ) (w : Word) (ws : List Word) → words_from t ≡ w ∷ ws → ((word_at t).0 ≡ w) × (words_from (next_word t) ≡ ws)
+pub word_here : (t : List ℕ) (w : Word) (ws : List Word) → words_from t ≡ w ∷ ws → ((word_at t).0 ≡ w) × (words_from (next_word t) ≡ ws)
 word_here [] w ws h = let k : [] ≡ w ∷ ws = sym words_from_none ∙ h in cc
 word_here (b ∷ bs) w ws h =
     let k : (word_at (b ∷ bs)).0 ∷ words_from (next_word (b ∷ bs)) ≡ w ∷ ws = sym (words_from_more b bs) ∙ h in
     (ap (first_of w) k, ap rest_of k)
 
-next_from : (n : ℕ) (text : List ℕ) → next_word (from_word n text) ≡ from_word (suc n) text
+pub next_from : (n : ℕ) (text : List ℕ) → next_word (from_word n text) ≡ from_word (suc n) text
 unfolding from_word
 next_from zero text = refl
 next_from (suc n) text = next_from n (word_at (behind_blanks false text)).1

@@ -2,4 +2,4 @@ use Rattle.source_finding_laws.proofs.OfLengths.{length_found}
 use Rattle.source_finding_laws.proofs.laws.lengths_are_found.Goals as goal
 
 pub returns : goal.returns
-returns c = λ costs text p above. length_found costs text p above
+returns c = λ costs text p. length_found costs text p
