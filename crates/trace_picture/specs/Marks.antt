@@ -28,11 +28,11 @@ mark_text axis bottom t =
     ++ text_element (codes "tick") (tenths (place axis t)) (tenths 410) (decimal t)
 
 -- the line of the axis
-abbrev pub axis_line : Axis → List ℕ
+unfoldable pub axis_line : Axis → List ℕ
 axis_line axis = line_tag (codes "axis") (tenths 1500) (tenths 500) (tenths (1500 + axis.long)) (tenths 500) ++ codes "/>\n"
 
 -- the axis: its line, the word for its numbers, and the marks
-abbrev pub axis_text : Axis → Length → List ℕ
+unfoldable pub axis_text : Axis → Length → List ℕ
 axis_text axis bottom =
     axis_line axis
     ++ (text_element (codes "process") (tenths 160) (tenths 410) (codes "tick") ++ flat_map (mark_text axis bottom) (multiples_in (step_of axis.span) axis.span))

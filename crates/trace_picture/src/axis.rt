@@ -99,8 +99,8 @@ impl Axis {
 
 /// 1, 2 or 5 times this power, the smallest that gives few marks.
 fn step_with(ticks: u64, power: u64) -> Option<u64>
-    requires { 0 < power }
-    requires { power ≤ 1000000000000000000 }
+    requires some { 0 < power }
+    requires small { power ≤ 1000000000000000000 }
     ensures value { result ≡ step_with ticks power }
     ensures few { IfSome result (λ step. (0 < step) × (ticks / step ≤ 10)) }
 {

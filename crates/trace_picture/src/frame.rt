@@ -108,6 +108,7 @@ fn draw_ground(page: &mut Page, axis: Axis, top: Length, bottom: Length) -> Resu
 }
 
 /// Draws the axis with its numbers, and a line down at each of these.
+#[tactic(auto, unfolding(crate::specs::Marks::axis_text))]
 pub fn draw_axis(page: &mut Page, axis: Axis, bottom: Length) -> Result<(), AllocError>
     ensures marks { OnOk result
         ((step : ℕ)
@@ -124,6 +125,7 @@ pub fn draw_axis(page: &mut Page, axis: Axis, bottom: Length) -> Result<(), Allo
 }
 
 /// Draws the line of the axis.
+#[tactic(auto, unfolding(crate::specs::Marks::axis_line))]
 fn draw_axis_line(page: &mut Page, axis: Axis) -> Result<(), AllocError>
     ensures text { OnOk result
         (string_bytes page.new.text ≡ string_bytes page.old.text ++ axis_line axis) }

@@ -78,7 +78,14 @@ fn draw_fills_and_ends(page: &mut Page) -> Result<(), AllocError>
     draw_pattern(page, "ready", "ready-ink", four, "M2 0V4", "rotate(45)")?;
     draw_pattern(page, "cold", "cold-ink", five, "M2.5 0V5", "rotate(45)")?;
     draw_pattern(page, "warm", "warm-ink", five, "M2.5 0V5", "rotate(-45)")?;
-    draw_pattern(page, "dormant", "dormant-ink", five, "M0 2.5H2", "rotate(0)")?;
+    draw_pattern(
+        page,
+        "dormant",
+        "dormant-ink",
+        five,
+        "M0 2.5H2",
+        "rotate(0)",
+    )?;
     draw_marker(page, "head", "head-ink", "M0 0L7 3L0 6Z")?;
     draw_marker(page, "cross", "cross-ink", "M3 0L9 6M3 6L9 0")
 }
