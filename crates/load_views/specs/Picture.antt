@@ -105,13 +105,16 @@ window_sample top =
     ++ codes "/>\n" ++ text_element (codes "process") (tenths 1900) (behind top (tenths 160)) (codes "window")
 
 -- a mark, and the word for it
-unfoldable pub release_sample : (top : Length) → List ℕ
-release_sample top =
+unfoldable pub sample_mark : (top : Length) → List ℕ
+sample_mark top =
     codes "<" ++ tag_name tag.Path
     ++ (class_text (codes "report")
     ++ (attribute_of key.Path REPORT.now
     ++ ((codes " " ++ key_name key.Transform ++ codes "=\"" ++ value_text (value.Move (tenths 3350) (behind top (tenths 110))) ++ codes "\"") ++ [])))
-    ++ codes "/>\n" ++ text_element (codes "process") (tenths 3600) (behind top (tenths 160)) (codes "release point")
+    ++ codes "/>\n"
+
+unfoldable pub release_sample : (top : Length) → List ℕ
+release_sample top = sample_mark top ++ text_element (codes "process") (tenths 3600) (behind top (tenths 160)) (codes "release point")
 
 -- below the lanes, which end here
 abbrev pub legend_text : (bottom : Length) → List ℕ

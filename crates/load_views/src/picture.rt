@@ -415,6 +415,22 @@ fn draw_release_sample(page: &mut Page, top: Length) -> Result<(), AllocError>
         (string_bytes page.new.text ≡ string_bytes page.old.text ++ text.release_sample top) }
     ensures unended { OnOk result (page.new.unended.items ≡ page.old.unended.items) }
 {
+    draw_sample_mark(page, top)?;
+    draw_text(
+        page,
+        "process",
+        Length(LEFT + 2_100),
+        top + LINE,
+        "release point",
+    )
+}
+
+/// Draws the mark of the legend.
+fn draw_sample_mark(page: &mut Page, top: Length) -> Result<(), AllocError>
+    ensures text { OnOk result
+        (string_bytes page.new.text ≡ string_bytes page.old.text ++ text.sample_mark top) }
+    ensures unended { page.new.unended ≡ page.old.unended }
+{
     page.empty(
         Tag::Path,
         &[
@@ -422,12 +438,5 @@ fn draw_release_sample(page: &mut Page, top: Length) -> Result<(), AllocError>
             set(Key::Path, REPORT),
             moved(Length(LEFT + 1_850), top + Length(110)),
         ],
-    )?;
-    draw_text(
-        page,
-        "process",
-        Length(LEFT + 2_100),
-        top + LINE,
-        "release point",
     )
 }
