@@ -39,3 +39,8 @@ pub ended : (r : Result (String Global) AllocError) (tags : List Tag) (contents 
     → IfOk r (λ text. tags ≡ [] → string_bytes text ≡ contents ++ end_text Svg) → IfOk r (λ text. string_bytes text ≡ all)
 ended (Ok text) tags contents all none is h = h none ∙ is
 ended (Err e) tags contents all none is h = tt
+
+-- a mark, and a text on this line
+pub beside : (text longer mark : List ℕ) (words : Length → List ℕ) (line place : Length) → longer ≡ text ++ mark → line ≡ place
+    → longer ++ words line ≡ text ++ (mark ++ words place)
+beside text longer mark words line place is at = rw (is, at, append_assoc)

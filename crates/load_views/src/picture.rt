@@ -1,6 +1,6 @@
 //! The picture of the frame.
 
-ghost use Rattle.std.specs.Prelude.{◌≡◌, ◌++◌, [], codes, string_bytes, IfOk, OnOk};
+ghost use Rattle.std.specs.Prelude.{◌≡◌, ◌++◌, [], string_bytes, IfOk, OnOk};
 ghost use Rattle.load_views.specs.Picture as text;
 ghost use Rattle.trace_picture.specs.Page.{IsPicture};
 

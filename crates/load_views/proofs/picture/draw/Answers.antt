@@ -1,4 +1,4 @@
-use Rattle.std.proofs.Common.{rules, ◌≡◌, ◌+◌, ◌++◌, [], length, string_bytes}
+use Rattle.std.proofs.Common.{rules, ◌≡◌, ◌+◌, [], length, string_bytes}
 use Rattle.trace_picture.specs.Lengths.{tenths}
 use Rattle.load_views.specs.Picture.{heading, lanes_end, picture_of}
 use Rattle.load_views.proofs.Pictures.{ended, put_together}
