@@ -7,6 +7,7 @@ use Rattle.module_meaning.specs.Table.{Partition, Table}
 use Rattle.module.specs.Building.{IsTableRefusal}
 use Rattle.module.specs.Sources.{AreSources}
 use Rattle.pal_base.specs.declared.checked.Checked.{Checked}
+use Rattle.load_views.specs.Picture.{frame_picture}
 use Rattle.load_views.specs.Records.{all_records}
 use Rattle.load_views.specs.Tables.{tables_text}
 use Rattle.load_views.specs.declared.report.PartitionBodies.{PartitionBodies}
@@ -69,8 +70,8 @@ IsRefusedTable table (Build fault) = IsTableRefusal table fault
 IsRefusedTable table Memory = Unit {0}
 IsRefusedTable table _ = ⊥
 
--- the text in this form; which lines and marks the picture has is not said
+-- the text in this form
 abbrev pub IsTextOf : Form → Shown → List ℕ → Type 0
 IsTextOf Tables shown text = text ≡ tables_text shown.load shown.windows shown.bodies
 IsTextOf Rows shown text = text ≡ all_records shown.load shown.windows shown.bodies
-IsTextOf Picture shown text = ∥ IsPicture text ∥₁
+IsTextOf Picture shown text = (text ≡ frame_picture shown.load shown.windows) × ∥ IsPicture text ∥₁

@@ -11,6 +11,7 @@ ghost use Rattle.command_line.specs.States.{state};
 ghost use Rattle.command_line.specs.Told.{IsOfFailed};
 ghost use Rattle.streams.specs.States.{IsFlushed, seen};
 ghost use Rattle.window_table.specs.Views.{partition_view, table_of};
+ghost use Rattle.load_views.specs.Picture.{frame_picture};
 ghost use Rattle.trace_picture.specs.Page.{IsPicture};
 
 use crate::explaining::Note;
@@ -198,7 +199,9 @@ fn shown(alloc: Global, form: Form, loaded: &Loaded) -> Result<Vec<u8>, AllocErr
 
 /// The picture of a frame.
 fn picture(alloc: Global, report: &LoadReport<'_>) -> Result<Vec<u8>, AllocError>
-    ensures { IfOk result (λ text. ∥ IsPicture text.items ∥₁) }
+    ensures { IfOk result
+        (λ text. (text.items ≡ frame_picture report.now.load.now report.now.windows.now)
+        × ∥ IsPicture text.items ∥₁) }
 {
     let drawn = report.picture(alloc)?;
     let mut text = Vec::new(alloc);

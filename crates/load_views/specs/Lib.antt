@@ -1,4 +1,5 @@
 pub mod Cells
+pub mod Picture
 pub mod Records
 pub mod Report
 pub mod Tables

@@ -25,6 +25,7 @@ pub struct LoadReport<'a> {
 }
 
 impl<'a> LoadReport<'a> {
+    ghost use Rattle.load_views.specs.Picture.{frame_picture};
     ghost use Rattle.load_views.specs.Records.{all_records};
     ghost use Rattle.load_views.specs.Tables.{tables_text};
 
@@ -65,7 +66,9 @@ impl<'a> LoadReport<'a> {
     ///
     /// Memory ran out.
     pub fn picture(&self, alloc: Global) -> Result<String, AllocError>
-        ensures { IfOk result (λ text. ∥ IsPicture (string_bytes text) ∥₁) }
+        ensures picture { IfOk result (λ text. ∥ IsPicture (string_bytes text) ∥₁) }
+        ensures text { IfOk result
+            (λ text. string_bytes text ≡ frame_picture self.now.load.now self.now.windows.now) }
     {
         picture::draw(alloc, self)
     }

@@ -7,3 +7,4 @@ pub mod Pieces
 pub mod Places
 pub mod Plain
 pub mod Read
+pub mod Steps

@@ -83,6 +83,9 @@ end_text t = codes "</" ++ tag_name t ++ codes ">\n"
 abbrev pub class_text : List ℕ → List ℕ
 class_text class = codes " " ++ key_name key.Class ++ codes "=\"" ++ escaped class ++ codes "\""
 
+abbrev pub attribute_of : Key → List ℕ → List ℕ
+attribute_of k text = codes " " ++ key_name k ++ codes "=\"" ++ escaped text ++ codes "\""
+
 abbrev pub place_text : Key → Length → List ℕ
 place_text k place = codes " " ++ key_name k ++ codes "=\"" ++ length_text place ++ codes "\""
 
@@ -112,6 +115,10 @@ path_start class path x y =
     ++ ((codes " " ++ key_name key.Transform ++ codes "=\"" ++ value_text (value.Move x y) ++ codes "\"") ++ [])))
     ++ codes ">"
 
+-- an element with a text and nothing else
+abbrev pub worded : Tag → List ℕ → List ℕ
+worded t words = start_text t [] ++ escaped words ++ end_text t
+
 -- an element that has begun with this text, with a title and nothing else
 abbrev pub titled : Tag → List ℕ → List ℕ → List ℕ
-titled t start title = start ++ (start_text tag.Title [] ++ escaped title ++ end_text tag.Title) ++ end_text t
+titled t start title = start ++ worded tag.Title title ++ end_text t

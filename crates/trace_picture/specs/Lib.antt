@@ -14,4 +14,5 @@ pub mod FlagWords
 pub mod MessageWords
 pub mod Elements
 pub mod Shapes
+pub mod Style
 pub mod Added

@@ -1,8 +1,8 @@
 -- The marks of the axis, the arrows of messages, and the marks of errors and reports.
-use Rattle.std.specs.Prelude.{◌≡◌, ℕ, ◌%◌, flat_map, Bool, true, false, if◌then◌else◌, List, [], ◌++◌, Option, Some, None, codes}
+use Rattle.std.specs.Prelude.{◌≡◌, ℕ, ◌+◌, ◌%◌, flat_map, Bool, true, false, if◌then◌else◌, List, [], ◌++◌, Option, Some, None, codes}
 use Rattle.std.specs.Fmt.{decimal}
 use Rattle.std.proofs.Math.Dec.{ltb}
-use Rattle.trace_picture.specs.Axis.{multiples_in, place}
+use Rattle.trace_picture.specs.Axis.{multiples_in, place, step_of}
 use Rattle.trace_picture.specs.Element.{line_tag, path_start, text_element, titled}
 use Rattle.trace_picture.specs.Lengths.{before, behind, tenths, times_of}
 use Rattle.trace_picture.specs.Rows.{in_row, row_of_owner, row_of_process, row_of_stop}
@@ -26,6 +26,16 @@ abbrev pub mark_text : Axis → Length → ℕ → List ℕ
 mark_text axis bottom t =
     line_tag (codes "grid") (tenths (place axis t)) (tenths 460) (tenths (place axis t)) (behind bottom (tenths 40)) ++ codes "/>\n"
     ++ text_element (codes "tick") (tenths (place axis t)) (tenths 410) (decimal t)
+
+-- the line of the axis
+unfoldable pub axis_line : Axis → List ℕ
+axis_line axis = line_tag (codes "axis") (tenths 1500) (tenths 500) (tenths (1500 + axis.long)) (tenths 500) ++ codes "/>\n"
+
+-- the axis: its line, the word for its numbers, and the marks
+unfoldable pub axis_text : Axis → Length → List ℕ
+axis_text axis bottom =
+    axis_line axis
+    ++ (text_element (codes "process") (tenths 160) (tenths 410) (codes "tick") ++ flat_map (mark_text axis bottom) (multiples_in (step_of axis.span) axis.span))
 
 -- something is drawn, and behind it the mark of each multiple of the step among the ticks of the axis, and no other
 abbrev pub HasMarks : Axis → Length → ℕ → List ℕ → List ℕ → Type 0

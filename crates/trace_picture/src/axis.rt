@@ -1,8 +1,8 @@
 //! The time axis.
 
-ghost use Rattle.std.specs.Prelude.{◌≡◌, ◌+◌, ◌<◌, ◌≤◌, ◌/◌};
+ghost use Rattle.std.specs.Prelude.{◌≡◌, ◌+◌, ◌<◌, ◌≤◌, ◌/◌, IfSome};
 ghost use Rattle.trace_stays.specs.Stays.{ticks_of};
-ghost use Rattle.trace_picture.specs.Axis.{place};
+ghost use Rattle.trace_picture.specs.Axis.{place, step_of, step_with};
 
 use crate::length::Length;
 use apex_types::Ticks;
@@ -81,19 +81,36 @@ impl Axis {
 
     /// The number of ticks between two marks: 1, 2 or 5 times a power of ten, the smallest that
     /// gives few marks.
+    #[tactic(auto, using(std::proofs::lemmas::List::drop_more), unfolding(crate::specs::Axis::step_of))]
     pub fn step(self) -> u64
         ensures some { 0 < result }
         ensures few { ticks_of self.span / result ≤ 10 }
+        ensures value { result ≡ step_of self.span }
     {
         let ticks = self.span.ticks();
         for power in &POWERS {
-            for factor in [1, 2, 5] {
-                let step = *power * factor;
-                if ticks / step <= MOST_MARKS {
-                    return step;
-                }
+            if let Some(step) = step_with(ticks, *power) {
+                return step;
             }
         }
         5_000_000_000_000_000_000
+    }
+}
+
+/// 1, 2 or 5 times this power, the smallest that gives few marks.
+fn step_with(ticks: u64, power: u64) -> Option<u64>
+    requires some { 0 < power }
+    requires small { power ≤ 1000000000000000000 }
+    ensures value { result ≡ step_with ticks power }
+    ensures few { IfSome result (λ step. (0 < step) × (ticks / step ≤ 10)) }
+{
+    if ticks / power <= MOST_MARKS {
+        Some(power)
+    } else if ticks / (2 * power) <= MOST_MARKS {
+        Some(2 * power)
+    } else if ticks / (5 * power) <= MOST_MARKS {
+        Some(5 * power)
+    } else {
+        None
     }
 }

@@ -218,9 +218,10 @@ pub fn draw_text(
     line: Length,
     text: &str,
 ) -> Result<(), AllocError>
-    ensures { OnOk result
+    ensures text { OnOk result
         (string_bytes page.new.text
         ≡ string_bytes page.old.text ++ text_element class.now left line text.now) }
+    ensures unended { OnOk result (page.new.unended.items ≡ page.old.unended.items) }
 {
     page.open(
         Tag::Text,

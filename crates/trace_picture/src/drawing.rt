@@ -109,7 +109,7 @@ impl Drawing {
                 view(wide, high),
             ],
         )?;
-        draw_title(&mut page, heading)?;
+        page.worded(Tag::Title, heading)?;
         draw_style(&mut page)?;
         page.empty(
             Tag::Rect,
@@ -225,11 +225,4 @@ impl Drawing {
             _ => Ok(()),
         }
     }
-}
-
-/// Writes the title that a browser shows of a page.
-fn draw_title(page: &mut Page, title: &str) -> Result<(), AllocError> {
-    page.open(Tag::Title, &[])?;
-    page.text(title)?;
-    page.close()
 }

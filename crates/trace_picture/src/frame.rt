@@ -2,7 +2,7 @@
 
 ghost use Rattle.std.specs.Prelude.{◌≡◌, ◌<◌, ◌≤◌, ◌/◌, ◌++◌, ℕ, OnOk, flat_map, string_bytes};
 ghost use Rattle.trace_picture.specs.Axis.{multiples_in};
-ghost use Rattle.trace_picture.specs.Marks.{HasMarks, mark_text};
+ghost use Rattle.trace_picture.specs.Marks.{HasMarks, axis_line, axis_text, mark_text};
 ghost use Rattle.trace_picture.specs.Titles.{heading_text};
 ghost use Rattle.trace_stays.specs.Stays.{ticks_of};
 
@@ -39,8 +39,9 @@ const COLUMN: Length = Length(1_700);
 
 /// Draws the title of a picture.
 pub fn draw_heading(page: &mut Page, heading: &str) -> Result<(), AllocError>
-    ensures { OnOk result
+    ensures text { OnOk result
         (string_bytes page.new.text ≡ string_bytes page.old.text ++ heading_text heading.now) }
+    ensures unended { OnOk result (page.new.unended.items ≡ page.old.unended.items) }
 {
     draw_text(page, "heading", NAMES, NAMES, heading)
 }
@@ -107,12 +108,28 @@ fn draw_ground(page: &mut Page, axis: Axis, top: Length, bottom: Length) -> Resu
 }
 
 /// Draws the axis with its numbers, and a line down at each of these.
+#[tactic(auto, unfolding(crate::specs::Marks::axis_text))]
 pub fn draw_axis(page: &mut Page, axis: Axis, bottom: Length) -> Result<(), AllocError>
-    ensures { OnOk result
+    ensures marks { OnOk result
         ((step : ℕ)
         × ((0 < step) × (ticks_of axis.span / step ≤ 10)
         × HasMarks axis bottom step (string_bytes page.old.text)
         (string_bytes page.new.text))) }
+    ensures text { OnOk result
+        (string_bytes page.new.text ≡ string_bytes page.old.text ++ axis_text axis bottom) }
+    ensures unended { OnOk result (page.new.unended.items ≡ page.old.unended.items) }
+{
+    draw_axis_line(page, axis)?;
+    draw_text(page, "process", NAMES, AXIS - Length(90), "tick")?;
+    draw_marks(page, axis, axis.step(), bottom)
+}
+
+/// Draws the line of the axis.
+#[tactic(auto, unfolding(crate::specs::Marks::axis_line))]
+fn draw_axis_line(page: &mut Page, axis: Axis) -> Result<(), AllocError>
+    ensures text { OnOk result
+        (string_bytes page.new.text ≡ string_bytes page.old.text ++ axis_line axis) }
+    ensures unended { page.new.unended ≡ page.old.unended }
 {
     page.empty(
         Tag::Line,
@@ -123,19 +140,18 @@ pub fn draw_axis(page: &mut Page, axis: Axis, bottom: Length) -> Result<(), Allo
             at(Key::X2, axis.end()),
             at(Key::Y2, AXIS),
         ],
-    )?;
-    draw_text(page, "process", NAMES, AXIS - Length(90), "tick")?;
-    draw_marks(page, axis, axis.step(), bottom)
+    )
 }
 
 /// Draws a mark at each multiple of the step among the ticks of the axis, and at its end if that is
 /// one.
 fn draw_marks(page: &mut Page, axis: Axis, step: u64, bottom: Length) -> Result<(), AllocError>
     requires { 0 < step }
-    ensures { OnOk result
+    ensures text { OnOk result
         (string_bytes page.new.text
         ≡ string_bytes page.old.text
         ++ flat_map (mark_text axis bottom) (multiples_in step axis.span)) }
+    ensures unended { OnOk result (page.new.unended.items ≡ page.old.unended.items) }
 {
     let first = axis.span.from.0.div_ceil(step);
     let last = axis.span.until.0 / step;
@@ -150,9 +166,10 @@ fn draw_marks(page: &mut Page, axis: Axis, step: u64, bottom: Length) -> Result<
 
 /// Draws a number of the axis, and a line down from it.
 fn draw_mark(page: &mut Page, axis: Axis, tick: Ticks, bottom: Length) -> Result<(), AllocError>
-    ensures { OnOk result
+    ensures text { OnOk result
         (string_bytes page.new.text
         ≡ string_bytes page.old.text ++ mark_text axis bottom tick.0) }
+    ensures unended { OnOk result (page.new.unended.items ≡ page.old.unended.items) }
 {
     let x = axis.place(tick);
     page.empty(

@@ -2,7 +2,7 @@
 
 ghost use Rattle.std.specs.Prelude.{◌≡◌, ◌-◌, ◌++◌, ◌∷◌, [], List, reverse, string_bytes, vec_len, IfOk, OnErr, OnOk};
 ghost use Rattle.std.specs.Fmt.{decimal};
-ghost use Rattle.trace_picture.specs.Element.{empty_text, end_text, start_text, titled};
+ghost use Rattle.trace_picture.specs.Element.{empty_text, end_text, start_text, titled, worded};
 ghost use Rattle.trace_picture.specs.Escaped.{escaped};
 ghost use Rattle.trace_picture.specs.Page.{GoesOn, IsBegun, IsPicture};
 ghost use Rattle.trace_picture.specs.declared.element.Tag.{Tag};
@@ -104,6 +104,22 @@ impl Page {
         Ok(())
     }
 
+    /// Writes an element that has a text and nothing else.
+    ///
+    /// # Errors
+    ///
+    /// Memory ran out.
+    pub fn worded(&mut self, tag: Tag, words: &str) -> Result<(), AllocError>
+        ensures text { OnOk result
+            (string_bytes self.new.text ≡ string_bytes self.old.text ++ worded tag words.now) }
+        ensures unended { OnOk result (self.new.unended.items ≡ self.old.unended.items) }
+    {
+        self.open(tag, &[])?;
+        self.text(words)?;
+        self.close()?;
+        Ok(())
+    }
+
     /// Writes a text into the innermost element.
     ///
     /// # Errors
@@ -148,6 +164,9 @@ impl Page {
         ensures goes_on { OnOk result
             (GoesOn (string_bytes self.old.text) (string_bytes self.new.text)) }
         ensures unended { OnOk result (vec_len self.new.unended ≡ vec_len self.old.unended - 1) }
+        ensures left { OnOk result
+            ((outer : List Tag) (tag : Tag) → self.old.unended.items ≡ outer ++ tag ∷ []
+            → self.new.unended.items ≡ outer) }
         ensures kept { OnErr result (string_bytes self.new.text ≡ string_bytes self.old.text) }
         ensures kept_unended { OnErr result (self.new.unended.items ≡ self.old.unended.items) }
     {
@@ -171,6 +190,9 @@ impl Page {
         ensures picture { IfOk result (λ text. ∥ IsPicture (string_bytes text) ∥₁) }
         ensures goes_on { IfOk result
             (λ text. GoesOn (string_bytes self.text) (string_bytes text)) }
+        ensures whole { IfOk result
+            (λ text. self.unended.items ≡ []
+            → string_bytes text ≡ string_bytes self.text ++ end_text Tag.Svg) }
     {
         while !self.unended.as_slice().is_empty() {
             self.close()?;

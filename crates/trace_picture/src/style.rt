@@ -1,12 +1,15 @@
 //! The look of the picture.
 
+ghost use Rattle.std.specs.Prelude.{◌≡◌, ◌++◌, ◌∷◌, [], OnOk, string_bytes};
+ghost use Rattle.trace_picture.specs.Style.{definitions_text, fills_and_ends, ink_text, marker_text, pattern_start, pattern_text, style_text};
+
 use crate::element::{Key, Tag, at, set};
 use crate::length::Length;
 use crate::page::Page;
 use std::alloc::AllocError;
 
 /// The look of each class.
-const STYLE: &str = "
+pub const STYLE: &str = "
 text{font:12px sans-serif;fill:#1f2933}
 .paper{fill:#fff}
 .ground{fill:#f3f5f8}
@@ -42,46 +45,49 @@ text{font:12px sans-serif;fill:#1f2933}
 ";
 
 /// Writes the look of the classes; draws nothing.
-pub fn draw_style(page: &mut Page) -> Result<(), AllocError> {
-    page.open(Tag::Style, &[])?;
-    page.text(STYLE)?;
-    page.close()?;
+#[tactic(auto, unfolding(crate::specs::Style::style_text))]
+pub fn draw_style(page: &mut Page) -> Result<(), AllocError>
+    ensures text { OnOk result
+        (string_bytes page.new.text ≡ string_bytes page.old.text ++ style_text) }
+    ensures unended { OnOk result (page.new.unended.items ≡ page.old.unended.items) }
+{
+    page.worded(Tag::Style, STYLE)?;
+    draw_definitions(page)
+}
+
+/// Writes what the look refers to.
+fn draw_definitions(page: &mut Page) -> Result<(), AllocError>
+    ensures text { OnOk result
+        (string_bytes page.new.text ≡ string_bytes page.old.text ++ definitions_text) }
+    ensures unended { OnOk result (page.new.unended.items ≡ page.old.unended.items) }
+{
     page.open(Tag::Defs, &[])?;
-    draw_pattern(
-        page,
-        "ready",
-        "ready-ink",
-        Length(40),
-        "M2 0V4",
-        "rotate(45)",
-    )?;
-    draw_pattern(
-        page,
-        "cold",
-        "cold-ink",
-        Length(50),
-        "M2.5 0V5",
-        "rotate(45)",
-    )?;
-    draw_pattern(
-        page,
-        "warm",
-        "warm-ink",
-        Length(50),
-        "M2.5 0V5",
-        "rotate(-45)",
-    )?;
+    draw_fills_and_ends(page)?;
+    page.close()?;
+    Ok(())
+}
+
+/// Draws the patterns that fill bars, and the ends of arrows.
+#[tactic(auto, unfolding(crate::specs::Style::fills_and_ends))]
+fn draw_fills_and_ends(page: &mut Page) -> Result<(), AllocError>
+    ensures text { OnOk result
+        (string_bytes page.new.text ≡ string_bytes page.old.text ++ fills_and_ends) }
+    ensures unended { OnOk result (page.new.unended.items ≡ page.old.unended.items) }
+{
+    let (four, five) = (Length(40), Length(50));
+    draw_pattern(page, "ready", "ready-ink", four, "M2 0V4", "rotate(45)")?;
+    draw_pattern(page, "cold", "cold-ink", five, "M2.5 0V5", "rotate(45)")?;
+    draw_pattern(page, "warm", "warm-ink", five, "M2.5 0V5", "rotate(-45)")?;
     draw_pattern(
         page,
         "dormant",
         "dormant-ink",
-        Length(50),
+        five,
         "M0 2.5H2",
         "rotate(0)",
     )?;
     draw_marker(page, "head", "head-ink", "M0 0L7 3L0 6Z")?;
-    draw_marker(page, "cross", "cross-ink", "M3 0L9 6M3 6L9 0")?;
-    page.close()
+    draw_marker(page, "cross", "cross-ink", "M3 0L9 6M3 6L9 0")
 }
 
 /// Draws a pattern that fills bars: a square that is repeated.
@@ -92,7 +98,26 @@ fn draw_pattern(
     size: Length,
     path: &str,
     turn: &str,
-) -> Result<(), AllocError> {
+) -> Result<(), AllocError>
+    ensures text { OnOk result
+        (string_bytes page.new.text
+        ≡ string_bytes page.old.text ++ pattern_text id.now class.now size path.now turn.now) }
+    ensures unended { OnOk result (page.new.unended.items ≡ page.old.unended.items) }
+{
+    begin_pattern(page, id, size, turn)?;
+    draw_ink(page, class, path)?;
+    page.close()?;
+    Ok(())
+}
+
+/// Begins a pattern.
+fn begin_pattern(page: &mut Page, id: &str, size: Length, turn: &str) -> Result<(), AllocError>
+    ensures text { OnOk result
+        (string_bytes page.new.text
+        ≡ string_bytes page.old.text ++ pattern_start id.now size turn.now) }
+    ensures unended { OnOk result
+        (page.new.unended.items ≡ page.old.unended.items ++ Tag.Pattern ∷ []) }
+{
     page.open(
         Tag::Pattern,
         &[
@@ -102,13 +127,16 @@ fn draw_pattern(
             set(Key::PatternUnits, "userSpaceOnUse"),
             set(Key::PatternTransform, turn),
         ],
-    )?;
-    page.empty(Tag::Path, &[set(Key::Class, class), set(Key::Path, path)])?;
-    page.close()
+    )
 }
 
 /// Draws what stands at the end of arrows.
-fn draw_marker(page: &mut Page, id: &str, class: &str, path: &str) -> Result<(), AllocError> {
+fn draw_marker(page: &mut Page, id: &str, class: &str, path: &str) -> Result<(), AllocError>
+    ensures text { OnOk result
+        (string_bytes page.new.text
+        ≡ string_bytes page.old.text ++ marker_text id.now class.now path.now) }
+    ensures unended { OnOk result (page.new.unended.items ≡ page.old.unended.items) }
+{
     page.open(
         Tag::Marker,
         &[
@@ -120,6 +148,17 @@ fn draw_marker(page: &mut Page, id: &str, class: &str, path: &str) -> Result<(),
             set(Key::Orient, "auto"),
         ],
     )?;
-    page.empty(Tag::Path, &[set(Key::Class, class), set(Key::Path, path)])?;
-    page.close()
+    draw_ink(page, class, path)?;
+    page.close()?;
+    Ok(())
+}
+
+/// Draws the outline in a pattern or at the end of arrows.
+fn draw_ink(page: &mut Page, class: &str, path: &str) -> Result<(), AllocError>
+    ensures text { OnOk result
+        (string_bytes page.new.text
+        ≡ string_bytes page.old.text ++ ink_text class.now path.now) }
+    ensures unended { page.new.unended ≡ page.old.unended }
+{
+    page.empty(Tag::Path, &[set(Key::Class, class), set(Key::Path, path)])
 }

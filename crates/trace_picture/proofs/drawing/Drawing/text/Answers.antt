@@ -12,7 +12,7 @@ returns-clause-shapes c =
     let begun = string_bytes c.in_ok-page.page.text in
     let title : c.as_str-2.result.now ≡ shown = search rules in
     let first : string_bytes c.draw_heading.new.page.text ≡ begun ++ heading_text shown =
-    subst (λ (t : List ℕ). string_bytes c.draw_heading.new.page.text ≡ begun ++ heading_text t) title c.in_ok-draw_heading.ensures in
+    subst (λ (t : List ℕ). string_bytes c.draw_heading.new.page.text ≡ begun ++ heading_text t) title c.in_ok-draw_heading.ensures.text in
     within c.finish.result (string_bytes c.draw_shapes.new.page.text) (picture_text c.args.name.now d)
     (λ whole on. stands begun (string_bytes c.draw_heading.new.page.text) (string_bytes c.draw_shapes.new.page.text) whole (heading_text shown) (shapes_text d) first c.in_ok-draw_shapes.ensures on)
     c.finish.ensures.goes_on
