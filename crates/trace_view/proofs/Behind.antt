@@ -16,11 +16,11 @@ use Rattle.trace_stays.proofs.Followed.{same_is}
 use Rattle.trace_view.specs.Extents.{closed, extent_after}
 use Rattle.trace_view.specs.Partitions.{has_row, no_partition, partition_behind, partition_total, partitions_after, partitions_behind, read_by, with_partition}
 use Rattle.trace_view.specs.Percentiles.{AreTimes, IsPercentile, IsSpread, all_of, are_rising, percent_of, percentile_of, reached, spread_of}
-use Rattle.trace_view.specs.Processes.{AreRowsOf, HaveFollowed, HaveRead, IsShown, Process, no_process, process_after, process_behind, process_ended, process_total, row_at, totals_at, totals_from}
+use Rattle.trace_view.specs.Processes.{AreRowsOf, HaveFollowed, HaveRead, IsShown, Process, has_names, is_there, is_word, maker, makes_row, no_process, process_after, process_behind, process_ended, process_total, row_at, totals_at, totals_from}
 use Rattle.trace_view.specs.Starts.{told_behind, told_first}
-use Rattle.trace_view.specs.Tallies.{is_read, with_ended}
+use Rattle.trace_view.specs.Tallies.{has_tick, is_read, with_ended}
 use Rattle.trace_view.specs.Turns.{end_times, running_times}
-use Rattle.trace_view.specs.Whole.{ArePartitionsOf, AreProcessesOf, AreShown, has_line, has_partition, partition_at, partition_in, process_at, process_in, ticks_of_lines}
+use Rattle.trace_view.specs.Whole.{ArePartitionsOf, AreProcessesOf, AreShown, has_line, has_partition, has_row_in, is_row, partition_at, partition_in, process_at, process_in, ticks_of_lines}
 use Rattle.trace_view.specs.declared.extent.Extent.{Extent}
 use Rattle.trace_view.specs.declared.partitions.PartitionRow.{PartitionRow}
 use Rattle.trace_view.specs.declared.processes.ProcessRow.{ProcessRow}
@@ -33,6 +33,10 @@ use Rattle.trace_view.proofs.Percentiles.{no_percentile, percentile_is}
 
 -- ---- lines that are read, and others
 
+no_false : (b : Bool) → b ≡ (b || false)
+no_false true = refl
+no_false false = refl
+
 pub partitions_read : (window : Span) (told : Told) (e : Event) (old new : List PartitionRow) → e.tick.0 < window.until.0 → new ≡ partitions_behind window told e old → new ≡ partitions_after window told e old
 partitions_read window told e old new before is =
     is ∙ ap (λ (b : Bool). if b then partitions_behind window told e old else old) (sym (lt-ltb e.tick.0 window.until.0 before))
@@ -42,12 +46,14 @@ partitions_passed window told e old behind = ap (λ (b : Bool). if b then partit
 
 pub processes_read : (window : Span) (e : Event) (old new : List ProcessRow) → e.tick.0 < window.until.0 → HaveRead window e old new → HaveFollowed window e old new
 processes_read window e old new before read = record {
+  there = λ name word. read.there name word ∙ ap (λ (b : Bool). is_there name word old || (b && makes_row window e name word)) (sym (lt-ltb e.tick.0 window.until.0 before));
   shown = λ known are name word.
       subst (λ (b : Bool). IsShown (if b then process_behind window e name word (known name word) else known name word) (row_at name word new)) (sym (lt-ltb e.tick.0 window.until.0 before)) (read.shown known are name word);
 }
 
 pub processes_passed : (window : Span) (e : Event) (old : List ProcessRow) → window.until.0 ≤ e.tick.0 → HaveFollowed window e old old
 processes_passed window e old behind = record {
+  there = λ name word. no_false (is_there name word old) ∙ ap (λ (b : Bool). is_there name word old || (b && makes_row window e name word)) (sym (le-ltb e.tick.0 window.until.0 behind));
   shown = λ known are name word.
       subst (λ (b : Bool). IsShown (if b then process_behind window e name word (known name word) else known name word) (row_at name word old)) (sym (le-ltb e.tick.0 window.until.0 behind)) (are name word);
 }
@@ -70,10 +76,6 @@ both_if_ok (Err e) P Q R f p q = tt
 abbrev pub found : List ℕ → List PartitionRow → PartitionRow
 found name [] = no_partition name
 found name (p ∷ ps) = if same p.name name then p else found name ps
-
-no_false : (b : Bool) → b ≡ (b || false)
-no_false true = refl
-no_false false = refl
 
 or_is : (a b : Bool) → (a || b) ≡ false → b ≡ false
 or_is true b e = absurd (false≢true (sym e))
@@ -227,12 +229,14 @@ partitions_all window closing events left told ps totals none are will = record 
 -- ---- processes
 
 pub record ProcessesWillBe (window : Span) (events left : List Event) (rows : List ProcessRow) : Type 0 where
+  pub there : (name word : List ℕ) → (is_there name word rows || has_row_in window name word left) ≡ has_row_in window name word events
   pub known : List ℕ → List ℕ → Process
   pub are : AreRowsOf known rows
   pub will : (name word : List ℕ) → process_in window left name word (known name word) ≡ process_in window events name word no_process
 
 pub processes_begin : (window : Span) (events : List Event) (rows : List ProcessRow) → rows ≡ [] → ProcessesWillBe window events events rows
 processes_begin window events rows none = record {
+  there = λ name word. ap (λ (xs : List ProcessRow). is_there name word xs || has_row_in window name word events) none;
   known = λ name word. no_process;
   are = λ name word. subst (λ (xs : List ProcessRow). IsShown no_process (row_at name word xs)) (sym none) refl;
   will = λ name word. refl;
@@ -241,6 +245,9 @@ processes_begin window events rows none = record {
 pub processes_go_on : (window : Span) (events : List Event) (e : Event) (es left : List Event) (old new : List ProcessRow) → left ≡ e ∷ es → HaveFollowed window e old new
     → ProcessesWillBe window events left old → ProcessesWillBe window events es new
 processes_go_on window events e es left old new first read before = record {
+  there = λ name word. ap (λ (b : Bool). b || has_row_in window name word es) (read.there name word)
+      ∙ (or_more (is_there name word old) (is_read window e.tick.0 && makes_row window e name word) (has_row_in window name word es)
+      ∙ (ap (λ (xs : List Event). is_there name word old || has_row_in window name word xs) (sym first) ∙ before.there name word));
   known = λ name word. process_after window e name word (before.known name word);
   are = read.shown before.known before.are;
   will = λ name word. ap (λ (xs : List Event). process_in window xs name word (before.known name word)) (sym first) ∙ before.will name word;
@@ -259,6 +266,17 @@ no_lines window (e ∷ es) name word none =
     by : (b : Bool) → (b && is_of name e.partition) ≡ false → (if b then process_behind window e name word no_process else no_process) ≡ no_process
     by true none = other (is_of name e.partition) _ none
     by false none = refl
+
+-- nor a row
+no_row_lines : (window : Span) (events : List Event) (name word : List ℕ) → has_line window name events ≡ false → has_row_in window name word events ≡ false
+no_row_lines window [] name word none = refl
+no_row_lines window (e ∷ es) name word none =
+    by (is_read window e.tick.0) (is_of name e.partition) (is_word word (maker (has_tick window e.tick.0) e.kind)) (has_line window name es) (has_row_in window name word es) none (no_row_lines window es name word)
+  where
+    by : (a b c d f : Bool) → ((a && b) || d) ≡ false → (d ≡ false → f ≡ false) → ((a && (b && c)) || f) ≡ false
+    by true true c d f none rest = absurd (false≢true (sym none))
+    by true false c d f none rest = rest none
+    by false b c d f none rest = rest none
 
 -- the percentiles of the times of a process
 
@@ -352,14 +370,35 @@ all_rows closing name word (p ∷ ps) rows = rows_behind name word (totals_at cl
         ∙ (ap (or_else (total_row closing (row_at name word rows))) rest ∙ twice (has_partition name ps) (total_row closing (row_at name word rows)))
     by false e rest = ap (λ (o : Option ProcessTotal). or_else o (process_at name word (totals_from closing ps rows))) (other_rows closing name word p rows e) ∙ rest
 
+is_row_there : (closing : Span) (name word : List ℕ) (rows : List ProcessRow) → is_row (total_row closing (row_at name word rows)) ≡ is_there name word rows
+is_row_there closing name word [] = refl
+is_row_there closing name word (x ∷ xs) = by (has_names name word x) (is_row_there closing name word xs)
+  where
+    by : (b : Bool) → is_row (total_row closing (row_at name word xs)) ≡ is_there name word xs → is_row (total_row closing (if b then Some x else row_at name word xs)) ≡ (b || is_there name word xs)
+    by true rest = refl
+    by false rest = rest
+
 pub processes_all : (window closing : Span) (events left : List Event) (partitions : List PartitionTotal) (rows : List ProcessRow) (totals : List ProcessTotal) → left ≡ []
     → ArePartitionsOf window closing events partitions → totals ≡ totals_from closing partitions rows → ProcessesWillBe window events left rows → AreProcessesOf window closing events totals
-processes_all window closing events left partitions rows totals none parts are will name word =
-    subst (AreShown (process_ended closing (process_in window events name word no_process))) (sym (ap (process_at name word) are ∙ all_rows closing name word partitions rows)) (by (has_partition name partitions) refl)
+processes_all window closing events left partitions rows totals none parts are will = record {
+  rows = λ name word. ap is_row (ap (process_at name word) are ∙ all_rows closing name word partitions rows) ∙ there name word (has_partition name partitions) refl;
+  numbers = λ name word.
+      subst (AreShown (process_ended closing (process_in window events name word no_process))) (sym (ap (process_at name word) are ∙ all_rows closing name word partitions rows))
+      (by name word (has_partition name partitions) refl);
+}
   where
-    last : will.known name word ≡ process_in window events name word no_process
-    last = ap (λ (xs : List Event). process_in window xs name word (will.known name word)) (sym none) ∙ will.will name word
+    there : (name word : List ℕ) (b : Bool) → has_partition name partitions ≡ b → is_row (if b then total_row closing (row_at name word rows) else None) ≡ has_row_in window name word events
+    there name word true e =
+        is_row_there closing name word rows
+        ∙ (no_false (is_there name word rows) ∙ (ap (λ (xs : List Event). is_there name word rows || has_row_in window name word xs) (sym none) ∙ will.there name word))
+    there name word false e = sym (no_row_lines window events name word (sym (parts.rows name) ∙ e))
 
-    by : (b : Bool) → has_partition name partitions ≡ b → AreShown (process_ended closing (process_in window events name word no_process)) (if b then total_row closing (row_at name word rows) else None)
-    by true e = subst (λ (p : Process). AreShown (process_ended closing p) (total_row closing (row_at name word rows))) last (row_shown closing (will.known name word) (row_at name word rows) (will.are name word))
-    by false e = ap (process_ended closing) (no_lines window events name word (sym (parts.rows name) ∙ e))
+    last : (name word : List ℕ) → will.known name word ≡ process_in window events name word no_process
+    last name word = ap (λ (xs : List Event). process_in window xs name word (will.known name word)) (sym none) ∙ will.will name word
+
+    by : (name word : List ℕ) (b : Bool) → has_partition name partitions ≡ b
+        → AreShown (process_ended closing (process_in window events name word no_process)) (if b then total_row closing (row_at name word rows) else None)
+    by name word true e =
+        subst (λ (p : Process). AreShown (process_ended closing p) (total_row closing (row_at name word rows))) (last name word)
+        (row_shown closing (will.known name word) (row_at name word rows) (will.are name word))
+    by name word false e = ap (process_ended closing) (no_lines window events name word (sym (parts.rows name) ∙ e))

@@ -18,7 +18,7 @@ use Rattle.trace_stays.specs.declared.span.Span.{Span}
 use Rattle.trace_stays.specs.declared.stay.Held.{Held}
 use Rattle.trace_stays.proofs.Followed.{same_is}
 use Rattle.trace_view.specs.Percentiles.{AreTimes, with_end, with_running}
-use Rattle.trace_view.specs.Processes.{AllRead, AreKept, HasRead, HaveRead, IsMade, IsRowOf, IsShown, Process, counted_for, has_names, is_there, is_word, maker, no_process, process_behind, read_by, row_at, turn_of, with_turn}
+use Rattle.trace_view.specs.Processes.{AllRead, AreKept, HasRead, HasAdded, HasMade, HaveRead, IsRowOf, IsShown, Process, counted_for, has_names, is_there, is_word, maker, makes_row, no_process, process_behind, read_by, row_at, turn_of, with_turn}
 use Rattle.trace_view.specs.Tallies.{has_tick, measured, turned}
 use Rattle.trace_view.specs.Turns.{and_measured, end_times, running_times}
 use Rattle.trace_view.specs.declared.processes.ProcessRow.{ProcessRow}
@@ -156,37 +156,63 @@ kept_added rows new y added none = record {
 pub kept_same : (rows : List ProcessRow) → AreKept rows rows
 kept_same rows = record { shown = λ known are. are }
 
-there_behind : (name word : List ℕ) (rows : List ProcessRow) (y : ProcessRow) → has_names name word y ≡ true → is_there name word (rows ++ y ∷ []) ≡ true
-there_behind name word [] y is = ap (λ (b : Bool). b || false) is
-there_behind name word (x ∷ xs) y is = by (has_names name word x) (there_behind name word xs y is)
-  where
-    by : (b : Bool) → is_there name word (xs ++ y ∷ []) ≡ true → (b || is_there name word (xs ++ y ∷ [])) ≡ true
-    by true rest = refl
-    by false rest = rest
+no_false : (b : Bool) → b ≡ (b || false)
+no_false true = refl
+no_false false = refl
 
-pub made_added : (name : List ℕ) (who : Subject) (rows new : List ProcessRow) (y : ProcessRow) → new ≡ rows ++ y ∷ [] → y.partition ≡ name → y.who ≡ who → is_there name (subject_text who) new ≡ true
-made_added name who rows new y added named is =
-    ap (is_there name (subject_text who)) added
-    ∙ there_behind name (subject_text who) rows y (and_from (same y.partition name) (same (subject_text y.who) (subject_text who))
-    (ap (λ (n : List ℕ). same n name) named ∙ same_text name) (ap (λ (w : Subject). same (subject_text w) (subject_text who)) is ∙ same_text (subject_text who)))
+no_false_and : (a b : Bool) → a ≡ (a || (b && false))
+no_false_and a true = no_false a
+no_false_and a false = no_false a
+
+or_more : (a b c : Bool) → ((a || b) || c) ≡ (a || (b || c))
+or_more true b c = refl
+or_more false b c = refl
+
+there_behind : (name word : List ℕ) (rows : List ProcessRow) (y : ProcessRow) → is_there name word (rows ++ y ∷ []) ≡ (is_there name word rows || has_names name word y)
+there_behind name word [] y = sym (no_false (has_names name word y))
+there_behind name word (x ∷ xs) y =
+    ap (λ (b : Bool). has_names name word x || b) (there_behind name word xs y) ∙ sym (or_more (has_names name word x) (is_there name word xs) (has_names name word y))
+
+pub has_added : (name : List ℕ) (who : Subject) (rows new : List ProcessRow) (y : ProcessRow) → new ≡ rows ++ y ∷ [] → y.partition ≡ name → y.who ≡ who → HasAdded name who rows new
+has_added name who rows new y added named is = record {
+  there = λ n w.
+      ap (is_there n w) added
+      ∙ (there_behind n w rows y
+      ∙ (ap (λ (p : List ℕ). is_there n w rows || (same p n && same (subject_text y.who) w)) named
+      ∙ ap (λ (s : Subject). is_there n w rows || (same name n && same (subject_text s) w)) is));
+}
+
+pub has_none_added : (name : List ℕ) (who : Subject) (rows : List ProcessRow) → is_there name (subject_text who) rows ≡ true → HasAdded name who rows rows
+has_none_added name who rows there = record { there = λ n w. by n w (same name n) (same (subject_text who) w) refl refl }
+  where
+    by : (n w : List ℕ) (b c : Bool) → same name n ≡ b → same (subject_text who) w ≡ c → is_there n w rows ≡ (is_there n w rows || (b && c))
+    by n w true true e f =
+        let here : is_there n w rows ≡ true = ap (λ (m : List ℕ). is_there m w rows) (sym (same_is name n e)) ∙ (ap (λ (m : List ℕ). is_there name m rows) (sym (same_is (subject_text who) w f)) ∙ there) in
+        here ∙ sym (ap (λ (b : Bool). b || true) here)
+    by n w true false e f = no_false (is_there n w rows)
+    by n w false c e f = no_false (is_there n w rows)
 
 -- ---- the rows that a line makes
 
-never : (b : Bool) → (b && false) ≡ true → ⊥
-never true e = cc
-never false e = cc
+pub made_nobody : (counts : Bool) (kind : EventKind) (rows : List ProcessRow) → HasMade counts None kind rows rows
+made_nobody counts kind rows = record { there = λ name word. no_false (is_there name word rows) }
 
-pub made_nobody : (counts : Bool) (kind : EventKind) (rows : List ProcessRow) → IsMade counts None kind rows
-made_nobody counts kind rows = λ name word so. absurd (false≢true so)
+pub made_none : (counts : Bool) (partition : Option (List ℕ)) (kind : EventKind) (rows : List ProcessRow) → maker counts kind ≡ None → HasMade counts partition kind rows rows
+made_none counts partition kind rows none = record {
+  there = λ name word.
+      no_false_and (is_there name word rows) (is_of name partition) ∙ ap (λ (o : Option Subject). is_there name word rows || (is_of name partition && is_word word o)) (sym none);
+}
 
-pub made_none : (counts : Bool) (partition : Option (List ℕ)) (kind : EventKind) (rows : List ProcessRow) → maker counts kind ≡ None → IsMade counts partition kind rows
-made_none counts partition kind rows none = λ name word so. absurd (never (is_of name partition) (sym (ap (λ (o : Option Subject). is_of name partition && is_word word o) none) ∙ so))
+pub made_one : (counts : Bool) (partition : List ℕ) (kind : EventKind) (who : Subject) (rows new : List ProcessRow) → maker counts kind ≡ Some who → HasAdded partition who rows new
+    → HasMade counts (Some partition) kind rows new
+made_one counts partition kind who rows new is added = record {
+  there = λ name word.
+      added.there name word ∙ ap (λ (o : Option Subject). is_there name word rows || (same partition name && is_word word o)) (sym is);
+}
 
-pub made_for : (counts : Bool) (partition : List ℕ) (kind : EventKind) (who : Subject) (rows : List ProcessRow) → maker counts kind ≡ Some who → is_there partition (subject_text who) rows ≡ true
-    → IsMade counts (Some partition) kind rows
-made_for counts partition kind who rows is there = λ name word so.
-    let both = and_parts (same partition name) (same (subject_text who) word) (sym (ap (λ (o : Option Subject). same partition name && is_word word o) is) ∙ so) in
-    subst (λ (n : List ℕ). is_there n word rows ≡ true) (same_is partition name both.0) (subst (λ (w : List ℕ). is_there partition w rows ≡ true) (same_is (subject_text who) word both.1) there)
+or_is : (a b : Bool) → (a || b) ≡ false → b ≡ false
+or_is true b e = absurd (false≢true (sym e))
+or_is false b e = e
 
 -- any other line says nothing of a process that has no row
 
@@ -246,17 +272,23 @@ rows_read window e name word p (x ∷ xs) (y ∷ ys) read quiet is =
     by true at rest quiet is = let both = and_parts (same x.partition name) (same (subject_text x.who) word) at in here both.0 both.1 is
     by false at rest quiet is = rest quiet is
 
-pub all_read : (window : Span) (e : Event) (old mid new : List ProcessRow) → AreKept old mid → IsMade (has_tick window e.tick.0) e.partition e.kind mid → AllRead window e mid new → HaveRead window e old new
+-- those that had a row have one
+there_read : (window : Span) (e : Event) (name word : List ℕ) (old new : List ProcessRow) → AllRead window e old new → is_there name word new ≡ is_there name word old
+there_read window e name word [] [] read = refl
+there_read window e name word [] (y ∷ ys) read = absurd read
+there_read window e name word (x ∷ xs) [] read = absurd read
+there_read window e name word (x ∷ xs) (y ∷ ys) read =
+    ap (λ (n : List ℕ). (same n name && same (subject_text y.who) word) || is_there name word ys) read.0.partition
+    ∙ (ap (λ (w : Subject). (same x.partition name && same (subject_text w) word) || is_there name word ys) read.0.who
+    ∙ ap (λ (b : Bool). has_names name word x || b) (there_read window e name word xs ys read.1))
+
+pub all_read : (window : Span) (e : Event) (old mid new : List ProcessRow) → AreKept old mid → HasMade (has_tick window e.tick.0) e.partition e.kind old mid → AllRead window e mid new → HaveRead window e old new
 all_read window e old mid new kept made read = record {
+  there = λ name word. there_read window e name word mid new read ∙ made.there name word;
   shown = λ known are name word.
       rows_read window e name word (known name word) mid new read
-      (λ none. quiet_line window e name word (by name word (is_of name e.partition && is_word word (maker (has_tick window e.tick.0) e.kind)) refl none)) (kept.shown known are name word);
+      (λ none. quiet_line window e name word (or_is (is_there name word old) (makes_row window e name word) (sym (made.there name word) ∙ none))) (kept.shown known are name word);
 }
-  where
-    by : (name word : List ℕ) (b : Bool) → (is_of name e.partition && is_word word (maker (has_tick window e.tick.0) e.kind)) ≡ b → is_there name word mid ≡ false
-        → (is_of name e.partition && is_word word (maker (has_tick window e.tick.0) e.kind)) ≡ false
-    by name word true so none = absurd (false≢true (sym none ∙ made name word so))
-    by name word false so none = so
 
 -- ---- the loop that reads them
 

@@ -91,6 +91,17 @@ process_after window e name word p = if is_read window e.tick.0 then process_beh
 abbrev pub process_ended : Span → Process → Process
 process_ended window p = record p { tally = with_ended window (stay_left p.held window.until.0) p.tally }
 
+-- which lines make a row: that of a state, and in the window that of an answer, a missed deadline or an application message
+abbrev pub maker : Bool → EventKind → Option Subject
+maker counts (event.State who state) = Some who
+maker counts kind = if counts then counted_for kind else None
+
+abbrev pub made_for : Bool → Option (List ℕ) → EventKind → (name word : List ℕ) → Bool
+made_for counts partition kind name word = is_of name partition && is_word word (maker counts kind)
+
+abbrev pub makes_row : Span → Event → (name word : List ℕ) → Bool
+makes_row window e name word = made_for (has_tick window e.tick.0) e.partition e.kind name word
+
 -- ---- the rows
 
 -- the row shows what is known of the process
@@ -113,6 +124,10 @@ abbrev pub row_at : (name word : List ℕ) → List ProcessRow → Option Proces
 row_at name word [] = None
 row_at name word (row ∷ rows) = if has_names name word row then Some row else row_at name word rows
 
+abbrev pub is_there : (name word : List ℕ) → List ProcessRow → Bool
+is_there name word [] = false
+is_there name word (row ∷ rows) = has_names name word row || is_there name word rows
+
 -- nothing is known of a process without a row
 abbrev pub IsShown : Process → Option ProcessRow → Type 0
 IsShown p None = p ≡ no_process
@@ -122,28 +137,25 @@ IsShown p (Some row) = IsRowOf p row
 abbrev pub AreRowsOf : (List ℕ → List ℕ → Process) → List ProcessRow → Type 0
 AreRowsOf known rows = (name word : List ℕ) → IsShown (known name word) (row_at name word rows)
 
--- so they do behind a line that is read
+-- So they do behind a line that is read. A process has a row from the first line on that makes one.
 pub record HaveRead (window : Span) (e : Event) (old new : List ProcessRow) : Type 0 where
+  pub there : (name word : List ℕ) → is_there name word new ≡ (is_there name word old || makes_row window e name word)
   pub shown : (known : List ℕ → List ℕ → Process) → AreRowsOf known old → AreRowsOf (λ name word. process_behind window e name word (known name word)) new
 
 -- and behind a line
 pub record HaveFollowed (window : Span) (e : Event) (old new : List ProcessRow) : Type 0 where
+  pub there : (name word : List ℕ) → is_there name word new ≡ (is_there name word old || (is_read window e.tick.0 && makes_row window e name word))
   pub shown : (known : List ℕ → List ℕ → Process) → AreRowsOf known old → AreRowsOf (λ name word. process_after window e name word (known name word)) new
 
--- ---- which lines make a row
+-- ---- a row more, and the rows that read
 
--- the line of a state, and in the window that of an answer, a missed deadline or an application message
-abbrev pub maker : Bool → EventKind → Option Subject
-maker counts (event.State who state) = Some who
-maker counts kind = if counts then counted_for kind else None
+-- this process has a row, and each that had one
+pub record HasAdded (partition : List ℕ) (who : Subject) (old new : List ProcessRow) : Type 0 where
+  pub there : (name word : List ℕ) → is_there name word new ≡ (is_there name word old || (same partition name && same (subject_text who) word))
 
-abbrev pub is_there : (name word : List ℕ) → List ProcessRow → Bool
-is_there name word [] = false
-is_there name word (row ∷ rows) = has_names name word row || is_there name word rows
-
--- each process that such a line makes a row for has one
-abbrev pub IsMade : Bool → Option (List ℕ) → EventKind → List ProcessRow → Type 0
-IsMade counts partition kind rows = (name word : List ℕ) → (is_of name partition && is_word word (maker counts kind)) ≡ true → is_there name word rows ≡ true
+-- the process that such a line makes a row for has one, and each that had one
+pub record HasMade (counts : Bool) (partition : Option (List ℕ)) (kind : EventKind) (old new : List ProcessRow) : Type 0 where
+  pub there : (name word : List ℕ) → is_there name word new ≡ (is_there name word old || made_for counts partition kind name word)
 
 -- what is known stays
 pub record AreKept (old new : List ProcessRow) : Type 0 where

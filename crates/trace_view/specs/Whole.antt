@@ -16,7 +16,7 @@ use Rattle.trace_view.specs.Counting.{capped, route_of, with_message}
 use Rattle.trace_view.specs.Errors.{IsOf}
 use Rattle.trace_view.specs.Partitions.{no_partition, partition_behind, partition_total}
 use Rattle.trace_view.specs.Percentiles.{IsSpread}
-use Rattle.trace_view.specs.Processes.{Process, no_process, process_after, process_ended}
+use Rattle.trace_view.specs.Processes.{Process, makes_row, no_process, process_after, process_ended}
 use Rattle.trace_view.specs.Starts.{told_behind, told_first}
 use Rattle.trace_view.specs.Tallies.{has_tick, is_read}
 use Rattle.trace_view.specs.Traffic.{no_messages}
@@ -149,8 +149,17 @@ abbrev pub AreShown : Process → Option ProcessTotal → Type 0
 AreShown p None = p ≡ no_process
 AreShown p (Some one) = (one.tally ≡ p.tally) × IsSpread (running_times p.times) one.spreads.to_running × IsSpread (end_times p.times) one.spreads.to_end
 
--- The row of each process, of INIT and of the error handler of each partition has the numbers that the lines lead to, with the stay that is not over where the
--- window closes.
-abbrev pub AreProcessesOf : (window closing : Span) → List Event → List ProcessTotal → Type 0
-AreProcessesOf window closing events rows =
-    (name word : List ℕ) → AreShown (process_ended closing (process_in window events name word no_process)) (process_at name word rows)
+abbrev pub is_row : Option ProcessTotal → Bool
+is_row None = false
+is_row (Some one) = true
+
+-- a line makes a row for the process
+abbrev pub has_row_in : Span → (name word : List ℕ) → List Event → Bool
+has_row_in window name word [] = false
+has_row_in window name word (e ∷ es) = (is_read window e.tick.0 && makes_row window e name word) || has_row_in window name word es
+
+-- Each process, INIT and the error handler of each partition have a row if a line makes one. Its numbers are those that the lines lead to, with the stay that is
+-- not over where the window closes.
+pub record AreProcessesOf (window closing : Span) (events : List Event) (processes : List ProcessTotal) : Type 0 where
+  pub rows : (name word : List ℕ) → is_row (process_at name word processes) ≡ has_row_in window name word events
+  pub numbers : (name word : List ℕ) → AreShown (process_ended closing (process_in window events name word no_process)) (process_at name word processes)

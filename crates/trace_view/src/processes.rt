@@ -5,7 +5,7 @@ ghost use Rattle.apex_types.specs.Line.{subject_text};
 ghost use Rattle.engine_meaning.specs.Digits.{same};
 ghost use Rattle.trace_stays.specs.Following.{is_of, starts_again};
 ghost use Rattle.trace_stays.specs.Stays.{stay_left};
-ghost use Rattle.trace_view.specs.Processes.{AllRead, AreKept, HasRead, HaveRead, IsMade, counted_for, is_there, is_word, maker, process_behind, read_by, totals_at, totals_from, with_one, with_turn};
+ghost use Rattle.trace_view.specs.Processes.{AllRead, AreKept, HasAdded, HasMade, HasRead, HaveRead, counted_for, is_there, is_word, maker, process_behind, read_by, totals_at, totals_from, with_one, with_turn};
 ghost use Rattle.trace_view.specs.Tallies.{has_tick, with_ended};
 
 use crate::extent::has_tick;
@@ -165,10 +165,12 @@ impl Processes {
     }
 
     /// Adds a row for the process of a line if it has none.
+    #[tactic(auto, using(crate::proofs::Known::made_nobody))]
     fn add_for(&mut self, event: &Event, counts: bool) -> Result<(), MemoryFull>
         ensures kept { OnOk result (AreKept self.old.rows.items self.new.rows.items) }
         ensures made { OnOk result
-            (IsMade counts event.now.partition event.now.kind self.new.rows.items) }
+            (HasMade counts event.now.partition event.now.kind self.old.rows.items
+            self.new.rows.items) }
     {
         let Some(partition) = &event.partition else {
             return Ok(());
@@ -183,7 +185,7 @@ impl Processes {
     fn add(&mut self, partition: &Name, who: &Subject) -> Result<(), MemoryFull>
         ensures kept { OnOk result (AreKept self.old.rows.items self.new.rows.items) }
         ensures made { OnOk result
-            (is_there partition.now (subject_text who.now) self.new.rows.items ≡ true) }
+            (HasAdded partition.now who.now self.old.rows.items self.new.rows.items) }
     {
         if !is_there(self.rows.as_slice(), partition, who) {
             self.rows.push(ProcessRow {
