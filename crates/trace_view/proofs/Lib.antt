@@ -1,7 +1,9 @@
 pub mod ActivationTimes
 pub mod Alike
+pub mod Behind
 pub mod Contiguous
 pub mod Counted
+pub mod Known
 pub mod MeasuredTimes
 pub mod Percentiles
 pub mod Rows

@@ -2,6 +2,9 @@ pub mod Cells
 pub mod Counted
 pub mod Counting
 pub mod Extents
+pub mod Partitions
+pub mod Processes
+pub mod Spreads
 pub mod Starts
 pub mod Tables
 pub mod Tallies

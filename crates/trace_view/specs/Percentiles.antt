@@ -1,5 +1,5 @@
 -- Times, how often each was taken, and their percentiles.
-use Rattle.std.specs.Prelude.{◌≡◌, ◌≢◌, ℕ, ◌+◌, ◌*◌, ◌-◌, ◌^◌, ◌<◌, ◌≤◌, min, Bool, true, ◌&&◌, nat_le, nat_lt, if◌then◌else◌, List, [], ◌∷◌, length, filter, Option, Some, None, unwrap_or}
+use Rattle.std.specs.Prelude.{◌≡◌, ◌≢◌, ◌==◌, ℕ, ◌+◌, ◌*◌, ◌-◌, ◌^◌, ◌<◌, ◌≤◌, min, Bool, true, ◌&&◌, nat_le, nat_lt, if◌then◌else◌, List, [], ◌∷◌, length, filter, Option, Some, None, unwrap_or}
 use Rattle.std.specs.BTreeMap.{is_at}
 use Rattle.std.specs.Map.{lookup}
 use Rattle.std.specs.Ordering.{nat_cmp}
@@ -62,6 +62,13 @@ abbrev pub reached : ℕ → ℕ → List (ℕ × ℕ) → Option ℕ
 reached wanted before [] = None
 reached wanted before (e ∷ es) =
     if nat_le wanted (min (before + e.1) (2 ^ 64 - 1) * 100) then Some e.0 else reached wanted (min (before + e.1) (2 ^ 64 - 1)) es
+
+-- the percentile of so many times, which are taken as these entries say
+abbrev pub percentile_of : Percentile → ℕ → List (ℕ × ℕ) → Option ℕ
+percentile_of which taken entries = if taken == 0 then None else reached (percent_of which * taken) 0 entries
+
+abbrev pub spread_of : ℕ → List (ℕ × ℕ) → Spread
+spread_of taken entries = record { median = percentile_of percentile.Median taken entries; ninety_fifth = percentile_of percentile.NinetyFifth taken entries }
 
 -- ---- response times
 

@@ -34,6 +34,10 @@ ended_at (Some stay) t = stay.span.until.0
 abbrev pub has_tick : Span → ℕ → Bool
 has_tick window t = nat_le window.from.0 t && ltb t window.until.0
 
+-- whether a line of this tick is read: those at the end of the window, and behind it, are not
+abbrev pub is_read : Span → ℕ → Bool
+is_read window t = ltb t window.until.0
+
 -- ---- activations
 
 abbrev pub begins : Turn → Activation

@@ -1,6 +1,7 @@
--- The errors and the messages of a whole trace, by its lines.
+-- The errors, the messages and the numbers of partitions and processes of a whole trace, by its lines.
 use Rattle.std.specs.Prelude.{◌≡◌, ℕ, ◌+◌, Bool, true, false, ◌&&◌, ◌||◌, if◌then◌else◌, List, [], ◌∷◌, Option, Some, None}
 use Rattle.apex_types.specs.CodeWords.{action_word, error_word, level_of_response, level_word}
+use Rattle.apex_types.specs.Line.{subject_text}
 use Rattle.apex_types.specs.declared.codes.ErrorKind.{ErrorKind}
 use Rattle.apex_types.specs.declared.codes.Response.{Response}
 use Rattle.apex_types.specs.declared.event.Event.{Event}
@@ -13,14 +14,22 @@ use Rattle.trace_stays.specs.Same.{is_same_partition}
 use Rattle.trace_stays.specs.declared.span.Span.{Span}
 use Rattle.trace_view.specs.Counting.{capped, route_of, with_message}
 use Rattle.trace_view.specs.Errors.{IsOf}
-use Rattle.trace_view.specs.Tallies.{has_tick}
+use Rattle.trace_view.specs.Partitions.{no_partition, partition_behind, partition_total}
+use Rattle.trace_view.specs.Percentiles.{IsSpread}
+use Rattle.trace_view.specs.Processes.{Process, makes_row, no_process, process_after, process_ended}
+use Rattle.trace_view.specs.Starts.{told_behind, told_first}
+use Rattle.trace_view.specs.Tallies.{has_tick, is_read}
 use Rattle.trace_view.specs.Traffic.{no_messages}
+use Rattle.trace_view.specs.Turns.{end_times, running_times}
 use Rattle.trace_view.specs.declared.errors.ErrorTotal.{ErrorTotal}
 use Rattle.trace_view.specs.declared.messages.Messages.{Messages}
 use Rattle.trace_view.specs.declared.messages.Route.{Route}
 use Rattle.trace_view.specs.declared.messages.Route.TheVariants as route
+use Rattle.trace_view.specs.declared.partitions.PartitionRow.{PartitionRow}
 use Rattle.trace_view.specs.declared.report.PartitionTotal.{PartitionTotal}
+use Rattle.trace_view.specs.declared.report.ProcessTotal.{ProcessTotal}
 use Rattle.trace_view.specs.declared.report.RouteTotal.{RouteTotal}
+use Rattle.trace_view.specs.declared.told.Told.{Told}
 
 -- the ticks of these lines
 abbrev pub ticks_of_lines : List Event → List Ticks
@@ -101,3 +110,56 @@ or_none (Some m) = m
 abbrev pub AreMessagesOf : Span → List Event → List PartitionTotal → List RouteTotal → Type 0
 AreMessagesOf window events partitions rows =
     (name : List ℕ) (r : Route) → has_partition name partitions ≡ true → or_none (messages_at name r rows) ≡ messages_in window name r events no_messages
+
+-- ---- partitions
+
+-- a partition behind these lines, of which each may start it with the condition that the lines before it tell
+abbrev pub partition_in : Span → Told → List Event → PartitionRow → PartitionRow
+partition_in window told [] p = p
+partition_in window told (e ∷ es) p = partition_in window (told_behind e told) es (if is_read window e.tick.0 then partition_behind window told e p else p)
+
+abbrev pub has_line : Span → List ℕ → List Event → Bool
+has_line window name [] = false
+has_line window name (e ∷ es) = (is_read window e.tick.0 && is_of name e.partition) || has_line window name es
+
+-- the numbers that the rows show for a partition; without a row they are those of a partition without a line
+abbrev pub partition_at : List ℕ → List PartitionTotal → PartitionTotal
+partition_at name [] = record { name = name; modes = (no_partition name).modes; starts = (no_partition name).starts }
+partition_at name (one ∷ more) = if same one.name name then one else partition_at name more
+
+-- Each partition with a line has a row, and no other. Its ticks in the modes, and its starts, are those that the lines lead to, with the stay that is not over
+-- where the window closes.
+pub record ArePartitionsOf (window closing : Span) (events : List Event) (partitions : List PartitionTotal) : Type 0 where
+  pub rows : (name : List ℕ) → has_partition name partitions ≡ has_line window name events
+  pub numbers : (name : List ℕ) → partition_at name partitions ≡ partition_total closing (partition_in window told_first events (no_partition name))
+
+-- ---- processes
+
+-- a process behind these lines
+abbrev pub process_in : Span → List Event → (name word : List ℕ) → Process → Process
+process_in window [] name word p = p
+process_in window (e ∷ es) name word p = process_in window es name word (process_after window e name word p)
+
+abbrev pub process_at : (name word : List ℕ) → List ProcessTotal → Option ProcessTotal
+process_at name word [] = None
+process_at name word (one ∷ more) = if same one.partition name && same (subject_text one.who) word then Some one else process_at name word more
+
+-- its numbers, and the percentiles of its times; nothing is known of a process without a row
+abbrev pub AreShown : Process → Option ProcessTotal → Type 0
+AreShown p None = p ≡ no_process
+AreShown p (Some one) = (one.tally ≡ p.tally) × IsSpread (running_times p.times) one.spreads.to_running × IsSpread (end_times p.times) one.spreads.to_end
+
+abbrev pub is_row : Option ProcessTotal → Bool
+is_row None = false
+is_row (Some one) = true
+
+-- a line makes a row for the process
+abbrev pub has_row_in : Span → (name word : List ℕ) → List Event → Bool
+has_row_in window name word [] = false
+has_row_in window name word (e ∷ es) = (is_read window e.tick.0 && makes_row window e name word) || has_row_in window name word es
+
+-- Each process, INIT and the error handler of each partition have a row if a line makes one. Its numbers are those that the lines lead to, with the stay that is
+-- not over where the window closes.
+pub record AreProcessesOf (window closing : Span) (events : List Event) (processes : List ProcessTotal) : Type 0 where
+  pub rows : (name word : List ℕ) → is_row (process_at name word processes) ≡ has_row_in window name word events
+  pub numbers : (name word : List ℕ) → AreShown (process_ended closing (process_in window events name word no_process)) (process_at name word processes)

@@ -15,6 +15,8 @@ mod extremes;
 pub mod laws;
 mod messages;
 mod modes;
+mod partitions;
+mod processes;
 mod refusals;
 mod report;
 mod responses;

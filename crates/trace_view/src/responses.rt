@@ -25,6 +25,8 @@ pub struct Responses {
 }
 
 impl Responses {
+    ghost use Rattle.trace_view.specs.Spreads.{spreads_of};
+
     /// Nothing was measured.
     pub fn new(alloc: Global) -> Responses
         ensures to_running { AreTimes [] result.to_running.counts.entries }
@@ -57,6 +59,7 @@ impl Responses {
 
     /// The percentiles of the times that were taken.
     pub fn spreads(&self) -> ResponseSpreads
+        ensures value { result ≡ spreads_of self.now }
         ensures to_running { (times : List ℕ) → AreTimes times self.now.to_running.counts.entries
             → IsSpread times result.to_running }
         ensures to_end { (times : List ℕ) → AreTimes times self.now.to_end.counts.entries

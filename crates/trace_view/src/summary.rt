@@ -1,6 +1,6 @@
 //! Counts the events of a trace.
 
-ghost use Rattle.std.specs.Prelude.{◌≡◌, [], IfOk, OnOk};
+ghost use Rattle.std.specs.Prelude.{◌≡◌, [], map, IfOk, OnOk};
 
 use crate::counts::Counts;
 use crate::extent::Extent;
@@ -27,6 +27,8 @@ pub struct Summary {
 impl Summary {
     ghost use Rattle.trace_view.specs.Counted.{HasErrorIf, HasMessageIf};
     ghost use Rattle.trace_view.specs.Extents.{closed, opened, with_line};
+    ghost use Rattle.trace_view.specs.Partitions.{partition_total, partitions_after};
+    ghost use Rattle.trace_view.specs.Processes as processes;
     ghost use Rattle.trace_view.specs.Starts.{told_behind, told_first};
     ghost use Rattle.trace_view.specs.Tallies.{has_tick};
     ghost use Rattle.trace_view.specs.Traffic.{totals_from};
@@ -38,6 +40,8 @@ impl Summary {
         ensures extent { result.extent ≡ opened from to }
         ensures told { result.told ≡ told_first }
         ensures shares { result.shares ≡ shares }
+        ensures partitions { result.counts.partitions.rows.items ≡ [] }
+        ensures processes { result.counts.processes.rows.items ≡ [] }
         ensures errors { result.counts.errors.totals.items ≡ [] }
         ensures messages { result.counts.traffic.passages.items ≡ [] }
     {
@@ -55,11 +59,18 @@ impl Summary {
     /// # Errors
     ///
     /// Memory ran out, or the line is of a partition that the module table has not.
-    #[tactic(auto, using(crate::proofs::Reading::passed_over))]
+    #[tactic(auto, using(crate::proofs::Reading::passed_over, crate::proofs::Behind::followed))]
     pub fn count(&mut self, event: &Event) -> Result<(), SharesFault>
         ensures to { self.new.to ≡ self.old.to }
         ensures extent { self.new.extent ≡ with_line event.now.tick self.old.extent }
         ensures told { self.new.told ≡ told_behind event.now self.old.told }
+        ensures partitions { OnOk result
+            (self.new.counts.partitions.rows.items
+            ≡ partitions_after self.old.extent.window self.old.told event.now
+            self.old.counts.partitions.rows.items) }
+        ensures processes { OnOk result
+            (processes.HaveFollowed self.old.extent.window event.now
+            self.old.counts.processes.rows.items self.new.counts.processes.rows.items) }
         ensures errors { OnOk result
             (HasErrorIf (has_tick self.old.extent.window event.now.tick.0)
             event.now.partition event.now.kind self.old.counts.errors
@@ -110,6 +121,14 @@ impl Summary {
     /// Memory ran out.
     pub fn finish(self) -> Result<Report, SharesFault>
         ensures extent { IfOk result (λ report. report.extent ≡ closed self.to self.extent) }
+        ensures partitions { IfOk result
+            (λ report. report.partitions.items
+            ≡ map (partition_total (closed self.to self.extent).window)
+            self.counts.partitions.rows.items) }
+        ensures processes { IfOk result
+            (λ report. report.processes.items
+            ≡ processes.totals_from (closed self.to self.extent).window report.partitions.items
+            self.counts.processes.rows.items) }
         ensures errors { IfOk result (λ report. report.errors ≡ self.counts.errors.totals) }
         ensures routes { IfOk result
             (λ report. report.routes.items

@@ -1,7 +1,7 @@
 //! Times, and their percentiles.
 
-ghost use Rattle.std.specs.Prelude.{◌≡◌, ◌*◌, ◌∷◌, [], ℕ, List, OnErr, OnOk, true};
-ghost use Rattle.trace_view.specs.Percentiles.{AreTimes, IsPercentile, IsSpread, all_of, are_rising, percent_of, reached};
+ghost use Rattle.std.specs.Prelude.{◌≡◌, ◌*◌, ◌-◌, ◌^◌, ◌≤◌, ◌∷◌, [], ℕ, List, OnErr, OnOk, true};
+ghost use Rattle.trace_view.specs.Percentiles.{AreTimes, IsPercentile, IsSpread, all_of, are_rising, percent_of, percentile_of, reached, spread_of};
 
 use std::alloc::Global;
 use std::collections::BTreeMap;
@@ -31,6 +31,7 @@ pub struct Times {
     taken: u64,
     ghost rising: { are_rising counts.entries ≡ true },
     ghost whole: { taken ≡ all_of counts.entries },
+    ghost fits: { taken ≤ 2 ^ 64 - 1 },
 }
 
 impl Times {
@@ -77,7 +78,8 @@ impl Times {
 
     /// The percentiles of the times that were taken.
     pub fn spread(&self) -> Spread
-        ensures { (times : List ℕ) → AreTimes times self.now.counts.entries
+        ensures value { result ≡ spread_of self.now.taken self.now.counts.entries }
+        ensures times { (times : List ℕ) → AreTimes times self.now.counts.entries
             → IsSpread times result }
     {
         Spread {
@@ -88,7 +90,8 @@ impl Times {
 
     /// The percentile of the times that were taken; `None` if none was.
     pub fn percentile(&self, which: Percentile) -> Option<u64>
-        ensures { (times : List ℕ) → AreTimes times self.now.counts.entries
+        ensures value { result ≡ percentile_of which self.now.taken self.now.counts.entries }
+        ensures times { (times : List ℕ) → AreTimes times self.now.counts.entries
             → IsPercentile (percent_of which) times result }
     {
         if self.taken == 0 {

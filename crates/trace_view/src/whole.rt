@@ -2,7 +2,7 @@
 
 ghost use Rattle.std.specs.Prelude.{◌≡◌, IfOk};
 ghost use Rattle.trace_view.specs.Extents.{closed, extent_after, opened};
-ghost use Rattle.trace_view.specs.Whole.{AreErrorsOf, AreMessagesOf, ticks_of_lines};
+ghost use Rattle.trace_view.specs.Whole.{AreErrorsOf, AreMessagesOf, ArePartitionsOf, AreProcessesOf, ticks_of_lines};
 
 use crate::report::Report;
 use crate::summary::Summary;
@@ -10,8 +10,8 @@ use apex_types::{Event, Ticks};
 use std::alloc::Global;
 use trace_shares::SharesFault;
 
-/// The summary of a trace whose lines are counted one by one has the lines of the window, and their
-/// errors and messages.
+/// The summary of a trace whose lines are counted one by one has the lines of the window, their errors
+/// and messages, and the numbers of partitions and processes that the lines lead to.
 ///
 /// # Errors
 ///
@@ -25,6 +25,16 @@ pub fn summary_of(
     ensures extent { IfOk result
         (λ report.
         report.extent ≡ closed to (extent_after (opened from to) (ticks_of_lines events.now))) }
+    ensures partitions { IfOk result
+        (λ report.
+        ArePartitionsOf (opened from to).window
+        (closed to (extent_after (opened from to) (ticks_of_lines events.now))).window events.now
+        report.partitions.items) }
+    ensures processes { IfOk result
+        (λ report.
+        AreProcessesOf (opened from to).window
+        (closed to (extent_after (opened from to) (ticks_of_lines events.now))).window events.now
+        report.processes.items) }
     ensures errors { IfOk result
         (λ report. AreErrorsOf (opened from to).window events.now report.errors.items) }
     ensures messages { IfOk result
