@@ -1,10 +1,11 @@
 //! Words of a command that are `-` alone.
 
-ghost use Rattle.std.specs.Prelude.{◌≡◌, is_some};
+ghost use Rattle.std.specs.Prelude.{◌≡◌, is_some, map};
+ghost use Rattle.std.specs.List.{list_any};
 ghost use Rattle.clap.specs.Matches.{found_of};
 ghost use Rattle.clap.specs.Simple.{subcommand_rows_of};
 ghost use Rattle.clap.specs.Walk.{rows_of};
-ghost use Rattle.command_line.specs.Orders.{has_dash, has_dash_at, is_dashed};
+ghost use Rattle.command_line.specs.Orders.{is_dash, has_dash, has_dash_at, is_dashed};
 
 use clap::ArgMatches;
 
@@ -35,13 +36,37 @@ pub fn dashed_command<'a>(matches: &ArgMatches<'a>) -> Option<&'a str>
 fn has_dash(found: &ArgMatches<'_>) -> bool
     ensures { result ≡ has_dash (rows_of (found_of found.now)) }
 {
-    NAMED.iter().any(|name| has_dash_at(found, *name))
+    has_dash_among(found, &NAMED)
+}
+
+#[tactic(auto, using(std::proofs::lemmas::List::drop_more))]
+fn has_dash_among(found: &ArgMatches<'_>, names: &[&str]) -> bool
+    ensures { result
+        ≡ list_any (has_dash_at (rows_of (found_of found.now))) (map (λ s. s.now) names.now) }
+{
+    for name in names {
+        if has_dash_at(found, name) {
+            return true;
+        }
+    }
+    false
 }
 
 /// Returns true if a word that was found for the argument `name` is `-` alone.
 fn has_dash_at(found: &ArgMatches<'_>, name: &str) -> bool
     ensures { result ≡ has_dash_at (rows_of (found_of found.now)) name.now }
 {
-    let words = found.get_strs(name).unwrap_or(&[]);
-    words.iter().any(|word| *word == "-")
+    are_dashed(found.get_strs(name).unwrap_or(&[]))
+}
+
+#[tactic(auto, using(std::proofs::lemmas::List::drop_more))]
+fn are_dashed(words: &[&str]) -> bool
+    ensures { result ≡ list_any is_dash (map (λ s. s.now) words.now) }
+{
+    for word in words {
+        if *word == "-" {
+            return true;
+        }
+    }
+    false
 }

@@ -264,7 +264,8 @@ pub fn lone_dash(alloc: Global, name: &str) -> Result<Error, AllocError>
     wrong_word(
         alloc,
         name,
-        "unexpected argument '-' found\n\n  tip: the standard input is '/dev/stdin', and a file with the name '-' is './-'",
+        "unexpected argument '-' found\n\n  \
+         tip: the standard input is '/dev/stdin', and a file with the name '-' is './-'",
     )
 }
 
