@@ -10,7 +10,7 @@ use Rattle.command_line.specs.declared.form.Form.{Form}
 use Rattle.command_line.specs.declared.form.Form.TheVariants.{Tables, Rows, Picture}
 
 -- files and partitions are named; ticks are a word; a run may wait for a line with some words;
--- a word that is `-` alone makes no command
+-- if a word is `-` alone, nothing is asked for
 pub data Order : Type 0 where
   First : Order
   Check : (table : List ℕ) (sources : List (List ℕ)) → Order
@@ -83,8 +83,8 @@ abbrev pub order_by_name : Entered → Order
 order_by_name None = First
 order_by_name (Some entered) = order_named entered.0 entered.1
 
--- the arguments that name a file or a partition, or give a number of ticks; the words of a line, for which a run
--- waits, are not among them
+-- the arguments that name a file or a partition, or give a number of ticks: all but the words of a line that a run
+-- waits for
 abbrev pub named : List (List ℕ)
 named =
     codes "TABLE" ∷ codes "SOURCE" ∷ codes "IMAGE" ∷ codes "DEVICES" ∷ codes "PARTITION" ∷ codes "INPUTS" ∷ codes "TICKS" ∷ codes "OLD" ∷ codes "NEW" ∷ []
@@ -103,6 +103,7 @@ abbrev pub is_dashed : Entered → Bool
 is_dashed None = false
 is_dashed (Some entered) = has_dash entered.1
 
+-- what the words ask for
 abbrev pub order_of : Entered → Order
 order_of entered = if is_dashed entered then Dashed else order_by_name entered
 
