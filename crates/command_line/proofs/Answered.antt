@@ -16,8 +16,8 @@ use Rattle.command_line.specs.Done.{IsDoneWith}
 use Rattle.command_line.specs.Lines.{line_of}
 use Rattle.command_line.specs.declared.outcome.Outcome.{Outcome}
 use Rattle.command_line.specs.declared.outcome.Outcome.TheVariants.{Usual, Remarkable}
-use Rattle.command_line.specs.Orders.{Order, First, Check, Build, Run, Replay, Inputs, Cost, Dis, Upgrade, Load, Lint}
-use Rattle.command_line.specs.Refusals.{IsFailure, IsFailureOfWords, IsRefused, IsWrongTicks}
+use Rattle.command_line.specs.Orders.{Order, First, Check, Build, Run, Replay, Inputs, Cost, Dis, Upgrade, Load, Lint, Dashed}
+use Rattle.command_line.specs.Refusals.{IsFailure, IsFailureOfWords, IsRefused, HasWrongWord}
 use Rattle.command_line.specs.States.{IsSilent, State, state}
 use Rattle.command_line.specs.Told.{IsOfFailedFile}
 use Rattle.command_line.specs.Words.{mb_app}
@@ -47,6 +47,7 @@ memory_refused (Upgrade old new) s = ((refl, refl), inl (refl, tt))
 memory_refused (Lint table sources) s = ((refl, (refl, refl)), tt)
 memory_refused (Load form table []) s = ((refl, (refl, refl)), tt)
 memory_refused (Load form table (source ∷ sources)) s = ((refl, (refl, refl)), tt)
+memory_refused Dashed s = ((refl, (refl, refl)), refl)
 
 -- words that the library takes, whose order is not done
 pub order_failed : (kinds : Kinds) (own order : Order) (before after : State) (answer : Result Outcome (Failure Refusal)) → kinds ≡ [] → own ≡ order
@@ -78,7 +79,7 @@ of_usage kinds order asked before mid old_failed new_failed new_out old_err new_
       usage = λ two. ((untouched.0, subst (IsSilent before.out) (sym it.1) untouched.1), unfailed, no_command why, it.2);
     }
   where
-    no_command : IsAmong (kind_of e) kinds ⊎ ((kinds ≡ []) × IsWrongTicks order × (kind_of e ≡ kind.ValueValidation)) → AreNoCommand kinds order
+    no_command : IsAmong (kind_of e) kinds ⊎ ((kinds ≡ []) × HasWrongWord order × (kind_of e ≡ kind.ValueValidation)) → AreNoCommand kinds order
     no_command (inl a) = inl (kind_of e, a, mistake)
     no_command (inr (none, wrong, is)) = inr (none, wrong)
 of_usage kinds order asked before mid old_failed new_failed new_out old_err new_err status e (untouched, why) unfailed told (inl help) = by (told.help help)
@@ -87,7 +88,7 @@ of_usage kinds order asked before mid old_failed new_failed new_out old_err new_
     no_ticks k is (inl h) = cc
     no_ticks k is (inr h) = cc
 
-    wants : IsAmong (kind_of e) kinds ⊎ ((kinds ≡ []) × IsWrongTicks order × (kind_of e ≡ kind.ValueValidation)) → AskForHelp kinds
+    wants : IsAmong (kind_of e) kinds ⊎ ((kinds ≡ []) × HasWrongWord order × (kind_of e ≡ kind.ValueValidation)) → AskForHelp kinds
     wants (inl a) = (kind_of e, a, help)
     wants (inr (none, wrong, is)) = absurd (no_ticks (kind_of e) is help)
 

@@ -12,7 +12,7 @@ use Rattle.command_line.specs.Orders.{Order}
 use Rattle.command_line.specs.Outcomes.{status_of}
 use Rattle.command_line.specs.declared.outcome.Outcome.{Outcome}
 use Rattle.command_line.specs.Pages.{IsPageTold}
-use Rattle.command_line.specs.Refusals.{IsFailureOfWords, IsWrongTicks}
+use Rattle.command_line.specs.Refusals.{IsFailureOfWords, HasWrongWord}
 use Rattle.command_line.specs.States.{IsUntouched, State}
 use Rattle.command_line.specs.Told.{IsOfFailed}
 use Rattle.command_line.specs.declared.explaining.Note.{Note}
@@ -21,9 +21,9 @@ use Rattle.command_words.specs.declared.failure.Failure.TheVariants.{Refused, Us
 use Rattle.command_line.specs.declared.refusal.Refusal.{Refusal}
 use Rattle.command_line.specs.declared.refusal.Refusal.TheVariants.{Write}
 
--- the words are no command, or the word for its ticks is not written in digits
+-- the words are no command, or one of them is wrong: a word for ticks without digits, or `-` alone
 abbrev pub AreNoCommand : Kinds → Order → Type 0
-AreNoCommand kinds order = AreMistaken kinds ⊎ ((kinds ≡ []) × IsWrongTicks order)
+AreNoCommand kinds order = AreMistaken kinds ⊎ ((kinds ≡ []) × HasWrongWord order)
 
 -- ---- the statuses
 

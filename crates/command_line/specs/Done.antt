@@ -20,7 +20,7 @@ use Rattle.module.specs.declared.inputs_fault.InputsFault.{InputsFault}
 use Rattle.module.specs.declared.fault.RunFault.{RunFault}
 use Rattle.streams.specs.Contents.{Contents, Holds, HoldAll, Spares}
 use Rattle.stopped_run.specs.Ends.{RunsUntil}
-use Rattle.command_line.specs.Orders.{Order, First, Check, Build, Run, Replay, Inputs, Cost, Dis, Upgrade, Load, Lint}
+use Rattle.command_line.specs.Orders.{Order, First, Check, Build, Run, Replay, Inputs, Cost, Dis, Upgrade, Load, Lint, Dashed}
 use Rattle.command_line.specs.Loading.{AreLoaded, IsLoadOfText, IsTextOf, Shown}
 use Rattle.command_line.specs.Linting.{AreFound, IsReadModule}
 use Rattle.command_line.specs.declared.linting.ReadModule.{ReadModule}
@@ -170,6 +170,7 @@ IsDone (Upgrade old new) before after =
     (bytes : List ℕ) × IsUpgradedIn before.files old bytes × Holds after.files new bytes × Spares new before.files after.files
     × Appends before.out.taken after.out.taken (upgraded_text (length bytes))
 IsDone (Lint table sources) before after = IsLinted false table sources before after
+IsDone Dashed before after = ⊥
 
 -- with status 3 something is found, or a line that a run waits for has not come
 abbrev pub IsRemarkable : Order → State → State → Type 0

@@ -1,5 +1,6 @@
 -- The command that the words of a command line ask for.
-use Rattle.std.specs.Prelude.{◌||◌, ℕ, Bool, false, List, Some, None, if◌then◌else◌, codes}
+use Rattle.std.specs.Prelude.{◌||◌, ℕ, Bool, false, List, [], ◌∷◌, Some, None, if◌then◌else◌, codes}
+use Rattle.std.specs.List.{list_any}
 use Rattle.std.specs.Str.{bytes_eq}
 use Rattle.clap.specs.Walk.{Row}
 use Rattle.command_words.specs.Found.{Entered, word_at, words_at}
@@ -8,7 +9,8 @@ use Rattle.command_line.specs.declared.explaining.Style.TheVariants.{Json, Plain
 use Rattle.command_line.specs.declared.form.Form.{Form}
 use Rattle.command_line.specs.declared.form.Form.TheVariants.{Tables, Rows, Picture}
 
--- files and partitions are named; ticks are a word; a run may wait for a line with some words
+-- files and partitions are named; ticks are a word; a run may wait for a line with some words;
+-- if a word is `-` alone, nothing is asked for
 pub data Order : Type 0 where
   First : Order
   Check : (table : List ℕ) (sources : List (List ℕ)) → Order
@@ -21,6 +23,7 @@ pub data Order : Type 0 where
   Upgrade : (old : List ℕ) (new : List ℕ) → Order
   Load : (form : Form) (table : List ℕ) (sources : List (List ℕ)) → Order
   Lint : (table : List ℕ) (sources : List (List ℕ)) → Order
+  Dashed : Order
 
 abbrev pub check_of : List Row → Order
 check_of rows = Check (word_at (codes "TABLE") rows) (words_at (codes "SOURCE") rows)
@@ -76,9 +79,33 @@ order_named name rows =
     else First
 
 -- without a command the stored module
+abbrev pub order_by_name : Entered → Order
+order_by_name None = First
+order_by_name (Some entered) = order_named entered.0 entered.1
+
+-- the arguments that name a file or a partition, or give a number of ticks: all but the words of a line that a run
+-- waits for
+abbrev pub named : List (List ℕ)
+named =
+    codes "TABLE" ∷ codes "SOURCE" ∷ codes "IMAGE" ∷ codes "DEVICES" ∷ codes "PARTITION" ∷ codes "INPUTS" ∷ codes "TICKS" ∷ codes "OLD" ∷ codes "NEW" ∷ []
+
+abbrev pub is_dash : List ℕ → Bool
+is_dash word = bytes_eq word (codes "-")
+
+-- a word that was found for an argument is `-` alone
+abbrev pub has_dash_at : List Row → List ℕ → Bool
+has_dash_at rows name = list_any is_dash (words_at name rows)
+
+abbrev pub has_dash : List Row → Bool
+has_dash rows = list_any (has_dash_at rows) named
+
+abbrev pub is_dashed : Entered → Bool
+is_dashed None = false
+is_dashed (Some entered) = has_dash entered.1
+
+-- what the words ask for
 abbrev pub order_of : Entered → Order
-order_of None = First
-order_of (Some entered) = order_named entered.0 entered.1
+order_of entered = if is_dashed entered then Dashed else order_by_name entered
 
 -- whether the words ask for an explanation of a refusal, and how
 abbrev pub is_asked : List Row → Bool

@@ -22,7 +22,7 @@ use Rattle.module.specs.declared.fault.RunFault.{RunFault}
 use Rattle.module.specs.declared.fault.RunFault.TheVariants as faults
 use Rattle.streams.specs.Contents.{Contents, Holds, Spares}
 use Rattle.command_line.specs.Done.{Texts, IsBuilt, AreCosted, AreFoundIn, IsLoadIn, IsImageIn, IsUpgradedIn, ImageAndText, IsRunOf, IsRunDone, IsReplayOf, IsReplayDone, AreInputsOf, AreInputsDone, IsFirstRun, is_ok}
-use Rattle.command_line.specs.Orders.{Order, First as first, Check as check, Build as build, Run as run, Replay as replay, Inputs as inputs, Cost as cost, Dis as dis, Upgrade as upgrade, Load as load, Lint as lint}
+use Rattle.command_line.specs.Orders.{Order, First as first, Check as check, Build as build, Run as run, Replay as replay, Inputs as inputs, Cost as cost, Dis as dis, Upgrade as upgrade, Load as load, Lint as lint, Dashed as dashed}
 use Rattle.command_line.specs.Loading.{IsRefusedTable, Shown}
 use Rattle.lint.specs.Sentences.{findings_text}
 use Rattle.lint.specs.declared.report.PartitionFindings.{PartitionFindings}
@@ -204,20 +204,22 @@ IsRefused (replay image partition text ticks) before after r =
     (IsNumeral 10 ticks ⊎ (r ≡ Memory)) × IsReplayRefused image partition text (digits_value 10 ticks) before after r
 IsRefused (inputs image partition devices ticks) before after r =
     (IsNumeral 10 ticks ⊎ (r ≡ Memory)) × AreInputsRefused image partition devices (digits_value 10 ticks) before after r
+IsRefused dashed before after r = IsUntouched before after × (r ≡ Memory)
 
 -- ---- the words
 
--- the word for the ticks is not written in digits
-abbrev pub IsWrongTicks : Order → Type 0
-IsWrongTicks (run image devices ticks until) = IsNumeral 10 ticks → ⊥
-IsWrongTicks (replay image partition text ticks) = IsNumeral 10 ticks → ⊥
-IsWrongTicks (inputs image partition devices ticks) = IsNumeral 10 ticks → ⊥
-IsWrongTicks _ = ⊥
+-- the word for the ticks is not written in digits, or a word is `-` alone
+abbrev pub HasWrongWord : Order → Type 0
+HasWrongWord (run image devices ticks until) = IsNumeral 10 ticks → ⊥
+HasWrongWord (replay image partition text ticks) = IsNumeral 10 ticks → ⊥
+HasWrongWord (inputs image partition devices ticks) = IsNumeral 10 ticks → ⊥
+HasWrongWord dashed = Unit {0}
+HasWrongWord _ = ⊥
 
 -- why an order is not done
 abbrev pub IsFailure : Order → State → State → Failure Refusal → Type 0
 IsFailure order before after (Refused r) = IsRefused order before after r
-IsFailure order before after (Usage error) = IsUntouched before after × IsWrongTicks order × (kind_of error ≡ ValueValidation)
+IsFailure order before after (Usage error) = IsUntouched before after × HasWrongWord order × (kind_of error ≡ ValueValidation)
 
 -- Why the words of a command line are not done, where the library of command lines reports the
 -- errors `kinds`: memory ran out; or one of those errors; or, without errors, the reason why their
@@ -226,4 +228,4 @@ abbrev pub IsFailureOfWords : Kinds → Order → State → State → Failure Re
 IsFailureOfWords kinds order before after (Refused Memory) = IsRefused order before after Memory
 IsFailureOfWords kinds order before after (Refused r) = (kinds ≡ []) × IsRefused order before after r
 IsFailureOfWords kinds order before after (Usage error) =
-    IsUntouched before after × (IsAmong (kind_of error) kinds ⊎ ((kinds ≡ []) × IsWrongTicks order × (kind_of error ≡ ValueValidation)))
+    IsUntouched before after × (IsAmong (kind_of error) kinds ⊎ ((kinds ≡ []) × HasWrongWord order × (kind_of error ≡ ValueValidation)))

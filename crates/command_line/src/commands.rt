@@ -6,7 +6,7 @@ ghost use Rattle.clap.specs.Matches.{found_of};
 ghost use Rattle.clap.specs.Simple.{subcommand_of, subcommand_rows_of};
 ghost use Rattle.clap.specs.Walk.{rows_of};
 ghost use Rattle.command_line.specs.Done.{IsDone, IsDoneWith};
-ghost use Rattle.command_line.specs.Orders.{Build, Check, Upgrade, asks, is_asked, form_of, is_flagged, order_of, style_of};
+ghost use Rattle.command_line.specs.Orders.{Build, Check, Upgrade, asks, is_asked, form_of, is_flagged, order_by_name, order_of, style_of};
 ghost use Rattle.command_line.specs.Refusals.{IsBuildRefused, IsCheckRefused, IsFailure, IsFailureOfWords, IsUpgradeRefused};
 ghost use Rattle.command_line.specs.Spelled.{spelled};
 ghost use Rattle.command_line.specs.States.{state};
@@ -14,9 +14,10 @@ ghost use Rattle.command_line.specs.Told.{IsOfFailed, IsOfFailedFile};
 ghost use Rattle.streams.specs.States.{IsFlushed, seen};
 ghost use Rattle.command_line.specs.Words.{mb_app};
 
+use crate::dashes::dashed_command;
 use crate::explaining::{Note, Style};
 use crate::form::Form;
-use crate::grammar::grammar;
+use crate::grammar::{grammar, lone_dash};
 use crate::linting::lint;
 use crate::loading::load;
 use crate::outcome::Outcome;
@@ -140,7 +141,7 @@ fn style_of(matches: &ArgMatches<'_>) -> Style
     }
 }
 
-/// Does the command that was found in the words.
+/// Does the command that was found in the words, if no word is `-` alone.
 fn obey<F: Files, O: Stream, W: Watch>(
     alloc: Global,
     matches: &ArgMatches<'_>,
@@ -160,6 +161,37 @@ fn obey<F: Files, O: Stream, W: Watch>(
         (seen O.taken O.failures O.is_flushed out.new)) }
     ensures failed { IfErr result
         (λ f. IsFailure (order_of (subcommand_rows_of matches.now))
+        (state (F.contents files.old) (seen O.taken O.failures O.is_flushed out.old))
+        (state (F.contents files.new) (seen O.taken O.failures O.is_flushed out.new)) f) }
+    ensures noted { OnOk result (F.failed files.new ≡ F.failed files.old) }
+    ensures named { IfErr result (λ f. IsOfFailedFile (F.failed files.old) (F.failed files.new) f) }
+{
+    if let Some(name) = dashed_command(matches) {
+        return Err(Failure::Usage(lone_dash(alloc, name)?));
+    }
+    obey_by_name(alloc, matches, files, out, watch, note)
+}
+
+/// Does the command that was found in the words.
+fn obey_by_name<F: Files, O: Stream, W: Watch>(
+    alloc: Global,
+    matches: &ArgMatches<'_>,
+    files: &mut F,
+    out: &mut O,
+    watch: &mut W,
+    note: &mut Note,
+) -> Result<Outcome, Failure<Refusal>>
+    requires { O.failures out.old < 2 ^ 64 - 1 }
+    ensures done { IfOk result
+        (λ outcome.
+        IsDoneWith outcome (order_by_name (subcommand_rows_of matches.now))
+        (state (F.contents files.old) (seen O.taken O.failures O.is_flushed out.old))
+        (state (F.contents files.new) (seen O.taken O.failures O.is_flushed out.new))) }
+    ensures flushed { OnOk result
+        (IsFlushed (seen O.taken O.failures O.is_flushed out.old)
+        (seen O.taken O.failures O.is_flushed out.new)) }
+    ensures failed { IfErr result
+        (λ f. IsFailure (order_by_name (subcommand_rows_of matches.now))
         (state (F.contents files.old) (seen O.taken O.failures O.is_flushed out.old))
         (state (F.contents files.new) (seen O.taken O.failures O.is_flushed out.new)) f) }
     ensures noted { OnOk result (F.failed files.new ≡ F.failed files.old) }

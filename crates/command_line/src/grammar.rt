@@ -254,17 +254,43 @@ pub fn bad_ticks(alloc: Global, name: &str, word: &str) -> Result<Error, AllocEr
     let message = format!(in alloc;
         "invalid value '{word}' for '<TICKS>': one or more digits, at most 1099511627776"
     )?;
-    let shown = format!(in alloc; "mb {name}")?;
-    of_ticks(alloc, name)?
-        .bin_name(shown.as_str())?
-        .error(ErrorKind::ValueValidation, message.as_str())
+    wrong_word(alloc, name, message.as_str())
 }
 
-/// The command of that name, which takes ticks.
-fn of_ticks<'a>(alloc: Global, name: &str) -> Result<Command<'a>, AllocError> {
+/// The usage error of a word that is `-` alone, of the command of that name.
+pub fn lone_dash(alloc: Global, name: &str) -> Result<Error, AllocError>
+    ensures { IfOk result (λ error. kind_of error ≡ ValueValidation) }
+{
+    wrong_word(
+        alloc,
+        name,
+        "unexpected argument '-' found\n\n  \
+         tip: the standard input is '/dev/stdin', and a file with the name '-' is './-'",
+    )
+}
+
+/// The usage error of a wrong word of the command of that name.
+fn wrong_word(alloc: Global, name: &str, message: &str) -> Result<Error, AllocError>
+    ensures { IfOk result (λ error. kind_of error ≡ ValueValidation) }
+{
+    let shown = format!(in alloc; "mb {name}")?;
+    named(alloc, name)?
+        .bin_name(shown.as_str())?
+        .error(ErrorKind::ValueValidation, message)
+}
+
+/// The command of that name.
+fn named<'a>(alloc: Global, name: &str) -> Result<Command<'a>, AllocError> {
     match name {
+        "check" => check(alloc),
+        "build" => build(alloc),
+        "run" => run(alloc),
         "replay" => replay(alloc),
         "inputs" => inputs(alloc),
-        _ => run(alloc),
+        "cost" => cost(alloc),
+        "dis" => dis(alloc),
+        "upgrade" => upgrade(alloc),
+        "load" => load(alloc),
+        _ => lint(alloc),
     }
 }

@@ -16,6 +16,7 @@ ghost use Rattle.streams.specs.States.{seen};
 ghost use Rattle.command_line.specs.Words.{mb_app};
 
 mod commands;
+mod dashes;
 mod explaining;
 mod first_run;
 mod form;

@@ -4,7 +4,7 @@ use Rattle.clap.specs.Matches.{found_of}
 use Rattle.clap.specs.Simple.{subcommand_rows_of}
 use Rattle.clap.specs.Walk.{rows_of}
 use Rattle.command_line.specs.Done.{IsDone, IsDoneWith}
-use Rattle.command_line.specs.Orders.{First, order_of}
+use Rattle.command_line.specs.Orders.{First, order_by_name}
 use Rattle.command_line.specs.Refusals.{IsFailure, IsRefused}
 use Rattle.streams.specs.States.{seen}
 use Rattle.command_line.specs.States.{state}
@@ -13,8 +13,8 @@ use Rattle.command_words.specs.Found.{words_at}
 use Rattle.command_words.proofs.Found.{words_are}
 use Rattle.command_line.proofs.Found.{check_is, build_is, run_is, replay_is, inputs_is, cost_is, dis_is, upgrade_is, load_is, lint_is, other_is, none_entered}
 use Rattle.command_line.proofs.Ran.{told_as}
-use Rattle.command_line.proofs.commands.obey.Goals.{in_default-via-in-Some+in_default, in_default-via-in_default}
-use Rattle.command_line.proofs.commands.obey.Goals as goal
+use Rattle.command_line.proofs.commands.obey_by_name.Goals.{in_default-via-in-Some+in_default, in_default-via-in_default}
+use Rattle.command_line.proofs.commands.obey_by_name.Goals as goal
 
 pub returns-in_err-check-in-Some-check-default-clause-failed : goal.returns-in_err-check-in-Some-check-default-clause-failed
 returns-in_err-check-in-Some-check-default-clause-failed g c =
@@ -224,7 +224,7 @@ pub returns-in_err-run_stored-in_default-clause-failed : goal.returns-in_err-run
 returns-in_err-run_stored-in_default-clause-failed g c =
     let before = state (g.F.Files.contents c.args.files.now) (seen g.O.Sink.taken g.O.Sink.failures g.O.Stream.is_flushed c.args.out.now) in
     let after = state (g.F.Files.contents c.args.files.now) (seen g.O.Sink.taken g.O.Sink.failures g.O.Stream.is_flushed c.run_stored.new.out) in
-    let order : order_of (subcommand_rows_of c.args.matches.now) ≡ First = elim c.in_default.branch [
+    let order : order_by_name (subcommand_rows_of c.args.matches.now) ≡ First = elim c.in_default.branch [
       | in_default-via-in-Some+in_default w ↦ other_is c.args.matches.now w.in_default.field-0.0.now (rows_of (found_of w.in_default.field-0.1.now)) (search (rules, c.subcommand.ensures.name)) (search (rules, c.subcommand.ensures.rows)) (search rules) (search rules) (search rules) (search rules) (search rules) (search rules) (search rules) (search rules) (search rules) (search rules)
       | in_default-via-in_default w ↦ none_entered c.args.matches.now (search (rules, c.subcommand.ensures.name))
     ] in
@@ -236,7 +236,7 @@ pub returns-in_ok-run_stored-in_default-clause-done : goal.returns-in_ok-run_sto
 returns-in_ok-run_stored-in_default-clause-done g c =
     let before = state (g.F.Files.contents c.args.files.now) (seen g.O.Sink.taken g.O.Sink.failures g.O.Stream.is_flushed c.args.out.now) in
     let after = state (g.F.Files.contents c.args.files.now) (seen g.O.Sink.taken g.O.Sink.failures g.O.Stream.is_flushed c.run_stored.new.out) in
-    let order : order_of (subcommand_rows_of c.args.matches.now) ≡ First = elim c.in_default.branch [
+    let order : order_by_name (subcommand_rows_of c.args.matches.now) ≡ First = elim c.in_default.branch [
       | in_default-via-in-Some+in_default w ↦ other_is c.args.matches.now w.in_default.field-0.0.now (rows_of (found_of w.in_default.field-0.1.now)) (search (rules, c.subcommand.ensures.name)) (search (rules, c.subcommand.ensures.rows)) (search rules) (search rules) (search rules) (search rules) (search rules) (search rules) (search rules) (search rules) (search rules) (search rules)
       | in_default-via-in_default w ↦ none_entered c.args.matches.now (search (rules, c.subcommand.ensures.name))
     ] in
