@@ -1,18 +1,8 @@
 -- The commands and their arguments, as the library of command lines reads them.
-use Rattle.std.specs.Prelude.{ℕ, List, Some, true, codes}
-use Rattle.clap.specs.Lexer.{usize_max}
-use Rattle.clap.specs.Simple.{App, new_app, new_rule, with_rule, with_subcommand}
+use Rattle.std.specs.Prelude.{ℕ, List, codes}
+use Rattle.clap.specs.Simple.{App, new_app, with_rule, with_subcommand}
 use Rattle.clap.specs.Walk.{Rule}
-use Rattle.clap.specs.declared.builder.action.ArgAction.TheVariants.{Append}
-use Rattle.command_words.specs.Grammar.{flag_rule, versioned, word_rule}
-
--- one word or more
-abbrev pub sources_rule : Rule
-sources_rule = record (new_rule (codes "SOURCE")) { required = true; range = Some (record { start_inclusive = 1; end_inclusive = usize_max }); action = Some Append }
-
--- as many words as are given, or none
-abbrev pub any_sources_rule : Rule
-any_sources_rule = record (new_rule (codes "SOURCE")) { range = Some (record { start_inclusive = 1; end_inclusive = usize_max }); action = Some Append }
+use Rattle.command_words.specs.Grammar.{any_words_rule, flag_rule, sequence_rule, versioned, word_rule, words_rule}
 
 -- the flag that asks for an explanation of a refusal
 abbrev pub explain_rule : Rule
@@ -27,17 +17,14 @@ abbrev pub explained_app : List ℕ → App
 explained_app name = with_rule (with_rule (new_app name) explain_rule) explain_json_rule
 
 abbrev pub check_app : App
-check_app = with_rule (with_rule (explained_app (codes "check")) (word_rule (codes "TABLE"))) sources_rule
+check_app = with_rule (with_rule (explained_app (codes "check")) (word_rule (codes "TABLE"))) (words_rule (codes "SOURCE"))
 
 abbrev pub build_app : App
-build_app = with_rule (with_rule (with_rule (explained_app (codes "build")) (word_rule (codes "TABLE"))) (word_rule (codes "IMAGE"))) sources_rule
+build_app = with_rule (with_rule (with_rule (explained_app (codes "build")) (word_rule (codes "TABLE"))) (word_rule (codes "IMAGE"))) (words_rule (codes "SOURCE"))
 
--- the words of a line that a run waits for, one or more
-abbrev pub until_rule : Rule
-until_rule = record (new_rule (codes "until")) { long = Some (codes "until"); range = Some (record { start_inclusive = 1; end_inclusive = usize_max }); action = Some Append; value_names = 1 }
-
+-- with the words of a line that the run waits for
 abbrev pub run_flags_app : App
-run_flags_app = with_rule (with_rule (explained_app (codes "run")) (flag_rule (codes "progress"))) until_rule
+run_flags_app = with_rule (with_rule (explained_app (codes "run")) (flag_rule (codes "progress"))) (sequence_rule (codes "until"))
 
 abbrev pub run_app : App
 run_app = with_rule (with_rule (with_rule run_flags_app (word_rule (codes "IMAGE"))) (word_rule (codes "DEVICES"))) (word_rule (codes "TICKS"))
@@ -53,7 +40,7 @@ abbrev pub inputs_app : App
 inputs_app = with_rule (with_rule (partition_app (codes "inputs")) (word_rule (codes "DEVICES"))) (word_rule (codes "TICKS"))
 
 abbrev pub cost_app : App
-cost_app = with_rule (with_rule (explained_app (codes "cost")) (word_rule (codes "TABLE"))) sources_rule
+cost_app = with_rule (with_rule (explained_app (codes "cost")) (word_rule (codes "TABLE"))) (words_rule (codes "SOURCE"))
 
 abbrev pub dis_app : App
 dis_app = with_rule (explained_app (codes "dis")) (word_rule (codes "IMAGE"))
@@ -65,10 +52,10 @@ abbrev pub load_flags_app : App
 load_flags_app = with_rule (with_rule (explained_app (codes "load")) (flag_rule (codes "csv"))) (flag_rule (codes "svg"))
 
 abbrev pub load_app : App
-load_app = with_rule (with_rule load_flags_app (word_rule (codes "TABLE"))) any_sources_rule
+load_app = with_rule (with_rule load_flags_app (word_rule (codes "TABLE"))) (any_words_rule (codes "SOURCE"))
 
 abbrev pub lint_app : App
-lint_app = with_rule (with_rule (explained_app (codes "lint")) (word_rule (codes "TABLE"))) sources_rule
+lint_app = with_rule (with_rule (explained_app (codes "lint")) (word_rule (codes "TABLE"))) (words_rule (codes "SOURCE"))
 
 -- the program without its commands
 abbrev pub top_app : App

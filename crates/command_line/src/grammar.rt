@@ -1,250 +1,204 @@
 //! The words that the program takes.
 
-ghost use Rattle.std.specs.Prelude.{◌≡◌, IfOk, false};
+ghost use Rattle.std.specs.Prelude.{◌≡◌, IfOk};
 ghost use Rattle.clap.specs.Values.{kind_of};
-ghost use Rattle.clap.specs.Walk.{rule_of};
 ghost use Rattle.clap.specs.declared.error.kind.ErrorKind.TheVariants.{ValueValidation};
 ghost use Rattle.command_words.specs.Grammar.{IsCommand};
-ghost use Rattle.command_line.specs.Words.{sources_rule, explained_app, check_app, build_app, run_app, partition_app, replay_app, inputs_app, cost_app, dis_app, upgrade_app, load_app, load_flags_app, lint_app, run_flags_app, until_rule, any_sources_rule, mb_app, top_app};
+ghost use Rattle.command_line.specs.Words.{mb_app};
 
-use clap::error::ErrorKind;
-use clap::{Arg, ArgAction, Command, Error};
-use command_words::{VERSION, flag, required_word};
+use clap::{Command, Error};
+use command_words::{Argument, CommandRow, Program};
 use std::alloc::{AllocError, Global};
+
+static PROGRAM: Program = Program {
+    name: "mb",
+    about: "Builds ARINC 653 modules and runs them; without a command, runs a stored first module",
+    example: "Example: mb build table.toml module.image a.pal b.pal",
+    wants_command: false,
+    commands: &[
+        CHECK, BUILD, RUN, REPLAY, INPUTS, COST, DIS, UPGRADE, LOAD, LINT,
+    ],
+};
+
+const CHECK: CommandRow = CommandRow {
+    name: "check",
+    about: "Builds a module table and one source a partition, and writes no image",
+    example: "Example: mb check table.toml a.pal b.pal",
+    arguments: &[EXPLAIN, EXPLAIN_JSON, TABLE, SOURCES],
+};
+
+const BUILD: CommandRow = CommandRow {
+    name: "build",
+    about: "Builds an image of a module table and one source a partition, in their order",
+    example: "Example: mb build table.toml module.image a.pal b.pal",
+    arguments: &[
+        EXPLAIN,
+        EXPLAIN_JSON,
+        TABLE,
+        Argument::Word {
+            name: "IMAGE",
+            help: "The file that the image is written to",
+        },
+        SOURCES,
+    ],
+};
+
+const RUN: CommandRow = CommandRow {
+    name: "run",
+    about: "Runs an image for so many ticks and writes its trace",
+    example: "Example: mb run module.image devices.txt 1000",
+    arguments: &[
+        EXPLAIN,
+        EXPLAIN_JSON,
+        Argument::Flag {
+            name: "progress",
+            help: "Tells once a second on standard error how far the run is",
+        },
+        Argument::Sequence {
+            name: "until",
+            value: "WORD",
+            help: "Ends the run with the first tick that has a line with these words, `_` for any one",
+        },
+        IMAGE,
+        DEVICES,
+        TICKS,
+    ],
+};
+
+const REPLAY: CommandRow = CommandRow {
+    name: "replay",
+    about: "Runs one partition of an image alone, with its inputs, and writes its trace",
+    example: "Example: mb replay module.image b inputs.txt 1000",
+    arguments: &[
+        EXPLAIN,
+        EXPLAIN_JSON,
+        IMAGE,
+        PARTITION,
+        Argument::Word {
+            name: "INPUTS",
+            help: "The file of the replay text, which may be empty",
+        },
+        Argument::Word {
+            name: "TICKS",
+            help: "How many ticks the partition runs, at most 1099511627776",
+        },
+    ],
+};
+
+const INPUTS: CommandRow = CommandRow {
+    name: "inputs",
+    about: "Runs an image and writes what comes to one partition, as a replay text",
+    example: "Example: mb inputs module.image b devices.txt 1000",
+    arguments: &[EXPLAIN, EXPLAIN_JSON, IMAGE, PARTITION, DEVICES, TICKS],
+};
+
+const COST: CommandRow = CommandRow {
+    name: "cost",
+    about: "Writes the instructions, the frame and the cost of each body of the sources",
+    example: "Example: mb cost table.toml a.pal b.pal",
+    arguments: &[EXPLAIN, EXPLAIN_JSON, TABLE, SOURCES],
+};
+
+const DIS: CommandRow = CommandRow {
+    name: "dis",
+    about: "Writes the instructions of an image",
+    example: "Example: mb dis module.image",
+    arguments: &[EXPLAIN, EXPLAIN_JSON, IMAGE],
+};
+
+const UPGRADE: CommandRow = CommandRow {
+    name: "upgrade",
+    about: "Writes an image again as one of the newest version, which runs as before",
+    example: "Example: mb upgrade old.image new.image",
+    arguments: &[
+        EXPLAIN,
+        EXPLAIN_JSON,
+        Argument::Word {
+            name: "OLD",
+            help: "The file of an image of any version",
+        },
+        Argument::Word {
+            name: "NEW",
+            help: "The file that the upgraded image is written to",
+        },
+    ],
+};
+
+const LOAD: CommandRow = CommandRow {
+    name: "load",
+    about: "Writes whose the ticks of the frame are, and with sources what each body costs",
+    example: "Example: mb load table.toml a.pal b.pal",
+    arguments: &[
+        EXPLAIN,
+        EXPLAIN_JSON,
+        Argument::Flag {
+            name: "csv",
+            help: "Writes one table of comma-separated values",
+        },
+        Argument::Flag {
+            name: "svg",
+            help: "Writes a picture of the frame",
+        },
+        TABLE,
+        Argument::AnyWords {
+            name: "SOURCE",
+            help: "The file of each partition's source, in the order of the table",
+        },
+    ],
+};
+
+const LINT: CommandRow = CommandRow {
+    name: "lint",
+    about: "Writes what of a module is accepted and probably not meant, a line each",
+    example: "Example: mb lint table.toml a.pal b.pal",
+    arguments: &[EXPLAIN, EXPLAIN_JSON, TABLE, SOURCES],
+};
+
+const EXPLAIN: Argument = Argument::Flag {
+    name: "explain",
+    help: "Explains a refusal in plain words",
+};
+
+const EXPLAIN_JSON: Argument = Argument::Flag {
+    name: "explain-json",
+    help: "The same as --explain=json: explains it in JSON objects, for editors",
+};
+
+const TABLE: Argument = Argument::Word {
+    name: "TABLE",
+    help: "The file of the module table",
+};
+
+const SOURCES: Argument = Argument::Words {
+    name: "SOURCE",
+    help: "The file of each partition's source, in the order of the table",
+};
+
+const IMAGE: Argument = Argument::Word {
+    name: "IMAGE",
+    help: "The file of an image",
+};
+
+const PARTITION: Argument = Argument::Word {
+    name: "PARTITION",
+    help: "The name of the partition",
+};
+
+const DEVICES: Argument = Argument::Word {
+    name: "DEVICES",
+    help: "The file of the device text, which may be empty",
+};
+
+const TICKS: Argument = Argument::Word {
+    name: "TICKS",
+    help: "How many ticks the image runs, at most 1099511627776",
+};
 
 /// The commands and their arguments.
 pub fn grammar<'a>(alloc: Global) -> Result<Command<'a>, AllocError>
     ensures { IfOk result (λ command. IsCommand command mb_app) }
 {
-    program(alloc)
-        .subcommand(check(alloc)?)?
-        .subcommand(build(alloc)?)?
-        .subcommand(run(alloc)?)?
-        .subcommand(replay(alloc)?)?
-        .subcommand(inputs(alloc)?)?
-        .subcommand(cost(alloc)?)?
-        .subcommand(dis(alloc)?)?
-        .subcommand(upgrade(alloc)?)?
-        .subcommand(load(alloc)?)?
-        .subcommand(lint(alloc)?)
-}
-
-/// The program without its commands.
-fn program<'a>(alloc: Global) -> Command<'a>
-    ensures { IsCommand result top_app }
-{
-    Command::new(alloc, "mb")
-        .version(VERSION)
-        .about(
-            "Builds ARINC 653 modules and runs them; without a command, runs a stored first module",
-        )
-        .after_help("Example: mb build table.toml module.image a.pal b.pal")
-}
-
-fn check<'a>(alloc: Global) -> Result<Command<'a>, AllocError>
-    ensures { IfOk result (λ command. IsCommand command check_app) }
-{
-    explained(alloc, "check")?
-        .about("Builds a module table and one source a partition, and writes no image")
-        .after_help("Example: mb check table.toml a.pal b.pal")
-        .arg(required_word(alloc, "TABLE", "The file of the module table"))?
-        .arg(sources(alloc))
-}
-
-fn build<'a>(alloc: Global) -> Result<Command<'a>, AllocError>
-    ensures { IfOk result (λ command. IsCommand command build_app) }
-{
-    explained(alloc, "build")?
-        .about("Builds an image of a module table and one source a partition, in their order")
-        .after_help("Example: mb build table.toml module.image a.pal b.pal")
-        .arg(required_word(alloc, "TABLE", "The file of the module table"))?
-        .arg(required_word(alloc, "IMAGE", "The file that the image is written to"))?
-        .arg(sources(alloc))
-}
-
-fn run<'a>(alloc: Global) -> Result<Command<'a>, AllocError>
-    ensures { IfOk result (λ command. IsCommand command run_app) }
-{
-    of_run(alloc)?
-        .about("Runs an image for so many ticks and writes its trace")
-        .after_help("Example: mb run module.image devices.txt 1000")
-        .arg(required_word(alloc, "IMAGE", "The file of an image"))?
-        .arg(required_word(
-            alloc,
-            "DEVICES",
-            "The file of the device text, which may be empty",
-        ))?
-        .arg(required_word(
-            alloc,
-            "TICKS",
-            "How many ticks the image runs, at most 1099511627776",
-        ))
-}
-
-/// The command with its flags.
-fn of_run<'a>(alloc: Global) -> Result<Command<'a>, AllocError>
-    ensures { IfOk result (λ command. IsCommand command run_flags_app) }
-{
-    explained(alloc, "run")?
-        .arg(flag(
-            alloc,
-            "progress",
-            "Tells once a second on standard error how far the run is",
-        ))?
-        .arg(until(alloc))
-}
-
-fn until<'a>(alloc: Global) -> Arg<'a>
-    ensures rule { rule_of result ≡ until_rule }
-    ensures local { result.global ≡ false }
-{
-    Arg::new(alloc, "until")
-        .long("until")
-        .value_name("WORD")
-        .num_args(1..)
-        .action(ArgAction::Append)
-        .help("Ends the run with the first tick that has a line with these words, `_` for any one")
-}
-
-fn replay<'a>(alloc: Global) -> Result<Command<'a>, AllocError>
-    ensures { IfOk result (λ command. IsCommand command replay_app) }
-{
-    of_partition(alloc, "replay")?
-        .about("Runs one partition of an image alone, with its inputs, and writes its trace")
-        .after_help("Example: mb replay module.image b inputs.txt 1000")
-        .arg(required_word(
-            alloc,
-            "INPUTS",
-            "The file of the replay text, which may be empty",
-        ))?
-        .arg(required_word(
-            alloc,
-            "TICKS",
-            "How many ticks the partition runs, at most 1099511627776",
-        ))
-}
-
-fn inputs<'a>(alloc: Global) -> Result<Command<'a>, AllocError>
-    ensures { IfOk result (λ command. IsCommand command inputs_app) }
-{
-    of_partition(alloc, "inputs")?
-        .about("Runs an image and writes what comes to one partition, as a replay text")
-        .after_help("Example: mb inputs module.image b devices.txt 1000")
-        .arg(required_word(
-            alloc,
-            "DEVICES",
-            "The file of the device text, which may be empty",
-        ))?
-        .arg(required_word(
-            alloc,
-            "TICKS",
-            "How many ticks the image runs, at most 1099511627776",
-        ))
-}
-
-fn cost<'a>(alloc: Global) -> Result<Command<'a>, AllocError>
-    ensures { IfOk result (λ command. IsCommand command cost_app) }
-{
-    explained(alloc, "cost")?
-        .about("Writes the instructions, the frame and the cost of each body of the sources")
-        .after_help("Example: mb cost table.toml a.pal b.pal")
-        .arg(required_word(alloc, "TABLE", "The file of the module table"))?
-        .arg(sources(alloc))
-}
-
-fn dis<'a>(alloc: Global) -> Result<Command<'a>, AllocError>
-    ensures { IfOk result (λ command. IsCommand command dis_app) }
-{
-    explained(alloc, "dis")?
-        .about("Writes the instructions of an image")
-        .after_help("Example: mb dis module.image")
-        .arg(required_word(alloc, "IMAGE", "The file of an image"))
-}
-
-fn upgrade<'a>(alloc: Global) -> Result<Command<'a>, AllocError>
-    ensures { IfOk result (λ command. IsCommand command upgrade_app) }
-{
-    explained(alloc, "upgrade")?
-        .about("Writes an image again as one of the newest version, which runs as before")
-        .after_help("Example: mb upgrade old.image new.image")
-        .arg(required_word(alloc, "OLD", "The file of an image of any version"))?
-        .arg(required_word(
-            alloc,
-            "NEW",
-            "The file that the upgraded image is written to",
-        ))
-}
-
-fn load<'a>(alloc: Global) -> Result<Command<'a>, AllocError>
-    ensures { IfOk result (λ command. IsCommand command load_app) }
-{
-    of_load(alloc)?
-        .about("Writes whose the ticks of the frame are, and with sources what each body costs")
-        .after_help("Example: mb load table.toml a.pal b.pal")
-        .arg(required_word(alloc, "TABLE", "The file of the module table"))?
-        .arg(any_sources(alloc))
-}
-
-/// The command with its flags.
-fn of_load<'a>(alloc: Global) -> Result<Command<'a>, AllocError>
-    ensures { IfOk result (λ command. IsCommand command load_flags_app) }
-{
-    explained(alloc, "load")?
-        .arg(flag(alloc, "csv", "Writes one table of comma-separated values"))?
-        .arg(flag(alloc, "svg", "Writes a picture of the frame"))
-}
-
-fn lint<'a>(alloc: Global) -> Result<Command<'a>, AllocError>
-    ensures { IfOk result (λ command. IsCommand command lint_app) }
-{
-    explained(alloc, "lint")?
-        .about("Writes what of a module is accepted and probably not meant, a line each")
-        .after_help("Example: mb lint table.toml a.pal b.pal")
-        .arg(required_word(alloc, "TABLE", "The file of the module table"))?
-        .arg(sources(alloc))
-}
-
-/// A command on one partition of an image.
-fn of_partition<'a>(alloc: Global, name: &'a str) -> Result<Command<'a>, AllocError>
-    ensures { IfOk result (λ command. IsCommand command (partition_app name.entry.now)) }
-{
-    explained(alloc, name)?
-        .arg(required_word(alloc, "IMAGE", "The file of an image"))?
-        .arg(required_word(alloc, "PARTITION", "The name of the partition"))
-}
-
-/// A command that takes the flags for explanations.
-fn explained<'a>(alloc: Global, name: &'a str) -> Result<Command<'a>, AllocError>
-    ensures { IfOk result (λ command. IsCommand command (explained_app name.entry.now)) }
-{
-    Command::new(alloc, name)
-        .arg(flag(alloc, "explain", "Explains a refusal in plain words"))?
-        .arg(flag(
-            alloc,
-            "explain-json",
-            "The same as --explain=json: explains it in JSON objects, for editors",
-        ))
-}
-
-fn sources<'a>(alloc: Global) -> Arg<'a>
-    ensures rule { rule_of result ≡ sources_rule }
-    ensures local { result.global ≡ false }
-{
-    Arg::new(alloc, "SOURCE")
-        .required(true)
-        .num_args(1..)
-        .action(ArgAction::Append)
-        .help("The file of each partition's source, in the order of the table")
-}
-
-fn any_sources<'a>(alloc: Global) -> Arg<'a>
-    ensures rule { rule_of result ≡ any_sources_rule }
-    ensures local { result.global ≡ false }
-{
-    Arg::new(alloc, "SOURCE")
-        .num_args(1..)
-        .action(ArgAction::Append)
-        .help("The file of each partition's source, in the order of the table")
+    PROGRAM.grammar(alloc)
 }
 
 /// The usage error of a word that is no number of ticks, of the command of that name.
@@ -254,43 +208,14 @@ pub fn bad_ticks(alloc: Global, name: &str, word: &str) -> Result<Error, AllocEr
     let message = format!(in alloc;
         "invalid value '{word}' for '<TICKS>': one or more digits, at most 1099511627776"
     )?;
-    wrong_word(alloc, name, message.as_str())
+    PROGRAM.usage_error(alloc, name, message.as_str())
 }
 
 /// The usage error of a word that is `-` alone, of the command of that name.
 pub fn lone_dash(alloc: Global, name: &str) -> Result<Error, AllocError>
     ensures { IfOk result (λ error. kind_of error ≡ ValueValidation) }
 {
-    wrong_word(
-        alloc,
-        name,
-        "unexpected argument '-' found\n\n  \
-         tip: the standard input is '/dev/stdin', and a file with the name '-' is './-'",
-    )
-}
-
-/// The usage error of a wrong word of the command of that name.
-fn wrong_word(alloc: Global, name: &str, message: &str) -> Result<Error, AllocError>
-    ensures { IfOk result (λ error. kind_of error ≡ ValueValidation) }
-{
-    let shown = format!(in alloc; "mb {name}")?;
-    named(alloc, name)?
-        .bin_name(shown.as_str())?
-        .error(ErrorKind::ValueValidation, message)
-}
-
-/// The command of that name.
-fn named<'a>(alloc: Global, name: &str) -> Result<Command<'a>, AllocError> {
-    match name {
-        "check" => check(alloc),
-        "build" => build(alloc),
-        "run" => run(alloc),
-        "replay" => replay(alloc),
-        "inputs" => inputs(alloc),
-        "cost" => cost(alloc),
-        "dis" => dis(alloc),
-        "upgrade" => upgrade(alloc),
-        "load" => load(alloc),
-        _ => lint(alloc),
-    }
+    let message = "unexpected argument '-' found\n\n  \
+        tip: the standard input is '/dev/stdin', and a file with the name '-' is './-'";
+    PROGRAM.usage_error(alloc, name, message)
 }

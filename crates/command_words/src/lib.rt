@@ -1,15 +1,15 @@
-//! The parts that the command lines of the programs share: the arguments found in words, the
-//! numbers in them, and the report on words that are no command or that ask for help.
+//! The parts that the command lines of the programs share: the table of their words, the arguments
+//! found in words, the numbers in them, and the report on words that are no command or that ask for help.
 #![tactic(auto)]
 
 mod failure;
-mod grammar;
 mod number;
+mod table;
 mod usage;
 mod words;
 
 pub use failure::{Failure, WantOfMemory};
-pub use grammar::{VERSION, flag, required_word};
 pub use number::number_of;
+pub use table::{Argument, CommandRow, Program};
 pub use usage::tell_usage;
 pub use words::word;

@@ -1,21 +1,12 @@
 -- The commands and their arguments, as the library of command lines reads them.
-use Rattle.std.specs.Prelude.{ℕ, List, Some, true, codes}
-use Rattle.clap.specs.Simple.{App, new_app, new_rule, on_top, with_rule, with_subcommand}
+use Rattle.std.specs.Prelude.{ℕ, List, true, codes}
+use Rattle.clap.specs.Simple.{App, new_app, on_top, with_rule, with_subcommand}
 use Rattle.clap.specs.Walk.{Rule}
-use Rattle.clap.specs.declared.builder.action.ArgAction.TheVariants.{Set}
-use Rattle.command_words.specs.Grammar.{flag_rule, versioned, word_rule}
+use Rattle.command_words.specs.Grammar.{flag_rule, option_rule, pair_rule, versioned, word_rule}
 
 -- the required name of the trace
 abbrev pub trace_rule : Rule
 trace_rule = word_rule (codes "TRACE")
-
--- an option with one word
-abbrev pub option_rule : List ℕ → Rule
-option_rule name = record (new_rule name) { long = Some name; value_names = 1; action = Some Set }
-
--- an option with two words
-abbrev pub pair_rule : List ℕ → Rule
-pair_rule name = record (new_rule name) { long = Some name; value_names = 2; action = Some Set }
 
 abbrev pub csv_rule : Rule
 csv_rule = flag_rule (codes "csv")
