@@ -1,10 +1,2 @@
-mod dues;
-mod errors;
-mod memory;
-mod names;
-mod objects;
-mod outs;
-mod processes;
-mod ready;
 mod schedules;
 mod scripts;
