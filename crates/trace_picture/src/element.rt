@@ -9,7 +9,7 @@ use crate::length::Length;
 use std::alloc::AllocError;
 
 /// The elements of a page.
-#[derive(Clone, Copy, Debug, PartialEq, Eq)]
+#[derive(Clone, Copy)]
 pub enum Tag {
     Defs,
     Group,
@@ -46,7 +46,7 @@ impl Tag {
 }
 
 /// The attributes of an element.
-#[derive(Clone, Copy, Debug, PartialEq, Eq)]
+#[derive(Clone, Copy)]
 pub enum Key {
     Class,
     Height,
@@ -103,7 +103,7 @@ impl Key {
 }
 
 /// The value of an attribute.
-#[derive(Clone, Copy, Debug, PartialEq, Eq)]
+#[derive(Clone, Copy)]
 pub enum Value<'a> {
     Text(&'a str),
     Length(Length),
@@ -114,7 +114,7 @@ pub enum Value<'a> {
 }
 
 /// An attribute with its value.
-#[derive(Clone, Copy, Debug, PartialEq, Eq)]
+#[derive(Clone, Copy)]
 pub struct Attribute<'a> {
     pub key: Key,
     pub value: Value<'a>,

@@ -41,19 +41,11 @@ struct Shown {
 
 impl Shown {
     fn nobody(alloc: Global, lanes: &Lanes) -> Result<Shown, AllocError> {
-        let mut partitions = Vec::new(alloc);
-        for _ in lanes.partitions() {
-            partitions.push(false)?;
-        }
-        let mut processes = Vec::new(alloc);
-        for _ in lanes.processes() {
-            processes.push(false)?;
-        }
         Ok(Shown {
             outside: false,
             module: false,
-            partitions,
-            processes,
+            partitions: vec![in alloc; false; lanes.partitions().len()]?,
+            processes: vec![in alloc; false; lanes.processes().len()]?,
         })
     }
 
@@ -101,6 +93,14 @@ impl Shown {
     }
 }
 
+/// Returns true for the place of a lane that has something to show.
+fn is_shown(lanes: &[bool], place: usize) -> bool {
+    match lanes.get(place) {
+        Some(shown) => *shown,
+        None => false,
+    }
+}
+
 impl Rows {
     /// The rows for these shapes: the lane of windows, if there is one, outside and the module first,
     /// then each partition with its processes, in the order of their first lines.
@@ -123,7 +123,7 @@ impl Rows {
             outside: None,
             module: None,
             partitions: Vec::new(alloc),
-            processes: Vec::new(alloc),
+            processes: vec![in alloc; None; lanes.processes().len()]?,
             bottom: FIRST_ROW,
         };
         if has_windows {
@@ -136,9 +136,6 @@ impl Rows {
         if shown.module {
             rows.bottom = rows.bottom + GAP.half();
             rows.module = Some(rows.take_row());
-        }
-        for _ in lanes.processes() {
-            rows.processes.push(None)?;
         }
         for (partition, _) in lanes.partitions().iter().enumerate() {
             rows.add_partition(lanes, &shown, partition)?;
@@ -158,7 +155,7 @@ impl Rows {
         shown: &Shown,
         partition: usize,
     ) -> Result<(), AllocError> {
-        if shown.partitions.get(partition) != Some(&true) {
+        if !is_shown(shown.partitions.as_slice(), partition) {
             self.partitions.push(None)?;
             return Ok(());
         }
@@ -166,14 +163,19 @@ impl Rows {
         let top = self.take_row();
         self.partitions.push(Some(top))?;
         for (process, lane) in lanes.processes().iter().enumerate() {
-            if lane.partition == partition && shown.processes.get(process) == Some(&true) {
-                let top = self.take_row();
-                if let Some(place) = self.processes.get_mut(process) {
-                    *place = Some(top);
-                }
+            if lane.partition == partition && is_shown(shown.processes.as_slice(), process) {
+                self.add_process(process);
             }
         }
         Ok(())
+    }
+
+    /// Gives the process at this place the next row.
+    fn add_process(&mut self, process: usize) {
+        let top = self.take_row();
+        if let Some(place) = self.processes.get_mut(process) {
+            *place = Some(top);
+        }
     }
 
     /// The top of a partition's row of modes.
@@ -195,7 +197,7 @@ impl Rows {
         for (process, lane) in lanes.processes().iter().enumerate() {
             if lane.partition == partition {
                 if let Some(top) = self.process(process) {
-                    end = end.max(top + ROW);
+                    end = end.at_least(top + ROW);
                 }
             }
         }

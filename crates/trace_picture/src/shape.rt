@@ -7,7 +7,7 @@ use trace_stays::{ModeStay, Stay};
 pub const MOST_SHAPES: usize = 5_000;
 
 /// The start or the end of the way of a message.
-#[derive(Clone, Copy, Debug, PartialEq, Eq)]
+#[derive(Clone, Copy)]
 pub enum Stop {
     /// Outside the module, which it comes from.
     Device,
@@ -18,7 +18,7 @@ pub enum Stop {
 }
 
 /// The beginning of the way of the message that moved last.
-#[derive(Clone, Copy, Debug, PartialEq, Eq)]
+#[derive(Clone, Copy)]
 pub struct Way {
     pub tick: Ticks,
     pub from: Stop,
@@ -39,7 +39,7 @@ pub struct Message {
 }
 
 /// The row of a flag or a mark.
-#[derive(Clone, Copy, Debug, PartialEq, Eq)]
+#[derive(Clone, Copy)]
 pub enum Owner {
     /// The module itself.
     Module,
