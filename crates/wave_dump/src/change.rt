@@ -5,7 +5,7 @@ use apex_types::{Mode, ProcessState, Ticks};
 use std::fmt::{self, Display, Formatter, Write};
 
 /// The new value of a variable.
-#[derive(Clone, Copy, Debug, PartialEq, Eq)]
+#[derive(Clone, Copy)]
 pub enum Value {
     /// The wire becomes 0.
     Low,
@@ -42,7 +42,7 @@ impl Display for Value {
 }
 
 /// A variable changes in a tick.
-#[derive(Clone, Copy, Debug, PartialEq, Eq)]
+#[derive(Clone, Copy)]
 pub struct Change {
     pub tick: Ticks,
     pub variable: Variable,

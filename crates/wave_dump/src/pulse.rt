@@ -8,7 +8,7 @@ use std::fmt::{self, Display, Formatter, Write};
 use trace_stays::subject_word;
 
 /// The event that a pulse shows.
-#[derive(Clone, Copy, Debug, PartialEq, Eq)]
+#[derive(Clone, Copy)]
 pub enum Pulse {
     /// A message left this source port.
     Move(Name),
@@ -25,7 +25,7 @@ pub enum Pulse {
 }
 
 /// The groups in which viewers list pulses, in the order in which a dump lists them.
-#[derive(Clone, Copy, Debug, PartialEq, Eq)]
+#[derive(Clone, Copy)]
 pub enum Group {
     Messages,
     Reports,
@@ -46,7 +46,7 @@ impl Group {
 }
 
 /// The pulses of one kind, of one partition or, without one, of the module.
-#[derive(Clone, Copy, Debug, PartialEq, Eq)]
+#[derive(Clone, Copy)]
 pub struct PulseLane {
     pub partition: Option<usize>,
     pub pulse: Pulse,
