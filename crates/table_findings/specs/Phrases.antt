@@ -7,20 +7,27 @@ use Rattle.table_findings.specs.Fields.{keys, wanted, words_of}
 use Rattle.table_findings.specs.Findings.{Finding, What, Missing, Unknown, OtherType, NoWord, Outside, Below, Count, NoName, SameName, NoPartition, NoEnd, WrongDirection, OtherKind, OtherWords, SamePartition, DeviceTwice, SplitQueue, PortTwice, Overlaps, PastFrame, OddPeriod, Short, NoRelease}
 use Rattle.table_findings.specs.Subjects.{Row, Subject, Module, Costs, Partition, Health, Port, Window, Channel, Destination}
 
--- a word of the table in quotation marks, cut where it is long
+-- a text of the table, cut where it is long
+unfoldable pub shown : List ℕ → List ℕ
+shown text = shown_start text
+
+-- a word of the table in quotation marks
 abbrev pub quoted : List ℕ → List ℕ
-quoted word = codes "`" ++ (shown_start word ++ codes "`")
+quoted word = codes "`" ++ (shown word ++ codes "`")
 
 -- ---- what it is about
 
 -- the number of the element at a place: the first one is 1
+unfoldable pub number_at : ℕ → ℕ
+number_at index = min (index + 1) (2 ^ 64 - 1)
+
 abbrev pub number_text : ℕ → List ℕ
-number_text index = decimal (min (index + 1) (2 ^ 64 - 1))
+number_text index = decimal (number_at index)
 
 -- a kind of row and its number, and its name, if it has one
 abbrev pub named_text : List ℕ → ℕ → Option (List ℕ) → List ℕ
 named_text kind index None = kind ++ (codes " " ++ number_text index)
-named_text kind index (Some name) = kind ++ (codes " " ++ (number_text index ++ (codes " (" ++ (shown_start name ++ codes ")"))))
+named_text kind index (Some name) = kind ++ (codes " " ++ (number_text index ++ (codes " (" ++ (shown name ++ codes ")"))))
 
 abbrev pub row_text : List ℕ → Row → List ℕ
 row_text kind row = named_text kind row.index row.name
@@ -35,10 +42,13 @@ subject_text (Window row) = row_text (codes "window") row
 subject_text (Channel row) = row_text (codes "channel") row
 subject_text (Destination index row) = codes "destination " ++ (number_text index ++ (codes " of " ++ row_text (codes "channel") row))
 
+abbrev pub key_of_text : List ℕ → List ℕ → List ℕ
+key_of_text key about = quoted key ++ (codes " of " ++ about)
+
 -- the key of the subject, or the subject itself
 abbrev pub place_text : Option (List ℕ) → Subject → List ℕ
 place_text None subject = subject_text subject
-place_text (Some key) subject = quoted key ++ (codes " of " ++ subject_text subject)
+place_text (Some key) subject = key_of_text key (subject_text subject)
 
 abbrev pub key_text : Option (List ℕ) → List ℕ
 key_text None = []
@@ -63,6 +73,10 @@ takes_text place words = place ++ (codes " takes " ++ signed_decimal words)
 abbrev pub other_words_text : List ℕ → ℤ → List ℕ → ℤ → List ℕ
 other_words_text place words other other_words = takes_text place words ++ (codes " words, and " ++ takes_text (quoted other) other_words)
 
+-- what is said of a text that is not what it should be
+abbrev pub wrong_text : List ℕ → List ℕ → List ℕ → List ℕ
+wrong_text place text why = place ++ (codes " is " ++ (quoted text ++ (codes ", which is " ++ why)))
+
 -- what is said of an end that does not fit
 abbrev pub end_text : List ℕ → What → List ℕ
 end_text place (WrongDirection text as_source) = place ++ (codes " is " ++ (quoted text ++ (codes ", which is no port of the direction " ++ direction_text as_source)))
@@ -71,7 +85,7 @@ end_text place (OtherWords words other other_words) = other_words_text place wor
 end_text place SamePartition = place ++ codes " is in the partition of the source"
 end_text place DeviceTwice = place ++ codes " is `DEVICE`, which is an end of the channel before"
 end_text place (SplitQueue number) = place ++ (codes " stands for " ++ (decimal number ++ codes " of them, and a channel of queuing ports has one"))
-end_text place (PortTwice text) = place ++ (codes " is " ++ (quoted text ++ codes ", which is an end before"))
+end_text place (PortTwice text) = wrong_text place text (codes "an end before")
 end_text place what = []
 
 -- two limits
@@ -87,15 +101,15 @@ outside_text place number low high = is_text place number ++ (codes ", and has t
 -- what is said of a value
 abbrev pub value_text : Option (List ℕ) → Subject → What → List ℕ
 value_text key subject (OtherType wanted found) = place_text key subject ++ (codes " is of the type " ++ (found ++ (codes ", not " ++ wanted)))
-value_text key subject (NoWord text words) = place_text key subject ++ (codes " is " ++ (quoted text ++ codes ", which is none of its words"))
+value_text key subject (NoWord text words) = wrong_text (place_text key subject) text (codes "none of its words")
 value_text key subject (Outside number low high) = outside_text (place_text key subject) number low high
 value_text key subject (Below number low) = place_text key subject ++ (codes " is " ++ (signed_decimal number ++ (codes ", below " ++ signed_decimal low)))
 value_text key subject (Count number low high) =
     place_text key subject ++ (codes " stands for " ++ (decimal number ++ (codes " of them, and " ++ (decimal low ++ (codes " to " ++ (decimal high ++ codes " are allowed"))))))
-value_text key subject (NoName text) = place_text key subject ++ (codes " is " ++ (quoted text ++ codes ", which is no name"))
+value_text key subject (NoName text) = wrong_text (place_text key subject) text (codes "no name")
 value_text key subject (SameName name earlier) = place_text key subject ++ (codes " is also the name of " ++ (kind_text subject ++ (codes " " ++ number_text earlier)))
-value_text key subject (NoPartition text near) = place_text key subject ++ (codes " is " ++ (quoted text ++ codes ", which is no partition of the table"))
-value_text key subject (NoEnd text) = place_text key subject ++ (codes " is " ++ (quoted text ++ codes ", which is neither `DEVICE` nor a port of the table"))
+value_text key subject (NoPartition text near) = wrong_text (place_text key subject) text (codes "no partition of the table")
+value_text key subject (NoEnd text) = wrong_text (place_text key subject) text (codes "neither `DEVICE` nor a port of the table")
 value_text key subject what = end_text (place_text key subject) what
 
 abbrev pub unknown_text : List ℕ → Option (List ℕ) → List ℕ

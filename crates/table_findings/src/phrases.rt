@@ -174,39 +174,40 @@ fn value_text(
         What::OtherType { wanted, found } => {
             format!(in alloc; "{place} is of the type {found}, not {wanted}")
         }
-        What::NoWord { text, .. } => {
-            let text = quoted(alloc, text)?;
-            let text = text.as_str();
-            format!(in alloc; "{place} is {text}, which is none of its words")
-        }
+        What::NoWord { text, .. } => wrong_text(alloc, place, text, "none of its words"),
         What::Outside { number, low, high } => outside_text(alloc, place, number, low, high),
         What::Below { number, low } => format!(in alloc; "{place} is {number}, below {low}"),
         What::Count { number, low, high } => format!(in alloc;
             "{place} stands for {number} of them, and {low} to {high} are allowed"
         ),
-        What::NoName(text) => {
-            let text = quoted(alloc, text)?;
-            let text = text.as_str();
-            format!(in alloc; "{place} is {text}, which is no name")
-        }
+        What::NoName(text) => wrong_text(alloc, place, text, "no name"),
         What::SameName { earlier, .. } => {
-            let (kind, number) = (kind_text(subject), earlier.saturating_add(1));
+            let (kind, number) = (kind_text(subject), number_at(earlier));
             format!(in alloc; "{place} is also the name of {kind} {number}")
         }
-        What::NoPartition { text, .. } => {
-            let text = quoted(alloc, text)?;
-            let text = text.as_str();
-            format!(in alloc; "{place} is {text}, which is no partition of the table")
-        }
-        What::NoEnd(text) => {
-            let text = quoted(alloc, text)?;
-            let text = text.as_str();
-            format!(in alloc;
-                "{place} is {text}, which is neither `DEVICE` nor a port of the table"
-            )
-        }
+        What::NoPartition { text, .. } => wrong_text(
+            alloc,
+            place,
+            text,
+            "no partition of the table",
+        ),
+        What::NoEnd(text) => wrong_text(
+            alloc,
+            place,
+            text,
+            "neither `DEVICE` nor a port of the table",
+        ),
         _ => end_text(alloc, place, what),
     }
+}
+
+/// What is said of a text that is not what it should be.
+fn wrong_text(alloc: Global, place: &str, text: &str, why: &str) -> Result<String, AllocError>
+    ensures { IfOk result (λ said. string_bytes said ≡ spec.wrong_text place.now text.now why.now) }
+{
+    let text = quoted(alloc, text)?;
+    let text = text.as_str();
+    format!(in alloc; "{place} is {text}, which is {why}")
 }
 
 /// What is said of an end that does not fit.
@@ -236,11 +237,7 @@ fn end_text(alloc: Global, place: &str, what: What<'_>) -> Result<String, AllocE
         What::SplitQueue(number) => format!(in alloc;
             "{place} stands for {number} of them, and a channel of queuing ports has one"
         ),
-        What::PortTwice(text) => {
-            let text = quoted(alloc, text)?;
-            let text = text.as_str();
-            format!(in alloc; "{place} is {text}, which is an end before")
-        }
+        What::PortTwice(text) => wrong_text(alloc, place, text, "an end before"),
         _ => Ok(String::new(alloc)),
     }
 }
@@ -252,11 +249,19 @@ fn direction_text(as_source: bool) -> &'static str
     if as_source { "SOURCE" } else { "DESTINATION" }
 }
 
+/// A text of the table, cut where it is long.
+#[tactic(auto, unfolding(crate::specs::Phrases::shown))]
+fn shown(alloc: Global, text: &str) -> Result<String, AllocError>
+    ensures { IfOk result (λ said. string_bytes said ≡ spec.shown text.now) }
+{
+    shown_start(alloc, text.as_bytes())
+}
+
 /// A word of the table in quotation marks.
 fn quoted(alloc: Global, word: &str) -> Result<String, AllocError>
     ensures { IfOk result (λ text. string_bytes text ≡ spec.quoted word.now) }
 {
-    let word = shown_start(alloc, word.as_bytes())?;
+    let word = shown(alloc, word)?;
     let word = word.as_str();
     format!(in alloc; "`{word}`")
 }
@@ -278,13 +283,17 @@ fn place_text(alloc: Global, key: Option<&str>, subject: Subject<'_>) -> Result<
 {
     let about = subject_text(alloc, subject)?;
     match key {
-        Some(key) => {
-            let (key, about) = (quoted(alloc, key)?, about.as_str());
-            let key = key.as_str();
-            format!(in alloc; "{key} of {about}")
-        }
+        Some(key) => key_of_text(alloc, key, about.as_str()),
         None => Ok(about),
     }
+}
+
+fn key_of_text(alloc: Global, key: &str, about: &str) -> Result<String, AllocError>
+    ensures { IfOk result (λ text. string_bytes text ≡ spec.key_of_text key.now about.now) }
+{
+    let key = quoted(alloc, key)?;
+    let key = key.as_str();
+    format!(in alloc; "{key} of {about}")
 }
 
 /// What a finding is about.
@@ -310,7 +319,7 @@ fn subject_text(alloc: Global, subject: Subject<'_>) -> Result<String, AllocErro
         Subject::Channel(row) => row_text(alloc, "channel", row),
         Subject::Destination(index, row) => {
             let row = row_text(alloc, "channel", row)?;
-            let (row, number) = (row.as_str(), index.saturating_add(1));
+            let (row, number) = (row.as_str(), number_at(index));
             format!(in alloc; "destination {number} of {row}")
         }
     }
@@ -327,15 +336,23 @@ fn kind_text(subject: Subject<'_>) -> &'static str
     }
 }
 
+/// The number of the element at a place: the first one is 1.
+#[tactic(auto, unfolding(crate::specs::Phrases::number_at))]
+fn number_at(index: usize) -> usize
+    ensures { result ≡ spec.number_at index }
+{
+    index.saturating_add(1)
+}
+
 /// A kind of row, its number, and its name, if it has one.
 fn row_text(alloc: Global, kind: &str, row: Row<'_>) -> Result<String, AllocError>
     ensures { IfOk result (λ text. string_bytes text ≡ spec.row_text kind.now (row_of row.entry)) }
 {
-    let number = row.index.saturating_add(1);
+    let number = number_at(row.index);
     match row.name {
         None => format!(in alloc; "{kind} {number}"),
         Some(name) => {
-            let name = shown_start(alloc, name.as_bytes())?;
+            let name = shown(alloc, name)?;
             let name = name.as_str();
             format!(in alloc; "{kind} {number} ({name})")
         }

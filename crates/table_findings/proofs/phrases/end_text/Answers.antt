@@ -14,8 +14,3 @@ returns-in-DeviceTwice c = rw (c.in-DeviceTwice.is) c.format-in-DeviceTwice.ensu
 
 pub returns-in-SplitQueue : goal.returns-in-SplitQueue
 returns-in-SplitQueue c = rw (c.in-SplitQueue.is) c.format-in-SplitQueue.ensures.ok
-
-pub returns-in_ok-text-in-PortTwice : goal.returns-in_ok-text-in-PortTwice
-returns-in_ok-text-in-PortTwice c = rw (c.in-PortTwice.is)
-    (subst (λ (t : List ℕ). IfOk c.format-in-PortTwice.result (λ s. string_bytes s ≡ c.args.place.now ++ (codes " is " ++ (t ++ codes ", which is an end before"))))
-    (c.as_str-text-in-PortTwice.ensures.value ∙ c.in_ok-text-in-PortTwice.ensures) c.format-in-PortTwice.ensures.ok)
