@@ -1,9 +1,13 @@
 -- A loop that adds findings: those of the rest, behind those that it has added, are all of them.
-use Rattle.std.proofs.Common.{◌≡◌, ℕ, ◌+◌, ◌<◌, ◌≤◌, List, [], ◌∷◌, ◌++◌, length, drop, get_or, length-drop, sym, ap, ◌∙◌, arith}
+use Rattle.std.proofs.Common.{◌≡◌, ℕ, ◌+◌, ◌<◌, ◌≤◌, List, [], ◌∷◌, ◌++◌, length, drop, get_or, length-drop, refl, sym, ap, ◌∙◌, arith}
 use Rattle.std.proofs.lemmas.List.{append_assoc, append-nil, drop_more, nil_from_length}
-use Rattle.std.proofs.Common.{take}
+use Rattle.std.proofs.Common.{take, OnOk, Result}
+use Rattle.std.proofs.lemmas.Result.{IfOk-equal}
+use Rattle.std.specs.Prelude.{Bool, ◌||◌}
+use Rattle.std.specs.List.{list_any}
 use Rattle.std.proofs.lemmas.List.{take-map}
 use Rattle.toml.specs.declared.value.Value.{Value}
+use Rattle.module_meaning.specs.TableRules.{is_one_of, same}
 use Rattle.table_findings.specs.declared.finding.Finding.{Finding}
 use Rattle.table_findings.specs.Views.{finding_of, findings_of}
 
@@ -29,3 +33,11 @@ append_nil xs = append-nil xs
 
 pub findings_taken : (n : ℕ) (fs : List Finding) → findings_of (take n fs) ≡ take n (findings_of fs)
 findings_taken n fs = sym (take-map finding_of n fs)
+
+pub is_one : (words : List (List ℕ)) (text : List ℕ) → list_any (same text) words ≡ is_one_of words text
+is_one [] text = refl
+is_one (word ∷ words) text = ap (λ (b : Bool). same text word || b) (is_one words text)
+
+-- the last of two calls adds its own behind those of the first
+pub two_add : {A T E : Type 0} (r : Result T E) (old mid new first last : List A) → mid ≡ old ++ first → OnOk r (new ≡ mid ++ last) → OnOk r (new ≡ old ++ (first ++ last))
+two_add r old mid new first last before after = IfOk-equal r new (mid ++ last) (old ++ (first ++ last)) after (ap (λ (xs : List _). xs ++ last) before ∙ append_assoc old first last)

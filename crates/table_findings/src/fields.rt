@@ -5,7 +5,7 @@ ghost use Rattle.table_findings.specs.Fields as spec;
 
 /// A part of a table, by the keys that it may have. A port whose kind is not known may have those of
 /// both kinds.
-#[derive(Clone, Copy, Debug, PartialEq, Eq)]
+#[derive(Clone, Copy)]
 pub enum Part {
     Module,
     Costs,

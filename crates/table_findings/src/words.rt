@@ -4,8 +4,10 @@ ghost use Rattle.std.specs.Prelude.{◌≡◌, map};
 ghost use Rattle.module_meaning.specs.TableRules.{is_one_of};
 ghost use Rattle.table_findings.specs.Fields.{words_of};
 
+use crate::unknown::is_among;
+
 /// The words of a key.
-#[derive(Clone, Copy, Debug, PartialEq, Eq)]
+#[derive(Clone, Copy)]
 pub enum Words {
     Kind,
     Direction,
@@ -42,14 +44,6 @@ impl Words {
     pub fn has(self, text: &str) -> bool
         ensures { result ≡ is_one_of (words_of self) text.now }
     {
-        match self {
-            Words::Kind => matches!(text, "SAMPLING" | "QUEUING"),
-            Words::Direction => matches!(text, "SOURCE" | "DESTINATION"),
-            Words::Discipline => matches!(text, "FIFO" | "PRIORITY"),
-            Words::PartitionAction => {
-                matches!(text, "IGNORE" | "IDLE" | "WARM_START" | "COLD_START")
-            }
-            Words::ModuleAction => matches!(text, "IGNORE" | "SHUTDOWN" | "RESET"),
-        }
+        is_among(text, self.list())
     }
 }
