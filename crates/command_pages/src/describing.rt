@@ -9,15 +9,13 @@ use std::alloc::{AllocError, Global};
 ///
 /// Only if memory runs out.
 pub fn manual(alloc: Global, program: &Command<'_>) -> Result<String, AllocError> {
-    let mut page = head(alloc, program)?;
-    page.push_str(".SH OPTIONS\n")?;
-    push_arguments(alloc, &mut page, program)?;
-    page.push_str(".SH COMMANDS\n")?;
-    for command in program.get_subcommands() {
-        push_command(alloc, &mut page, program.get_name(), command)?;
-    }
-    page.push_str(&foot(alloc, program.get_name())?)?;
-    Ok(page)
+    let head = head(alloc, program)?;
+    let options = arguments(alloc, program.get_arguments())?;
+    let commands = commands(alloc, program)?;
+    let foot = foot(alloc, program.get_name())?;
+    let (head, options) = (head.as_str(), options.as_str());
+    let (commands, foot) = (commands.as_str(), foot.as_str());
+    format!(in alloc; "{head}.SH OPTIONS\n{options}.SH COMMANDS\n{commands}{foot}")
 }
 
 /// The title, the name with what the program does, and the synopsis.
@@ -33,37 +31,54 @@ fn head(alloc: Global, program: &Command<'_>) -> Result<String, AllocError> {
     )
 }
 
-/// A command: its words in a line, what it does, and what its words mean.
-fn push_command(
-    alloc: Global,
-    page: &mut String,
-    program: &str,
-    command: &Command<'_>,
-) -> Result<(), AllocError> {
-    let name = command.get_name();
-    page.push_str(&format!(in alloc; ".SS {program} {name}")?)?;
-    for argument in command.get_arguments() {
-        if argument.is_positional() {
-            page.push_str(" ")?;
-            page.push_str(&escaped(alloc, &format!(in alloc; "{argument}")?)?)?;
-        }
+/// The commands of a program.
+fn commands(alloc: Global, program: &Command<'_>) -> Result<String, AllocError> {
+    let mut text = String::new(alloc);
+    for command in program.get_subcommands() {
+        text.push_str(&command_lines(alloc, program.get_name(), command)?)?;
     }
-    page.push_str("\n")?;
-    page.push_str(&escaped(alloc, command.get_about().unwrap_or(""))?)?;
-    page.push_str(".\n")?;
-    push_arguments(alloc, page, command)
+    Ok(text)
 }
 
-/// What the arguments of a command mean.
-fn push_arguments(
+/// A command: its words in a line, what it does, and what its words mean.
+fn command_lines(
     alloc: Global,
-    page: &mut String,
+    program: &str,
     command: &Command<'_>,
-) -> Result<(), AllocError> {
-    for argument in command.get_arguments() {
-        page.push_str(&argument_lines(alloc, argument)?)?;
+) -> Result<String, AllocError> {
+    let name = command.get_name();
+    let words = words(alloc, command.get_arguments())?;
+    let about = escaped(alloc, command.get_about().unwrap_or(""))?;
+    let arguments = arguments(alloc, command.get_arguments())?;
+    let (words, about, arguments) = (words.as_str(), about.as_str(), arguments.as_str());
+    format!(in alloc; ".SS {program} {name}{words}\n{about}.\n{arguments}")
+}
+
+/// The words of a command, each behind a space.
+fn words(alloc: Global, arguments: &[Arg<'_>]) -> Result<String, AllocError> {
+    let mut text = String::new(alloc);
+    for argument in arguments {
+        text.push_str(&word(alloc, argument)?)?;
     }
-    Ok(())
+    Ok(text)
+}
+
+/// A word of a command behind a space; nothing for an option.
+fn word(alloc: Global, argument: &Arg<'_>) -> Result<String, AllocError> {
+    if argument.is_positional() {
+        escaped(alloc, &format!(in alloc; " {argument}")?)
+    } else {
+        Ok(String::new(alloc))
+    }
+}
+
+/// What arguments mean.
+fn arguments(alloc: Global, arguments: &[Arg<'_>]) -> Result<String, AllocError> {
+    let mut text = String::new(alloc);
+    for argument in arguments {
+        text.push_str(&argument_lines(alloc, argument)?)?;
+    }
+    Ok(text)
 }
 
 /// What an argument means.

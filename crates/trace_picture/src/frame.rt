@@ -53,23 +53,52 @@ pub fn draw_names(
     lanes: &Lanes,
     rows: &Rows,
 ) -> Result<(), AllocError> {
-    if let Some(top) = rows.windows {
-        draw_text(page, "partition", NAMES, top + LINE, "windows")?;
+    draw_row_name(page, rows.windows, "windows")?;
+    draw_outer_row(page, axis, rows.outside, "outside")?;
+    draw_outer_row(page, axis, rows.module, "module")?;
+    draw_partitions(page, axis, lanes, rows)?;
+    draw_processes(page, lanes, rows)
+}
+
+/// Draws the name of a row, if there is one.
+fn draw_row_name(page: &mut Page, top: Option<Length>, name: &str) -> Result<(), AllocError> {
+    match top {
+        Some(top) => draw_text(page, "partition", NAMES, top + LINE, name),
+        None => Ok(()),
     }
-    if let Some(top) = rows.outside {
+}
+
+/// Draws the row of what is outside, or of the module itself, if there is one.
+fn draw_outer_row(
+    page: &mut Page,
+    axis: Axis,
+    top: Option<Length>,
+    name: &str,
+) -> Result<(), AllocError> {
+    if let Some(top) = top {
         draw_base(page, axis, top + ROW.half())?;
-        draw_text(page, "partition", NAMES, top + LINE, "outside")?;
     }
-    if let Some(top) = rows.module {
-        draw_base(page, axis, top + ROW.half())?;
-        draw_text(page, "partition", NAMES, top + LINE, "module")?;
-    }
+    draw_row_name(page, top, name)
+}
+
+/// Draws the ground and the name of each partition.
+fn draw_partitions(
+    page: &mut Page,
+    axis: Axis,
+    lanes: &Lanes,
+    rows: &Rows,
+) -> Result<(), AllocError> {
     for (partition, lane) in lanes.partitions().iter().enumerate() {
         if let Some(top) = rows.partition(partition) {
             draw_ground(page, axis, top, rows.end_of(lanes, partition))?;
             draw_text(page, "partition", NAMES, top + LINE, lane.name.as_str())?;
         }
     }
+    Ok(())
+}
+
+/// Draws the name of each process.
+fn draw_processes(page: &mut Page, lanes: &Lanes, rows: &Rows) -> Result<(), AllocError> {
     for (process, lane) in lanes.processes().iter().enumerate() {
         if let Some(top) = rows.process(process) {
             let name = subject_word(&lane.who);
@@ -193,6 +222,16 @@ pub fn draw_legend(page: &mut Page, bottom: Length, has_windows: bool) -> Result
     }
     let first = bottom + Length(160);
     let second = first + Length(260);
+    draw_states(page, first)?;
+    draw_modes(page, second)?;
+    draw_arrow_sample(page, first, "message", "message")?;
+    draw_arrow_sample(page, second, "lost", "lost message")?;
+    draw_mark_sample(page, first, FLAG_DOWN, "flag", FLAG, "error")?;
+    draw_mark_sample(page, second, REPORT_DOWN, "report", REPORT, "report")
+}
+
+/// Draws the states of processes in a line of the legend.
+fn draw_states(page: &mut Page, top: Length) -> Result<(), AllocError> {
     let states = [
         ProcessState::Running,
         ProcessState::Ready,
@@ -200,16 +239,18 @@ pub fn draw_legend(page: &mut Page, bottom: Length, has_windows: bool) -> Result
         ProcessState::Dormant,
     ];
     for (column, state) in states.iter().enumerate() {
-        draw_sample(page, column, first, bar_of_state(*state), state.word())?;
+        draw_sample(page, column, top, bar_of_state(*state), state.word())?;
     }
+    Ok(())
+}
+
+/// Draws the modes of partitions in a line of the legend.
+fn draw_modes(page: &mut Page, top: Length) -> Result<(), AllocError> {
     let modes = [Mode::Normal, Mode::ColdStart, Mode::WarmStart, Mode::Idle];
     for (column, mode) in modes.iter().enumerate() {
-        draw_sample(page, column, second, bar_of_mode(*mode), mode.word())?;
+        draw_sample(page, column, top, bar_of_mode(*mode), mode.word())?;
     }
-    draw_arrow_sample(page, first, "message", "message")?;
-    draw_arrow_sample(page, second, "lost", "lost message")?;
-    draw_mark_sample(page, first, FLAG_DOWN, "flag", FLAG, "error")?;
-    draw_mark_sample(page, second, REPORT_DOWN, "report", REPORT, "report")
+    Ok(())
 }
 
 /// Draws the line of the legend with what windows show.
