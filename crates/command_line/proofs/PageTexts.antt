@@ -3,8 +3,8 @@ use Rattle.std.proofs.Common.{◌≡◌, ℕ, List, true, Result, ap, refl, subs
 use Rattle.std.specs.Prelude.{IfOk}
 use Rattle.clap.specs.Simple.{app_of, is_buildable}
 use Rattle.clap.specs.declared.builder.command.Command.{Command}
-use Rattle.command_pages.specs.Pages.{IsPageText}
-use Rattle.command_pages.specs.declared.page.Page.{Page}
+use Rattle.command_words.specs.Pages.{IsPageText}
+use Rattle.command_words.specs.declared.page.Page.{Page}
 use Rattle.command_words.specs.Grammar.{IsCommand}
 use Rattle.command_line.specs.Words.{mb_app}
 

@@ -3,7 +3,7 @@ use Rattle.std.specs.Prelude.{◌≡◌, ◌⊎◌, ◌≤◌, ℕ, Bool, false,
 use Rattle.clap.specs.Kinds.{Kinds}
 use Rattle.command_words.specs.Kinds.{AreMistaken, AskForHelp}
 use Rattle.command_words.specs.Told.{IsUsageTold}
-use Rattle.command_pages.specs.declared.page.Page.{Page}
+use Rattle.command_words.specs.declared.page.Page.{Page}
 use Rattle.streams.specs.States.{HasFailed, IsFlushed, IsWritten, Seen, TakesText}
 use Rattle.command_line.specs.Done.{IsDone, IsRemarkable}
 use Rattle.command_line.specs.Explained.{told_text}

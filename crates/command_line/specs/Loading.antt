@@ -7,10 +7,10 @@ use Rattle.module_meaning.specs.Table.{Partition, Table}
 use Rattle.module.specs.Building.{IsTableRefusal}
 use Rattle.module.specs.Sources.{AreSources}
 use Rattle.pal_base.specs.declared.checked.Checked.{Checked}
-use Rattle.load_views.specs.Picture.{frame_picture}
-use Rattle.load_views.specs.Records.{all_records}
-use Rattle.load_views.specs.Tables.{tables_text}
-use Rattle.load_views.specs.declared.report.PartitionBodies.{PartitionBodies}
+use Rattle.schedule_load.specs.Picture.{frame_picture}
+use Rattle.schedule_load.specs.Records.{all_records}
+use Rattle.schedule_load.specs.Tables.{tables_text}
+use Rattle.schedule_load.specs.declared.report.PartitionBodies.{PartitionBodies}
 use Rattle.schedule_load.specs.Bodies.{loads_of}
 use Rattle.schedule_load.specs.Load.{IsLoadOf}
 use Rattle.schedule_load.specs.declared.bodies.BodyLoad.{BodyLoad}

@@ -8,7 +8,7 @@ ghost use Rattle.std.specs.Prelude.{◌≡◌, ◌≤◌, ◌-◌, ◌^◌, ◌<
 ghost use Rattle.clap.specs.Faults.{fault_of};
 ghost use Rattle.clap.specs.Simple.{subcommand_of};
 ghost use Rattle.command_line.specs.Answers.{IsAnswer, IsAnswerTo};
-ghost use Rattle.command_pages.specs.Pages.{page_of};
+ghost use Rattle.command_words.specs.Pages.{page_of};
 ghost use Rattle.command_line.specs.Orders.{asks, order_of};
 ghost use Rattle.command_line.specs.Spelled.{spelled};
 ghost use Rattle.command_line.specs.States.{state};
@@ -33,7 +33,7 @@ mod showing;
 mod telling;
 mod words;
 
-use command_pages::page_of;
+use command_words::page_of;
 use commands::perform;
 use explaining::{Note, Style};
 pub use module::{Unwatched, Watch};

@@ -6,7 +6,7 @@ ghost use Rattle.streams.specs.States.{seen};
 
 use crate::grammar::grammar;
 use crate::refusal::Refusal;
-use command_pages::{Page, page_text};
+use command_words::{Page, page_text};
 use std::alloc::{AllocError, Global};
 use streams::{Stream, tell_line, write_text};
 

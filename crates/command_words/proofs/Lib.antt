@@ -1,3 +1,4 @@
 pub mod ErrorKinds
 pub mod Found
 pub mod Failed
+pub mod Texts

@@ -3,3 +3,5 @@ pub mod Grammar
 pub mod Found
 pub mod Numbers
 pub mod Told
+pub mod Completion
+pub mod Pages

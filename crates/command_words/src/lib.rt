@@ -1,15 +1,22 @@
 //! The parts that the command lines of the programs share: the table of their words, the arguments
-//! found in words, the numbers in them, and the report on words that are no command or that ask for help.
+//! found in words, the numbers in them, the report on words that are no command or that ask for help,
+//! and the pages that a program writes of its own words.
 #![tactic(auto)]
 
+mod completing;
+mod describing;
 mod failure;
 mod number;
+mod page;
 mod table;
 mod usage;
 mod words;
 
+pub use completing::completion;
+pub use describing::manual;
 pub use failure::{Failure, WantOfMemory};
 pub use number::number_of;
+pub use page::{Page, page_of, page_text};
 pub use table::{Argument, CommandRow, Program};
 pub use usage::tell_usage;
 pub use words::word;

@@ -5,7 +5,7 @@ use Rattle.machine_meaning.specs.Image.{Image}
 use Rattle.module_meaning.specs.Table.{Partition}
 use Rattle.finding_lines.specs.Reports.{Report}
 use Rattle.explanations.specs.Files.{AreOfPartition, AreOfText, row_named}
-use Rattle.text_names.specs.Named.{input_names}
+use Rattle.image_findings.specs.Named.{input_names}
 
 pub of_row : {A : Type 0} (view : A → List ℕ) (answer : Option A) (r : Report) (name text : List ℕ) (image : Image) (row : Partition) → row_named name image.items ≡ Some row → IfSome answer (λ a. AreOfText r (input_names row) text (view a))
     → IfSome answer (λ a. AreOfPartition r image name text (view a))

@@ -4,25 +4,25 @@ use Rattle.apex_types.specs.declared.device.DeviceFault.{DeviceFault}
 use Rattle.engine_meaning.specs.Digits.{same}
 use Rattle.finding_lines.specs.Reports.{Report}
 use Rattle.image.specs.declared.fault.ImageFault.{ImageFault}
-use Rattle.image_findings.specs.Explained as image_findings
+use Rattle.image_findings.specs.Explained as of_images
 use Rattle.machine_meaning.specs.Image.{Image, Item}
 use Rattle.machine_meaning.specs.ImageReading.{image_at}
 use Rattle.module_meaning.specs.Table.{Partition}
 use Rattle.explanations.specs.Explanation.{explanation}
 use Rattle.explanations.specs.Sentences.{device_sentence, image_sentence, replay_sentence}
-use Rattle.text_findings.specs.Explained as text_findings
-use Rattle.text_findings.specs.Names.{Names}
-use Rattle.text_names.specs.Named.{device_names, input_names}
+use Rattle.image_findings.specs.ExplainedText as of_texts
+use Rattle.image_findings.specs.Names.{Names}
+use Rattle.image_findings.specs.Named.{device_names, input_names}
 
 abbrev pub IsImageExplanation : Report → List ℕ → ImageFault → List ℕ → Type 0
-IsImageExplanation r bytes fault text = (lines : List ℕ) × image_findings.IsExplanation r bytes lines × (text ≡ explanation r.form (image_sentence fault) lines)
+IsImageExplanation r bytes fault text = (lines : List ℕ) × of_images.IsExplanation r bytes lines × (text ≡ explanation r.form (image_sentence fault) lines)
 
 abbrev pub IsImage : List ℕ → Image → Type 0
 IsImage bytes image = image_at bytes ≡ Ok image
 
 -- the lines are those of what is wrong with a text of these names
 abbrev pub AreOfText : Report → Names → List ℕ → List ℕ → Type 0
-AreOfText r names text lines = text_findings.explanation r names text ≡ Some lines
+AreOfText r names text lines = of_texts.explanation r names text ≡ Some lines
 
 -- the text explains the refusal of a device text for this image
 abbrev pub IsDeviceExplanation : Report → List ℕ → List ℕ → DeviceFault → List ℕ → Type 0

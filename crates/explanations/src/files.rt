@@ -7,17 +7,16 @@ ghost use Rattle.image.specs.Items.{items_of, partition_of};
 ghost use Rattle.image.specs.Views.{image_of};
 ghost use Rattle.machine_meaning.specs.ImageReading.{image_at};
 ghost use Rattle.explanations.specs.Files as spec;
-ghost use Rattle.text_findings.specs.Views.{names_of};
-ghost use Rattle.text_names.specs.Named.{input_names};
+ghost use Rattle.image_findings.specs.Views.{names_of};
+ghost use Rattle.image_findings.specs.Named.{input_names};
 
 use crate::report::explanation;
 use crate::sentences::{device_sentence, image_sentence, replay_sentence};
 use apex_types::DeviceFault;
 use finding_lines::Report;
 use image::{Image, ImageFault, PartitionItem, load_image};
+use image_findings::{Names, device_names, input_names};
 use std::alloc::Global;
-use text_findings::Names;
-use text_names::{device_names, input_names};
 use window_table::PartitionRow;
 
 /// The explanation of a refused image: a line with the sentence of its fault, and the lines of what is
@@ -69,7 +68,7 @@ fn text_lines(alloc: Global, report: Report<'_>, names: &Names<'_>, text: &[u8])
     ensures { IfSome result
         (λ lines. spec.AreOfText (report_of report.entry) (names_of names.now) text.now (string_bytes lines)) }
 {
-    match text_findings::explain_text(alloc, report, names, text) {
+    match image_findings::explain_text(alloc, report, names, text) {
         Ok(lines) => lines,
         Err(_) => None,
     }

@@ -1,1 +1,8 @@
 pub mod Any
+pub mod Once
+pub mod Rules
+pub mod Bytes
+pub mod Fitting
+pub mod Found
+pub mod Passed
+pub mod Placed

@@ -1,11 +1,8 @@
-//! Laws: a table breaks a rule if and only if a place is found where it does. The functions do
-//! nothing, and promise a law each.
+//! Laws: a table, a source, an image, a device text or a replay text breaks a rule if and only if
+//! something is found in it that does. The functions do nothing, and promise a law each.
 #![tactic(auto)]
 
-mod laws;
-
-pub use laws::{
-    each_refusal_is_found, limits_are_found, missing_releases_are_found, odd_periods_are_found,
-    overlaps_are_found, short_periods_are_found, wrong_ends_are_found, wrong_health_is_found,
-    wrong_names_are_found, wrong_shapes_are_found,
-};
+pub mod images;
+pub mod sources;
+pub mod tables;
+pub mod texts;

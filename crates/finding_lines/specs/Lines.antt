@@ -1,7 +1,7 @@
 -- The lines of a finding, as `--explain` shows them.
 use Rattle.std.specs.Prelude.{ℕ, List, ◌++◌, codes, drop, take}
 use Rattle.std.specs.Fmt.{decimal}
-use Rattle.places.specs.Texts.{column_of, line_of, marked_line}
+use Rattle.finding_lines.specs.Texts.{column_of, line_of, marked_line}
 use Rattle.finding_lines.specs.Objects.{at_byte, at_place, object_line, of_file, of_rule}
 use Rattle.finding_lines.specs.Reports.{Form, Report, json, plain}
 

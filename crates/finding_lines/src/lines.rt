@@ -6,7 +6,8 @@ ghost use Rattle.finding_lines.specs.Reports.{report_of};
 
 use crate::objects::{at_byte, at_place, object_line, of_file, of_rule};
 use crate::report::{Form, Report};
-use places::{marked_line, place_of};
+use crate::shown::marked_line;
+use crate::text::place_of;
 use std::alloc::{AllocError, Global};
 
 /// A finding at an offset of a text: the line with its place and what it says, the line of the text

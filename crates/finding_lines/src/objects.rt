@@ -5,7 +5,7 @@ ghost use Rattle.finding_lines.specs.Objects as spec;
 ghost use Rattle.serde_json.specs.View.{view};
 ghost use Rattle.serde_json.specs.Written.{has_float};
 
-use places::Place;
+use crate::text::Place;
 use serde_json::{Value, json};
 use std::alloc::{AllocError, Global};
 

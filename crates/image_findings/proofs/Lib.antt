@@ -1,3 +1,7 @@
 pub mod Cuts
 pub mod Judged
 pub mod Told
+pub mod Lines
+pub mod Pieces
+pub mod Texts
+pub mod Loops

@@ -1,2 +1,12 @@
 pub mod Explained
 pub mod Seen
+pub mod ExplainedText
+pub mod First
+pub mod Form
+pub mod Names
+pub mod Naming
+pub mod Parts
+pub mod Phrases
+pub mod Views
+pub mod What
+pub mod Named

@@ -2,3 +2,4 @@ pub mod Counts
 pub mod Offers
 pub mod Runs
 pub mod Sums
+pub mod Pictures

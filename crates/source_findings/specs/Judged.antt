@@ -7,7 +7,7 @@ use Rattle.apex_types.specs.declared.service.Service.{Service}
 use Rattle.pal_base.specs.declared.fault.Refusal.{Refusal}
 use Rattle.pal_base.specs.declared.fault.Refusal.TheVariants as rule
 use Rattle.pal_meaning.specs.Syntax as written
-use Rattle.places.specs.Nearest.{nearest}
+use Rattle.finding_lines.specs.Nearest.{nearest}
 use Rattle.source_findings.specs.Roles.{Entry, fits, is_nothing, or_else, role_of}
 use Rattle.source_findings.specs.What.{What, Unknown, Again, Other, NoName, Arguments, Targets, Return, Long, TooLarge, Outside, NoTime, TooMany, Frame, Odd}
 use Rattle.source_findings.specs.declared.finding.Many.{Many}

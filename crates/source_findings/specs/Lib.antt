@@ -12,3 +12,4 @@ pub mod Views
 pub mod Walk
 pub mod Wanted
 pub mod What
+pub mod Words

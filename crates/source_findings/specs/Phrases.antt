@@ -7,7 +7,7 @@ use Rattle.apex_types.specs.declared.denotation.ObjectKind.TheVariants as object
 use Rattle.apex_types.specs.declared.service.Service.{Service}
 use Rattle.apex_types.specs.declared.shape.ArgumentKind.{ArgumentKind}
 use Rattle.apex_types.specs.declared.shape.ArgumentKind.TheVariants as argument
-use Rattle.places.specs.Texts.{shown_start}
+use Rattle.finding_lines.specs.Texts.{shown_start}
 use Rattle.source_findings.specs.What.{What, NoAscii, TooLong, Unknown, Again, Other, NoName, Arguments, Targets, Return, Long, TooLarge, Outside, NoTime, TooMany, Frame, Odd, Instructions}
 use Rattle.source_findings.specs.declared.finding.Many.{Many}
 use Rattle.source_findings.specs.declared.finding.Many.TheVariants as many

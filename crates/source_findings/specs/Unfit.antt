@@ -5,10 +5,10 @@ use Rattle.finding_lines.specs.Lines.{lines_at}
 use Rattle.finding_lines.specs.Reports.{Report}
 use Rattle.pal_base.specs.declared.looking.LookedFor.{LookedFor}
 use Rattle.pal_meaning.specs.Lines.{from_word}
-use Rattle.places.specs.Texts.{line_of, shown_start}
+use Rattle.finding_lines.specs.Texts.{line_of, shown_start}
 use Rattle.source_findings.specs.Phrases.{did_you_mean, quoted}
 use Rattle.source_findings.specs.Wanted.{suggested, wanted}
-use Rattle.source_places.specs.Words.{first_word, next_word}
+use Rattle.source_findings.specs.Words.{first_word, next_word}
 
 -- ---- the braces that are open
 

@@ -11,8 +11,8 @@ use Rattle.pal_base.specs.declared.mark.Mark.{Mark}
 use Rattle.pal_base.specs.declared.mark.Mark.TheVariants as mark
 use Rattle.pal_meaning.specs.Grammar.{grammar_words}
 use Rattle.pal_meaning.specs.Lines.{from_word}
-use Rattle.places.specs.Nearest.{nearest}
-use Rattle.source_places.specs.Words.{first_word}
+use Rattle.finding_lines.specs.Nearest.{nearest}
+use Rattle.source_findings.specs.Words.{first_word}
 
 -- ---- a kind of word, in words
 

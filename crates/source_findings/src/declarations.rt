@@ -25,7 +25,7 @@ use apex_types::limits::{
 use indexmap::IndexSet;
 use pal_base::fault::Refusal;
 use pal_base::syntax::{Body, Declaration, DeclarationKind, Identifier, Numeral, Process, Program};
-use source_places::from_word;
+use crate::text_words::from_word;
 use std::alloc::{AllocError, Global};
 
 /// Goes behind a number, with or without a minus sign, at which something may be wrong.

@@ -13,7 +13,7 @@ use apex_types::{Name, Service};
 use indexmap::IndexSet;
 use pal_base::fault::Refusal;
 use pal_base::syntax::{Natural, Numeral};
-use places::nearest;
+use finding_lines::nearest;
 use std::alloc::{AllocError, Global};
 
 /// The rule that is asked for, the period of the partition, and what the names of a body stand for:

@@ -16,6 +16,7 @@ mod phrases;
 mod roles;
 mod suggestion;
 mod tally;
+mod text_words;
 mod texts;
 mod unfit;
 mod walk;

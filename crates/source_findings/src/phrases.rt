@@ -7,7 +7,7 @@ ghost use Rattle.source_findings.specs.Views.{what_of};
 use crate::finding::{Many, Thing, What};
 use crate::roles::Role;
 use apex_types::{ArgumentKind, ObjectKind, Service};
-use places::shown_start;
+use finding_lines::shown_start;
 use std::alloc::{AllocError, Global};
 
 /// A word of the source in quotation marks, cut where it is long.

@@ -7,8 +7,8 @@ ghost use Rattle.source_findings.specs.Wanted as spec;
 use crate::words::is_among;
 use apex_types::{SERVICES, Service};
 use pal_base::looking::{LookedFor, WordKind};
-use places::nearest;
-use source_places::{first_word, from_word};
+use finding_lines::nearest;
+use crate::text_words::{first_word, from_word};
 use std::alloc::{AllocError, Global};
 
 /// The words of the grammar in small letters.

@@ -17,7 +17,7 @@ use apex_types::limits::MOST_WORK_TICKS;
 use apex_types::{ArgumentKind, Service};
 use pal_base::fault::Refusal;
 use pal_base::syntax::{Expr, Identifier, Link, Numeral, Stmt, StmtKind};
-use source_places::next_word;
+use crate::text_words::next_word;
 use std::alloc::{AllocError, Global};
 
 /// No more findings than these are kept.

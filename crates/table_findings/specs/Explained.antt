@@ -2,7 +2,7 @@
 use Rattle.std.specs.Prelude.{ℕ, ◌-◌, Bool, true, false, if◌then◌else◌, List, [], ◌∷◌, ◌++◌, flat_map, length, Option, Some, None, take}
 use Rattle.finding_lines.specs.Lines as lines
 use Rattle.finding_lines.specs.Reports.{Report}
-use Rattle.places.specs.Entries.{Entry, Path, first_at, key}
+use Rattle.finding_lines.specs.Entries.{Entry, Path, first_at, key}
 use Rattle.table_findings.specs.Findings.{Finding, Missing, Unknown, What}
 use Rattle.table_findings.specs.Phrases.{advice, finding_text}
 use Rattle.table_findings.specs.Subjects.{subject_path}

@@ -2,7 +2,7 @@
 use Rattle.std.specs.Prelude.{ℕ, ◌+◌, ◌||◌, Bool, nat_lt, if◌then◌else◌, List, [], ◌∷◌, ◌++◌, codes, map, Option, Some, None}
 use Rattle.std.specs.List.{list_any}
 use Rattle.module_meaning.specs.TableRules.{ChannelText, PartitionText, PortText, TableText, WindowText, same}
-use Rattle.places.specs.Nearest.{nearest}
+use Rattle.finding_lines.specs.Nearest.{nearest}
 use Rattle.table_findings.specs.Findings.{Finding, NoEnd, NoPartition, SameName}
 use Rattle.table_findings.specs.Limits.{channel_at, partition_row}
 use Rattle.table_findings.specs.Schedule.{window_at}

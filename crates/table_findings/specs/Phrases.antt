@@ -1,8 +1,8 @@
 -- What a finding says, and what it advises.
 use Rattle.std.specs.Prelude.{ℕ, ℤ, ◌+◌, ◌-◌, ◌^◌, min, Bool, if◌then◌else◌, List, [], ◌∷◌, ◌++◌, codes, flat_map, Option, Some, None}
 use Rattle.std.specs.Fmt.{decimal, signed_decimal}
-use Rattle.places.specs.Nearest.{nearest}
-use Rattle.places.specs.Texts.{shown_start}
+use Rattle.finding_lines.specs.Nearest.{nearest}
+use Rattle.finding_lines.specs.Texts.{shown_start}
 use Rattle.table_findings.specs.Fields.{keys, wanted, words_of}
 use Rattle.table_findings.specs.Findings.{Finding, What, Missing, Unknown, OtherType, NoWord, Outside, Below, Count, NoName, SameName, NoPartition, NoEnd, WrongDirection, OtherKind, OtherWords, SamePartition, DeviceTwice, SplitQueue, PortTwice, Overlaps, PastFrame, OddPeriod, Short, NoRelease}
 use Rattle.table_findings.specs.Subjects.{Row, Subject, Module, Costs, Partition, Health, Port, Window, Channel, Destination}

@@ -2,7 +2,7 @@
 use Rattle.std.specs.Prelude.{◌≡◌, ◌⊎◌, ℕ, ◌≤◌, List, [], codes, length, Some, None}
 use Rattle.finding_lines.specs.Lines.{lines_at}
 use Rattle.finding_lines.specs.Reports.{Report}
-use Rattle.places.specs.Entries.{Entry, entries}
+use Rattle.finding_lines.specs.Entries.{Entry, entries}
 use Rattle.toml.specs.Data.{Members}
 use Rattle.module_meaning.specs.Accepted.{IsDocument}
 use Rattle.module_meaning.specs.TableRules.{TableText, table_text_of}

@@ -1,6 +1,6 @@
 -- What a finding is about, and its key path.
 use Rattle.std.specs.Prelude.{ℕ, List, [], ◌∷◌, ◌++◌, codes, Option}
-use Rattle.places.specs.Entries.{Path, element, key}
+use Rattle.finding_lines.specs.Entries.{Path, element, key}
 
 -- a partition, a port, a window or a channel: its place in its list, counted from 0, and its name, if it has one
 pub record Row : Type 0 where

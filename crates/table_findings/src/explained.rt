@@ -2,15 +2,14 @@
 
 ghost use Rattle.std.specs.Prelude.{◌≡◌, flat_map, IfOk, option_map, string_bytes, take};
 ghost use Rattle.finding_lines.specs.Reports.{report_of};
-ghost use Rattle.places.specs.Views.{entries_in, entry_of, path_of};
+ghost use Rattle.finding_lines.specs.Views.{entries_in, entry_of, path_of};
 ghost use Rattle.table_findings.specs.Explained as spec;
 ghost use Rattle.table_findings.specs.Views.{finding_of, findings_of, what_of};
 
 use crate::finding::{Finding, What};
 use crate::phrases::{advice, finding_text};
 use crate::subject::{push_key, subject_path};
-use finding_lines::Report;
-use places::{Entry, Step, TomlPlaces};
+use finding_lines::{Entry, Report, Step, TomlPlaces};
 use std::alloc::{AllocError, Global};
 
 /// The most findings that are shown.

@@ -7,7 +7,7 @@ ghost use Rattle.table_findings.specs.Views.{finding_of, row_of, subject_of, wha
 
 use crate::finding::{Finding, What};
 use crate::subject::{Row, Subject};
-use places::{nearest, shown_start};
+use finding_lines::{nearest, shown_start};
 use std::alloc::{AllocError, Global};
 
 /// What a finding says.

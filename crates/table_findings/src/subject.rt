@@ -1,12 +1,12 @@
 //! What a finding is about.
 
 ghost use Rattle.std.specs.Prelude.{◌≡◌, ◌∷◌, ◌++◌, [], IfOk, OnOk};
-ghost use Rattle.places.specs.Entries.{key as key_step};
-ghost use Rattle.places.specs.Views.{path_of};
+ghost use Rattle.finding_lines.specs.Entries.{key as key_step};
+ghost use Rattle.finding_lines.specs.Views.{path_of};
 ghost use Rattle.table_findings.specs.Subjects as spec;
 ghost use Rattle.table_findings.specs.Views.{subject_of};
 
-use places::Step;
+use finding_lines::Step;
 use std::alloc::{AllocError, Global};
 
 /// A partition, a port, a window or a channel: its place in the list that it stands in, counted from

@@ -3,7 +3,7 @@
 ghost use Rattle.std.specs.Prelude.{◌≡◌, ◌∷◌, ◌++◌, map, OnOk};
 ghost use Rattle.std.specs.List.{list_any};
 ghost use Rattle.module_meaning.specs.TableRules.{same};
-ghost use Rattle.places.specs.Nearest.{nearest};
+ghost use Rattle.finding_lines.specs.Nearest.{nearest};
 ghost use Rattle.table_findings.specs.Findings.{NoPartition};
 ghost use Rattle.table_findings.specs.Names as spec;
 ghost use Rattle.table_findings.specs.Views.{findings_of, row_of, what_of};
@@ -14,7 +14,7 @@ use crate::part::add;
 use crate::repeated::partition_names;
 use crate::schedule::subject_at;
 use crate::subject::{Row, Subject};
-use places::nearest;
+use finding_lines::nearest;
 use std::alloc::{AllocError, Global};
 use window_table::{
     WrittenChannel, WrittenPartition, WrittenPort, WrittenTable, WrittenWindow, is_port_name,

@@ -9,7 +9,7 @@ use crate::text::{BACK, BEHIND_WINDOWS, BETWEEN, FRONT};
 use crate::ticks::ticks_text;
 use apex_types::{Event, Ticks};
 use std::alloc::Global;
-use trace_filter::line_of;
+use trace_lines::line_of;
 use trace_stays::MemoryFull;
 
 /// The page of a trace, without what stands around the trace's text.

@@ -6,13 +6,13 @@ use Rattle.number_tables.specs.Cells.{cell_text, share_cells}
 use Rattle.number_tables.specs.Tables.{table_text}
 use Rattle.number_tables.specs.declared.cell.Cell.{Cell}
 use Rattle.number_tables.specs.declared.cell.Cell.TheVariants as cell
-use Rattle.trace_shares.specs.Counts.{capped, idle_at, ticks_at, ticks_for}
-use Rattle.trace_shares.specs.Uses.{is_at, place_of_use}
-use Rattle.trace_shares.specs.declared.counted.Row.{Row}
-use Rattle.trace_shares.specs.declared.owner.Owner.{Owner}
-use Rattle.trace_shares.specs.declared.shares.Shares.{Shares}
-use Rattle.trace_shares.specs.declared.usage.Use.{Use}
-use Rattle.trace_shares.specs.declared.usage.Use.TheVariants as use_of
+use Rattle.trace_windows.specs.Counts.{capped, idle_at, ticks_at, ticks_for}
+use Rattle.trace_windows.specs.Uses.{is_at, place_of_use}
+use Rattle.trace_windows.specs.declared.counted.Row.{Row}
+use Rattle.trace_windows.specs.declared.owner.Owner.{Owner}
+use Rattle.trace_windows.specs.declared.shares.Shares.{Shares}
+use Rattle.trace_windows.specs.declared.usage.Use.{Use}
+use Rattle.trace_windows.specs.declared.usage.Use.TheVariants as use_of
 use Rattle.trace_stays.specs.Stays.{ticks_of}
 use Rattle.trace_view.specs.Cells.{condition_cells, extent_cells, mode_cells, paired_cells, port_cells, service_cells, state_cells, time_cells}
 use Rattle.trace_view.specs.Errors.{partition_word}

@@ -10,7 +10,7 @@ use crate::tally::Tally;
 use crate::{sheet, writing};
 use apex_types::{Name, Subject};
 use std::alloc::{AllocError, Global};
-use trace_shares::Shares;
+use trace_windows::Shares;
 
 /// The numbers of a partition.
 #[derive(Clone, Copy, Debug)]

@@ -8,7 +8,7 @@ use crate::report::Report;
 use crate::told::Told;
 use apex_types::{Event, Ticks};
 use std::alloc::Global;
-use trace_shares::{Shares, SharesFault};
+use trace_windows::{Shares, SharesFault};
 
 /// Counts the events of a trace, one by one. Its memory grows with the partitions, processes, ports and
 /// channels, and with the response times of a process that differ.

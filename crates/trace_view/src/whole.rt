@@ -8,7 +8,7 @@ use crate::report::Report;
 use crate::summary::Summary;
 use apex_types::{Event, Ticks};
 use std::alloc::Global;
-use trace_shares::SharesFault;
+use trace_windows::SharesFault;
 
 /// The summary of a trace whose lines are counted one by one has the lines of the window, their errors
 /// and messages, and the numbers of partitions and processes that the lines lead to.

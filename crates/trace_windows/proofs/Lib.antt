@@ -1,2 +1,9 @@
 pub mod Stretched
 pub mod Passed
+pub mod Counting
+pub mod Adding
+pub mod Frames
+pub mod Passing
+pub mod Stretches
+pub mod Reading
+pub mod Totals

@@ -9,15 +9,15 @@ use Rattle.std.specs.declared.string.String.{String}
 use Rattle.apex_types.specs.Line.{partition_text}
 use Rattle.apex_types.specs.declared.event.Event.{Event}
 use Rattle.streams.specs.Contents.{Contents, Opens}
-use Rattle.trace_difference.specs.Comparisons.{AreDifferences, AreParts, told_of}
-use Rattle.trace_difference.specs.Parts.{AreOther, IsFirst, IsJudged, first_line, first_with, part, second_with}
-use Rattle.trace_difference.specs.declared.part.Difference.{Difference}
-use Rattle.trace_difference.specs.declared.rest.Rest.{Rest}
-use Rattle.trace_difference.specs.declared.part.Part.{Part}
-use Rattle.trace_difference.specs.declared.side.Side.{Side}
-use Rattle.trace_difference.specs.declared.side.Side.TheVariants as side
-use Rattle.trace_difference.proofs.Comparisons.{first_kept, first_left, later_parts, partition_itself, second_kept, second_left}
-use Rattle.trace_filter.specs.Filters.{is_word}
+use Rattle.trace_lines.specs.Comparisons.{AreDifferences, AreParts, told_of}
+use Rattle.trace_lines.specs.Parts.{AreOther, IsFirst, IsJudged, first_line, first_with, part, second_with}
+use Rattle.trace_lines.specs.declared.part.Difference.{Difference}
+use Rattle.trace_lines.specs.declared.rest.Rest.{Rest}
+use Rattle.trace_lines.specs.declared.part.Part.{Part}
+use Rattle.trace_lines.specs.declared.side.Side.{Side}
+use Rattle.trace_lines.specs.declared.side.Side.TheVariants as side
+use Rattle.trace_lines.proofs.Comparisons.{first_kept, first_left, later_parts, partition_itself, second_kept, second_left}
+use Rattle.trace_lines.specs.Filters.{is_word}
 use Rattle.trace_text.specs.Trace.{IsReadAs}
 use Rattle.apex_types.specs.declared.identity.Ticks.{Ticks}
 use Rattle.trace_text.specs.Stream.{NextIn, ahead_bytes, left, next_number}

@@ -16,8 +16,8 @@ use Rattle.command_words.specs.declared.failure.Failure.{Failure}
 use Rattle.command_words.specs.declared.failure.Failure.TheVariants.{Refused, Usage}
 use Rattle.view_command.specs.Answers.{IsEndFailure, IsFailureOfWords, IsKindFailure, IsLimitFailure, IsNothingAsked, IsRunFailure, IsTickFailure, IsWidthFailure, IsWordsFailure}
 use Rattle.text_lines.specs.Pieces.{pieces_of}
-use Rattle.trace_filter.specs.KindSets.{no_kinds, with_words}
-use Rattle.trace_filter.specs.declared.kinds.Kinds.{Kinds}
+use Rattle.trace_lines.specs.KindSets.{no_kinds, with_words}
+use Rattle.trace_lines.specs.declared.kinds.Kinds.{Kinds}
 use Rattle.view_command.specs.Orders.{AreKindsIn, AreWrongTicks, AreWrongWords, EndsBefore, IsNoKind, IsNoTick, IsTickOf, from_in, ran_in}
 use Rattle.view_command.specs.Words.{view_app}
 use Rattle.view_command.specs.declared.refusal.Refusal.{Refusal}

@@ -5,7 +5,7 @@ use Rattle.clap.specs.Values.{kind_of}
 use Rattle.command_words.specs.Found.{Entered}
 use Rattle.command_words.specs.Kinds.{AreMistaken, AskForHelp, IsMistake}
 use Rattle.command_words.specs.Told.{IsUsageTold}
-use Rattle.command_pages.specs.declared.page.Page.{Page}
+use Rattle.command_words.specs.declared.page.Page.{Page}
 use Rattle.streams.specs.Contents.{Contents}
 use Rattle.streams.specs.States.{HasFailed, IsFlushed, IsWritten, Seen, TakesLine}
 use Rattle.view_command.specs.Lines.{called, line_of}

@@ -5,11 +5,11 @@ use Rattle.std.specs.declared.string.String.{String}
 use Rattle.apex_types.specs.Line.{partition_text}
 use Rattle.apex_types.specs.declared.event.Event.{Event}
 use Rattle.streams.specs.Contents.{Contents}
-use Rattle.trace_difference.specs.Comparisons.{AreParts}
-use Rattle.trace_difference.specs.Parts.{first_with, part, second_with}
-use Rattle.trace_difference.specs.declared.part.Part.{Part}
-use Rattle.trace_difference.specs.declared.side.Side.{Side}
-use Rattle.trace_filter.specs.Filters.{is_word}
+use Rattle.trace_lines.specs.Comparisons.{AreParts}
+use Rattle.trace_lines.specs.Parts.{first_with, part, second_with}
+use Rattle.trace_lines.specs.declared.part.Part.{Part}
+use Rattle.trace_lines.specs.declared.side.Side.{Side}
+use Rattle.trace_lines.specs.Filters.{is_word}
 use Rattle.trace_text.specs.Trace.{IsReadAs}
 use Rattle.view_command.specs.declared.views.Outcome.{Outcome}
 use Rattle.view_command.specs.declared.views.Outcome.TheVariants.{Shown, Found}

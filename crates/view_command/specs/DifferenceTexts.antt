@@ -3,7 +3,7 @@ use Rattle.std.specs.Prelude.{ℕ, min, List, [], ◌∷◌, ◌++◌, Option, S
 use Rattle.std.specs.Fmt.{decimal}
 use Rattle.apex_types.specs.Line.{line_of}
 use Rattle.apex_types.specs.declared.event.Event.{Event}
-use Rattle.trace_difference.specs.declared.part.Difference.{Difference}
+use Rattle.trace_lines.specs.declared.part.Difference.{Difference}
 
 -- the tick of the earlier of two lines
 abbrev pub tick_of : Option Event → Option Event → ℕ

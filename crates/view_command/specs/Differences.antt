@@ -1,8 +1,8 @@
 -- How two traces are read.
 use Rattle.std.specs.Prelude.{ℕ, Option, Some, None, nat_lt, if◌then◌else◌}
 use Rattle.apex_types.specs.declared.event.Event.{Event}
-use Rattle.trace_difference.specs.declared.side.Side.{Side}
-use Rattle.trace_difference.specs.declared.side.Side.TheVariants as side
+use Rattle.trace_lines.specs.declared.side.Side.{Side}
+use Rattle.trace_lines.specs.declared.side.Side.TheVariants as side
 
 -- the trace whose next line is read first: that with the earlier tick, and of one tick the first trace
 abbrev pub earlier : Option Event → Option Event → Option Side

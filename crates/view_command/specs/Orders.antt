@@ -9,9 +9,9 @@ use Rattle.clap.specs.Walk.{Row, first_of}
 use Rattle.command_words.specs.Found.{Entered, word_at, words_at}
 use Rattle.command_words.specs.Numbers.{number_in}
 use Rattle.text_lines.specs.Pieces.{pieces_of}
-use Rattle.trace_filter.specs.KindSets.{no_kinds, with_words}
-use Rattle.trace_filter.specs.declared.filter.Filter.{Filter}
-use Rattle.trace_filter.specs.declared.kinds.Kinds.{Kinds}
+use Rattle.trace_lines.specs.KindSets.{no_kinds, with_words}
+use Rattle.trace_lines.specs.declared.filter.Filter.{Filter}
+use Rattle.trace_lines.specs.declared.kinds.Kinds.{Kinds}
 use Rattle.view_command.specs.declared.request.Request.{Request}
 use Rattle.view_command.specs.declared.request.Request.TheVariants.{Compare, Show}
 

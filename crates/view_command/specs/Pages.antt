@@ -1,8 +1,8 @@
 -- The pages that the program writes of its own words.
 use Rattle.std.specs.Prelude.{◌≡◌, ◌≤◌, ℕ, List}
 use Rattle.std.specs.Io.KnownBytes.{Appends}
-use Rattle.command_pages.specs.Pages.{IsPageText}
-use Rattle.command_pages.specs.declared.page.Page.{Page}
+use Rattle.command_words.specs.Pages.{IsPageText}
+use Rattle.command_words.specs.declared.page.Page.{Page}
 use Rattle.streams.specs.States.{HasFailed, IsFlushed, Seen, TakesLine}
 use Rattle.view_command.specs.Lines.{line_of}
 use Rattle.view_command.specs.Words.{view_app}

@@ -2,8 +2,8 @@
 use Rattle.std.specs.Prelude.{is_some, if◌then◌else◌}
 use Rattle.trace_picture.specs.declared.fault.PictureFault.{PictureFault}
 use Rattle.trace_picture.specs.declared.fault.PictureFault.TheVariants as picture
-use Rattle.trace_shares.specs.declared.fault.SharesFault.{SharesFault}
-use Rattle.trace_shares.specs.declared.fault.SharesFault.TheVariants as shares
+use Rattle.trace_windows.specs.declared.shares_fault.SharesFault.{SharesFault}
+use Rattle.trace_windows.specs.declared.shares_fault.SharesFault.TheVariants as shares
 use Rattle.trace_windows.specs.declared.fault.WindowsFault.{WindowsFault}
 use Rattle.trace_windows.specs.declared.fault.WindowsFault.TheVariants as windows
 use Rattle.view_command.specs.declared.views.Shown.{Shown}

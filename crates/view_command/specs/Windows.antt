@@ -2,8 +2,8 @@
 use Rattle.std.specs.Prelude.{◌≡◌, ℕ, List, [], map, Option, Some, None, codes, string_bytes}
 use Rattle.apex_types.specs.declared.identity.Ticks.{Ticks}
 use Rattle.trace_page.specs.Windows.{windows_text}
-use Rattle.trace_shares.specs.Standings.{at_first, standing_of}
-use Rattle.trace_shares.specs.declared.shares.Shares.{Shares}
+use Rattle.trace_windows.specs.Standings.{at_first, standing_of}
+use Rattle.trace_windows.specs.declared.shares.Shares.{Shares}
 use Rattle.window_table.specs.declared.table.ModuleTable.{ModuleTable}
 use Rattle.view_command.specs.Texts.{IsRefusedTable}
 use Rattle.view_command.specs.declared.refusal.Refusal.{Refusal}

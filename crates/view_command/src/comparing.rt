@@ -3,8 +3,8 @@
 ghost use Rattle.std.specs.Prelude.{◌≡◌, ◌⊎◌, ℕ, ◌-◌, ◌^◌, ◌<◌, ◌≤◌, List, [], IfErr, IfOk, None, OnOk, string_bytes};
 ghost use Rattle.apex_types.specs.declared.event.Event.{Event};
 ghost use Rattle.streams.specs.States.{IsFlushed, seen};
-ghost use Rattle.trace_difference.specs.Comparisons.{AreParts};
-ghost use Rattle.trace_difference.specs.Parts.{first_with, second_with};
+ghost use Rattle.trace_lines.specs.Comparisons.{AreParts};
+ghost use Rattle.trace_lines.specs.Parts.{first_with, second_with};
 ghost use Rattle.view_command.specs.Answers.{IsRefused, IsUnread};
 ghost use Rattle.view_command.specs.Compared.{AreCompared, AreToldIn, IsInOrder, asked, first_behind, second_behind, tick_behind};
 ghost use Rattle.view_command.specs.Differences.{earlier};
@@ -19,8 +19,7 @@ use apex_types::Event;
 use std::alloc::Global;
 use std::io::Read;
 use streams::{Sources, Stream, write_bytes};
-use trace_difference::{Comparison, Side};
-use trace_filter::is_of_partition;
+use trace_lines::{Comparison, Side, is_of_partition};
 use trace_stays::MemoryFull;
 use trace_text::TraceStream;
 

@@ -5,8 +5,7 @@ ghost use Rattle.view_command.specs.DifferenceTexts as text;
 
 use apex_types::{Event, Name};
 use std::alloc::Global;
-use trace_difference::{Difference, Rest};
-use trace_filter::line_of;
+use trace_lines::{Difference, Rest, line_of};
 use trace_stays::MemoryFull;
 
 /// The text of all differences.

@@ -5,7 +5,7 @@ ghost use Rattle.std.specs.Prelude.{◌≡◌, ◌-◌, ◌^◌, ◌<◌, [], ma
 ghost use Rattle.clap.specs.Faults.{fault_of};
 ghost use Rattle.clap.specs.Simple.{subcommand_of};
 ghost use Rattle.streams.specs.States.{IsFlushed, seen};
-ghost use Rattle.command_pages.specs.Pages.{page_of};
+ghost use Rattle.command_words.specs.Pages.{page_of};
 ghost use Rattle.view_command.specs.Answers.{AreTracesIn, IsAnswer, IsAnswerTo, IsFailure};
 ghost use Rattle.view_command.specs.States.{state};
 ghost use Rattle.view_command.specs.Words.{view_app};
@@ -22,8 +22,7 @@ mod telling;
 mod views;
 mod windows;
 
-use command_pages::page_of;
-use command_words::Failure;
+use command_words::{Failure, page_of};
 use comparing::compare;
 use pages::tell_page;
 pub use refusal::Refusal;

@@ -16,7 +16,7 @@ use apex_types::limits::MOST_TICKS;
 use clap::ArgMatches;
 use command_words::{Failure, number_of};
 use std::alloc::{AllocError, Global};
-use trace_filter::{Counted, Filter, Kinds, Limit, Limits};
+use trace_lines::{Counted, Filter, Kinds, Limit, Limits};
 use trace_picture::Width;
 
 /// The ticks that are asked for.

@@ -19,7 +19,7 @@ use clap::ArgMatches;
 use command_words::{Failure, word};
 use std::alloc::Global;
 use std::convert::AsStr;
-use trace_filter::Filter;
+use trace_lines::Filter;
 
 /// What the words ask for.
 #[derive(Drop)]

@@ -17,7 +17,7 @@ use apex_types::Ticks;
 use std::alloc::Global;
 use std::io::Read;
 use streams::{NameFault, Sources, Stream, write_bytes};
-use trace_filter::Filter;
+use trace_lines::Filter;
 use trace_text::{StreamFault, TraceStream};
 
 /// Reads the trace to its end, and then writes it as the request wants it.

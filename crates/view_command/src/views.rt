@@ -9,12 +9,11 @@ use crate::windows::{page_windows, shares_of, windows_of};
 use apex_types::{Event, Name, Ticks};
 use std::alloc::{AllocError, Global};
 use std::io;
-use trace_filter::{Check, Filter, Limits, Listing};
+use trace_lines::{Check, Filter, Limits, Listing};
 use trace_page::Page;
 use trace_picture::{Excess, Picture, PictureFault, Width};
-use trace_shares::SharesFault;
+use trace_windows::{SharesFault, Windows, WindowsFault};
 use trace_view::Summary;
-use trace_windows::{Windows, WindowsFault};
 use wave_dump::{Dump, MemoryFull};
 use window_table::ModuleTable;
 

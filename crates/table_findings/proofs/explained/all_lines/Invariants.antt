@@ -1,7 +1,7 @@
 use Rattle.std.proofs.Common.{◌≡◌, ◌++◌, drop, string_bytes}
 use Rattle.std.specs.List.{flat_map}
 use Rattle.finding_lines.specs.Reports.{report_of}
-use Rattle.places.specs.Views.{entries_in}
+use Rattle.finding_lines.specs.Views.{entries_in}
 use Rattle.table_findings.specs.Explained.{lines_of}
 use Rattle.table_findings.specs.Views.{findings_of}
 use Rattle.table_findings.proofs.explained.all_lines.Given as goal

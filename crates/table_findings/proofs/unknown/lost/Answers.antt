@@ -1,5 +1,5 @@
 use Rattle.std.proofs.Common.{◌≡◌, ◌++◌, OnOk, Some, codes, map, subst}
-use Rattle.places.specs.Nearest.{nearest}
+use Rattle.finding_lines.specs.Nearest.{nearest}
 use Rattle.table_findings.specs.Findings.{NoPartition, What}
 use Rattle.table_findings.specs.Shape.{one}
 use Rattle.table_findings.specs.Subjects.{Subject}

@@ -1,6 +1,6 @@
 use Rattle.std.proofs.Common.{rules, ◌≡◌, ◌-◌, ◌^◌, ◌<◌, ◌++◌, ◌∷◌, [], ℕ, Some, None, Ok, inl, inr, refl, ap, sym, subst, ◌∙◌, arith}
 use Rattle.std.specs.Prelude.{string_bytes}
-use Rattle.trace_difference.specs.declared.side.Side.TheVariants as side
+use Rattle.trace_lines.specs.declared.side.Side.TheVariants as side
 use Rattle.trace_text.specs.Stream.{left}
 use Rattle.trace_text.specs.Trace.{CanBeWritten}
 use Rattle.view_command.specs.Answers.{IsUnread}

@@ -1,2 +1,0 @@
-pub mod Completion
-pub mod Pages

@@ -1,0 +1,120 @@
+//! The manual page of a program, as `man` reads it.
+
+use clap::{Arg, Command};
+use std::alloc::{AllocError, Global};
+
+/// The manual page of a program: what it does, its options, and its commands with their words.
+///
+/// # Errors
+///
+/// Only if memory runs out.
+pub fn manual(alloc: Global, program: &Command<'_>) -> Result<String, AllocError> {
+    let head = head(alloc, program)?;
+    let options = arguments(alloc, program.get_arguments())?;
+    let commands = commands(alloc, program)?;
+    let foot = foot(alloc, program.get_name())?;
+    let (head, options) = (head.as_str(), options.as_str());
+    let (commands, foot) = (commands.as_str(), foot.as_str());
+    format!(in alloc; "{head}.SH OPTIONS\n{options}.SH COMMANDS\n{commands}{foot}")
+}
+
+/// The title, the name with what the program does, and the synopsis.
+fn head(alloc: Global, program: &Command<'_>) -> Result<String, AllocError> {
+    let name = program.get_name();
+    let version = program.get_version().unwrap_or("");
+    let about = escaped(alloc, program.get_about().unwrap_or(""))?;
+    let about = about.as_str();
+    format!(in alloc;
+        ".TH {name} 1 \"\" \"{name} {version}\" \"\"\n\
+         .SH NAME\n{name} \\- {about}\n\
+         .SH SYNOPSIS\n.B {name}\n[\\fIOPTION\\fR...] [\\fICOMMAND\\fR [\\fIWORD\\fR...]]\n"
+    )
+}
+
+/// The commands of a program.
+fn commands(alloc: Global, program: &Command<'_>) -> Result<String, AllocError> {
+    let mut text = String::new(alloc);
+    for command in program.get_subcommands() {
+        text.push_str(&command_lines(alloc, program.get_name(), command)?)?;
+    }
+    Ok(text)
+}
+
+/// A command: its words in a line, what it does, and what its words mean.
+fn command_lines(
+    alloc: Global,
+    program: &str,
+    command: &Command<'_>,
+) -> Result<String, AllocError> {
+    let name = command.get_name();
+    let words = words(alloc, command.get_arguments())?;
+    let about = escaped(alloc, command.get_about().unwrap_or(""))?;
+    let arguments = arguments(alloc, command.get_arguments())?;
+    let (words, about, arguments) = (words.as_str(), about.as_str(), arguments.as_str());
+    format!(in alloc; ".SS {program} {name}{words}\n{about}.\n{arguments}")
+}
+
+/// The words of a command, each behind a space.
+fn words(alloc: Global, arguments: &[Arg<'_>]) -> Result<String, AllocError> {
+    let mut text = String::new(alloc);
+    for argument in arguments {
+        text.push_str(&word(alloc, argument)?)?;
+    }
+    Ok(text)
+}
+
+/// A word of a command behind a space; nothing for an option.
+fn word(alloc: Global, argument: &Arg<'_>) -> Result<String, AllocError> {
+    if argument.is_positional() {
+        escaped(alloc, &format!(in alloc; " {argument}")?)
+    } else {
+        Ok(String::new(alloc))
+    }
+}
+
+/// What arguments mean.
+fn arguments(alloc: Global, arguments: &[Arg<'_>]) -> Result<String, AllocError> {
+    let mut text = String::new(alloc);
+    for argument in arguments {
+        text.push_str(&argument_lines(alloc, argument)?)?;
+    }
+    Ok(text)
+}
+
+/// What an argument means.
+fn argument_lines(alloc: Global, argument: &Arg<'_>) -> Result<String, AllocError> {
+    let short = match argument.get_short() {
+        Some(short) => format!(in alloc; "\\-{short}, ")?,
+        None => String::new(alloc),
+    };
+    let words = escaped(alloc, &format!(in alloc; "{argument}")?)?;
+    let help = escaped(alloc, argument.get_help().unwrap_or(""))?;
+    let (short, words, help) = (short.as_str(), words.as_str(), help.as_str());
+    format!(in alloc; ".TP\n\\fB{short}{words}\\fR\n{help}.\n")
+}
+
+/// How the page and the completion are written.
+fn foot(alloc: Global, name: &str) -> Result<String, AllocError> {
+    format!(in alloc;
+        ".SH PAGES\n\
+         .TP\n\\fB{name} help \\-\\-man\\fR\nWrites this page.\n\
+         .TP\n\\fB{name} help \\-\\-completion bash\\fR\n\
+         Writes the completion of these words for bash.\n"
+    )
+}
+
+/// A text in which `man` sees no hyphens, commands or escapes: a dash stays one that can be copied.
+fn escaped(alloc: Global, text: &str) -> Result<String, AllocError> {
+    let mut escaped = String::new(alloc);
+    if text.starts_with('.') || text.starts_with('\'') {
+        escaped.push_str("\\&")?;
+    }
+    for character in text.chars() {
+        match character {
+            '-' => escaped.push_str("\\-")?,
+            '\\' => escaped.push_str("\\e")?,
+            _ => escaped.push(character)?,
+        }
+    }
+    Ok(escaped)
+}

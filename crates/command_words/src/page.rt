@@ -1,0 +1,76 @@
+//! The words that ask for a page, and its text.
+
+ghost use Rattle.std.specs.Prelude.{◌≡◌, IfOk, map, string_bytes, true};
+ghost use Rattle.clap.specs.Simple.{app_of, is_buildable};
+ghost use Rattle.command_words.specs.Pages as spec;
+
+use crate::completing::completion;
+use crate::describing::manual;
+use clap::Command;
+use std::alloc::{AllocError, Global};
+use std::convert::AsStr;
+
+/// A page that a program writes of its own words.
+#[derive(Clone, Copy, Debug, PartialEq, Eq)]
+pub enum Page {
+    /// The manual page.
+    Manual,
+    /// The completion for bash.
+    Bash,
+}
+
+/// The page that the words ask for, the program's name first: `help --man`, or
+/// `help --completion bash`.
+pub fn page_of<S: AsStr>(words: &[S]) -> Option<Page>
+    ensures { result ≡ spec.page_of (map S.text words.now) }
+{
+    match words {
+        [_, help, page] => manual_of(help.as_str(), page.as_str()),
+        [_, help, page, shell] => completion_of(help.as_str(), page.as_str(), shell.as_str()),
+        _ => None,
+    }
+}
+
+fn manual_of(help: &str, page: &str) -> Option<Page>
+    ensures { result ≡ spec.manual_of help.now page.now }
+{
+    if help == "help" && page == "--man" {
+        Some(Page::Manual)
+    } else {
+        None
+    }
+}
+
+fn completion_of(help: &str, page: &str, shell: &str) -> Option<Page>
+    ensures { result ≡ spec.completion_of help.now page.now shell.now }
+{
+    if help == "help" && page == "--completion" && shell == "bash" {
+        Some(Page::Bash)
+    } else {
+        None
+    }
+}
+
+/// The text of a page of a program with these commands.
+///
+/// # Errors
+///
+/// Only if memory runs out.
+pub fn page_text(alloc: Global, page: Page, commands: Command<'_>) -> Result<String, AllocError>
+    ensures { is_buildable (app_of commands.entry) ≡ true
+        → IfOk result (λ text. spec.IsPageText page (app_of commands.entry) (string_bytes text)) }
+{
+    let mut commands = commands;
+    commands.build()?;
+    built_text(alloc, page, &commands)
+}
+
+/// The same, where the library of command lines has added its own words.
+fn built_text(alloc: Global, page: Page, commands: &Command<'_>) -> Result<String, AllocError>
+    ensures { IfOk result (λ text. spec.IsBuiltText page (app_of commands.now) (string_bytes text)) }
+{
+    match page {
+        Page::Manual => manual(alloc, commands),
+        Page::Bash => completion(alloc, commands),
+    }
+}

@@ -1,5 +1,0 @@
-use Rattle.finding_laws.proofs.Found.{limits_any}
-use Rattle.finding_laws.proofs.laws.limits_are_found.Goals as goal
-
-pub returns : goal.returns
-returns c = λ t few. limits_any t few

@@ -1,5 +1,0 @@
-use Rattle.finding_laws.proofs.Found.{odd_periods_any}
-use Rattle.finding_laws.proofs.laws.odd_periods_are_found.Goals as goal
-
-pub returns : goal.returns
-returns c = λ t kept. odd_periods_any t kept

@@ -1,0 +1,5 @@
+use Rattle.finding_laws.proofs.Texts.{input_found}
+use Rattle.finding_laws.proofs.texts.replay_refusals_are_found.Goals as goal
+
+pub returns : goal.returns
+returns c = λ row text. input_found row text

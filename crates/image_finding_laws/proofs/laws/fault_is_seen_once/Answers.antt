@@ -1,5 +1,0 @@
-use Rattle.image_finding_laws.proofs.Beginnings.{seen_once}
-use Rattle.image_finding_laws.proofs.laws.fault_is_seen_once.Goals as goal
-
-pub returns : goal.returns
-returns c = λ bytes not_cut. seen_once bytes not_cut

@@ -1,2 +1,0 @@
-mod schedules;
-mod scripts;

@@ -1,0 +1,3 @@
+mod pieces;
+mod scripts;
+mod views;

@@ -1,5 +1,0 @@
-pub mod Cells
-pub mod Picture
-pub mod Records
-pub mod Report
-pub mod Tables

@@ -1,7 +1,0 @@
-use Rattle.std.proofs.Common.{rules}
-use Rattle.toml.specs.Parse.{key_equals}
-use Rattle.places.proofs.lexical.key_equals.Goals as goal
-
-pub returns-clause-value : goal.returns-clause-value
-unfolding key_equals
-returns-clause-value c = search rules

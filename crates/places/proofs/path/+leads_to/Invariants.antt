@@ -1,5 +1,0 @@
-use Rattle.std.proofs.Common.{length}
-use Rattle.places.proofs.path.+leads_to.Given as goal
-
-abbrev pub decreases-leads_to : goal.decreases-leads_to
-decreases-leads_to l = length l.path.now

@@ -1,6 +1,0 @@
-use Rattle.std.proofs.Common.{◌≡◌, ◌++◌, drop}
-use Rattle.places.specs.Views.{owned_path}
-use Rattle.places.proofs.path.copied.Given as goal
-
-abbrev pub invariant-loop-step : goal.invariant-loop-step
-invariant-loop-step l = owned_path l.copy.items ++ owned_path (drop l.step-index l.path) ≡ owned_path l.path

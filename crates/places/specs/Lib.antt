@@ -1,4 +1,0 @@
-pub mod Texts
-pub mod Nearest
-pub mod Entries
-pub mod Views

@@ -1,5 +1,0 @@
-use Rattle.source_finding_laws.proofs.OfKinds.{kinds_found}
-use Rattle.source_finding_laws.proofs.laws.kinds_are_found.Goals as goal
-
-pub returns : goal.returns
-returns c = λ ports period text p. kinds_found ports period text p

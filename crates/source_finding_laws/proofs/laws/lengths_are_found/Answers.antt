@@ -1,5 +1,0 @@
-use Rattle.source_finding_laws.proofs.OfLengths.{length_found}
-use Rattle.source_finding_laws.proofs.laws.lengths_are_found.Goals as goal
-
-pub returns : goal.returns
-returns c = λ costs text p. length_found costs text p

@@ -1,5 +1,0 @@
-use Rattle.source_finding_laws.proofs.OfPassed.{lengths_placed}
-use Rattle.source_finding_laws.proofs.laws.lengths_are_placed.Goals as goal
-
-pub returns : goal.returns
-returns c = λ costs ports period text tree p is judged named. lengths_placed costs ports period text tree p is judged named

@@ -1,5 +1,0 @@
-use Rattle.source_finding_laws.proofs.OfLimits.{limits_found}
-use Rattle.source_finding_laws.proofs.laws.limits_are_found.Goals as goal
-
-pub returns : goal.returns
-returns c = λ ports period text p. limits_found ports period text p

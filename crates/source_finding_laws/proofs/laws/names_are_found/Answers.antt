@@ -1,5 +1,0 @@
-use Rattle.source_finding_laws.proofs.OfNames.{names_found}
-use Rattle.source_finding_laws.proofs.laws.names_are_found.Goals as goal
-
-pub returns : goal.returns
-returns c = λ ports period text p. names_found ports period text p

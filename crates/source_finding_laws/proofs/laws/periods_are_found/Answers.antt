@@ -1,5 +1,0 @@
-use Rattle.source_finding_laws.proofs.OfPeriods.{periods_found}
-use Rattle.source_finding_laws.proofs.laws.periods_are_found.Goals as goal
-
-pub returns : goal.returns
-returns c = λ period text p. periods_found period text p

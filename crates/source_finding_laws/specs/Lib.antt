@@ -1,5 +1,0 @@
-pub mod Bytes
-pub mod Fitting
-pub mod Found
-pub mod Passed
-pub mod Placed

@@ -1,5 +1,0 @@
-use Rattle.text_finding_laws.proofs.Texts.{input_found}
-use Rattle.text_finding_laws.proofs.laws.replay_refusals_are_found.Goals as goal
-
-pub returns : goal.returns
-returns c = λ row text. input_found row text

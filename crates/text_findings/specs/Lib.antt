@@ -1,9 +1,0 @@
-pub mod Explained
-pub mod First
-pub mod Form
-pub mod Names
-pub mod Naming
-pub mod Parts
-pub mod Phrases
-pub mod Views
-pub mod What

@@ -1,3 +1,0 @@
-mod pieces;
-mod reading;
-mod views;

@@ -1,3 +1,0 @@
-pub mod Comparisons
-pub mod Parts
-pub mod Words

@@ -1,5 +1,0 @@
-use Rattle.trace_difference.proofs.Words.{are_the_same}
-use Rattle.trace_difference.proofs.same.are_same.Goals as goal
-
-pub returns : goal.returns
-returns c = are_the_same c.args.one.now c.args.other.now c.eq.result c.eq.ensures

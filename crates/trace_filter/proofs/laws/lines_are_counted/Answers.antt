@@ -1,5 +1,0 @@
-use Rattle.trace_filter.proofs.Remaining.{left_is}
-use Rattle.trace_filter.proofs.laws.lines_are_counted.Goals as goal
-
-pub returns : goal.returns
-returns c = left_is

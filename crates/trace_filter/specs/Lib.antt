@@ -1,3 +1,0 @@
-pub mod Filters
-pub mod KindSets
-pub mod Limiting

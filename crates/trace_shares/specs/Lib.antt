@@ -1,4 +1,0 @@
-pub mod Standings
-pub mod Uses
-pub mod Counts
-pub mod Runs
