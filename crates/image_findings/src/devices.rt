@@ -10,10 +10,10 @@ ghost use Rattle.module_meaning.specs.Table.{at_number};
 ghost use Rattle.image_findings.specs.Views.{names_of, receiver_of};
 ghost use Rattle.image_findings.specs.Named as spec;
 
+use crate::names::{Names, Receiver, TextKind};
 use apex_types::{ChannelEnd, PortId, PortRow};
 use image::{Image, PartitionItem};
 use std::alloc::{AllocError, Global};
-use crate::names::{Names, Receiver, TextKind};
 use window_table::ChannelRow;
 
 /// The names of an image for its device text: its channels and its partitions.

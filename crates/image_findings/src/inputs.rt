@@ -6,9 +6,9 @@ ghost use Rattle.isolation.specs.ReplayText.{is_destination};
 ghost use Rattle.image_findings.specs.Views.{names_of, receiver_of};
 ghost use Rattle.image_findings.specs.Named as spec;
 
+use crate::names::{Names, Receiver, TextKind};
 use apex_types::{PortDirection, PortRow};
 use std::alloc::{AllocError, Global};
-use crate::names::{Names, Receiver, TextKind};
 use window_table::PartitionRow;
 
 /// The names of a partition for a replay text: its ports, and its own.

@@ -4,14 +4,14 @@ ghost use Rattle.std.specs.Prelude.{◌≡◌};
 ghost use Rattle.number_tables.specs.declared.cell.Cell.TheVariants as cell;
 ghost use Rattle.schedule_load.specs.Cells.{body_cells, body_text, frame_cells, gap_cells, part_cell, partition_cells, release_text, share_cell, share_or_none, stretch_cells, window_cells};
 
+use crate::bodies::BodyLoad;
+use crate::load::{FrameLoad, PartitionLoad};
 use crate::report::LoadReport;
+use crate::share::Share;
+use crate::unowned::Gap;
 use apex_types::WindowRow;
 use number_tables::{Cell, number_cell};
 use pal::BodyName;
-use crate::bodies::BodyLoad;
-use crate::load::{FrameLoad, PartitionLoad};
-use crate::unowned::Gap;
-use crate::share::Share;
 
 fn number(number: u32) -> Cell
     ensures { result ≡ cell.Number number }

@@ -4,9 +4,9 @@ ghost use Rattle.std.specs.Prelude.{◌≡◌, ◌++◌, [], string_bytes, IfOk,
 ghost use Rattle.schedule_load.specs.Picture as text;
 ghost use Rattle.trace_picture.specs.Page.{IsPicture};
 
+use crate::load::PartitionLoad;
 use crate::report::LoadReport;
 use apex_types::{Ticks, WindowRow};
-use crate::load::PartitionLoad;
 use std::alloc::{AllocError, Global};
 use trace_picture::{
     Axis, Bar, FIRST_ROW, Key, LEFT, LONG, Length, Page, REPORT, Tag, at, bar_attributes,

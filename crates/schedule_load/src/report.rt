@@ -4,10 +4,10 @@ ghost use Rattle.std.specs.Prelude.{◌≡◌, ◌≤◌, IfOk, if◌then◌else
 ghost use Rattle.schedule_load.specs.Report.{name_of, windows_of};
 ghost use Rattle.trace_picture.specs.Page.{IsPicture};
 
-use crate::{picture, sheet, tables};
-use apex_types::{Name, PartitionId, WindowRow};
 use crate::bodies::BodyLoad;
 use crate::load::FrameLoad;
+use crate::{picture, sheet, tables};
+use apex_types::{Name, PartitionId, WindowRow};
 use std::alloc::{AllocError, Global};
 
 /// The bodies of a partition's source.

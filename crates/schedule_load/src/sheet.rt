@@ -4,15 +4,15 @@ ghost use Rattle.std.specs.Prelude.{◌≡◌, ◌++◌, flat_map, IfOk, OnOk};
 ghost use Rattle.number_tables.specs.Rows.{texts_of};
 ghost use Rattle.schedule_load.specs.Records.{all_records, body_record, body_records, frame_record, gap_record, gap_records, heading_record, heading_texts, load_records, partition_record, partition_records, window_record, window_records};
 
+use crate::bodies::BodyLoad;
 use crate::cells::{
     body_cells, body_text, frame_cells, gap_cells, partition_cells, release_text, window_cells,
 };
+use crate::load::{FrameLoad, PartitionLoad};
 use crate::report::{LoadReport, PartitionBodies};
+use crate::unowned::Gap;
 use apex_types::{Name, WindowRow};
 use number_tables::{Row, named, push_record};
-use crate::bodies::BodyLoad;
-use crate::load::{FrameLoad, PartitionLoad};
-use crate::unowned::Gap;
 use std::alloc::{AllocError, Global};
 
 /// The columns. Each row has the first three, and those of its own group.

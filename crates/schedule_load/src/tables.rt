@@ -4,15 +4,15 @@ ghost use Rattle.std.specs.Prelude.{◌≡◌, ◌++◌, map, flat_map, OnOk};
 ghost use Rattle.number_tables.specs.Tables.{contents_of, with_row, with_rows};
 ghost use Rattle.schedule_load.specs.Tables.{bodies_table, body_row, body_rows, frame_table, gap_row, gaps_table, partition_row, partition_rows, partitions_table, tables_text, window_row, windows_table};
 
+use crate::bodies::BodyLoad;
 use crate::cells::{
     body_cells, body_text, frame_cells, gap_cells, partition_cells, release_text, window_cells,
 };
+use crate::load::{FrameLoad, PartitionLoad};
 use crate::report::{LoadReport, PartitionBodies};
+use crate::unowned::Gap;
 use apex_types::{Name, WindowRow};
 use number_tables::Table;
-use crate::bodies::BodyLoad;
-use crate::load::{FrameLoad, PartitionLoad};
-use crate::unowned::Gap;
 use std::alloc::{AllocError, Global};
 
 /// Appends the tables, with an empty line between two of them. A table without rows is left out.

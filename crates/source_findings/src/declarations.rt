@@ -17,6 +17,7 @@ use crate::judge::{
 };
 use crate::roles::{Entry, declaration_entry, declared_entries, own_entry, process_entry, text_of};
 use crate::tally::{Tally, one_more};
+use crate::text_words::from_word;
 use crate::walk::Walk;
 use apex_types::limits::{
     GREATEST_PRIORITY, MOST_DEPTH, MOST_PARAMETERS, MOST_PROCESSES, MOST_SEMAPHORE_VALUE,
@@ -25,7 +26,6 @@ use apex_types::limits::{
 use indexmap::IndexSet;
 use pal_base::fault::Refusal;
 use pal_base::syntax::{Body, Declaration, DeclarationKind, Identifier, Numeral, Process, Program};
-use crate::text_words::from_word;
 use std::alloc::{AllocError, Global};
 
 /// Goes behind a number, with or without a minus sign, at which something may be wrong.

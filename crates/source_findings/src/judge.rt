@@ -10,10 +10,10 @@ use crate::finding::{Many, Thing, What};
 use crate::roles::{Entry, Role, fits, is_nothing, or_else, role_of};
 use apex_types::limits::MOST_TICKS;
 use apex_types::{Name, Service};
+use finding_lines::nearest;
 use indexmap::IndexSet;
 use pal_base::fault::Refusal;
 use pal_base::syntax::{Natural, Numeral};
-use finding_lines::nearest;
 use std::alloc::{AllocError, Global};
 
 /// The rule that is asked for, the period of the partition, and what the names of a body stand for:

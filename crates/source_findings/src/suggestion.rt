@@ -4,11 +4,11 @@ ghost use Rattle.std.specs.Prelude.{◌≡◌, ◌++◌, filter, map, option_cop
 ghost use Rattle.apex_types.specs.ServiceShape.{service_word};
 ghost use Rattle.source_findings.specs.Wanted as spec;
 
+use crate::text_words::{first_word, from_word};
 use crate::words::is_among;
 use apex_types::{SERVICES, Service};
-use pal_base::looking::{LookedFor, WordKind};
 use finding_lines::nearest;
-use crate::text_words::{first_word, from_word};
+use pal_base::looking::{LookedFor, WordKind};
 use std::alloc::{AllocError, Global};
 
 /// The words of the grammar in small letters.

@@ -8,9 +8,9 @@ ghost use Rattle.source_findings.specs.Unfit as spec;
 use crate::choices::wanted;
 use crate::phrases::{did_you_mean, quoted};
 use crate::suggestion::suggested;
+use crate::text_words::{first_word, from_word, next_word};
 use finding_lines::{Report, lines_at, place_of};
 use pal_base::looking::LookedFor;
-use crate::text_words::{first_word, from_word, next_word};
 use std::alloc::{AllocError, Global};
 
 /// The lines of the place where a text leaves the grammar.

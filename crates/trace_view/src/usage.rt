@@ -7,8 +7,8 @@ ghost use Rattle.trace_view.specs.Tables.{unused_table, usage_tables, windows_ro
 use crate::cell::paired_cells;
 use number_tables::{Table, share_cells};
 use std::alloc::{AllocError, Global};
-use trace_windows::{Counted, Owner, Row, Shares, Use};
 use trace_stays::subject_word;
+use trace_windows::{Counted, Owner, Row, Shares, Use};
 
 /// Appends the tables of what the processor did in so many ticks.
 #[tactic(auto, unfolding(crate::specs::Tables::usage_tables))]

@@ -6,8 +6,8 @@ ghost use Rattle.trace_windows.specs.Runs.{AreBefore, AreSharesOf};
 ghost use Rattle.trace_windows.specs.Standings.{in_run};
 ghost use Rattle.window_table.specs.Schedules.{schedule_of};
 
-use crate::shares_fault::SharesFault;
 use crate::shares::Shares;
+use crate::shares_fault::SharesFault;
 use apex_types::{Event, Name, Ticks};
 use std::alloc::Global;
 use window_table::Schedule;

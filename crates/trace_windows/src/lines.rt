@@ -7,9 +7,9 @@ ghost use Rattle.trace_windows.specs.Standings.{at_first, entered, in_run, is_ru
 ghost use Rattle.window_table.specs.Schedules.{schedule_of};
 
 use crate::counted::Counted;
-use crate::shares_fault::SharesFault;
 use crate::owner::{Owner, Stop};
 use crate::shares::Shares;
+use crate::shares_fault::SharesFault;
 use apex_types::{
     Event, EventKind, Mode, ModuleAction, Name, ProcessState, Response, Subject, Ticks,
 };

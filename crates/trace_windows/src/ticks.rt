@@ -8,8 +8,8 @@ ghost use Rattle.trace_windows.specs.Standings.{in_run, passed, standing_of};
 ghost use Rattle.trace_windows.specs.Uses.{last_from, use_at, use_in, works_at};
 ghost use Rattle.window_table.specs.Schedules.{schedule_of};
 
-use crate::shares_fault::SharesFault;
 use crate::shares::Shares;
+use crate::shares_fault::SharesFault;
 use crate::usage::Use;
 use apex_types::limits::MOST_TICKS;
 use apex_types::{At, Moment, PartitionId, Subject, Ticks};

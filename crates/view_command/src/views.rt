@@ -12,8 +12,8 @@ use std::io;
 use trace_lines::{Check, Filter, Limits, Listing};
 use trace_page::Page;
 use trace_picture::{Excess, Picture, PictureFault, Width};
-use trace_windows::{SharesFault, Windows, WindowsFault};
 use trace_view::Summary;
+use trace_windows::{SharesFault, Windows, WindowsFault};
 use wave_dump::{Dump, MemoryFull};
 use window_table::ModuleTable;
 

@@ -16,8 +16,8 @@ use std::alloc::{AllocError, Global};
 use std::io::{ErrorKind, Read};
 use streams::Sources;
 use trace_page::{NOT_KNOWN, windows_text};
-use trace_windows::{Shares, SharesFault, Windows};
 use trace_stays::MemoryFull;
+use trace_windows::{Shares, SharesFault, Windows};
 use window_table::{ModuleTable, TableFault, read_table};
 
 /// The module table of this name, if one is asked for.
