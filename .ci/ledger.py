@@ -1,4 +1,5 @@
-"""The ledger `edits.tried`: which wrong edits of each crate were refused, and on which state of the crate and of the crates below it."""
+"""The ledger `edits.tried`: which wrong edits of each crate were refused, on which state of the crate, of the written proof of the function
+that each edit changes, and of the crates below it."""
 
 import fcntl
 import functools
@@ -10,8 +11,8 @@ ROOT = Path(__file__).resolve().parent.parent
 FILE = ROOT / "edits.tried"
 FOLDERS = ("must-fail", "edits")
 HEAD = """\
-# The wrong edits that the prover refused, as `.ci/edits` writes them: a crate, the sum of its files, the sum of what its contracts rest
-# on in the crates below it, and the names of its edits. `.ci/programs` compares the sums.
+# The wrong edits that the prover refused, as `.ci/edits` writes them: a crate, the sum of what its contracts rest on in the crates below it,
+# and its edits, each with the sum of what it was tried on. `.ci/programs` compares the sums.
 """
 
 
@@ -70,10 +71,40 @@ def without_layout(text):
     return re.sub(r"[,;]([)\]}])", r"\1", text)
 
 
-def own_sum(name):
-    """The sum of all that a crate's edits are tried on, and of the edits."""
-    files = files_of(name, ("src", "specs", "proofs", *FOLDERS))
+def texts_sum(files):
+    """The sum of what counts in these files."""
     return sum_of([f"{it.relative_to(ROOT)}\0{without_layout(without_imports(it))}" for it in files])
+
+
+def named_proofs(name, text):
+    """The files of lemmas of a crate that a text names: an import of a proof, or an attribute of code."""
+    folder = ROOT / "crates" / name / "proofs"
+    paths = re.findall(rf"\b(?:Rattle\.{name}\.proofs\.|crate::proofs::)(\w+)", text)
+    return {it for it in (folder / f"{path}.antt" for path in paths) if it.is_file()}
+
+
+def proof_of(name, edit):
+    """The files of the written proof of the function that an edit changes: its own, with that of its cycle of calls, and the lemmas that these name or
+    that its file of code does, in turn. A proof takes of another function its contract alone, so another function's written proof does not count."""
+    text = edit.read_text()
+    path = re.search(r"^function: (\S+)", text, re.M)[1].split("::")
+    at = ROOT / "crates" / name / "proofs" / "/".join(path[:-1])
+    own = {it for folder in (at / path[-1], *at.glob("+*")) for it in folder.rglob("*.antt")}
+    code = [ROOT / "crates" / name / file for file in re.findall(r"^file: (\S+)", text, re.M)]
+    left = [*own, *(it for it in code if it.is_file())]
+    found = set(own)
+    while left:
+        more = named_proofs(name, left.pop().read_text()) - found
+        found |= more
+        left += more
+    return sorted(found)
+
+
+def edit_sums(name):
+    """For each edit of a crate the sum of what it is tried on: the code and the definitions of the crate, the proof of the function that it changes,
+    and the edit."""
+    whole = texts_sum(files_of(name, ("src", "specs")))
+    return {it.stem: sum_of([whole, texts_sum(proof_of(name, it)), texts_sum([it])])[:8] for it in edits_of(name)}
 
 
 def file_of(crate, path):
@@ -106,15 +137,15 @@ def promises_sum(name):
 
 
 def read():
-    """What the ledger says of each crate: the two sums, and the names of the edits."""
+    """What the ledger says of each crate: the sum of what it rests on, and of each edit that was refused the sum of what it was tried on."""
     if not FILE.exists():
         return {}
     rows = (line.split() for line in FILE.read_text().splitlines() if not line.startswith("#"))
-    return {name: (own, promises, names) for name, own, promises, *names in rows}
+    return {name: (promises, dict(it.split("=") for it in edits)) for name, promises, *edits in rows}
 
 
 def write(rows):
-    lines = [" ".join([name, own, promises, *names]) for name, (own, promises, names) in sorted(rows.items())]
+    lines = [" ".join([name, promises, *(f"{edit}={own}" for edit, own in sorted(edits.items()))]) for name, (promises, edits) in sorted(rows.items())]
     FILE.write_text(HEAD + "".join(f"{line}\n" for line in lines))
 
 
@@ -127,21 +158,22 @@ def note(name, row):
 
 
 def row_of(name):
-    return own_sum(name), promises_sum(name), [it.stem for it in edits_of(name)]
+    return promises_sum(name), edit_sums(name)
 
 
 class Compared:
-    """The crates that differ from what their edits were tried on, those of which this is so only of what is below them, and those whose
-    edits were never tried."""
+    """The edits that differ from what was tried, by crate; and the crates of which no edit does, but something below them."""
 
     def __init__(self):
-        self.changed, self.stale, self.untried = [], [], []
+        self.changed, self.stale = {}, []
         tried = read()
         for name in crates():
-            own, promises, names = row_of(name)
-            if name not in tried:
-                self.untried += [name] * bool(names)
-            elif tried[name][0] != own or tried[name][2] != names:
-                self.changed.append(name)
-            elif tried[name][1] != promises:
+            promises, sums = row_of(name)
+            known = tried.get(name, ("", {}))
+            differ = [edit for edit, own in sums.items() if known[1].get(edit) != own]
+            if differ:
+                self.changed[name] = differ
+            elif known[1].keys() != sums.keys():
+                self.changed[name] = []
+            elif sums and known[0] != promises:
                 self.stale.append(name)
