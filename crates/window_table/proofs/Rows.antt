@@ -1,12 +1,13 @@
 -- A loop over a slice that adds a row for each item, or refuses the first that breaks a rule: what is said of the rest from here, said of the rest behind one more item.
-use Rattle.std.proofs.Common.{◌≡◌, ℕ, ◌+◌, ◌<◌, Bool, true, false, cond, List, [], ◌∷◌, ◌++◌, length, map, drop, get_or, Option, None, Some, Result, is_ok, is_err, refl, sym, ap, ◌∙◌, append_assoc, arith}
+use Rattle.std.proofs.Common.{◌≡◌, ℕ, ◌+◌, ◌<◌, Bool, true, false, cond, List, [], ◌∷◌, ◌++◌, length, map, drop, get_or, Option, None, Some, Result, is_ok, is_err, refl, sym, ap, ◌∙◌, append_assoc, arith, is_none}
 use Rattle.std.proofs.lemmas.List.{at_drop_more, map-append}
 use Rattle.std.specs.Prelude.{◌||◌, if◌then◌else◌, ℤ, int_lt, nat_abs, option_map, unwrap_or, ◌+ℤ◌}
 use Rattle.apex_types.specs.declared.row.WindowRow.{WindowRow}
 use Rattle.apex_types.specs.declared.identity.PartitionId.{PartitionId}
 use Rattle.module_meaning.specs.TableRules.{PartitionText, WindowText, overlaps_after, partition_number, window_row}
 use Rattle.window_table.proofs.Reading.{pushed}
-use Rattle.window_table.proofs.Rules.{or_second}
+use Rattle.window_table.proofs.Rules.{or_first, or_second}
+use Rattle.std.proofs.lemmas.Bool.{false≢true}
 
 -- no item so far is one that `p` finds
 pub still_any : {X : Type 0} (p : X → Bool) (f : List X → Bool) (xs : List X) (i : ℕ) (d : X) (whole : Bool) → ((x : X) (ys : List X) → f (x ∷ ys) ≡ (p x || f ys))
@@ -72,3 +73,26 @@ pub placed : (ps : List PartitionText) (w : WindowText) (r : WindowRow) (o : Opt
 placed ps w r o p known some is =
     let number : partition_number ps w.partition ≡ Some p.0 = sym known ∙ ap (option_map (λ (n : PartitionId). n.0)) some in
     ap (λ (n : Option ℕ). row_in (unwrap_or n 0) w) number ∙ sym is
+
+-- the item from here is none that `p` finds
+pub none_here : {X : Type 0} (p : X → Bool) (f : List X → Bool) (xs : List X) (i : ℕ) (d : X) → ((x : X) (ys : List X) → f (x ∷ ys) ≡ (p x || f ys)) → i < length xs → f (drop i xs) ≡ false
+    → p (get_or xs i d) ≡ false
+none_here p f xs i d law some none =
+    or_first (p (get_or xs i d)) (f (drop (i + 1) xs)) (sym (at_drop_more f xs i d some ∙ law (get_or xs i d) (drop (i + 1) xs)) ∙ none)
+
+-- what is found is there
+pub is_there : {X : Type 0} (found meant : Option X) → found ≡ meant → found ≡ None → is_none meant ≡ false → ⊥
+is_there found meant same none there = false≢true (sym there ∙ ap is_none (sym same ∙ none))
+
+-- what is not there is refused, and so is the whole
+pub unless_true : {Y : Type 0} (b : Bool) (o : Option Y) (y : Y) → o ≡ (if b then None else Some y) → o ≡ None → b ≡ true
+unless_true true o y is none = refl
+unless_true false o y is none = let no : None ≡ Some y = sym none ∙ is in cc
+
+pub overlap_here : (frame end : ℤ) (w : WindowText) (ws : List WindowText) → (int_lt w.offset end || int_lt frame (w.offset +ℤ w.length)) ≡ true → overlaps_after frame end (w ∷ ws) ≡ true
+unfolding overlaps_after
+overlap_here frame end w ws here = ap (λ (b : Bool). b || overlaps_after frame (w.offset +ℤ w.length) ws) here
+
+pub item_here : {X : Type 0} (p : X → Bool) (f : List X → Bool) (xs : List X) (i : ℕ) (x : X) → ((y : X) (ys : List X) → f (y ∷ ys) ≡ (p y || f ys)) → i < length xs → x ≡ get_or xs i x
+    → f (drop i xs) ≡ false → p x ≡ false
+item_here p f xs i x law some read none = ap p read ∙ none_here p f xs i x law some none

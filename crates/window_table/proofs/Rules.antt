@@ -9,7 +9,7 @@ use Rattle.apex_types.specs.NameText.{is_name}
 use Rattle.module_meaning.specs.TableRules.{PartitionText, TableText}
 use Rattle.module_meaning.specs.TableRules.{exceeds_partition, exceeds_times, exceeds_port, exceeds_counts, exceeds_window, is_outside, has_many_ports, is_count_outside, partition_row, exceeds_rows, exceeds_channel, has_unknown_name, is_unknown_window, has_unknown_end}
 
-or_first : (a b : Bool) → (a || b) ≡ false → a ≡ false
+pub or_first : (a b : Bool) → (a || b) ≡ false → a ≡ false
 or_first true b h = h
 or_first false b h = refl
 
