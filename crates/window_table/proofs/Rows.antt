@@ -1,10 +1,13 @@
 -- A loop over a slice that adds a row for each item, or refuses the first that breaks a rule: what is said of the rest from here, said of the rest behind one more item.
-use Rattle.std.proofs.Common.{◌≡◌, ℕ, ◌+◌, ◌<◌, Bool, true, false, cond, List, [], ◌∷◌, ◌++◌, length, map, drop, get_or, Option, None, Some, Result, is_ok, is_err, refl, sym, ap, ◌∙◌, append_assoc, arith, is_none}
-use Rattle.std.proofs.lemmas.List.{at_drop_more, map-append}
+use Rattle.std.proofs.Common.{◌≡◌, ℕ, ◌+◌, ◌<◌, ◌≤◌, Bool, true, false, cond, List, [], ◌∷◌, ◌++◌, length, map, drop, get_or, Option, None, Some, Result, Err, is_ok, is_err, refl, sym, ap, ◌∙◌, append_assoc, arith, is_none}
+use Rattle.std.proofs.lemmas.List.{at_drop_all, at_drop_more, append-nil, map-append}
 use Rattle.std.specs.Prelude.{◌||◌, if◌then◌else◌, ℤ, int_lt, nat_abs, option_map, unwrap_or, ◌+ℤ◌}
 use Rattle.apex_types.specs.declared.row.WindowRow.{WindowRow}
 use Rattle.apex_types.specs.declared.identity.PartitionId.{PartitionId}
 use Rattle.module_meaning.specs.TableRules.{PartitionText, WindowText, overlaps_after, partition_number, window_row}
+use Rattle.window_table.specs.Answers.{RefusesLimit}
+use Rattle.window_table.specs.declared.fault.TableFault.{TableFault}
+use Rattle.window_table.specs.declared.fault.TableFault.TheVariants as fault
 use Rattle.window_table.proofs.Reading.{pushed}
 use Rattle.window_table.proofs.Rules.{or_first, or_second}
 use Rattle.std.proofs.lemmas.Bool.{false≢true}
@@ -96,3 +99,34 @@ overlap_here frame end w ws here = ap (λ (b : Bool). b || overlaps_after frame 
 pub item_here : {X : Type 0} (p : X → Bool) (f : List X → Bool) (xs : List X) (i : ℕ) (x : X) → ((y : X) (ys : List X) → f (y ∷ ys) ≡ (p y || f ys)) → i < length xs → x ≡ get_or xs i x
     → f (drop i xs) ≡ false → p x ≡ false
 item_here p f xs i x law some read none = ap p read ∙ none_here p f xs i x law some none
+
+-- an item that `p` finds is found in the whole
+pub any_here : {X : Type 0} (p : X → Bool) (f : List X → Bool) (xs : List X) (i : ℕ) (d : X) (whole : Bool) → ((x : X) (ys : List X) → f (x ∷ ys) ≡ (p x || f ys))
+    → i < length xs → p (get_or xs i d) ≡ true → whole ≡ f (drop i xs) → whole ≡ true
+any_here p f xs i d whole law some here before =
+    before ∙ at_drop_more f xs i d some ∙ law (get_or xs i d) (drop (i + 1) xs) ∙ ap (λ (b : Bool). b || f (drop (i + 1) xs)) here
+
+-- behind the last item none is found, and all rows are built
+pub none_left : {X : Type 0} (f : List X → Bool) (xs : List X) (i : ℕ) (whole : Bool) → f [] ≡ false → length xs ≤ i → whole ≡ f (drop i xs) → whole ≡ false
+none_left f xs i whole nil all before = before ∙ at_drop_all f xs i all ∙ nil
+
+pub all_built : {X Y : Type 0} (f : List X → List Y) (xs : List X) (i : ℕ) (rows whole : List Y) → f [] ≡ [] → length xs ≤ i → whole ≡ rows ++ f (drop i xs) → whole ≡ rows
+all_built f xs i rows whole nil all before = before ∙ ap (λ (ys : List _). rows ++ ys) (at_drop_all f xs i all ∙ nil) ∙ append-nil rows
+
+-- a refusal of one item is one of the whole
+pub limit_on : (A B : Type 0) (e : TableFault) (here whole : Bool) → RefusesLimit {A = A} (Err e) here → (here ≡ true → whole ≡ true) → RefusesLimit {A = B} (Err e) whole
+limit_on A B fault.Memory here whole h on = tt
+limit_on A B fault.Limit here whole h on = on h
+limit_on A B fault.Shape here whole h on = h
+limit_on A B fault.Document here whole h on = h
+limit_on A B fault.Name here whole h on = h
+limit_on A B fault.Overlap here whole h on = h
+limit_on A B fault.Period here whole h on = h
+limit_on A B fault.Duration here whole h on = h
+limit_on A B fault.Release here whole h on = h
+limit_on A B fault.Ends here whole h on = h
+limit_on A B fault.Health here whole h on = h
+
+pub any_here_item : {X : Type 0} (p : X → Bool) (f : List X → Bool) (xs : List X) (i : ℕ) (x : X) (whole : Bool) → ((y : X) (ys : List X) → f (y ∷ ys) ≡ (p y || f ys))
+    → i < length xs → x ≡ get_or xs i x → p x ≡ true → whole ≡ f (drop i xs) → whole ≡ true
+any_here_item p f xs i x whole law some read here before = any_here p f xs i x whole law some (ap p (sym read) ∙ here) before
