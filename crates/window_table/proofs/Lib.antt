@@ -8,3 +8,4 @@ pub mod Rules
 pub mod OwnWindows
 pub mod Changes
 pub mod Rows
+pub mod Whole
