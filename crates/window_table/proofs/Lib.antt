@@ -7,3 +7,5 @@ pub mod Reading
 pub mod Rules
 pub mod OwnWindows
 pub mod Changes
+pub mod Rows
+pub mod Whole

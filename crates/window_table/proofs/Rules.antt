@@ -9,11 +9,11 @@ use Rattle.apex_types.specs.NameText.{is_name}
 use Rattle.module_meaning.specs.TableRules.{PartitionText, TableText}
 use Rattle.module_meaning.specs.TableRules.{exceeds_partition, exceeds_times, exceeds_port, exceeds_counts, exceeds_window, is_outside, has_many_ports, is_count_outside, partition_row, exceeds_rows, exceeds_channel, has_unknown_name, is_unknown_window, has_unknown_end}
 
-or_first : (a b : Bool) → (a || b) ≡ false → a ≡ false
+pub or_first : (a b : Bool) → (a || b) ≡ false → a ≡ false
 or_first true b h = h
 or_first false b h = refl
 
-or_second : (a b : Bool) → (a || b) ≡ false → b ≡ false
+pub or_second : (a b : Bool) → (a || b) ≡ false → b ≡ false
 or_second true b h = absurd (false≢true (sym h))
 or_second false b h = h
 
