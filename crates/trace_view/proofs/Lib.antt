@@ -9,3 +9,4 @@ pub mod Percentiles
 pub mod Rows
 pub mod Sums
 pub mod Reading
+pub mod Steps
