@@ -11,8 +11,8 @@ both_phases {C} {L} g x y z m rest old mid new more first second =
     let n = rest (with_world x m.world) in (
       second.0 ∙ ap (λ (v : Member C). with_world v (rest v).world) first.0,
       second.1
-      ∙ ap (λ (v : Member C). g.held mid ++ g.pieces (rest v).lines) first.0
-      ∙ ap (λ ps. ps ++ g.pieces n.lines) first.1
-      ∙ append_assoc (g.held old) (g.pieces m.lines) (g.pieces n.lines)
-      ∙ ap (λ ps. g.held old ++ ps) (sym (more m.lines n.lines)),
+          ∙ ap (λ (v : Member C). g.held mid ++ g.pieces (rest v).lines) first.0
+          ∙ ap (λ ps. ps ++ g.pieces n.lines) first.1
+          ∙ append_assoc (g.held old) (g.pieces m.lines) (g.pieces n.lines)
+          ∙ ap (λ ps. g.held old ++ ps) (sym (more m.lines n.lines)),
     )
