@@ -1,5 +1,6 @@
 pub mod AtRest
 pub mod Leaving
+pub mod Phases
 pub mod Places
 pub mod Quiet
 pub mod Told

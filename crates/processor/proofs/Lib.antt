@@ -1,6 +1,7 @@
 pub mod Arguments
 pub mod Bursts
 pub mod Bytes
+pub mod Endings
 pub mod Entries
 pub mod Low
 pub mod Outcomes
