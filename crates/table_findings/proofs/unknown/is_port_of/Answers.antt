@@ -10,4 +10,4 @@ loop-port-preserved c =
     let text = c.args.text.now in
     let name = c.args.partition.now in
     sym (passes (λ ps. list_any (λ q. same text (name ++ 46 ∷ q.name)) (map port_text ps)) (λ ps. list_any (λ q. same text (name ++ 46 ∷ q.name)) (map port_text ps)) (λ q. same text (name ++ 46 ∷ (port_text q).name)) false
-        c.args.ports.now c.loop-port.port-index _ _ (λ q qs no. rw no) c.loop-port-test.true c.if-is_port_name.ensures (sym c.loop-port.invariant))
+    c.args.ports.now c.loop-port.port-index _ _ (λ q qs no. rw no) c.loop-port-test.true c.if-is_port_name.ensures (sym c.loop-port.invariant))

@@ -10,11 +10,11 @@ loop-number-preserved c =
     let read : number ≡ to_z w64 (of_z w64 number) = search rules in
     record {
       within = still_any is_outside_cost (list_any is_outside_cost) c.args.numbers.now c.loop-number.number-index _ _ (λ x ys. refl) c.loop-number-test.true
-        (ap is_outside_cost read ∙ unless_false _ _ _ _ c.cost_row.ensures c.in_ok-row.ensures.ok_part) c.loop-number.invariant.within;
+          (ap is_outside_cost read ∙ unless_false _ _ _ _ c.cost_row.ensures c.in_ok-row.ensures.ok_part) c.loop-number.invariant.within;
       built = one_more cost_row (map cost_row) c.args.numbers.now c.loop-number.number-index _ c.loop-number.rows.items _ _ (λ x ys. refl) c.loop-number-test.true
-        (pushed_row c.push.result _ c.loop-number.rows.items _ _ c.if-is_err.ensures.value c.push.ensures.items
-        (ap cost_row read ∙ unless_same _ _ _ _ c.cost_row.ensures c.in_ok-row.ensures.ok_part))
-        c.loop-number.invariant.built;
+          (pushed_row c.push.result _ c.loop-number.rows.items _ _ c.if-is_err.ensures.value c.push.ensures.items
+          (ap cost_row read ∙ unless_same _ _ _ _ c.cost_row.ensures c.in_ok-row.ensures.ok_part))
+          c.loop-number.invariant.built;
     }
 
 pub returns-in_err-row : goal.returns-in_err-row
@@ -22,6 +22,6 @@ returns-in_err-row c =
     let number : ℤ = get_or c.args.numbers.now c.loop-number.number-index (pos 0) in
     let read : number ≡ to_z w64 (of_z w64 number) = search rules in
     let outside : list_any is_outside_cost c.args.numbers.now ≡ true =
-        any_here is_outside_cost (list_any is_outside_cost) c.args.numbers.now c.loop-number.number-index _ _ (λ x ys. refl) c.loop-number-test.true
-        (ap is_outside_cost read ∙ unless_true _ _ _ c.cost_row.ensures c.in_err-row.ensures.ok_part) c.loop-number.invariant.within in
+    any_here is_outside_cost (list_any is_outside_cost) c.args.numbers.now c.loop-number.number-index _ _ (λ x ys. refl) c.loop-number-test.true
+    (ap is_outside_cost read ∙ unless_true _ _ _ c.cost_row.ensures c.in_err-row.ensures.ok_part) c.loop-number.invariant.within in
     search rules

@@ -13,12 +13,12 @@ loop-text-preserved c =
     let ps = map partition_text c.args.partitions.rows.now in
     record {
       known = none_behind (λ d. is_none (end_of ps d.now)) (λ ds. list_any (λ d. is_none (end_of ps d)) (map (λ d. d.now) ds)) c.as_slice-text-items.result.now c.loop-text.text-index
-        (λ x ys. refl) c.loop-text-test.true c.loop-text.invariant.known;
+          (λ x ys. refl) c.loop-text-test.true c.loop-text.invariant.known;
       built = one_more (λ d. unwrap_or (end_of ps d.now) ends.Device) (λ ds. map (λ d. unwrap_or (end_of ps d) ends.Device) (map (λ d. d.now) ds)) c.as_slice-text-items.result.now
-        c.loop-text.text-index _ c.loop-text.destinations.items _ _ (λ x ys. refl) c.loop-text-test.true
-        (pushed_row c.push.result _ c.loop-text.destinations.items _ _ c.if-is_err.ensures.value c.push.ensures.items
-        (ap (λ (o : Option ChannelEnd). unwrap_or o ends.Device) (sym c.channel_end-in-loop-text.ensures ∙ c.in_ok-end.ensures.ok_part)))
-        c.loop-text.invariant.built;
+          c.loop-text.text-index _ c.loop-text.destinations.items _ _ (λ x ys. refl) c.loop-text-test.true
+          (pushed_row c.push.result _ c.loop-text.destinations.items _ _ c.if-is_err.ensures.value c.push.ensures.items
+          (ap (λ (o : Option ChannelEnd). unwrap_or o ends.Device) (sym c.channel_end-in-loop-text.ensures ∙ c.in_ok-end.ensures.ok_part)))
+          c.loop-text.invariant.built;
     }
 
 pub returns-in_err-source : goal.returns-in_err-source
