@@ -15,24 +15,24 @@ pub returns-in_err-partitions : goal.returns-in_err-partitions
 returns-in_err-partitions c =
     let ms = table_view c.args.table.now in
     let none : table_text_of ms ≡ None =
-        no_partitions ms (none_first (array_at (codes "partition") ms) (tables_of partition_of) (sym c.array.ensures
-        ∙ ap (option_map (λ vs. items_view vs.now)) c.in_err-partitions.ensures.ok_part)) in
+    no_partitions ms (none_first (array_at (codes "partition") ms) (tables_of partition_of) (sym c.array.ensures
+    ∙ ap (option_map (λ vs. items_view vs.now)) c.in_err-partitions.ensures.ok_part)) in
     search rules
 
 pub returns-in_err-windows : goal.returns-in_err-windows
 returns-in_err-windows c =
     let ms = table_view c.args.table.now in
     let none : table_text_of ms ≡ None =
-        no_windows ms (none_first (array_at (codes "window") ms) (tables_of window_of) (sym c.array-2.ensures
-        ∙ ap (option_map (λ vs. items_view vs.now)) c.in_err-windows.ensures.ok_part)) in
+    no_windows ms (none_first (array_at (codes "window") ms) (tables_of window_of) (sym c.array-2.ensures
+    ∙ ap (option_map (λ vs. items_view vs.now)) c.in_err-windows.ensures.ok_part)) in
     search rules
 
 pub returns-in_err-channels : goal.returns-in_err-channels
 returns-in_err-channels c =
     let ms = table_view c.args.table.now in
     let none : table_text_of ms ≡ None =
-        no_channels ms (none_first (optional_array_at (codes "channel") ms) (tables_of channel_of) (sym c.optional_array.ensures
-        ∙ ap (option_map (λ vs. items_view vs.now)) c.in_err-channels.ensures.ok_part)) in
+    no_channels ms (none_first (optional_array_at (codes "channel") ms) (tables_of channel_of) (sym c.optional_array.ensures
+    ∙ ap (option_map (λ vs. items_view vs.now)) c.in_err-channels.ensures.ok_part)) in
     search rules
 
 pub returns-in_err-read_partitions : goal.returns-in_err-read_partitions
