@@ -7,4 +7,3 @@ pub mod Passing
 pub mod Stretches
 pub mod Reading
 pub mod Totals
-pub mod Steps
