@@ -16,13 +16,22 @@ pub fn tell(rt: &HostRuntime, row: &Row) -> io::Result<()> {
     if !tell_table(rt, row) {
         return println!(rt; "the table is refused");
     }
-    let Some(image) = built(rt, row) else {
-        return println!(rt; "nothing is built");
-    };
-    let Some(image) = upgraded(rt, image.as_slice()) else {
-        return println!(rt; "nothing is upgraded");
-    };
-    let image = image.as_slice();
+    match built(rt, row) {
+        Some(image) => tell_image(rt, row, image.as_slice()),
+        None => println!(rt; "nothing is built"),
+    }
+}
+
+/// Upgrades the image, and makes the calls on it.
+fn tell_image(rt: &HostRuntime, row: &Row, image: &[u8]) -> io::Result<()> {
+    match upgraded(rt, image) {
+        Some(image) => tell_runs(rt, row, image.as_slice()),
+        None => println!(rt; "nothing is upgraded"),
+    }
+}
+
+/// Makes the calls that run the image.
+fn tell_runs(rt: &HostRuntime, row: &Row, image: &[u8]) -> io::Result<()> {
     for call in ["Machine::tick", "run", "replay"] {
         if !writes(rt, row, image, call) && !writes(rt, row, image, call) {
             return println!(rt; "{call} is refused");

@@ -74,32 +74,40 @@ pub fn tell(rt: &HostRuntime, row: &Row) -> io::Result<()> {
         return println!(rt; "nothing is built");
     };
     for way in &WAYS {
-        let mut counts = Counts {
-            runs: 0,
-            machines: 0,
-            failed: 0,
-        };
-        for room in 0..row.trace.len() {
-            if breaks_off(rt.alloc(), row, image.as_slice(), room, way) {
-                counts.runs = counts.runs.saturating_add(1);
-            }
-            if let Some(failed) = failed_ticks(rt.alloc(), row, image.as_slice(), room, way)? {
-                counts.machines = counts.machines.saturating_add(1);
-                counts.failed = counts.failed.saturating_add(failed);
-            }
-        }
-        let whole = takes_all(rt.alloc(), row, image.as_slice(), way);
-        let Counts {
-            runs,
-            machines,
-            failed,
-        } = counts;
-        let name = way.name;
-        println!(rt;
-            "{name}: {runs} runs, {machines} machines, {failed} ticks failed, whole {whole}"
-        )?;
+        tell_way(rt, row, image.as_slice(), way)?;
     }
     Ok(())
+}
+
+/// Runs the image into sinks that fail in this way, behind each byte, and into one that takes all.
+fn tell_way(rt: &HostRuntime, row: &Row, image: &[u8], way: &Way) -> io::Result<()> {
+    let Counts {
+        runs,
+        machines,
+        failed,
+    } = count_all(rt.alloc(), row, image, way)?;
+    let whole = takes_all(rt.alloc(), row, image, way);
+    let name = way.name;
+    println!(rt; "{name}: {runs} runs, {machines} machines, {failed} ticks failed, whole {whole}")
+}
+
+/// Runs the image into sinks that fail in this way, behind each byte.
+fn count_all(alloc: Global, row: &Row, image: &[u8], way: &Way) -> Result<Counts, AllocError> {
+    let mut counts = Counts {
+        runs: 0,
+        machines: 0,
+        failed: 0,
+    };
+    for room in 0..row.trace.len() {
+        if breaks_off(alloc, row, image, room, way) {
+            counts.runs = counts.runs.saturating_add(1);
+        }
+        if let Some(failed) = failed_ticks(alloc, row, image, room, way)? {
+            counts.machines = counts.machines.saturating_add(1);
+            counts.failed = counts.failed.saturating_add(failed);
+        }
+    }
+    Ok(counts)
 }
 
 /// Returns true if a run into a sink with this room has its first bytes, and answers Write.

@@ -33,24 +33,31 @@ fn main(rt: HostRuntime) -> io::Result<()> {
     let mut base = Vec::new(rt.alloc());
     let asked = BufReader::new(rt.alloc(), rt.stdin())?;
     for line in asked.lines(rt.alloc()) {
-        let line = line?;
-        let mut words = line.split_whitespace();
-        match (words.next(), words.next(), words.next()) {
-            (Some("calls"), Some(folder), Some(ticks)) => {
-                calls::tell(&rt, &Row::read(&rt, folder, ticks)?)?
-            }
-            (Some("drive"), Some(folder), Some(ticks)) => {
-                driving::tell(&rt, &Row::read(&rt, folder, ticks)?)?
-            }
-            (Some("sinks"), Some(folder), Some(ticks)) => {
-                failing::tell(&rt, &Row::read(&rt, folder, ticks)?)?
-            }
-            (Some("base"), Some(name), None) => base = fs::read(&rt, name)?,
-            (Some("image"), Some(length), Some(ticks)) => {
-                damage::tell(&rt, base.as_slice(), (length, ticks), words)?
-            }
-            _ => println!(rt; "no such line: {line}")?,
-        }
+        answer(&rt, &mut base, line?.as_str())?;
     }
     Ok(())
+}
+
+/// Answers a line. The image that was read last is `base`.
+fn answer(rt: &HostRuntime, base: &mut Vec<u8>, line: &str) -> io::Result<()> {
+    let mut words = line.split_whitespace();
+    match (words.next(), words.next(), words.next()) {
+        (Some("calls"), Some(folder), Some(ticks)) => {
+            calls::tell(rt, &Row::read(rt, folder, ticks))
+        }
+        (Some("drive"), Some(folder), Some(ticks)) => {
+            driving::tell(rt, &Row::read(rt, folder, ticks))
+        }
+        (Some("sinks"), Some(folder), Some(ticks)) => {
+            failing::tell(rt, &Row::read(rt, folder, ticks))
+        }
+        (Some("base"), Some(name), None) => {
+            *base = fs::read(rt, name)?;
+            Ok(())
+        }
+        (Some("image"), Some(length), Some(ticks)) => {
+            damage::tell(rt, base.as_slice(), (length, ticks), words)
+        }
+        _ => println!(rt; "no such line: {line}"),
+    }
 }
