@@ -9,7 +9,7 @@
 mod beginnings;
 mod devices;
 mod explain;
-mod explain_text;
+mod explain_lines;
 mod finding;
 mod first;
 mod foreign;
@@ -23,7 +23,7 @@ mod seen;
 
 pub use devices::device_names;
 pub use explain::explain_image;
-pub use explain_text::explain_text;
+pub use explain_lines::explain_text;
 pub use finding::{What, Wrong};
 pub use first::first_wrong;
 pub use inputs::input_names;
