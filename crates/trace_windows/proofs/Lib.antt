@@ -7,3 +7,4 @@ pub mod Passing
 pub mod Stretches
 pub mod Reading
 pub mod Totals
+pub mod Steps

@@ -1,6 +1,6 @@
 use Rattle.std.proofs.Common.{map, refl, [], ◌∷◌}
 use Rattle.trace_windows.specs.Standings.{without_process}
-use Rattle.trace_stays.proofs.Steps.{added, all_added}
+use Rattle.trace_windows.proofs.Steps.{added, all_added}
 use Rattle.trace_windows.proofs.lines.owners.Goals as goal
 
 pub loop-name-preserved : goal.loop-name-preserved
