@@ -18,7 +18,7 @@ pub mod Steady
 pub mod SteadyImages
 pub mod Forms
 pub mod Meanings
-pub mod Texts
+pub mod TextRules
 pub mod Clean
 pub mod Letters
 pub mod OfBodies

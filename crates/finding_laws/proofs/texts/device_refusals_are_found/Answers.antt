@@ -1,4 +1,4 @@
-use Rattle.finding_laws.proofs.Texts.{device_found}
+use Rattle.finding_laws.proofs.TextRules.{device_found}
 use Rattle.finding_laws.proofs.texts.device_refusals_are_found.Goals as goal
 
 pub returns : goal.returns

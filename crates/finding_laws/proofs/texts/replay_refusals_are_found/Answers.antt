@@ -1,4 +1,4 @@
-use Rattle.finding_laws.proofs.Texts.{input_found}
+use Rattle.finding_laws.proofs.TextRules.{input_found}
 use Rattle.finding_laws.proofs.texts.replay_refusals_are_found.Goals as goal
 
 pub returns : goal.returns
