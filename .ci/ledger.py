@@ -57,11 +57,17 @@ def without_comments(text, comment):
     return re.sub(rf"^ *{comment}.*\n", "", text, flags=re.M)
 
 
+def without_derives(text):
+    """The text without the derives of `Debug` and of equality: each is a function of its own, of which no other one's contract or proof speaks."""
+    kept = lambda found: [it for it in re.findall(r"\w+", found[1]) if it not in ("Debug", "PartialEq", "Eq")]
+    return re.sub(r"#\[derive\(([^)]*)\)\]\n", lambda found: f"#[derive({', '.join(kept(found))})]\n" if kept(found) else "", text)
+
+
 def without_imports(file):
     """The text of a file without lines of comment, and without its imports, which say where a name stands. What a name says counts where it
     stands (`promises_sum`)."""
     comment, ends = ("//", r"[^;]*;\n") if file.suffix == ".rt" else ("--", r".*\n")
-    text = without_comments(file.read_text(), comment)
+    text = without_derives(without_comments(file.read_text(), comment))
     return re.sub(rf"^ *(?:pub |ghost )?use {ends}", "", text, flags=re.M)
 
 
@@ -119,7 +125,7 @@ def file_of(crate, path):
 @functools.cache
 def promise_of(file):
     """The definitions of a file, or the clauses of one of code, and the files that these name in turn: where they call a crate, all its code."""
-    text = heads(file.read_text()) if file.suffix == ".rt" else without_comments(file.read_text(), "--")
+    text = heads(without_derives(file.read_text())) if file.suffix == ".rt" else without_comments(file.read_text(), "--")
     named = {file_of(crate, path) for crate, path in re.findall(r"\bRattle\.(\w+)\.specs\.([\w.]*\w)", text) if (ROOT / "crates" / crate).is_dir()}
     called = {crate for crate in re.findall(r"^ *(?:pub )?use (\w+)::", text, re.M) if (ROOT / "crates" / crate).is_dir()}
     return without_layout(text), named.union(*(set(files_of(crate, ("src",))) for crate in called))

@@ -4,7 +4,7 @@ ghost use Rattle.std.specs.Prelude.{◌≡◌, ◌≤◌, length};
 
 /// The return code of a service (`RETURN_CODE_TYPE`). Its number is what a program's target
 /// receives.
-#[derive(Clone, Copy, Debug, PartialEq, Eq)]
+#[derive(Clone, Copy, PartialEq, Eq)]
 pub enum ReturnCode {
     NoError = 0,
     NoAction = 1,
@@ -27,7 +27,7 @@ impl ReturnCode {
 }
 
 /// The operating mode of a partition (`OPERATING_MODE_TYPE`).
-#[derive(Clone, Copy, Debug, PartialEq, Eq)]
+#[derive(Clone, Copy, PartialEq, Eq)]
 pub enum Mode {
     Idle = 0,
     ColdStart = 1,
@@ -53,7 +53,7 @@ impl Mode {
 }
 
 /// The state of a process (`PROCESS_STATE_TYPE`).
-#[derive(Clone, Copy, Debug, PartialEq, Eq)]
+#[derive(Clone, Copy, PartialEq, Eq)]
 pub enum ProcessState {
     Dormant = 0,
     Ready = 1,
@@ -79,7 +79,7 @@ impl ProcessState {
 }
 
 /// An error that health monitoring treats (`ERROR_CODE_TYPE`).
-#[derive(Clone, Copy, Debug, PartialEq, Eq)]
+#[derive(Clone, Copy, PartialEq, Eq)]
 pub enum ErrorKind {
     DeadlineMissed = 0,
     ApplicationError = 1,
@@ -111,7 +111,7 @@ impl ErrorKind {
 }
 
 /// The reason for a partition's last start (`START_CONDITION_TYPE`).
-#[derive(Clone, Copy, Debug, PartialEq, Eq)]
+#[derive(Clone, Copy, PartialEq, Eq)]
 pub enum StartCondition {
     NormalStart = 0,
     PartitionRestart = 1,
@@ -120,7 +120,7 @@ pub enum StartCondition {
 }
 
 /// The level at which an error is handled.
-#[derive(Clone, Copy, Debug, PartialEq, Eq)]
+#[derive(Clone, Copy, PartialEq, Eq)]
 pub enum ErrorLevel {
     Process,
     Partition,
@@ -144,7 +144,7 @@ impl ErrorLevel {
 }
 
 /// The action that a partition's health table sets for an error.
-#[derive(Clone, Copy, Debug, PartialEq, Eq)]
+#[derive(Clone, Copy, PartialEq, Eq)]
 pub enum PartitionAction {
     Ignore = 0,
     Idle = 1,
@@ -170,7 +170,7 @@ impl PartitionAction {
 }
 
 /// The action that the module table sets for a module fault.
-#[derive(Clone, Copy, Debug, PartialEq, Eq)]
+#[derive(Clone, Copy, PartialEq, Eq)]
 pub enum ModuleAction {
     Ignore = 0,
     Shutdown = 1,
@@ -195,7 +195,7 @@ impl ModuleAction {
 
 /// The response to an error: its level, and the action of that level. At process level the action
 /// is always the partition's error handler.
-#[derive(Clone, Copy, Debug, PartialEq, Eq)]
+#[derive(Clone, Copy, PartialEq, Eq)]
 pub enum Response {
     Handler,
     Partition(PartitionAction),
@@ -231,7 +231,7 @@ impl Response {
 
 /// The order in which the processes that wait for an object are released
 /// (`QUEUING_DISCIPLINE_TYPE`).
-#[derive(Clone, Copy, Debug, PartialEq, Eq)]
+#[derive(Clone, Copy, PartialEq, Eq)]
 pub enum Discipline {
     Fifo = 0,
     Priority = 1,

@@ -8,7 +8,7 @@ use crate::limits::MOST_COST;
 
 /// A number of ticks that a construct may cost: at least one, and at most
 /// [`MOST_COST`](crate::limits::MOST_COST).
-#[derive(Clone, Copy, Debug, PartialEq, Eq)]
+#[derive(Clone, Copy)]
 pub struct TickCost {
     pub ticks: u32,
     pub ghost within: { (nat_le 1 ticks && nat_le ticks MOST_COST) ≡ true },
@@ -51,7 +51,7 @@ impl TickCost {
 ///
 /// `work n` costs n ticks. A construct that names no valid number of ticks, or no existing service,
 /// costs [`UNKNOWN_COST`], whatever the fields say.
-#[derive(Clone, Copy, Debug, PartialEq, Eq)]
+#[derive(Clone, Copy)]
 pub struct Costs {
     /// A literal, and the name of an object or a process; for an array that is passed on, its place
     /// and its size.

@@ -3,7 +3,7 @@
 use crate::place::Place;
 
 /// The kind of what a program declares by name and a service names: an object, a port or a process.
-#[derive(Clone, Copy, Debug, PartialEq, Eq)]
+#[derive(Clone, Copy, PartialEq, Eq)]
 pub enum ObjectKind {
     Semaphore,
     Event,

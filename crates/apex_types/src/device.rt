@@ -6,7 +6,7 @@ use crate::event::Words;
 use crate::identity::{ChannelIndex, PartitionId, Ticks};
 
 /// An input of the module from a device.
-#[derive(Debug, PartialEq, Eq, Drop)]
+#[derive(Drop)]
 pub enum DeviceInput {
     /// A message arrives by a channel whose source is the device.
     Message(ChannelIndex, Words),
@@ -17,7 +17,7 @@ pub enum DeviceInput {
 }
 
 /// A line of a device text: an input of a device, and its tick.
-#[derive(Debug, PartialEq, Eq, Drop)]
+#[derive(Drop)]
 pub struct DeviceLine {
     pub tick: Ticks,
     pub input: DeviceInput,

@@ -18,7 +18,7 @@ pub type Words = ArrayVec<i64, MOST_WORDS>;
 pub type Events = ArrayVec<Event, MOST_EVENTS>;
 
 /// The subject of an event of a process.
-#[derive(Clone, Copy, PartialEq, Eq, Debug)]
+#[derive(Clone, Copy)]
 pub enum Subject {
     /// The initialisation of the partition.
     Init,

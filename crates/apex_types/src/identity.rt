@@ -9,14 +9,14 @@ ghost use Rattle.apex_types.specs.Places.{place_of_number};
 pub struct Ticks(pub u64);
 
 /// A tick of the run, and the tick of the module's last start.
-#[derive(Clone, Copy, Debug, PartialEq, Eq)]
+#[derive(Clone, Copy)]
 pub struct At {
     pub now: Ticks,
     pub origin: Ticks,
 }
 
 /// A tick that a run can have, and the tick of the module's last start, which is not after it.
-#[derive(Clone, Copy, Debug, PartialEq, Eq)]
+#[derive(Clone, Copy)]
 pub struct Moment {
     pub at: At,
     pub ghost past: { at.origin.0 ≤ at.now.0 },
@@ -24,7 +24,7 @@ pub struct Moment {
 }
 
 /// A partition by its place in the module table, from 1.
-#[derive(Clone, Copy, Debug, PartialEq, Eq)]
+#[derive(Clone, Copy, PartialEq, Eq)]
 pub struct PartitionId(pub u8);
 
 impl PartitionId {
@@ -38,7 +38,7 @@ impl PartitionId {
 }
 
 /// A port by its place among its partition's ports, from 1.
-#[derive(Clone, Copy, Debug, PartialEq, Eq)]
+#[derive(Clone, Copy, PartialEq, Eq)]
 pub struct PortId(pub u8);
 
 impl PortId {
@@ -52,16 +52,16 @@ impl PortId {
 }
 
 /// A channel by its place in the module table, from 0.
-#[derive(Clone, Copy, Debug, PartialEq, Eq)]
+#[derive(Clone, Copy)]
 pub struct ChannelIndex(pub u8);
 
 /// A process by its place in its partition's source text, from 0. The number that programs use is
 /// one more.
-#[derive(Clone, Copy, Debug, Default, PartialEq, Eq)]
+#[derive(Clone, Copy, Default, PartialEq, Eq)]
 pub struct ProcessIndex(pub u8);
 
 /// A runner of a partition: its initialisation, its error handler, or a process.
-#[derive(Clone, Copy, Debug, PartialEq, Eq)]
+#[derive(Clone, Copy)]
 pub enum Runner {
     Init,
     Handler,
@@ -85,7 +85,7 @@ impl Runner {
 }
 
 /// A waiting list of a partition: that of an object or a port, by its kind and its place from 0.
-#[derive(Clone, Copy, Debug, PartialEq, Eq)]
+#[derive(Clone, Copy)]
 pub enum ListKey {
     Semaphore(u8),
     Event(u8),
@@ -95,5 +95,5 @@ pub enum ListKey {
 }
 
 /// A process priority, 1 to 239; a higher number goes first.
-#[derive(Clone, Copy, Debug, Default, PartialEq, Eq, PartialOrd, Ord)]
+#[derive(Clone, Copy, Default, PartialEq, Eq, PartialOrd, Ord)]
 pub struct Priority(pub u8);

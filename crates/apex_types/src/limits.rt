@@ -3,7 +3,7 @@
 //! Each limit is defined only here. Code, definitions and proofs use it from here.
 
 /// The limits that are not the same in every version of an image.
-#[derive(Clone, Copy, Debug, PartialEq, Eq)]
+#[derive(Clone, Copy)]
 pub struct Limits {
     /// The most partitions of a module.
     pub partitions: u8,

@@ -12,7 +12,7 @@ use std::str;
 /// A name: a lower-case letter, then lower-case letters, digits or `_`, at most
 /// [`MOST_NAME_BYTES`] in all.
 /// A contract sees it as the list of its bytes.
-#[derive(Clone, Copy, PartialEq, Eq, Debug)]
+#[derive(Clone, Copy, Debug)]
 pub struct Name {
     text: [u8; MOST_NAME_BYTES],
     len: u8,

@@ -25,7 +25,7 @@ pub enum Wait {
 }
 
 /// Where and how a process is to wait at an object or a port.
-#[derive(Clone, Copy, Debug, PartialEq, Eq)]
+#[derive(Clone, Copy)]
 pub struct Waiting {
     pub service: Service,
     /// The waiting list of the object.
@@ -36,7 +36,7 @@ pub struct Waiting {
 }
 
 /// What happens at the due time of a process.
-#[derive(Clone, Copy, Debug, PartialEq, Eq)]
+#[derive(Clone, Copy)]
 pub enum Due {
     /// A release point: its deadline counts from here.
     Release(Ticks),
@@ -67,14 +67,14 @@ pub struct ProcessStatus {
 }
 
 /// A process in a list of ready or waiting processes, with its priority when it joined the list.
-#[derive(Clone, Copy, Debug, Default, PartialEq, Eq)]
+#[derive(Clone, Copy, Default)]
 pub struct Entry {
     pub process: ProcessIndex,
     pub priority: Priority,
 }
 
 /// The preemption lock of a partition.
-#[derive(Clone, Copy, Debug, PartialEq, Eq)]
+#[derive(Clone, Copy, PartialEq, Eq)]
 pub enum Lock {
     /// Its level is 0, and nobody holds it.
     Free,
@@ -93,7 +93,7 @@ pub struct WaitingError {
 
 /// An action of a step of the kernel, on the processor, on the partition's data or on its error
 /// queue, without the words of its answer or message.
-#[derive(Clone, Copy, Debug, PartialEq, Eq)]
+#[derive(Clone, Copy)]
 pub enum ActionKind {
     /// The process begins its body afresh.
     Begin(Runner),

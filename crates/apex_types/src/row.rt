@@ -5,7 +5,7 @@ use crate::identity::{PartitionId, PortId, Priority};
 use crate::name::Name;
 
 /// The actions that a partition's health table sets for the errors at partition level.
-#[derive(Clone, Copy, Debug, PartialEq, Eq)]
+#[derive(Clone, Copy)]
 pub struct HealthTable {
     pub deadline_missed: PartitionAction,
     pub application_error: PartitionAction,
@@ -16,14 +16,14 @@ pub struct HealthTable {
     pub hardware_fault: PartitionAction,
 }
 
-#[derive(Clone, Copy, Debug, PartialEq, Eq)]
+#[derive(Clone, Copy, PartialEq, Eq)]
 pub enum PortDirection {
     Source = 0,
     Destination = 1,
 }
 
 /// The kind of a port, with the fields that only this kind has.
-#[derive(Clone, Copy, Debug, PartialEq, Eq)]
+#[derive(Clone, Copy)]
 pub enum PortKind {
     /// A message that is read is valid for this many ticks after its arrival.
     Sampling { refresh: u64 },
@@ -32,7 +32,7 @@ pub enum PortKind {
 }
 
 /// A port of a partition: messages of at most `words` words.
-#[derive(Clone, Copy, Debug, PartialEq, Eq)]
+#[derive(Clone, Copy)]
 pub struct PortRow {
     pub name: Name,
     pub kind: PortKind,
@@ -43,7 +43,7 @@ pub struct PortRow {
 /// A window of the major frame: the partition runs from `offset` on for `length` ticks. A periodic
 /// process that was started is first released at the start of a window marked release; its later
 /// releases follow a period apart.
-#[derive(Clone, Copy, Debug, PartialEq, Eq)]
+#[derive(Clone, Copy)]
 pub struct WindowRow {
     pub partition: PartitionId,
     pub offset: u32,
@@ -52,34 +52,34 @@ pub struct WindowRow {
 }
 
 /// One end of a channel.
-#[derive(Clone, Copy, Debug, PartialEq, Eq)]
+#[derive(Clone, Copy)]
 pub enum ChannelEnd {
     Device,
     Port(PartitionId, PortId),
 }
 
-#[derive(Clone, Copy, Debug, PartialEq, Eq)]
+#[derive(Clone, Copy)]
 pub struct SemaphoreRow {
     pub value: u32,
     pub maximum: u32,
     pub discipline: Discipline,
 }
 
-#[derive(Clone, Copy, Debug, PartialEq, Eq)]
+#[derive(Clone, Copy)]
 pub struct BufferRow {
     pub words: u8,
     pub depth: u8,
     pub discipline: Discipline,
 }
 
-#[derive(Clone, Copy, Debug, PartialEq, Eq)]
+#[derive(Clone, Copy)]
 pub struct BlackboardRow {
     pub words: u8,
 }
 
 /// A procedure in the code: its first instruction, its parameters, its slots (parameters and
 /// locals) and the words of stack that it needs.
-#[derive(Clone, Copy, Debug, PartialEq, Eq)]
+#[derive(Clone, Copy)]
 pub struct RoutineRow {
     pub entry: u32,
     pub parameters: u8,
@@ -89,7 +89,7 @@ pub struct RoutineRow {
 
 /// The body of INIT, of the handler or of a process: its stack in words, its first instruction,
 /// its slots and the words of stack that it needs.
-#[derive(Clone, Copy, Debug, PartialEq, Eq)]
+#[derive(Clone, Copy)]
 pub struct BodyRow {
     pub stack: u16,
     pub entry: u32,
@@ -98,7 +98,7 @@ pub struct BodyRow {
 }
 
 /// A process: without a period it is aperiodic, without a time capacity it has no deadline.
-#[derive(Clone, Copy, Debug, PartialEq, Eq)]
+#[derive(Clone, Copy)]
 pub struct ProcessRow {
     pub name: Name,
     pub priority: Priority,

@@ -3,7 +3,7 @@
 ghost use Rattle.std.specs.Prelude.{◌≡◌, ◌<◌, ◌↔◌, ◌⊎◌, length, slice_get, IfSome, IsNone};
 
 /// A service by its name in the standard, with this profile's number.
-#[derive(Clone, Copy, Debug, PartialEq, Eq)]
+#[derive(Clone, Copy, PartialEq, Eq)]
 pub enum Service {
     GetPartitionStatus = 1,
     SetPartitionMode = 2,
@@ -157,7 +157,7 @@ impl Service {
 }
 
 /// An array argument of a call: the place of its first word in the partition's data, and its size.
-#[derive(Clone, Copy, Debug, PartialEq, Eq)]
+#[derive(Clone, Copy)]
 pub struct ArrayPlace {
     pub base: i64,
     pub size: i64,

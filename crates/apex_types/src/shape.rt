@@ -7,7 +7,7 @@ use crate::denotation::ObjectKind;
 use crate::service::Service;
 
 /// The services that cost the same.
-#[derive(Clone, Copy, Debug, PartialEq, Eq)]
+#[derive(Clone, Copy, PartialEq, Eq)]
 pub enum ServiceClass {
     /// It creates an object, a port, a process or the handler.
     Creation,
@@ -32,7 +32,7 @@ impl ServiceClass {
 }
 
 /// The kind that an argument of a service must have.
-#[derive(Clone, Copy, Debug, PartialEq, Eq)]
+#[derive(Clone, Copy, PartialEq, Eq)]
 pub enum ArgumentKind {
     /// An expression.
     Word,

@@ -9,7 +9,7 @@ ghost use Rattle.apex_types.specs.Sink.{failures_of};
 use std::io::Write;
 
 /// The sink did not take the bytes.
-#[derive(Clone, Copy, Debug, PartialEq, Eq)]
+#[derive(Clone, Copy)]
 pub struct SinkFault;
 
 /// A destination for bytes. It takes a prefix of the bytes offered, or fails and takes none; taking

@@ -21,7 +21,7 @@ pub const THIRD_VERSION: u16 = 3;
 /// The version of an image, with what images of this version alone have. An image of the first version
 /// has no costs of its own: its constructs cost what is written of Pal. One of the third has larger
 /// limits.
-#[derive(Clone, Copy, Debug, PartialEq, Eq)]
+#[derive(Clone, Copy)]
 pub enum ImageVersion {
     First,
     Second { costs: Costs },

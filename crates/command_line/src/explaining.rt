@@ -26,7 +26,7 @@ use std::fmt;
 use window_table::{ModuleTable, PartitionRow, read_table};
 
 /// How a refusal is explained.
-#[derive(Clone, Copy, Debug, PartialEq, Eq)]
+#[derive(Clone, Copy, PartialEq, Eq)]
 pub enum Style {
     /// In plain words.
     Plain,

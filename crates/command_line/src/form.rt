@@ -1,7 +1,7 @@
 //! How a load is shown.
 
 /// How a load is shown.
-#[derive(Clone, Copy, Debug, PartialEq, Eq)]
+#[derive(Clone, Copy, PartialEq, Eq)]
 pub enum Form {
     /// Tables for people.
     Tables,

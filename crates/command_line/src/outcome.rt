@@ -7,7 +7,7 @@ ghost use Rattle.lint.specs.Sentences.{have_findings};
 use lint::{PartitionFindings, have_findings};
 
 /// How a command that is done has ended.
-#[derive(Clone, Copy, Debug, PartialEq, Eq)]
+#[derive(Clone, Copy, PartialEq, Eq)]
 pub enum Outcome {
     /// As usual.
     Usual,

@@ -11,7 +11,7 @@ use streams::Reason;
 use window_table::TableFault;
 
 /// Why a command is refused that breaks no rule for a text or an image.
-#[derive(Clone, Copy, Debug, PartialEq, Eq)]
+#[derive(Clone, Copy, PartialEq, Eq)]
 pub enum CommandFault {
     /// There are fewer or more sources than partitions.
     Sources,

@@ -5,7 +5,7 @@ ghost use Rattle.std.specs.List.{prefix_len};
 ghost use Rattle.finding_lines.specs.Texts.{behind_feed, column_of, first_line, is_feed, is_no_feed, is_start, last_line, line_of};
 
 /// The line and the column of a place, both from 1. A column is a character.
-#[derive(Clone, Copy, Debug, PartialEq, Eq)]
+#[derive(Clone, Copy)]
 pub struct Place {
     pub line: usize,
     pub column: usize,

@@ -3,7 +3,7 @@
 use apex_types::{PortId, Ticks, Words};
 
 /// An input of a partition from outside.
-#[derive(Debug, PartialEq, Eq, Drop)]
+#[derive(Drop)]
 pub enum Input {
     /// A message arrives at a port.
     Arrive(PortId, Words),
@@ -14,7 +14,7 @@ pub enum Input {
 }
 
 /// An input of a partition, and its tick.
-#[derive(Debug, PartialEq, Eq, Drop)]
+#[derive(Drop)]
 pub struct InputLine {
     pub tick: Ticks,
     pub input: Input,

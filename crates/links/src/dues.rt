@@ -8,7 +8,7 @@ use apex_types::{MOST_PROCESSES, ProcessIndex, Ticks};
 use arrayvec::ArrayVec;
 
 /// A process, and the tick at which something is due for it.
-#[derive(Clone, Copy, Debug, PartialEq, Eq)]
+#[derive(Clone, Copy)]
 pub struct DueEntry {
     pub process: ProcessIndex,
     pub tick: Ticks,

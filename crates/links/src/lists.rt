@@ -12,7 +12,7 @@ use apex_types::{Discipline, Entry, MOST_PROCESSES, ProcessIndex};
 use std::alloc::{AllocError, Global};
 
 /// One of several lists, from 0.
-#[derive(Clone, Copy, Debug, PartialEq, Eq)]
+#[derive(Clone, Copy)]
 pub struct ListId(pub u8);
 
 /// Makes `count` empty lists. `AllocError`: out of memory.

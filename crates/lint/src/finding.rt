@@ -6,7 +6,7 @@ ghost use Rattle.lint.specs.Views.{found_all, found_of, if_so, unless};
 use std::alloc::AllocError;
 
 /// What is probably not meant.
-#[derive(Clone, Copy, Debug, PartialEq, Eq)]
+#[derive(Clone, Copy, PartialEq, Eq)]
 pub enum FindingKind {
     /// A port is declared that the partition's row has not.
     UnknownPort,
@@ -44,7 +44,7 @@ pub enum FindingKind {
 
 /// A finding: its line in the source, from 1, or 0 if it is about the row of the table; what is
 /// probably not meant; and the name that it is about, which is empty for INIT and the handler.
-#[derive(Clone, Copy, Debug)]
+#[derive(Clone, Copy)]
 pub struct Finding<'a> {
     pub line: u32,
     pub kind: FindingKind,

@@ -20,7 +20,7 @@ use window_table::TableFault;
 /// Why a table and sources are not built. If several reasons hold, the first of this list is
 /// reported, and of several sources that are refused, or too long, the first; out of memory may be
 /// reported earlier. The module table comes first.
-#[derive(Clone, Copy, Debug, PartialEq, Eq)]
+#[derive(Clone, Copy, Debug)]
 pub enum BuildFault {
     Table(TableFault),
     /// There are fewer or more sources than partitions.
@@ -112,7 +112,7 @@ impl fmt::Display for RunFault {
 impl Error for RunFault {}
 
 /// Why a module is not built and run.
-#[derive(Clone, Copy, Debug, PartialEq, Eq)]
+#[derive(Clone, Copy, Debug)]
 pub enum BuildAndRunFault {
     Build(BuildFault),
     Run(RunFault),

@@ -14,7 +14,7 @@ use std::fmt;
 
 /// Why the inputs that a run brings a partition are not written. If several reasons hold, the first
 /// of this list is reported; out of memory may be reported earlier.
-#[derive(Clone, Copy, Debug, PartialEq, Eq)]
+#[derive(Clone, Copy, Debug)]
 pub enum InputsFault {
     /// More than 2^40 ticks are requested.
     Ticks,

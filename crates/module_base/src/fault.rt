@@ -10,7 +10,7 @@ use std::error::Error;
 use std::fmt;
 
 /// Why a device text or a replay text is refused.
-#[derive(Clone, Copy, Debug, PartialEq, Eq)]
+#[derive(Clone, Copy, Debug)]
 pub enum DeviceTextFault {
     /// The fault of the first wrong line.
     Line(DeviceFault),

@@ -7,7 +7,7 @@ use crate::share::Share;
 use std::alloc::{AllocError, Global};
 
 /// The contents of a cell beside names.
-#[derive(Clone, Copy, Debug, PartialEq, Eq)]
+#[derive(Clone, Copy)]
 pub enum Cell {
     Number(u64),
     Share(Share),

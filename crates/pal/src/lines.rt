@@ -3,7 +3,7 @@
 ghost use Rattle.std.specs.Prelude.{◌≡◌, ◌&&◌, is_ok};
 
 /// A line of a source text, from 1.
-#[derive(Clone, Copy, Debug, PartialEq, Eq)]
+#[derive(Clone, Copy)]
 pub struct Line(pub u32);
 
 /// The answer of a check: nothing if the rule holds, else the first line that breaks it.

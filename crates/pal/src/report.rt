@@ -16,7 +16,7 @@ use pal_base::sizes::{size_of_body, size_of_procedure};
 use std::alloc::{AllocError, Global};
 
 /// A body of a program.
-#[derive(Clone, Copy, Debug, PartialEq, Eq)]
+#[derive(Clone, Copy)]
 pub enum BodyName {
     Init,
     Handler,
@@ -26,7 +26,7 @@ pub enum BodyName {
 
 /// The costs of a body: its instructions, the words of stack of its frame, and the ticks of its
 /// constructs, each construct once and its end included.
-#[derive(Clone, Copy, Debug, PartialEq, Eq)]
+#[derive(Clone, Copy)]
 pub struct BodyCost {
     pub name: BodyName,
     pub instructions: u64,

@@ -12,7 +12,7 @@ use apex_types::{Costs, Place, Service};
 
 /// The cost of constructs, each counted once: the sum of their ticks. A sum that does not fit 64
 /// bits is the greatest number that does.
-#[derive(Clone, Copy, Debug, PartialEq, Eq)]
+#[derive(Clone, Copy)]
 pub struct Cost {
     pub ticks: u64,
 }

@@ -39,7 +39,7 @@ impl Refusal {
 
 /// A refusal of a source text, and the line that it is about, from 1. If memory ran out, `line`
 /// is 0.
-#[derive(Clone, Copy, Debug, PartialEq, Eq, Error)]
+#[derive(Clone, Copy, Debug, Error)]
 #[error("refused by {refusal:?} in line {line}")]
 pub struct PalFault {
     pub refusal: Refusal,

@@ -15,7 +15,7 @@ use apex_types::Service;
 use std::alloc::{AllocError, Global};
 
 /// A kind of word: a name, a number, the name of a service, a mark, or the end of the text.
-#[derive(Clone, Copy, Debug, PartialEq, Eq)]
+#[derive(Clone, Copy)]
 pub enum WordKind {
     Name,
     Number,

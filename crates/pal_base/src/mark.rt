@@ -1,7 +1,7 @@
 //! The fixed words of the grammar.
 
 /// A fixed word of the grammar: one of its lower-case words, which are not names, or a sign.
-#[derive(Clone, Copy, Debug, PartialEq, Eq)]
+#[derive(Clone, Copy, PartialEq, Eq)]
 pub enum Mark {
     Var,
     Array,

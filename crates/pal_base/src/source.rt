@@ -17,7 +17,7 @@ use indexmap::IndexSet;
 use std::alloc::{AllocError, AllocFailed};
 
 /// The place where the words of a text leave the grammar.
-#[derive(Clone, Copy, Debug, PartialEq, Eq)]
+#[derive(Clone, Copy)]
 pub struct Misfit {
     /// The number of words there and behind.
     pub left: usize,
@@ -26,7 +26,7 @@ pub struct Misfit {
 }
 
 /// Why nothing was read: memory ran out, or the grammar does not allow the word there.
-#[derive(Clone, Copy, Debug, PartialEq, Eq)]
+#[derive(Clone, Copy)]
 pub enum ReadError {
     Memory,
     Refused(Misfit),
@@ -65,7 +65,7 @@ pub struct Source {
 pub type Read<'a, T> = Result<(T, &'a [Token]), ReadError>;
 
 /// The ranks of the operators of chains, the weakest first.
-#[derive(Clone, Copy, Debug, PartialEq, Eq)]
+#[derive(Clone, Copy, PartialEq, Eq)]
 pub enum Rank {
     Disjunction,
     Conjunction,

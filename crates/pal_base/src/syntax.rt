@@ -7,25 +7,25 @@ use apex_types::{BinaryOperator, Discipline, Service, UnaryOperator};
 use indexmap::IndexSet;
 
 /// A name of the source, by its place among the names in the order in which they are first seen.
-#[derive(Clone, Copy, Debug, PartialEq, Eq)]
+#[derive(Clone, Copy)]
 pub struct NameId(pub usize);
 
 /// A name where it stands in the text.
-#[derive(Clone, Copy, Debug, PartialEq, Eq)]
+#[derive(Clone, Copy)]
 pub struct Identifier {
     pub name: NameId,
     pub line: u32,
 }
 
 /// A number as it is written: its value, or that it is above 2^63 - 1.
-#[derive(Clone, Copy, Debug, PartialEq, Eq)]
+#[derive(Clone, Copy)]
 pub enum Natural {
     Within(i64),
     TooLarge,
 }
 
 /// A number where it stands in the text; `negative` is true if a minus sign stands before it.
-#[derive(Clone, Copy, Debug, PartialEq, Eq)]
+#[derive(Clone, Copy)]
 pub struct Numeral {
     pub magnitude: Natural,
     pub negative: bool,

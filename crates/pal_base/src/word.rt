@@ -25,7 +25,7 @@ use indexmap::IndexSet;
 use std::alloc::Global;
 
 /// A word of a source text.
-#[derive(Clone, Copy, Debug, PartialEq, Eq)]
+#[derive(Clone, Copy)]
 pub enum Word {
     Name(NameId),
     Number(Natural),
@@ -36,7 +36,7 @@ pub enum Word {
 }
 
 /// A word where it stands in the text.
-#[derive(Clone, Copy, Debug, PartialEq, Eq)]
+#[derive(Clone, Copy)]
 pub struct Token {
     pub word: Word,
     pub line: u32,
@@ -127,7 +127,7 @@ fn is_upper(byte: u8) -> bool
 
 /// The kinds of runs of bytes: lower-case letters, digits and underscores; digits alone; upper-case
 /// letters and underscores.
-#[derive(Clone, Copy, Debug, PartialEq, Eq)]
+#[derive(Clone, Copy, PartialEq, Eq)]
 enum Run {
     Name,
     Digits,

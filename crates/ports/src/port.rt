@@ -36,7 +36,7 @@ impl Model for Port {
 }
 
 /// The status of a port, without its messages.
-#[derive(Clone, Copy, Debug, PartialEq, Eq)]
+#[derive(Clone, Copy)]
 pub(crate) struct PortStatus {
     pub(crate) row: PortRow,
     pub(crate) created: bool,

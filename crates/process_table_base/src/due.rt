@@ -22,7 +22,7 @@ use apex_types::{
 
 /// The result of treating the processes, besides its lines: how many more errors may wait for the
 /// error handler, and the mode of the Clear that ended it, if one did.
-#[derive(Clone, Copy, Debug, PartialEq, Eq)]
+#[derive(Clone, Copy)]
 pub struct Treated {
     pub free: u8,
     pub clears: Option<Mode>,

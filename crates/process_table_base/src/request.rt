@@ -3,7 +3,7 @@
 use apex_types::{ArrayPlace, Mode, Moment, Runner};
 
 /// A call of a service: its caller, its tick, and the mode of the partition.
-#[derive(Clone, Copy, Debug, PartialEq, Eq)]
+#[derive(Clone, Copy)]
 pub struct Request {
     pub caller: Runner,
     pub moment: Moment,
@@ -13,7 +13,7 @@ pub struct Request {
 /// What a call hands in: its array, and how many words of it are the message. The words themselves
 /// are passed separately, since a value with a reference to them would cost each call a copy of
 /// them.
-#[derive(Clone, Copy, Debug, PartialEq, Eq)]
+#[derive(Clone, Copy)]
 pub struct Handed {
     pub array: ArrayPlace,
     pub length: i64,

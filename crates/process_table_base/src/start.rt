@@ -45,7 +45,7 @@ pub(crate) fn released_at(tick: Ticks, row: &ProcessStatus) -> ProcessStatus
 
 /// The points from which a start in normal mode counts: its moment, and the partition's next
 /// release point.
-#[derive(Clone, Copy, Debug, PartialEq, Eq)]
+#[derive(Clone, Copy)]
 pub struct Points {
     pub moment: Moment,
     pub next: Ticks,

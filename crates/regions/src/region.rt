@@ -6,7 +6,7 @@ ghost use Rattle.regions.specs.Rights.{is_readable, is_writable, region_at, righ
 use bitflags::{Flag, Flags, bitflag_items};
 
 /// The rights to the words of a region.
-#[derive(Clone, Copy, Debug, PartialEq, Eq)]
+#[derive(Clone, Copy)]
 pub struct Rights(u8);
 
 bitflag_items! {
@@ -40,7 +40,7 @@ impl Flags for Rights {
 }
 
 /// A region of a partition's memory.
-#[derive(Clone, Copy, Debug, PartialEq, Eq)]
+#[derive(Clone, Copy, PartialEq, Eq)]
 pub enum Region {
     /// The instructions.
     Code,

@@ -3,3 +3,4 @@ pub mod Offers
 pub mod Runs
 pub mod Sums
 pub mod Pictures
+pub mod Steps

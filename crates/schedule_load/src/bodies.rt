@@ -13,7 +13,7 @@ use std::alloc::{AllocError, Global};
 /// What a body costs in ticks, each of its constructs counted once and its end included; and of a
 /// process its period and its time capacity, and the share of the cost in the capacity if it has
 /// both. A cost above 2^64 - 1 stands as 2^64 - 1.
-#[derive(Clone, Copy, Debug)]
+#[derive(Clone, Copy)]
 pub struct BodyLoad {
     pub name: BodyName,
     pub cost: u64,

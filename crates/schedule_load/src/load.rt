@@ -14,7 +14,7 @@ use std::alloc::{AllocError, Global};
 use window_table::{ModuleTable, PartitionRow, Schedule};
 
 /// The load of a partition, in ticks.
-#[derive(Clone, Copy, Debug)]
+#[derive(Clone, Copy)]
 pub struct PartitionLoad {
     pub name: Name,
     /// The ticks of a frame that it owns.

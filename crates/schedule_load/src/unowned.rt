@@ -9,7 +9,7 @@ use std::alloc::{AllocError, Global};
 use window_table::Schedule;
 
 /// A run of ticks of the frame that nobody owns, as long as it can be.
-#[derive(Clone, Copy, Debug, PartialEq, Eq)]
+#[derive(Clone, Copy)]
 pub struct Gap {
     pub from: u32,
     pub ticks: u32,

@@ -9,7 +9,7 @@ use std::alloc::{AllocError, Global};
 use std::io::ErrorKind;
 
 /// Why a file or text is not opened, read or written.
-#[derive(Clone, Copy, Debug, PartialEq, Eq)]
+#[derive(Clone, Copy, PartialEq, Eq)]
 pub enum Reason {
     /// Nothing has this name.
     Missing,
@@ -38,7 +38,7 @@ pub fn reason_of(kind: ErrorKind) -> Reason
 }
 
 /// Why a named file or text is not available.
-#[derive(Clone, Copy, Debug, PartialEq, Eq)]
+#[derive(Clone, Copy)]
 pub enum NameFault {
     /// It is not opened, read or written.
     Unavailable(Reason),

@@ -26,7 +26,7 @@ impl Model for Blackboard {
 }
 
 /// The status of a blackboard, without its message.
-#[derive(Clone, Copy, Debug, PartialEq, Eq)]
+#[derive(Clone, Copy)]
 pub struct BlackboardStatus {
     pub row: BlackboardRow,
     pub created: bool,

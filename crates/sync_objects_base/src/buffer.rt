@@ -31,7 +31,7 @@ impl Model for Buffer {
 }
 
 /// The status of a buffer, without its messages.
-#[derive(Clone, Copy, Debug, PartialEq, Eq)]
+#[derive(Clone, Copy)]
 pub struct BufferStatus {
     pub row: BufferRow,
     pub created: bool,

@@ -6,7 +6,7 @@ use crate::beginning::{has_control, has_stray, is_foreign, is_longer_than_a_sour
 use streams::Reading;
 
 /// What a text is judged as.
-#[derive(Clone, Copy, Debug, PartialEq, Eq)]
+#[derive(Clone, Copy, PartialEq, Eq)]
 pub enum TextKind {
     Table,
     Source,

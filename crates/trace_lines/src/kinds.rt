@@ -9,7 +9,7 @@ use text_lines::split_at;
 use trace_text::{Keyword, keyword_of};
 
 /// A set of kinds of lines, by the words that say what a line tells.
-#[derive(Clone, Copy, Debug, PartialEq, Eq)]
+#[derive(Clone, Copy)]
 pub struct Kinds {
     state: bool,
     ret: bool,

@@ -7,7 +7,7 @@ use crate::kinds::Kinds;
 use apex_types::{ErrorKind, Event, EventKind};
 
 /// The lines that a limit counts.
-#[derive(Clone, Copy, Debug, PartialEq, Eq)]
+#[derive(Clone, Copy)]
 pub enum Counted {
     /// Lines of these kinds.
     Kinds(Kinds),
@@ -16,7 +16,7 @@ pub enum Counted {
 }
 
 /// A limit, and how many lines more may come.
-#[derive(Clone, Copy, Debug, PartialEq, Eq)]
+#[derive(Clone, Copy)]
 pub struct Limit {
     what: Counted,
     left: u64,
@@ -46,7 +46,7 @@ impl Limit {
 }
 
 /// Limits, each of which may be left out.
-#[derive(Clone, Copy, Debug, PartialEq, Eq)]
+#[derive(Clone, Copy)]
 pub struct Limits {
     /// Of lines that may not come at all.
     pub no: Option<Limit>,

@@ -44,7 +44,7 @@ static POWERS: [u64; 19] = [
 ];
 
 /// The ticks of a picture, from the left to the right.
-#[derive(Clone, Copy, Debug, PartialEq, Eq)]
+#[derive(Clone, Copy)]
 pub struct Axis {
     pub span: Span,
     /// The length of the axis, in tenths of a pixel.

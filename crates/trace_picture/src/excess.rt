@@ -4,7 +4,7 @@ use apex_types::Ticks;
 
 /// Up to where a picture that would have too many elements has few enough, and how many shapes it
 /// would have in all.
-#[derive(Clone, Copy, Debug, PartialEq, Eq)]
+#[derive(Clone, Copy, Debug)]
 pub struct Excess {
     /// The number of all bars, arrows, flags and marks in the ticks that are shown. A bar that windows
     /// cut counts once, and windows do not count.

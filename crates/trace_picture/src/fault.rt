@@ -10,7 +10,7 @@ use std::fmt;
 use trace_stays::MemoryFull;
 
 /// Why a picture is not made.
-#[derive(Clone, Copy, Debug, PartialEq, Eq)]
+#[derive(Clone, Copy, Debug)]
 pub enum PictureFault {
     /// Memory ran out.
     Memory,

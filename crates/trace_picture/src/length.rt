@@ -7,7 +7,7 @@ use std::ops::{Add, Sub};
 
 /// A length in tenths of a pixel. A sum that is too great is the greatest length, and a difference
 /// below 0 is 0.
-#[derive(Clone, Copy, Debug, PartialEq, Eq)]
+#[derive(Clone, Copy)]
 pub struct Length(pub u64);
 
 impl Length {

@@ -12,7 +12,7 @@ pub const MOST_WIDE: u32 = 30_000;
 const BESIDE: u32 = 1_800;
 
 /// The width of a picture, in pixels.
-#[derive(Clone, Copy, Debug, PartialEq, Eq)]
+#[derive(Clone, Copy)]
 pub struct Width {
     pixels: u32,
     ghost least: { 1200 ≤ pixels },

@@ -8,14 +8,14 @@ use apex_types::{Name, Subject};
 use std::alloc::Global;
 
 /// A partition that has a line.
-#[derive(Clone, Copy, Debug)]
+#[derive(Clone, Copy)]
 pub struct PartitionLane {
     pub name: Name,
     pub(crate) watch: ModeWatch,
 }
 
 /// The subject of a line of a process: the process, INIT or the error handler of a partition.
-#[derive(Clone, Copy, Debug)]
+#[derive(Clone, Copy)]
 pub struct ProcessLane {
     /// The place of its partition among the partitions.
     pub partition: usize,
@@ -24,7 +24,7 @@ pub struct ProcessLane {
 }
 
 /// A stay that is over.
-#[derive(Clone, Copy, Debug, PartialEq, Eq)]
+#[derive(Clone, Copy, PartialEq, Eq)]
 pub enum Ended {
     /// Of the process at this place among the processes.
     State(usize, Stay),

@@ -7,7 +7,7 @@ use crate::span::Span;
 use apex_types::Ticks;
 
 /// The ticks of a trace that are shown, while its lines are read.
-#[derive(Clone, Copy, Debug, PartialEq, Eq)]
+#[derive(Clone, Copy)]
 pub struct ShownTicks {
     from: Ticks,
     /// The tick before which they end; without it they end behind the last line.

@@ -7,21 +7,21 @@ use crate::span::Span;
 use apex_types::{Mode, ProcessState, Ticks};
 
 /// A process stays in a state for these ticks.
-#[derive(Clone, Copy, Debug, PartialEq, Eq)]
+#[derive(Clone, Copy, PartialEq, Eq)]
 pub struct Stay {
     pub state: ProcessState,
     pub span: Span,
 }
 
 /// A partition stays in a mode for these ticks.
-#[derive(Clone, Copy, Debug, PartialEq, Eq)]
+#[derive(Clone, Copy, PartialEq, Eq)]
 pub struct ModeStay {
     pub mode: Mode,
     pub span: Span,
 }
 
 /// The state of a process, and the first tick that counts for it.
-#[derive(Clone, Copy, Debug, PartialEq, Eq)]
+#[derive(Clone, Copy)]
 struct Held {
     state: ProcessState,
     since: Ticks,
@@ -78,7 +78,7 @@ fn left_at(state: ProcessState, next: Option<ProcessState>, tick: Ticks) -> Tick
 
 /// The state of one process as the lines so far show it. A process that has no line yet, or whose
 /// partition has started again, is in none.
-#[derive(Clone, Copy, Debug, PartialEq, Eq)]
+#[derive(Clone, Copy)]
 pub struct StateWatch {
     held: Option<Held>,
 }
@@ -135,14 +135,14 @@ impl StateWatch {
 }
 
 /// The mode of a partition, and the first tick that counts for it.
-#[derive(Clone, Copy, Debug, PartialEq, Eq)]
+#[derive(Clone, Copy)]
 struct HeldMode {
     mode: Mode,
     since: Ticks,
 }
 
 /// The mode of one partition as the lines so far show it.
-#[derive(Clone, Copy, Debug, PartialEq, Eq)]
+#[derive(Clone, Copy)]
 pub struct ModeWatch {
     held: Option<HeldMode>,
 }

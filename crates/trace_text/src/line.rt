@@ -12,7 +12,7 @@ use apex_types::{Event, EventKind, Name, Response, Service, Subject};
 use text_lines::split_at;
 
 /// The bytes are no line of a trace.
-#[derive(Clone, Copy, Debug, PartialEq, Eq)]
+#[derive(Clone, Copy, Debug)]
 pub struct LineFault;
 
 /// The event whose line this is. The line ends with its line feed.

@@ -5,7 +5,7 @@ ghost use Rattle.std.specs.Prelude.{◌≡◌};
 use apex_types::StartCondition;
 
 /// How often a partition has started, by the condition of the start.
-#[derive(Clone, Copy, Debug, PartialEq, Eq)]
+#[derive(Clone, Copy)]
 pub struct Conditions {
     pub normal_start: u64,
     pub partition_restart: u64,

@@ -9,7 +9,7 @@ use std::alloc::Global;
 use trace_stays::{MemoryFull, is_same_partition};
 
 /// The errors of one kind that were answered alike, of one partition or of the module.
-#[derive(Clone, Copy, Debug)]
+#[derive(Clone, Copy)]
 pub struct ErrorTotal {
     /// The partition; `None` for a fault of the module.
     pub partition: Option<Name>,

@@ -7,7 +7,7 @@ use apex_types::Ticks;
 use trace_stays::Span;
 
 /// The lines and ticks that were counted.
-#[derive(Clone, Copy, Debug, PartialEq, Eq)]
+#[derive(Clone, Copy)]
 pub struct Extent {
     pub lines: u64,
     /// The tick of the first line that was counted.

@@ -6,7 +6,7 @@ ghost use Rattle.trace_view.specs.Counting.{route_of};
 use apex_types::{EventKind, Name};
 
 /// A port or channel where messages pass.
-#[derive(Clone, Copy, Debug, PartialEq, Eq)]
+#[derive(Clone, Copy)]
 pub enum Route {
     /// A port of the partition.
     Port(Name),
@@ -15,7 +15,7 @@ pub enum Route {
 }
 
 /// The numbers of messages that passed.
-#[derive(Clone, Copy, Debug, PartialEq, Eq)]
+#[derive(Clone, Copy)]
 pub struct Messages {
     /// Messages that left the port.
     pub moved: u64,

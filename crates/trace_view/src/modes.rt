@@ -6,7 +6,7 @@ use apex_types::Mode;
 use trace_stays::{ModeStay, Span};
 
 /// The ticks of a partition in each mode.
-#[derive(Clone, Copy, Debug, PartialEq, Eq)]
+#[derive(Clone, Copy)]
 pub struct ModeTicks {
     pub normal: u64,
     pub cold_start: u64,

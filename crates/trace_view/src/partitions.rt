@@ -14,7 +14,7 @@ use std::alloc::Global;
 use trace_stays::{MemoryFull, ModeWatch, Span};
 
 /// What the lines so far say of a partition.
-#[derive(Clone, Copy, Debug)]
+#[derive(Clone, Copy)]
 pub struct PartitionRow {
     name: Name,
     watch: ModeWatch,

@@ -5,7 +5,7 @@ ghost use Rattle.std.specs.Prelude.{◌≡◌};
 use apex_types::ReturnCode;
 
 /// The number of services that answered each code except `NO_ERROR`.
-#[derive(Clone, Copy, Debug, PartialEq, Eq)]
+#[derive(Clone, Copy)]
 pub struct Refusals {
     pub no_action: u64,
     pub not_available: u64,

@@ -13,7 +13,7 @@ use std::alloc::{AllocError, Global};
 use trace_windows::Shares;
 
 /// The numbers of a partition.
-#[derive(Clone, Copy, Debug)]
+#[derive(Clone, Copy)]
 pub struct PartitionTotal {
     pub name: Name,
     pub modes: ModeTicks,
@@ -21,7 +21,7 @@ pub struct PartitionTotal {
 }
 
 /// The numbers of a process, of INIT or of an error handler.
-#[derive(Clone, Copy, Debug)]
+#[derive(Clone, Copy)]
 pub struct ProcessTotal {
     pub partition: Name,
     pub who: Subject,
@@ -31,7 +31,7 @@ pub struct ProcessTotal {
 }
 
 /// The messages of a port or a channel.
-#[derive(Clone, Copy, Debug)]
+#[derive(Clone, Copy)]
 pub struct RouteTotal {
     pub partition: Name,
     pub route: Route,

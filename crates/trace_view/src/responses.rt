@@ -9,7 +9,7 @@ use std::alloc::Global;
 use trace_stays::MemoryFull;
 
 /// The percentiles of the response times of a process.
-#[derive(Clone, Copy, Debug, PartialEq, Eq)]
+#[derive(Clone, Copy)]
 pub struct ResponseSpreads {
     /// Of the ticks from the READY of an activation to its first RUNNING.
     pub to_running: Spread,

@@ -6,7 +6,7 @@ use crate::conditions::Conditions;
 use apex_types::{Mode, StartCondition};
 
 /// How often a partition has started, by the mode of the start and by its condition.
-#[derive(Clone, Copy, Debug, PartialEq, Eq)]
+#[derive(Clone, Copy)]
 pub struct Starts {
     pub cold: u64,
     pub warm: u64,

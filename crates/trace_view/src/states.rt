@@ -6,7 +6,7 @@ use apex_types::ProcessState;
 use trace_stays::{Span, Stay};
 
 /// The ticks of a process in each state.
-#[derive(Clone, Copy, Debug, PartialEq, Eq)]
+#[derive(Clone, Copy)]
 pub struct StateTicks {
     pub running: u64,
     pub ready: u64,

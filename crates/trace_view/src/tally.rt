@@ -10,7 +10,7 @@ use apex_types::{ProcessState, ReturnCode, Ticks};
 use trace_stays::{Span, Stay};
 
 /// A process enters a state, or is gone.
-#[derive(Clone, Copy, Debug, PartialEq, Eq)]
+#[derive(Clone, Copy)]
 pub struct Turn {
     /// The tick of the line that says so.
     pub tick: Ticks,
@@ -21,7 +21,7 @@ pub struct Turn {
 }
 
 /// The ticks from the READY of an activation, as a turn measures them.
-#[derive(Clone, Copy, Debug, PartialEq, Eq)]
+#[derive(Clone, Copy)]
 pub enum Measured {
     /// To its first RUNNING.
     ToRunning(u64),
@@ -30,7 +30,7 @@ pub enum Measured {
 }
 
 /// An activation that is not over.
-#[derive(Clone, Copy, Debug, PartialEq, Eq)]
+#[derive(Clone, Copy)]
 struct Activation {
     /// The tick of its READY line.
     ready: Ticks,
@@ -39,7 +39,7 @@ struct Activation {
 }
 
 /// The numbers of one process.
-#[derive(Clone, Copy, Debug, PartialEq, Eq)]
+#[derive(Clone, Copy)]
 pub struct Tally {
     pub ticks: StateTicks,
     /// The number of times that it became READY without being preempted.

@@ -8,7 +8,7 @@ use std::collections::BTreeMap;
 use trace_stays::MemoryFull;
 
 /// The least time such that so many of all times are at most as long.
-#[derive(Clone, Copy, Debug, PartialEq, Eq)]
+#[derive(Clone, Copy, PartialEq, Eq)]
 pub enum Percentile {
     /// Half of them.
     Median,
@@ -17,7 +17,7 @@ pub enum Percentile {
 }
 
 /// Two percentiles of the same times; `None` if there were none.
-#[derive(Clone, Copy, Debug, PartialEq, Eq)]
+#[derive(Clone, Copy)]
 pub struct Spread {
     pub median: Option<u64>,
     pub ninety_fifth: Option<u64>,

@@ -9,7 +9,7 @@ use apex_types::{
 use trace_stays::is_same_partition;
 
 /// What the lines so far tell of a start in the next one.
-#[derive(Clone, Copy, Debug)]
+#[derive(Clone, Copy)]
 pub struct Told {
     condition: Option<StartCondition>,
     /// The partition that has just started so. Each does it once.

@@ -10,7 +10,7 @@ use std::alloc::Global;
 use trace_stays::MemoryFull;
 
 /// The messages of a port or a channel of a partition.
-#[derive(Clone, Copy, Debug, PartialEq, Eq)]
+#[derive(Clone, Copy)]
 pub struct Passage {
     pub partition: Name,
     pub route: Route,

@@ -8,7 +8,7 @@ use crate::usage::Use;
 use std::alloc::Global;
 
 /// The number of ticks in which the processor did the same.
-#[derive(Clone, Copy, Debug)]
+#[derive(Clone, Copy)]
 pub struct Row {
     pub used: Use,
     pub ticks: u64,

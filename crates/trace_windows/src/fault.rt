@@ -7,7 +7,7 @@ use apex_types::Name;
 use std::alloc::{AllocError, AllocFailed};
 
 /// Why the windows of a trace are not known.
-#[derive(Clone, Copy, Debug, PartialEq, Eq)]
+#[derive(Clone, Copy)]
 pub enum WindowsFault {
     /// The module table has no partition of this name.
     Unknown(Name),

@@ -8,7 +8,7 @@ use std::alloc::{AllocError, AllocFailed};
 use trace_stays::MemoryFull;
 
 /// Why a line is not counted.
-#[derive(Clone, Copy, Debug, PartialEq, Eq)]
+#[derive(Clone, Copy, Debug)]
 pub enum SharesFault {
     /// The module table has no partition of this name.
     Unknown(Name),

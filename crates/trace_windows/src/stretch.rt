@@ -6,7 +6,7 @@ use apex_types::PartitionId;
 use trace_stays::Span;
 
 /// Ticks that follow one another: those of a window, or those between two windows.
-#[derive(Clone, Copy, Debug, PartialEq, Eq)]
+#[derive(Clone, Copy)]
 pub struct Stretch {
     /// The partition in whose window they are, by its number in the module table; `None` for ticks in
     /// no window.

@@ -6,7 +6,7 @@ use apex_types::{PartitionId, Subject};
 use trace_stays::is_same_subject;
 
 /// What the processor did in a tick.
-#[derive(Clone, Copy, Debug, PartialEq, Eq)]
+#[derive(Clone, Copy)]
 pub enum Use {
     /// It worked for this process of the partition, for its initialisation or its error handler.
     Process(PartitionId, Subject),

@@ -20,7 +20,7 @@ use trace_lines::{Counted, Filter, Kinds, Limit, Limits};
 use trace_picture::Width;
 
 /// The ticks that are asked for.
-#[derive(Clone, Copy, Debug, PartialEq, Eq)]
+#[derive(Clone, Copy)]
 pub struct AskedTicks {
     /// The first one.
     pub from: Ticks,

@@ -42,7 +42,7 @@ pub enum View {
 }
 
 /// What is told of a trace by the exit status.
-#[derive(Clone, Copy, Debug, PartialEq, Eq)]
+#[derive(Clone, Copy, PartialEq, Eq)]
 pub enum Outcome {
     /// It is shown.
     Shown,
@@ -51,7 +51,7 @@ pub enum Outcome {
 }
 
 /// Why an event is not taken.
-#[derive(Clone, Copy, Debug, PartialEq, Eq)]
+#[derive(Clone, Copy)]
 pub enum ViewFault {
     Memory,
     /// The picture or the dump would have too many windows.

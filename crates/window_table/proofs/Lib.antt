@@ -1,3 +1,4 @@
+pub mod Casts
 pub mod MemberWalks
 pub mod Orders
 pub mod Periods

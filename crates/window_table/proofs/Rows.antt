@@ -130,3 +130,33 @@ limit_on A B fault.Health here whole h on = h
 pub any_here_item : {X : Type 0} (p : X → Bool) (f : List X → Bool) (xs : List X) (i : ℕ) (x : X) (whole : Bool) → ((y : X) (ys : List X) → f (y ∷ ys) ≡ (p y || f ys))
     → i < length xs → x ≡ get_or xs i x → p x ≡ true → whole ≡ f (drop i xs) → whole ≡ true
 any_here_item p f xs i x whole law some read here before = any_here p f xs i x whole law some (ap p (sym read) ∙ here) before
+
+-- the rows of one more item stand behind those so far
+pub some_more_item : {X Y : Type 0} (own : X → List Y) (f : List X → List Y) (xs : List X) (i : ℕ) (x : X) (old new whole : List Y) → ((y : X) (ys : List X) → f (y ∷ ys) ≡ own y ++ f ys)
+    → i < length xs → x ≡ get_or xs i x → new ≡ old ++ own x → whole ≡ old ++ f (drop i xs) → whole ≡ new ++ f (drop (i + 1) xs)
+some_more_item own f xs i x old new whole law some read is before =
+    before ∙ ap (λ (ys : List _). old ++ ys) (at_drop_more f xs i x some ∙ law (get_or xs i x) (drop (i + 1) xs))
+    ∙ sym (append_assoc old (own (get_or xs i x)) (f (drop (i + 1) xs))) ∙ ap (λ (ys : List _). ys ++ f (drop (i + 1) xs)) (sym (is ∙ ap (λ (y : _). old ++ own y) read))
+
+-- whether `p` has found an item so far
+found_one : (old found rest : Bool) → (old || (found || rest)) ≡ ((found || old) || rest)
+found_one true true rest = refl
+found_one true false rest = refl
+found_one false true rest = refl
+found_one false false rest = refl
+
+pub any_so_far : {X : Type 0} (p : X → Bool) (f : List X → Bool) (xs : List X) (i : ℕ) (x : X) (old new found whole : Bool) → ((y : X) (ys : List X) → f (y ∷ ys) ≡ (p y || f ys))
+    → i < length xs → x ≡ get_or xs i x → p x ≡ found → new ≡ (found || old) → whole ≡ (old || f (drop i xs)) → whole ≡ (new || f (drop (i + 1) xs))
+any_so_far p f xs i x old new found whole law some read is next before =
+    before ∙ ap (λ (b : Bool). old || b) (at_drop_more f xs i x some ∙ law (get_or xs i x) (drop (i + 1) xs) ∙ ap (λ (b : Bool). b || f (drop (i + 1) xs)) (ap p (sym read) ∙ is))
+    ∙ found_one old found (f (drop (i + 1) xs)) ∙ ap (λ (b : Bool). b || f (drop (i + 1) xs)) (sym next)
+
+pub so_far_is_all : {X : Type 0} (f : List X → Bool) (xs : List X) (i : ℕ) (old whole : Bool) → f [] ≡ false → length xs ≤ i → whole ≡ (old || f (drop i xs)) → whole ≡ old
+so_far_is_all f xs i true whole nil all before = before
+so_far_is_all f xs i false whole nil all before = before ∙ at_drop_all f xs i all ∙ nil
+
+-- the same where the rest is gone over with another state
+pub still_any_then : {X : Type 0} (p : X → Bool) (f behind : List X → Bool) (xs : List X) (i : ℕ) (x : X) (whole : Bool) → ((y : X) (ys : List X) → f (y ∷ ys) ≡ (p y || behind ys))
+    → i < length xs → x ≡ get_or xs i x → p x ≡ false → whole ≡ f (drop i xs) → whole ≡ behind (drop (i + 1) xs)
+still_any_then p f behind xs i x whole law some read not before =
+    before ∙ at_drop_more f xs i x some ∙ law (get_or xs i x) (drop (i + 1) xs) ∙ ap (λ (b : Bool). b || behind (drop (i + 1) xs)) (ap p (sym read) ∙ not)

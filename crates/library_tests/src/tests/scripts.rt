@@ -160,20 +160,24 @@ fn name(rt: &impl Abort, text: &[u8]) -> Name {
 
 fn schedule(rt: &impl Abort, alloc: Global) -> Schedule {
     match read_table(alloc, TABLE.as_bytes()) {
-        Ok(table) => table.schedule,
+        Ok(table) => table.schedule.try_clone(alloc).expect(rt, "memory"),
         Err(_) => panic!(rt; "the table is refused"),
+    }
+}
+
+/// This tick of a module that began at tick 0.
+fn moment(now: u8) -> Moment {
+    Moment {
+        at: At {
+            now: Ticks(u64::from(now)),
+            origin: Ticks(0),
+        },
     }
 }
 
 /// The number of the thousand ticks from a tick on in which nothing happens.
 fn still(partition: &Partition<Scripted>, now: u8) -> u32 {
-    let moment = Moment {
-        at: At {
-            now: Ticks(u64::from(now)),
-            origin: Ticks(0),
-        },
-    };
-    partition.kernel().still_ticks(moment, 1000)
+    partition.kernel().still_ticks(moment(now), 1000)
 }
 
 /// Expects these lines of a tick.
@@ -189,13 +193,7 @@ fn expect_tick(
     ensures { laid_of mem.new ≡ layout_of partition.new.executor }
 {
     let mut trace = TraceBuffer::new(alloc).expect(rt, "memory");
-    let moment = Moment {
-        at: At {
-            now: Ticks(u64::from(now)),
-            origin: Ticks(0),
-        },
-    };
-    partition.tick(mem, moment, &mut trace);
+    partition.tick(mem, moment(now), &mut trace);
     expect_lines(rt, alloc, &mut trace, lines);
 }
 
@@ -203,6 +201,24 @@ fn expect_lines(rt: &impl Abort, alloc: Global, trace: &mut TraceBuffer, lines: 
     let mut sink = WriterSink::new(Vec::new(alloc));
     let _ = trace.write_events(&mut sink);
     assert_eq!(rt; sink.writer.as_slice(), lines.as_bytes());
+}
+
+/// Starts the partition; INIT ends in tick 2, and the process runs in tick 3.
+fn begin(
+    rt: &impl Abort,
+    alloc: Global,
+    partition: &mut Partition<Scripted>,
+    mem: &mut PartitionMem,
+)
+    requires { laid_of mem.old ≡ layout_of partition.old.executor }
+    ensures { laid_of mem.new ≡ layout_of partition.new.executor }
+{
+    let mut events = Events::new();
+    partition.clear(mem, moment(0), StartCondition::NormalStart, &mut events);
+    expect_tick(rt, alloc, partition, mem, 0, CREATED);
+    expect_tick(rt, alloc, partition, mem, 1, STARTED);
+    expect_tick(rt, alloc, partition, mem, 2, NORMAL);
+    expect_tick(rt, alloc, partition, mem, 3, RUNNING);
 }
 
 #[test]
@@ -213,18 +229,7 @@ fn scripts_are_played(rt: HostRuntime) {
     let mut partition = partition(&rt, alloc, script);
     let mut memory = memory(alloc).expect(&rt, "memory");
     let mem = memory.lend(PartitionId(1));
-    let mut events = Events::new();
-    let start = Moment {
-        at: At {
-            now: Ticks(0),
-            origin: Ticks(0),
-        },
-    };
-    partition.clear(mem, start, StartCondition::NormalStart, &mut events);
-    expect_tick(&rt, alloc, &mut partition, mem, 0, CREATED);
-    expect_tick(&rt, alloc, &mut partition, mem, 1, STARTED);
-    expect_tick(&rt, alloc, &mut partition, mem, 2, NORMAL);
-    expect_tick(&rt, alloc, &mut partition, mem, 3, RUNNING);
+    begin(&rt, alloc, &mut partition, mem);
     expect_tick(&rt, alloc, &mut partition, mem, 4, ASKED);
     assert_eq!(rt; still(&partition, 5), 0);
     expect_tick(&rt, alloc, &mut partition, mem, 5, FAULTY);
@@ -241,18 +246,7 @@ fn a_thousand_silent_ticks_are_at_most_two_calls(rt: HostRuntime) {
     let mut partition = partition(&rt, alloc, Vec::new(alloc));
     let mut memory = memory(alloc).expect(&rt, "memory");
     let mem = memory.lend(PartitionId(1));
-    let mut events = Events::new();
-    let start = Moment {
-        at: At {
-            now: Ticks(0),
-            origin: Ticks(0),
-        },
-    };
-    partition.clear(mem, start, StartCondition::NormalStart, &mut events);
-    expect_tick(&rt, alloc, &mut partition, mem, 0, CREATED);
-    expect_tick(&rt, alloc, &mut partition, mem, 1, STARTED);
-    expect_tick(&rt, alloc, &mut partition, mem, 2, NORMAL);
-    expect_tick(&rt, alloc, &mut partition, mem, 3, RUNNING);
+    begin(&rt, alloc, &mut partition, mem);
     let before = partition.executor().calls();
     let moment = Moment {
         at: At {

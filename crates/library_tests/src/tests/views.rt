@@ -9,7 +9,7 @@ use trace_picture::reading::picture_of;
 use trace_picture::{Drawing, Width, push_escaped};
 use trace_stays::laws::follow_all;
 use trace_stays::{Ended, Span, Stay};
-use trace_text::TraceReader;
+use trace_text::{TraceFault, TraceReader, check_trace, read_line};
 use trace_view::{Report, summary_of};
 use wave_dump::laws::dump_of;
 
@@ -124,6 +124,18 @@ fn stays_of_a_trace(rt: HostRuntime) {
     assert_eq!(rt; all.ended.len(), 3);
     assert!(rt; all.ended.first() == Some(&Ended::State(0, ready)));
     assert!(rt; all.ended.last() == Some(&Ended::State(0, running)));
+}
+
+/// Each line of a trace is read by itself too; the text of all is a trace, and without its end none.
+#[test]
+fn lines_of_a_trace(rt: HostRuntime) {
+    let read = read_line(b"0000000000008 a STATE p RUNNING\n").expect(&rt, "a line");
+    assert_eq!(rt; read.tick, Ticks(8));
+    assert!(rt; read_line(b"0000000000008 a STATE p RUNNING").is_err());
+    let text = TRACE.as_bytes();
+    assert_eq!(rt; check_trace(text).expect(&rt, "a trace"), 4);
+    let (cut, _) = text.split_at(text.len() - 1);
+    assert!(rt; check_trace(cut) == Err(TraceFault { line: 4 }));
 }
 
 /// A page has the lines of the trace.

@@ -1,0 +1,17 @@
+use Rattle.std.proofs.Common.{flat_map, refl}
+use Rattle.pal_base.specs.View.{texts}
+use Rattle.lint.specs.Ports.{wrong_use}
+use Rattle.lint.specs.Views.{call_of, calls_seen, found_all}
+use Rattle.lint.proofs.Adding.{all_added, item_goes_on}
+use Rattle.lint.proofs.port_rules.add_wrong_uses.Goals as goal
+
+pub loop-call-preserved : goal.loop-call-preserved
+loop-call-preserved c =
+    let names = texts c.args.names.now.keys in
+    item_goes_on (λ xs. flat_map (wrong_use c.args.ports.now) (calls_seen names xs)) (λ x. wrong_use c.args.ports.now (call_of names x)) c.args.calls.now c.loop-call.call-index c.call-item.result (found_all c.loop-call.findings.items)
+    (found_all c.add_wrong_use.new.findings.items) _ (λ y ys. refl) c.loop-call-test.true c.call-item.is c.in_ok-add_wrong_use.ensures c.loop-call.invariant
+
+pub returns : goal.returns
+returns c =
+    let names = texts c.args.names.now.keys in
+    all_added (λ xs. flat_map (wrong_use c.args.ports.now) (calls_seen names xs)) c.args.calls.now c.loop-call.call-index (found_all c.loop-call.findings.items) _ refl c.loop-call-test.false c.loop-call.invariant
