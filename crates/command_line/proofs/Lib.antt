@@ -11,3 +11,4 @@ pub mod Read
 pub mod Replayed
 pub mod Shown
 pub mod Spelled
+pub mod Usual

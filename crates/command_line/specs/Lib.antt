@@ -1,10 +1,12 @@
 pub mod Answers
 pub mod Done
+pub mod Ends
 pub mod Explained
 pub mod Lines
 pub mod Linting
 pub mod Loaded
 pub mod Loading
+pub mod Meant
 pub mod Outcomes
 pub mod Orders
 pub mod Pages

@@ -6,7 +6,9 @@ ghost use Rattle.clap.specs.Matches.{found_of};
 ghost use Rattle.clap.specs.Simple.{subcommand_of, subcommand_rows_of};
 ghost use Rattle.clap.specs.Walk.{rows_of};
 ghost use Rattle.command_line.specs.Done.{IsDone, IsDoneWith};
-ghost use Rattle.command_line.specs.Orders.{Build, Check, Upgrade, asks, is_asked, form_of, is_flagged, order_by_name, order_of, style_of};
+ghost use Rattle.command_line.specs.Ends.{as_usual};
+ghost use Rattle.command_line.specs.Meant.{meant};
+ghost use Rattle.command_line.specs.Orders.{Build, Check, Upgrade, asks, is_asked, order_of, style_of};
 ghost use Rattle.command_line.specs.Refusals.{IsBuildRefused, IsCheckRefused, IsFailure, IsFailureOfWords, IsUpgradeRefused};
 ghost use Rattle.command_line.specs.Spelled.{spelled};
 ghost use Rattle.command_line.specs.States.{state};
@@ -16,10 +18,10 @@ ghost use Rattle.command_line.specs.Words.{mb_app};
 
 use crate::dashes::dashed_command;
 use crate::explaining::{Note, Style};
-use crate::form::Form;
 use crate::grammar::{grammar, lone_dash};
 use crate::linting::lint;
 use crate::loading::load;
+use crate::order::{Order, is_flagged, order_by_name};
 use crate::outcome::Outcome;
 use crate::reading::{build_named, upgrade_named};
 use crate::refusal::Refusal;
@@ -28,7 +30,7 @@ use crate::running::{run, run_stored};
 use crate::showing::{cost, dis};
 use crate::words::spelled;
 use clap::ArgMatches;
-use command_words::{Failure, word};
+use command_words::Failure;
 use module::Watch;
 use std::alloc::Global;
 use std::convert::AsStr;
@@ -125,12 +127,6 @@ fn is_asked(found: &ArgMatches<'_>) -> bool
     is_flagged(found, "explain") || is_flagged(found, "explain-json")
 }
 
-fn is_flagged(found: &ArgMatches<'_>, name: &str) -> bool
-    ensures { result ≡ is_flagged name.now (rows_of (found_of found.now)) }
-{
-    word(found, name).as_bytes() == b"true".as_slice()
-}
-
 /// How the words ask for an explanation.
 fn style_of(matches: &ArgMatches<'_>) -> Style
     ensures { result ≡ style_of (subcommand_rows_of matches.now) }
@@ -169,13 +165,13 @@ fn obey<F: Files, O: Stream, W: Watch>(
     if let Some(name) = dashed_command(matches) {
         return Err(Failure::Usage(lone_dash(alloc, name)?));
     }
-    obey_by_name(alloc, matches, files, out, watch, note)
+    obey_order(alloc, order_by_name(matches), files, out, watch, note)
 }
 
-/// Does the command that was found in the words.
-fn obey_by_name<F: Files, O: Stream, W: Watch>(
+/// Does what the words ask for, if none of them is `-` alone.
+fn obey_order<F: Files, O: Stream, W: Watch>(
     alloc: Global,
-    matches: &ArgMatches<'_>,
+    order: Order<'_>,
     files: &mut F,
     out: &mut O,
     watch: &mut W,
@@ -184,108 +180,70 @@ fn obey_by_name<F: Files, O: Stream, W: Watch>(
     requires { O.failures out.old < 2 ^ 64 - 1 }
     ensures done { IfOk result
         (λ outcome.
-        IsDoneWith outcome (order_by_name (subcommand_rows_of matches.now))
+        IsDoneWith outcome (meant order.entry)
         (state (F.contents files.old) (seen O.taken O.failures O.is_flushed out.old))
         (state (F.contents files.new) (seen O.taken O.failures O.is_flushed out.new))) }
     ensures flushed { OnOk result
         (IsFlushed (seen O.taken O.failures O.is_flushed out.old)
         (seen O.taken O.failures O.is_flushed out.new)) }
     ensures failed { IfErr result
-        (λ f. IsFailure (order_by_name (subcommand_rows_of matches.now))
+        (λ f. IsFailure (meant order.entry)
         (state (F.contents files.old) (seen O.taken O.failures O.is_flushed out.old))
         (state (F.contents files.new) (seen O.taken O.failures O.is_flushed out.new)) f) }
     ensures noted { OnOk result (F.failed files.new ≡ F.failed files.old) }
     ensures named { IfErr result (λ f. IsOfFailedFile (F.failed files.old) (F.failed files.new) f) }
 {
-    match matches.subcommand() {
-        Some(("check", found)) => {
-            let table = word(found, "TABLE");
-            let sources = found.get_strs("SOURCE").unwrap_or(&[]);
-            check(alloc, table, sources, files, out, note)?;
-            Ok(Outcome::Usual)
+    match order {
+        Order::First => usual(run_stored(alloc, out)),
+        Order::Check { table, sources } => usual(check(alloc, table, sources, files, out, note)),
+        Order::Build {
+            table,
+            image,
+            sources,
+        } => usual(build(alloc, table, image, sources, files, out, note)),
+        Order::Run {
+            image,
+            devices,
+            ticks,
+            until,
+            is_watched,
+        } => {
+            if is_watched {
+                watch.begin();
+            }
+            run(alloc, image, devices, ticks, until, files, out, watch, note)
         }
-        Some(("build", found)) => {
-            let (table, image) = (word(found, "TABLE"), word(found, "IMAGE"));
-            let sources = found.get_strs("SOURCE").unwrap_or(&[]);
-            build(alloc, table, image, sources, files, out, note)?;
-            Ok(Outcome::Usual)
-        }
-        Some(("run", found)) => {
-            let (image, devices) = (word(found, "IMAGE"), word(found, "DEVICES"));
-            let until = found.get_strs("until").unwrap_or(&[]);
-            begin_if_asked(found, watch);
-            run(
-                alloc,
-                image,
-                devices,
-                word(found, "TICKS"),
-                until,
-                files,
-                out,
-                watch,
-                note,
-            )
-        }
-        Some(("replay", found)) => {
-            let (image, partition) = (word(found, "IMAGE"), word(found, "PARTITION"));
-            let (inputs, ticks) = (word(found, "INPUTS"), word(found, "TICKS"));
-            replay(alloc, image, partition, inputs, ticks, files, out, note)
-        }
-        Some(("inputs", found)) => {
-            let (image, partition) = (word(found, "IMAGE"), word(found, "PARTITION"));
-            let (devices, ticks) = (word(found, "DEVICES"), word(found, "TICKS"));
-            inputs(alloc, image, partition, devices, ticks, files, out, note)
-        }
-        Some(("cost", found)) => {
-            let table = word(found, "TABLE");
-            let sources = found.get_strs("SOURCE").unwrap_or(&[]);
-            cost(alloc, table, sources, files, out, note)?;
-            Ok(Outcome::Usual)
-        }
-        Some(("dis", found)) => {
-            dis(alloc, word(found, "IMAGE"), files, out, note)?;
-            Ok(Outcome::Usual)
-        }
-        Some(("upgrade", found)) => {
-            let (old, new) = (word(found, "OLD"), word(found, "NEW"));
-            upgrade(alloc, old, new, files, out, note)?;
-            Ok(Outcome::Usual)
-        }
-        Some(("load", found)) => {
-            let table = word(found, "TABLE");
-            let sources = found.get_strs("SOURCE").unwrap_or(&[]);
-            load(alloc, form_of(found), table, sources, files, out, note)?;
-            Ok(Outcome::Usual)
-        }
-        Some(("lint", found)) => {
-            let table = word(found, "TABLE");
-            let sources = found.get_strs("SOURCE").unwrap_or(&[]);
-            Ok(lint(alloc, table, sources, files, out, note)?)
-        }
-        _ => {
-            run_stored(alloc, out)?;
-            Ok(Outcome::Usual)
-        }
+        Order::Replay {
+            image,
+            partition,
+            inputs,
+            ticks,
+        } => replay(alloc, image, partition, inputs, ticks, files, out, note),
+        Order::Inputs {
+            image,
+            partition,
+            devices,
+            ticks,
+        } => inputs(alloc, image, partition, devices, ticks, files, out, note),
+        Order::Cost { table, sources } => usual(cost(alloc, table, sources, files, out, note)),
+        Order::Dis { image } => usual(dis(alloc, image, files, out, note)),
+        Order::Upgrade { old, new } => usual(upgrade(alloc, old, new, files, out, note)),
+        Order::Load {
+            form,
+            table,
+            sources,
+        } => usual(load(alloc, form, table, sources, files, out, note)),
+        Order::Lint { table, sources } => Ok(lint(alloc, table, sources, files, out, note)?),
     }
 }
 
-/// Begins to watch if the words of a run ask for that.
-fn begin_if_asked<W: Watch>(found: &ArgMatches<'_>, watch: &mut W) {
-    if word(found, "progress").as_bytes() == b"true".as_slice() {
-        watch.begin();
-    }
-}
-
-/// How a load is to be shown.
-fn form_of(found: &ArgMatches<'_>) -> Form
-    ensures { result ≡ form_of (rows_of (found_of found.now)) }
+/// How a command has ended that ends as usual unless it is refused.
+fn usual(done: Result<(), Refusal>) -> Result<Outcome, Failure<Refusal>>
+    ensures { result ≡ as_usual done }
 {
-    if word(found, "svg").as_bytes() == b"true".as_slice() {
-        Form::Picture
-    } else if word(found, "csv").as_bytes() == b"true".as_slice() {
-        Form::Rows
-    } else {
-        Form::Tables
+    match done {
+        Ok(()) => Ok(Outcome::Usual),
+        Err(refusal) => Err(Failure::Refused(refusal)),
     }
 }
 

@@ -23,6 +23,7 @@ mod form;
 mod grammar;
 mod linting;
 mod loading;
+mod order;
 mod outcome;
 mod pages;
 mod reading;
