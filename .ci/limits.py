@@ -6,7 +6,7 @@ from pathlib import Path
 ROOT = Path(__file__).resolve().parent.parent
 ALLOWED = ROOT / ".ci/numbers"
 MOST_ALLOWED = 60
-TESTS = {"library_tests", "meaning_rows", "refusals"}
+TESTS = {"library_tests", "meaning_rows"}
 NUMBER = re.compile(r"(?<![\w.^])(?:16|31|32|62|63|64|93|189|239|256|512|4_?096|65_?536)(?![\w.])|(?:2 \^|1 <<) 40")
 # What bounds a type, or is one.
 OF_TYPES = re.compile(r"(?:2 \^|1 <<) (?:16|32|63|64)\b|\[u8; 16\]")

@@ -10,7 +10,7 @@ import trial
 from trial import Answer, Told
 
 ROOT = Path(__file__).resolve().parent.parent.parent
-ROWS = ROOT / "crates/refusals/data"
+ROWS = ROOT / "crates/library_tests/data"
 # The modules on which the calls are made, and for how many ticks they run.
 CALLED = {"first": 128, "messages": 160}
 # What a refused call answers.
@@ -34,10 +34,10 @@ AGAIN = {"check": "parse", "Machine::load": "load_image", "Machine::devices": "l
 HANDED_OVER = {"check": "parse", "Machine::load": "load_image"}
 
 
-def call_on(library, refusals, row, refused=None):
+def call_on(library, library_tests, row, refused=None):
     """Makes the calls on a module, one request refused; returns the lines, and what was held at each of them."""
     line = f"calls {row} {CALLED[row]}\n".encode()
-    watched = trial.watch(library, [refusals], ROWS, line, refused)
+    watched = trial.watch(library, [library_tests], ROWS, line, refused)
     return watched.answer, watched.answer.out.decode().splitlines(), watched.lines, watched.end
 
 
@@ -48,10 +48,10 @@ def after_refusal(lines, call):
     return lines[: begin + 1] + REFUSED[call] + lines[again:]
 
 
-def refuse_call(library, refusals, row, call):
+def refuse_call(library, library_tests, row, call):
     """Refuses each request of a call on a module."""
     told = Told()
-    _, lines, held, _ = call_on(library, refusals, row)
+    _, lines, held, _ = call_on(library, library_tests, row)
     begin = lines.index(f"begin {call}")
     wanted = after_refusal(lines, call)
     before = held[lines.index(f"begin {HANDED_OVER.get(call, call)}")]
@@ -60,7 +60,7 @@ def refuse_call(library, refusals, row, call):
     if not requests and (row, call) not in WITHOUT_REQUEST:
         told.wrong.append(f"{row} {call}: there is no request to refuse")
     for refused in requests:
-        answer, found, marks, end = call_on(library, refusals, row, refused)
+        answer, found, marks, end = call_on(library, library_tests, row, refused)
         told.count("requests")
         name = f"{row} {call}, request {refused}"
         if answer.status != 0 or answer.err or found != wanted:
@@ -72,10 +72,10 @@ def refuse_call(library, refusals, row, call):
     return told
 
 
-def count_calls(library, refusals, row):
+def count_calls(library, library_tests, row):
     """Sees that all is right where no request is refused, and that the ticks make no request."""
     told = Told()
-    answer, lines, held, end = call_on(library, refusals, row)
+    answer, lines, held, end = call_on(library, library_tests, row)
     requests = {
         line.removeprefix("begin "): after.requests - before.requests
         for line, before, after in zip(lines, held, held[1:])

@@ -287,7 +287,7 @@ class Damage:
         return bytes(damaged)
 
     def line(self, ticks):
-        """The line for the program `refusals`."""
+        """The line for the program `library_tests`."""
         return " ".join(["image", str(self.length), str(ticks), *(f"{place}={byte}" for place, byte in self.changes)])
 
 

@@ -1,9 +1,9 @@
 #!/usr/bin/env python3
 """Tries what the programs answer where they have to give up, and that they do not give up where they need not (docs/RELIABILITY.md).
 
-    refusals.py MB REFUSALS [--jobs N] [--whole] [PART ..]
+    refusals.py MB LIBRARY_TESTS [--jobs N] [--whole] [PART ..]
 
-MB is the program `mb`, REFUSALS that of `crates/refusals`. The parts, all of them where none is named:
+MB is the program `mb`, LIBRARY_TESTS the program `library_tests`. The parts, all of them where none is named:
 
     memory   each request for memory of the library's calls and of the commands is refused once; the commands with ever less address space
     sinks    a sink that fails behind each byte of a trace; a full device and a closed pipe
@@ -56,8 +56,8 @@ def try_memory(pool, words):
         on_rows = [(row, call) for row in calls.CALLED for call in calls.REFUSED]
         on_modules = [(number, name) for number, module in enumerate(calls.MODULES) for name in module.commands()]
         told = [
-            gathered(pool, [(calls.count_calls, library, words.refusals, row) for row in calls.CALLED]),
-            gathered(pool, [(calls.refuse_call, library, words.refusals, *it) for it in on_rows]),
+            gathered(pool, [(calls.count_calls, library, words.library_tests, row) for row in calls.CALLED]),
+            gathered(pool, [(calls.refuse_call, library, words.library_tests, *it) for it in on_rows]),
             gathered(pool, [(calls.refuse_command, library, words.mb, *it) for it in on_modules]),
             gathered(pool, [(calls.limit_command, library, words.mb, *it) for it in on_modules]),
         ]
@@ -68,14 +68,14 @@ def try_memory(pool, words):
 
 def try_sinks(pool, words):
     """Sinks that fail."""
-    told = gathered(pool, [(sinks.fail_sinks, words.refusals), (sinks.break_outputs, words.mb)])
+    told = gathered(pool, [(sinks.fail_sinks, words.library_tests), (sinks.break_outputs, words.mb)])
     return finish("sinks", [told], counted(told))
 
 
 def try_images(_, words):
     """Damaged images."""
     names = sweep.WHOLE if words.whole else sweep.NAMES
-    told = sweep.sweep(words.mb, words.refusals, names, words.whole)
+    told = sweep.sweep(words.mb, words.library_tests, names, words.whole)
     damaged = told.counts.pop("damaged images")
     print(f"images, answers: {', '.join(f'{told.counts[it]:,} {it}' for it in sorted(told.counts))}")
     return finish("images", [told], f"{len(names)} images, {damaged:,} damaged images")
@@ -112,12 +112,12 @@ PARTS = {"memory": try_memory, "sinks": try_sinks, "images": try_images, "limits
 def main():
     parser = argparse.ArgumentParser(usage=__doc__.split("\n\n")[1].strip())
     parser.add_argument("mb", type=Path)
-    parser.add_argument("refusals", type=Path)
+    parser.add_argument("library_tests", type=Path)
     parser.add_argument("--jobs", type=int, default=os.cpu_count())
     parser.add_argument("--whole", action="store_true")
     parser.add_argument("parts", nargs="*", metavar="PART")
     words = parser.parse_intermixed_args()
-    words.mb, words.refusals = words.mb.resolve(), words.refusals.resolve()
+    words.mb, words.library_tests = words.mb.resolve(), words.library_tests.resolve()
     if not set(words.parts) <= set(PARTS):
         parser.error(f"the parts are {', '.join(PARTS)}")
     with ProcessPoolExecutor(words.jobs) as pool:

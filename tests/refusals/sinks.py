@@ -19,12 +19,12 @@ def failed_ticks(trace):
     return sum(len(line) * (TICKS - 1 - int(line.split()[0])) for line in trace.splitlines(keepends=True))
 
 
-def fail_sinks(refusals):
+def fail_sinks(library_tests):
     """Runs the smallest module into sinks that fail behind each byte, in each way."""
     told = Told()
     trace = (calls.ROWS / "smallest/trace").read_text()
     lines = [f"{way}: {len(trace)} runs, {len(trace)} machines, {failed_ticks(trace)} ticks failed, whole true" for way in WAYS]
-    answer = trial.run([refusals], calls.ROWS, f"sinks smallest {TICKS}\n".encode())
+    answer = trial.run([library_tests], calls.ROWS, f"sinks smallest {TICKS}\n".encode())
     found = answer.out.decode().splitlines()
     if answer.status != 0 or found != lines:
         told.wrong.append(f"{answer}; wanted {lines}, had {found}")

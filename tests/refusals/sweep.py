@@ -1,4 +1,4 @@
-"""Damaged images, all of them in one process of `refusals`, judged against the second reading of the page."""
+"""Damaged images, all of them in one process of `library_tests`, judged against the second reading of the page."""
 
 import tempfile
 import tomllib
@@ -43,8 +43,8 @@ def damages_of(image, name, is_whole):
     return images.edge_damages(image) if name == EDGES else images.random_damages(image, name)
 
 
-def sweep(mb, refusals, names, is_whole):
-    """Damages these images, and compares what the runs of what comes out answer with what the page says. One process of `refusals` runs
+def sweep(mb, library_tests, names, is_whole):
+    """Damages these images, and compares what the runs of what comes out answer with what the page says. One process of `library_tests` runs
     them all, with a line for each."""
     told = Told()
     lines, tried = [], []
@@ -58,7 +58,7 @@ def sweep(mb, refusals, names, is_whole):
             lines += [f"base {name}.base", *(it.line(ticks) for it in damages)]
             tried += [(name, image, it) for it in damages]
         text = "".join(f"{it}\n" for it in lines).encode()
-        answer = trial.run([refusals], folder, text, seconds=3600)
+        answer = trial.run([library_tests], folder, text, seconds=3600)
     found = answer.out.decode().splitlines()
     if answer.status != 0 or answer.err or len(found) != len(tried):
         told.wrong.append(f"{answer}, {len(found)} verdicts on {len(tried)} images")

@@ -1,5 +1,6 @@
-//! Calls the library where it has to give up: with memory that is refused, with sinks that fail,
-//! and with damaged images. It prints the answers; `tests/refusals` runs it and judges them.
+//! Calls the library as no command of the programs does, and prints the answers. `rt` compares them with
+//! the file `stdout`; `tests/refusals` runs the program where the library has to give up: with memory
+//! that is refused, with sinks that fail, and with damaged images.
 //!
 //! It answers lines of the standard input:
 //!
@@ -12,6 +13,9 @@
 //! - `base FILE` reads an image.
 //! - `image LENGTH TICKS PLACE=BYTE ..` copies it to `LENGTH` bytes, changes bytes, and runs the
 //!   copy for `TICKS` ticks.
+//! - `scripts` runs a partition whose processes play scripts in place of code.
+//! - `pieces` reads traces from readers that give few bytes a read, or never end.
+//! - `views` shows no ticks at all, and makes the calls on whole traces.
 //!
 //! In the folder lie a table, the source of its one partition `a`, a device text, the inputs that
 //! it brings the partition, and the trace.
@@ -21,9 +25,12 @@ mod calls;
 mod damage;
 mod driving;
 mod failing;
+mod pieces;
 mod row;
+mod scripts;
 mod sinks;
 mod steps;
+mod views;
 
 use row::Row;
 use std::fs;
@@ -58,6 +65,17 @@ fn answer(rt: &HostRuntime, base: &mut Vec<u8>, line: &str) -> io::Result<()> {
         (Some("image"), Some(length), Some(ticks)) => {
             damage::tell(rt, base.as_slice(), (length, ticks), words)
         }
+        (Some("scripts"), None, None) => finished(rt, scripts::tell(rt)),
+        (Some("pieces"), None, None) => finished(rt, pieces::tell(rt)),
+        (Some("views"), None, None) => finished(rt, views::tell(rt)),
         _ => println!(rt; "no such line: {line}"),
+    }
+}
+
+/// Prints that a call was refused, where one was.
+fn finished(rt: &HostRuntime, told: Option<()>) -> io::Result<()> {
+    match told {
+        Some(()) => Ok(()),
+        None => println!(rt; "a call is refused"),
     }
 }

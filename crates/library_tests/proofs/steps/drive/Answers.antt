@@ -1,7 +1,7 @@
 use Rattle.std.proofs.Common.{rules, ◌≡◌, ◌+◌, sym, ap, subst, ◌∙◌, arith}
 use Rattle.module.specs.Machines.{Machine, machine_of}
 use Rattle.module.specs.Written.{AreFrom}
-use Rattle.refusals.proofs.steps.drive.Goals as goal
+use Rattle.library_tests.proofs.steps.drive.Goals as goal
 
 pub loop-lines-init : goal.loop-lines-init
 loop-lines-init g c =

@@ -1,7 +1,7 @@
 use Rattle.std.proofs.Common.{◌≡◌, ◌-◌}
 use Rattle.module.specs.Machines.{machine_of}
 use Rattle.module.specs.Written.{AreFrom}
-use Rattle.refusals.proofs.steps.drive.Given as goal
+use Rattle.library_tests.proofs.steps.drive.Given as goal
 
 abbrev pub invariant-loop-lines : goal.invariant-loop-lines
 invariant-loop-lines g l = record {

@@ -1,3 +1,0 @@
-mod pieces;
-mod scripts;
-mod views;
