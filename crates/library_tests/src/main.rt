@@ -24,10 +24,12 @@
 mod calls;
 mod damage;
 mod driving;
+mod executor;
 mod failing;
+mod part;
 mod pieces;
+mod playing;
 mod row;
-mod scripts;
 mod sinks;
 mod steps;
 mod views;
@@ -65,7 +67,7 @@ fn answer(rt: &HostRuntime, base: &mut Vec<u8>, line: &str) -> io::Result<()> {
         (Some("image"), Some(length), Some(ticks)) => {
             damage::tell(rt, base.as_slice(), (length, ticks), words)
         }
-        (Some("scripts"), None, None) => finished(rt, scripts::tell(rt)),
+        (Some("scripts"), None, None) => finished(rt, playing::tell(rt)),
         (Some("pieces"), None, None) => finished(rt, pieces::tell(rt)),
         (Some("views"), None, None) => finished(rt, views::tell(rt)),
         _ => println!(rt; "no such line: {line}"),

@@ -88,19 +88,19 @@ IsDiff (Some entered) = entered.0 ≡ codes "diff"
 
 -- the words of a command that shows a trace
 abbrev pub IsShown : List Row → Request → Type 0
-IsShown rows (Show showing) =
+IsShown rows (Show view showing) =
     (string_bytes showing.trace ≡ word_at (codes "TRACE") rows) × (asked_text showing.table ≡ first_of (codes "table") rows)
     × AreTicksIn rows showing.from showing.to showing.ran × AreNamesIn rows showing.kept
 IsShown rows (Compare pair) = ⊥
 
 -- the words of a command that compares two
 abbrev pub IsCompared : List Row → Request → Type 0
-IsCompared rows (Show showing) = ⊥
+IsCompared rows (Show view showing) = ⊥
 IsCompared rows (Compare pair) = (string_bytes pair.first ≡ word_at (codes "TRACE") rows) × (string_bytes pair.second ≡ word_at (codes "OTHER") rows)
 
 -- the request that the words found make
 abbrev pub IsRequest : Entered → Request → Type 0
-IsRequest entered (Show showing) =
+IsRequest entered (Show view showing) =
     (IsDiff entered → ⊥) × (string_bytes showing.trace ≡ trace_of entered) × (asked_text showing.table ≡ table_of entered)
     × AreTicksIn (rows_in entered) showing.from showing.to showing.ran × AreNamesIn (rows_in entered) showing.kept
 IsRequest entered (Compare pair) = IsDiff entered × (string_bytes pair.first ≡ trace_of entered) × (string_bytes pair.second ≡ other_of entered)
@@ -178,9 +178,13 @@ AreWrongWords rows =
     ⊎ IsNoKind (first_of (codes "kind") rows) ⊎ IsNoKind (first_of (codes "no") rows)
     ⊎ IsNoLimit (words_at (codes "at-most") rows) ⊎ IsNoTick (first_of (codes "missed") rows) ⊎ IsNoWidth (first_of (codes "width") rows)
 
--- the command has none of these names
+-- the command of this name shows no trace
+abbrev pub IsNoView : List ℕ → Type 0
+IsNoView name = (name ≢ codes "summary") × (name ≢ codes "svg") × (name ≢ codes "vcd") × (name ≢ codes "html") × (name ≢ codes "list") × (name ≢ codes "check")
+
+-- the command has none of these names, and not that of comparing two traces
 abbrev pub IsNoCommand : List ℕ → Type 0
-IsNoCommand name = (name ≢ codes "summary") × (name ≢ codes "svg") × (name ≢ codes "vcd") × (name ≢ codes "html") × (name ≢ codes "list") × (name ≢ codes "check") × (name ≢ codes "diff")
+IsNoCommand name = IsNoView name × (name ≢ codes "diff")
 
 -- the words found ask for nothing
 abbrev pub AsksForNothing : Entered → Type 0

@@ -38,25 +38,27 @@ pub struct Pair {
 /// Reads both traces to their ends, and then writes where they differ first.
 pub fn compare<F: Sources, O: Stream>(
     alloc: Global,
-    pair: Pair,
+    pair: &Pair,
     sources: &mut F,
     out: &mut O,
 ) -> Result<Outcome, Refusal>
     requires { O.failures out.old < 2 ^ 64 - 1 }
     ensures told { IfOk result
-        (AreToldIn (F.texts sources.old) (string_bytes pair.first) (string_bytes pair.second)
-        pair.partition) }
-    ensures first { OnOk result (IsTraceIn (F.texts sources.old) None (string_bytes pair.first)) }
-    ensures second { OnOk result (IsTraceIn (F.texts sources.old) None (string_bytes pair.second)) }
+        (AreToldIn (F.texts sources.old) (string_bytes pair.now.first)
+        (string_bytes pair.now.second) pair.now.partition) }
+    ensures first { OnOk result
+        (IsTraceIn (F.texts sources.old) None (string_bytes pair.now.first)) }
+    ensures second { OnOk result
+        (IsTraceIn (F.texts sources.old) None (string_bytes pair.now.second)) }
     ensures opened { OnOk result (F.unopened sources.new ≡ F.unopened sources.old) }
     ensures flushed { OnOk result
         (IsFlushed (seen O.taken O.failures O.is_flushed out.old)
         (seen O.taken O.failures O.is_flushed out.new)) }
     ensures refused { IfErr result
-        (λ r. IsRefused (F.texts sources.old) None (string_bytes pair.first)
+        (λ r. IsRefused (F.texts sources.old) None (string_bytes pair.now.first)
         (state (F.unopened sources.old) (seen O.taken O.failures O.is_flushed out.old))
         (state (F.unopened sources.new) (seen O.taken O.failures O.is_flushed out.new)) r
-        ⊎ IsRefused (F.texts sources.old) None (string_bytes pair.second)
+        ⊎ IsRefused (F.texts sources.old) None (string_bytes pair.now.second)
         (state (F.unopened sources.old) (seen O.taken O.failures O.is_flushed out.old))
         (state (F.unopened sources.new) (seen O.taken O.failures O.is_flushed out.new)) r) }
 {

@@ -107,7 +107,7 @@ fn perform<S: AsStr, F: Sources, O: Stream>(
         (state (F.unopened sources.new) (seen O.taken O.failures O.is_flushed out.new)) f) }
 {
     match request_of(alloc, words)? {
-        Request::Show(showing) => Ok(show(alloc, showing, sources, out)?),
-        Request::Compare(pair) => Ok(compare(alloc, pair, sources, out)?),
+        Request::Show(view, showing) => Ok(show(alloc, view, &showing, sources, out)?),
+        Request::Compare(pair) => Ok(compare(alloc, &pair, sources, out)?),
     }
 }

@@ -1,12 +1,12 @@
 //! The request in the words of a command line.
 
-ghost use Rattle.std.specs.Prelude.{◌≡◌, [], map, IfErr, IfOk, OnOk};
+ghost use Rattle.std.specs.Prelude.{◌≡◌, None, [], map, IfErr, IfOk, OnOk};
 ghost use Rattle.clap.specs.Faults.{fault_of};
 ghost use Rattle.clap.specs.Matches.{found_of};
 ghost use Rattle.clap.specs.Simple.{subcommand_of, subcommand_rows_of};
 ghost use Rattle.clap.specs.Walk.{rows_of};
 ghost use Rattle.view_command.specs.Answers.{IsFailureOfWords, IsNothingAsked, IsWordsFailure};
-ghost use Rattle.view_command.specs.Orders.{IsCompared, IsRequest, IsShown};
+ghost use Rattle.view_command.specs.Orders.{IsCompared, IsNoView, IsRequest, IsShown};
 ghost use Rattle.view_command.specs.Words.{view_app};
 
 use crate::comparing::Pair;
@@ -24,16 +24,15 @@ use trace_lines::Filter;
 /// What the words ask for.
 #[derive(Drop)]
 pub enum Request {
-    /// A trace is shown.
-    Show(Showing),
+    /// A trace is shown, in this way.
+    Show(View, Showing),
     /// Two traces are compared.
     Compare(Pair),
 }
 
-/// The trace to show, and the way to show it.
+/// The trace to show, and what of it.
 #[derive(Drop)]
 pub struct Showing {
-    pub view: View,
     /// The name of the trace.
     pub trace: String,
     /// The name of the module table, by whose windows ticks are counted, if one is asked for.
@@ -67,21 +66,34 @@ fn requested(alloc: Global, matches: &ArgMatches<'_>) -> Result<Request, Failure
     ensures failed { IfErr result (λ f. IsNothingAsked (subcommand_rows_of matches.now) f) }
 {
     match matches.subcommand() {
-        Some(("summary", found)) => shown(alloc, "summary", table_or_rows(found), found),
-        Some(("svg", found)) => {
-            let width = width(alloc, "svg", found)?;
-            shown(alloc, "svg", View::Picture(width), found)
-        }
-        Some(("vcd", found)) => shown(alloc, "vcd", View::Waves, found),
-        Some(("html", found)) => shown(alloc, "html", View::Page, found),
-        Some(("list", found)) => {
-            let chosen = chosen(alloc, "list", found)?;
-            shown(alloc, "list", View::Lines(chosen), found)
-        }
-        Some(("check", found)) => shown(alloc, "check", checked(alloc, "check", found)?, found),
         Some(("diff", found)) => compared(alloc, found),
-        _ => Err(Failure::Usage(no_command(alloc)?)),
+        Some((command, found)) => match view_of(alloc, command, found)? {
+            Some(view) => shown(alloc, command, view, found),
+            None => Err(Failure::Usage(no_command(alloc)?)),
+        },
+        None => Err(Failure::Usage(no_command(alloc)?)),
     }
+}
+
+/// The view of the command of this name, if it is one that shows a trace.
+fn view_of(
+    alloc: Global,
+    command: &str,
+    found: &ArgMatches<'_>,
+) -> Result<Option<View>, Failure<Refusal>>
+    ensures other { IfOk result (λ view. view ≡ None → IsNoView command.now) }
+    ensures failed { IfErr result (λ f. IsWordsFailure (rows_of (found_of found.now)) f) }
+{
+    let view = match command {
+        "summary" => table_or_rows(found),
+        "svg" => View::Picture(width(alloc, command, found)?),
+        "vcd" => View::Waves,
+        "html" => View::Page,
+        "list" => View::Lines(chosen(alloc, command, found)?),
+        "check" => checked(alloc, command, found)?,
+        _ => return Ok(None),
+    };
+    Ok(Some(view))
 }
 
 /// How a summary is written.
@@ -107,15 +119,15 @@ fn shown(
     let table = text(alloc, found, "table")?;
     let asked = ticks(alloc, command, found)?;
     let kept = named(alloc, command, found)?;
-    Ok(Request::Show(Showing {
-        view,
+    let showing = Showing {
         trace,
         table,
         from: asked.from,
         to: asked.to,
         ran: asked.ran,
         kept,
-    }))
+    };
+    Ok(Request::Show(view, showing))
 }
 
 /// The traces that were found.

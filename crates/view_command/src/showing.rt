@@ -11,7 +11,7 @@ ghost use Rattle.view_command.specs.Texts.{IsTableAsked, IsTraceIn, IsTraceOf, i
 
 use crate::refusal::Refusal;
 use crate::request::Showing;
-use crate::views::{Outcome, Shown, ViewFault};
+use crate::views::{Outcome, Shown, View, ViewFault};
 use crate::windows::table_asked;
 use apex_types::Ticks;
 use std::alloc::Global;
@@ -23,47 +23,39 @@ use trace_text::{StreamFault, TraceStream};
 /// Reads the trace to its end, and then writes it as the request wants it.
 pub fn show<F: Sources, O: Stream>(
     alloc: Global,
-    request: Showing,
+    view: View,
+    request: &Showing,
     sources: &mut F,
     out: &mut O,
 ) -> Result<Outcome, Refusal>
     requires { O.failures out.old < 2 ^ 64 - 1 }
     ensures trace { OnOk result
-        (IsTraceIn (F.texts sources.old) (number_of request.ran) (string_bytes request.trace)) }
-    ensures table { OnOk result (IsTableAsked (F.texts sources.old) (asked_text request.table)) }
+        (IsTraceIn (F.texts sources.old) (number_of request.now.ran) (string_bytes request.now.trace)) }
+    ensures table { OnOk result (IsTableAsked (F.texts sources.old) (asked_text request.now.table)) }
     ensures opened { OnOk result (F.unopened sources.new ≡ F.unopened sources.old) }
     ensures flushed { OnOk result
         (IsFlushed (seen O.taken O.failures O.is_flushed out.old)
         (seen O.taken O.failures O.is_flushed out.new)) }
     ensures refused { IfErr result
-        (λ r. IsRefused (F.texts sources.old) (number_of request.ran) (string_bytes request.trace)
+        (λ r. IsRefused (F.texts sources.old) (number_of request.now.ran) (string_bytes request.now.trace)
         (state (F.unopened sources.old) (seen O.taken O.failures O.is_flushed out.old))
         (state (F.unopened sources.new) (seen O.taken O.failures O.is_flushed out.new)) r
-        ⊎ IsTableRefused (F.texts sources.old) (asked_text request.table)
+        ⊎ IsTableRefused (F.texts sources.old) (asked_text request.now.table)
         (state (F.unopened sources.old) (seen O.taken O.failures O.is_flushed out.old))
         (state (F.unopened sources.new) (seen O.taken O.failures O.is_flushed out.new)) r) }
 {
-    let Showing {
-        view,
-        trace,
-        table,
-        from,
-        to,
-        ran,
-        kept,
-    } = request;
-    let table = table_asked(alloc, &table, sources)?;
-    let title = called(trace.as_str());
+    let table = table_asked(alloc, &request.table, sources)?;
+    let title = called(request.trace.as_str());
     let name = String::from_str(alloc, title)?;
-    let reader = match sources.open(trace.as_str()) {
+    let reader = match sources.open(request.trace.as_str()) {
         Ok(reader) => reader,
         Err(fault) => return Err(of_source(name, fault)),
     };
-    let mut shown = match Shown::new(alloc, view, from, to, table) {
+    let mut shown = match Shown::new(alloc, view, request.from, request.to, table) {
         Ok(shown) => shown,
         Err(fault) => return Err(of_view(fault)),
     };
-    read_all(alloc, name, reader, ran, &kept, &mut shown)?;
+    read_all(alloc, name, reader, request.ran, &request.kept, &mut shown)?;
     let outcome = shown.outcome();
     let bytes = match shown.into_bytes(alloc, title) {
         Ok(bytes) => bytes,

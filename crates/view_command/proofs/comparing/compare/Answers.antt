@@ -10,10 +10,10 @@ pub returns-in_err-read_both-clause-refused : goal.returns-in_err-read_both-clau
 returns-in_err-read_both-clause-refused g c =
     let texts = g.F.Sources.texts c.args.sources.now in
     let remaining = g.F.Reader.Read.remaining in
-    let one : Opens texts (string_bytes c.args.pair.first) (remaining c.in-Ok.reader) = subst (λ n. Opens texts n (remaining c.in-Ok.reader)) c.as_str-first.ensures.value c.in-Ok.ensures.opened in
-    let two : Opens texts (string_bytes c.args.pair.second) (remaining c.in-Ok-open.reader) =
+    let one : Opens texts (string_bytes c.args.pair.now.first) (remaining c.in-Ok.reader) = subst (λ n. Opens texts n (remaining c.in-Ok.reader)) c.as_str-first.ensures.value c.in-Ok.ensures.opened in
+    let two : Opens texts (string_bytes c.args.pair.now.second) (remaining c.in-Ok-open.reader) =
     subst (λ n. Opens texts n (remaining c.in-Ok-open.reader)) c.as_str-second.ensures.value (subst (λ t. Opens t c.as_str-second.result.now (remaining c.in-Ok-open.reader)) c.open.ensures.kept c.in-Ok-open.ensures.opened) in
-    unread_of_both texts (string_bytes c.args.pair.first) (string_bytes c.args.pair.second) (string_bytes c.in_ok-first_name.first_name) (string_bytes c.in_ok-second_name.second_name)
+    unread_of_both texts (string_bytes c.args.pair.now.first) (string_bytes c.args.pair.now.second) (string_bytes c.in_ok-first_name.first_name) (string_bytes c.in_ok-second_name.second_name)
     (remaining c.in-Ok.reader) (remaining c.in-Ok-open.reader) _ _ c.in_err-read_both.field-0.0 c.from_residual-in_err-read_both.result
     one two (search rules) (search rules) (search rules) c.in_err-read_both.ensures.refused c.from_residual-in_err-read_both.ensures
 
@@ -21,9 +21,9 @@ pub returns-clause-told : goal.returns-clause-told
 returns-clause-told g c =
     let texts = g.F.Sources.texts c.args.sources.now in
     let remaining = g.F.Reader.Read.remaining in
-    let p = c.args.pair.partition in
-    let one : Opens texts (string_bytes c.args.pair.first) (remaining c.in-Ok.reader) = subst (λ n. Opens texts n (remaining c.in-Ok.reader)) c.as_str-first.ensures.value c.in-Ok.ensures.opened in
-    let two : Opens texts (string_bytes c.args.pair.second) (remaining c.in-Ok-open.reader) =
+    let p = c.args.pair.now.partition in
+    let one : Opens texts (string_bytes c.args.pair.now.first) (remaining c.in-Ok.reader) = subst (λ n. Opens texts n (remaining c.in-Ok.reader)) c.as_str-first.ensures.value c.in-Ok.ensures.opened in
+    let two : Opens texts (string_bytes c.args.pair.now.second) (remaining c.in-Ok-open.reader) =
     subst (λ n. Opens texts n (remaining c.in-Ok-open.reader)) c.as_str-second.ensures.value (subst (λ t. Opens t c.as_str-second.result.now (remaining c.in-Ok-open.reader)) c.open.ensures.kept c.in-Ok-open.ensures.opened) in
     let compared = c.in_ok-read_both.ensures.compared c.new-comparison.ensures in
     let found = c.in_ok-differences.differences.items in
@@ -32,30 +32,30 @@ returns-clause-told g c =
       | then-is_empty w ↦ subst (λ o. AreToldBy o p compared.first compared.second) (sym w.result-is) (told_none found p compared.first compared.second are (search rules))
       | else-is_empty w ↦ subst (λ o. AreToldBy o p compared.first compared.second) (sym w.result-is) (told_some found p compared.first compared.second are (λ h. search (rules, h)))
     ] in
-    told_in texts (string_bytes c.args.pair.first) (string_bytes c.args.pair.second) (remaining c.in-Ok.reader) (remaining c.in-Ok-open.reader) p c.if-is_empty.result compared.first compared.second one two compared.first_text compared.second_text told
+    told_in texts (string_bytes c.args.pair.now.first) (string_bytes c.args.pair.now.second) (remaining c.in-Ok.reader) (remaining c.in-Ok-open.reader) p c.if-is_empty.result compared.first compared.second one two compared.first_text compared.second_text told
 
 pub returns-clause-second : goal.returns-clause-second
 returns-clause-second g c =
     let texts = g.F.Sources.texts c.args.sources.now in
     let remaining = g.F.Reader.Read.remaining in
-    let two : Opens texts (string_bytes c.args.pair.second) (remaining c.in-Ok-open.reader) =
+    let two : Opens texts (string_bytes c.args.pair.now.second) (remaining c.in-Ok-open.reader) =
     subst (λ n. Opens texts n (remaining c.in-Ok-open.reader)) c.as_str-second.ensures.value (subst (λ t. Opens t c.as_str-second.result.now (remaining c.in-Ok-open.reader)) c.open.ensures.kept c.in-Ok-open.ensures.opened) in
     let compared = c.in_ok-read_both.ensures.compared c.new-comparison.ensures in
-    trace_in texts (string_bytes c.args.pair.second) (remaining c.in-Ok-open.reader) compared.second two compared.second_text
+    trace_in texts (string_bytes c.args.pair.now.second) (remaining c.in-Ok-open.reader) compared.second two compared.second_text
 
 pub returns-clause-first : goal.returns-clause-first
 returns-clause-first g c =
     let texts = g.F.Sources.texts c.args.sources.now in
     let remaining = g.F.Reader.Read.remaining in
-    let one : Opens texts (string_bytes c.args.pair.first) (remaining c.in-Ok.reader) = subst (λ n. Opens texts n (remaining c.in-Ok.reader)) c.as_str-first.ensures.value c.in-Ok.ensures.opened in
+    let one : Opens texts (string_bytes c.args.pair.now.first) (remaining c.in-Ok.reader) = subst (λ n. Opens texts n (remaining c.in-Ok.reader)) c.as_str-first.ensures.value c.in-Ok.ensures.opened in
     let compared = c.in_ok-read_both.ensures.compared c.new-comparison.ensures in
-    trace_in texts (string_bytes c.args.pair.first) (remaining c.in-Ok.reader) compared.first one compared.first_text
+    trace_in texts (string_bytes c.args.pair.now.first) (remaining c.in-Ok.reader) compared.first one compared.first_text
 
 pub returns-in_err-write_bytes-clause-refused : goal.returns-in_err-write_bytes-clause-refused
 returns-in_err-write_bytes-clause-refused g c =
     let texts = g.F.Sources.texts c.args.sources.now in
     let remaining = g.F.Reader.Read.remaining in
-    let one : Opens texts (string_bytes c.args.pair.first) (remaining c.in-Ok.reader) = subst (λ n. Opens texts n (remaining c.in-Ok.reader)) c.as_str-first.ensures.value c.in-Ok.ensures.opened in
+    let one : Opens texts (string_bytes c.args.pair.now.first) (remaining c.in-Ok.reader) = subst (λ n. Opens texts n (remaining c.in-Ok.reader)) c.as_str-first.ensures.value c.in-Ok.ensures.opened in
     let compared = c.in_ok-read_both.ensures.compared c.new-comparison.ensures in
-    let trace = trace_in texts (string_bytes c.args.pair.first) (remaining c.in-Ok.reader) compared.first one compared.first_text in
-    unwritten_or _ texts None (string_bytes c.args.pair.first) _ _ c.from_residual-in_err-write_bytes.result (search rules) (search rules) trace c.from_residual-in_err-write_bytes.ensures
+    let trace = trace_in texts (string_bytes c.args.pair.now.first) (remaining c.in-Ok.reader) compared.first one compared.first_text in
+    unwritten_or _ texts None (string_bytes c.args.pair.now.first) _ _ c.from_residual-in_err-write_bytes.result (search rules) (search rules) trace c.from_residual-in_err-write_bytes.ensures

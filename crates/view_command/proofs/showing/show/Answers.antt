@@ -8,30 +8,30 @@ pub returns-in_err-read_all-clause-refused : goal.returns-in_err-read_all-clause
 returns-in_err-read_all-clause-refused g c =
     let texts = g.F.Sources.texts c.args.sources.now in
     let left = g.F.Reader.Read.remaining c.in-Ok.reader in
-    let opens : Opens texts (string_bytes c.args.request.trace) left =
+    let opens : Opens texts (string_bytes c.args.request.now.trace) left =
     subst (λ n. Opens texts n left) c.as_str-2.ensures.value (subst (λ t. Opens t c.as_str-2.result.now left) c.table_asked.ensures.kept c.in-Ok.ensures.opened) in
-    unread_or _ texts (number_of c.args.request.ran) (string_bytes c.args.request.trace) (string_bytes c.in_ok-name.name) left _ _ c.in_err-read_all.field-0.0 c.from_residual-in_err-read_all.result
+    unread_or _ texts (number_of c.args.request.now.ran) (string_bytes c.args.request.now.trace) (string_bytes c.in_ok-name.name) left _ _ c.in_err-read_all.field-0.0 c.from_residual-in_err-read_all.result
     opens (search rules) (search rules) c.in_err-read_all.ensures.refused c.from_residual-in_err-read_all.ensures
 
 pub returns-in-Err-clause-refused : goal.returns-in-Err-clause-refused
 returns-in-Err-clause-refused g c =
     let mid = g.F.Sources.unopened c.table_asked.new.sources in
-    unopened_or _ _ (number_of c.args.request.ran) (string_bytes c.args.request.trace) c.in_ok-name.name _ _ mid c.in-Err.fault c.of_source.result c.of_source.ensures
+    unopened_or _ _ (number_of c.args.request.now.ran) (string_bytes c.args.request.now.trace) c.in_ok-name.name _ _ mid c.in-Err.fault c.of_source.result c.of_source.ensures
     (search rules) (search rules) (search rules) (search rules)
 
 pub returns-clause-trace : goal.returns-clause-trace
 returns-clause-trace g c =
     let texts = g.F.Sources.texts c.args.sources.now in
     let left = g.F.Reader.Read.remaining c.in-Ok.reader in
-    let opens : Opens texts (string_bytes c.args.request.trace) left =
+    let opens : Opens texts (string_bytes c.args.request.now.trace) left =
     subst (λ n. Opens texts n left) c.as_str-2.ensures.value (subst (λ t. Opens t c.as_str-2.result.now left) c.table_asked.ensures.kept c.in-Ok.ensures.opened) in
-    traced_in texts (number_of c.args.request.ran) (string_bytes c.args.request.trace) left opens c.in_ok-read_all.ensures.trace
+    traced_in texts (number_of c.args.request.now.ran) (string_bytes c.args.request.now.trace) left opens c.in_ok-read_all.ensures.trace
 
 pub returns-in_err-write_bytes-clause-refused : goal.returns-in_err-write_bytes-clause-refused
 returns-in_err-write_bytes-clause-refused g c =
     let texts = g.F.Sources.texts c.args.sources.now in
     let left = g.F.Reader.Read.remaining c.in-Ok.reader in
-    let opens : Opens texts (string_bytes c.args.request.trace) left =
+    let opens : Opens texts (string_bytes c.args.request.now.trace) left =
     subst (λ n. Opens texts n left) c.as_str-2.ensures.value (subst (λ t. Opens t c.as_str-2.result.now left) c.table_asked.ensures.kept c.in-Ok.ensures.opened) in
-    unwritten_or _ texts (number_of c.args.request.ran) (string_bytes c.args.request.trace) _ _ c.from_residual-in_err-write_bytes.result (search rules) (search rules)
-    (traced_in texts (number_of c.args.request.ran) (string_bytes c.args.request.trace) left opens c.in_ok-read_all.ensures.trace) c.from_residual-in_err-write_bytes.ensures
+    unwritten_or _ texts (number_of c.args.request.now.ran) (string_bytes c.args.request.now.trace) _ _ c.from_residual-in_err-write_bytes.result (search rules) (search rules)
+    (traced_in texts (number_of c.args.request.now.ran) (string_bytes c.args.request.now.trace) left opens c.in_ok-read_all.ensures.trace) c.from_residual-in_err-write_bytes.ensures

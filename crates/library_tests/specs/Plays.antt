@@ -4,9 +4,9 @@ use Rattle.std.specs.Option.{option_map}
 use Rattle.engine_meaning.specs.Engine.{Engine, Asks}
 use Rattle.processor.specs.Views.{asks_of}
 use Rattle.regions.specs.Space.{Space}
-use Rattle.scripted.specs.Scripts.{script_engine}
-use Rattle.scripted.specs.declared.part.Part.{Part}
-use Rattle.scripted.specs.declared.executor.Scripted.{Scripted}
+use Rattle.library_tests.specs.Scripts.{script_engine}
+use Rattle.library_tests.specs.declared.part.Part.{Part}
+use Rattle.library_tests.specs.declared.executor.Scripted.{Scripted}
 
 abbrev pub script_of : Part → List Asks
 script_of part = map asks_of part.outcomes.items

@@ -1,8 +1,8 @@
 use Rattle.std.proofs.Common.{arith, map}
 use Rattle.std.proofs.lemmas.Grind.{common_steps}
-use Rattle.scripted.specs.Plays.{control_of}
-use Rattle.scripted.proofs.Parts.{stopped_one, views}
-use Rattle.scripted.proofs.executor.stop_each.Goals as goal
+use Rattle.library_tests.specs.Plays.{control_of}
+use Rattle.library_tests.proofs.Parts.{stopped_one, views}
+use Rattle.library_tests.proofs.executor.stop_each.Goals as goal
 
 pub loop-part-preserved : goal.loop-part-preserved
 loop-part-preserved c = record {

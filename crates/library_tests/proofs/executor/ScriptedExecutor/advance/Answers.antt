@@ -2,10 +2,10 @@ use Rattle.std.proofs.Common.{◌≡◌, rules, map, ap, ◌∙◌}
 use Rattle.std.specs.Prelude.{Some, None, slice_get}
 use Rattle.partition_base.specs.Bursting.{burst_at}
 use Rattle.processor.specs.Views.{asks_of}
-use Rattle.scripted.specs.Plays.{controls_of, engine_of, script_of}
-use Rattle.scripted.proofs.Bursts.{played, nobody_plays}
-use Rattle.scripted.proofs.Parts.{views}
-use Rattle.scripted.proofs.executor.ScriptedExecutor.advance.Goals as goal
+use Rattle.library_tests.specs.Plays.{controls_of, engine_of, script_of}
+use Rattle.library_tests.proofs.Bursts.{played, nobody_plays}
+use Rattle.library_tests.proofs.Parts.{views}
+use Rattle.library_tests.proofs.executor.ScriptedExecutor.advance.Goals as goal
 
 pub returns-in-Some-clause-burst : goal.returns-in-Some-clause-burst
 returns-in-Some-clause-burst c =

@@ -1,7 +1,7 @@
 use Rattle.std.proofs.Common.{◌≡◌, map, take, drop, ◌++◌}
 use Rattle.kernel_meaning.specs.Partition.{no_control}
-use Rattle.scripted.specs.Plays.{control_of, script_of}
-use Rattle.scripted.proofs.executor.stop_each.Given as goal
+use Rattle.library_tests.specs.Plays.{control_of, script_of}
+use Rattle.library_tests.proofs.executor.stop_each.Given as goal
 
 abbrev pub invariant-loop-part : goal.invariant-loop-part
 invariant-loop-part l = record {

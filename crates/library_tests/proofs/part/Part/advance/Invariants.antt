@@ -2,9 +2,9 @@ use Rattle.std.proofs.Common.{◌≡◌, ◌≤◌, ◌-◌, List, ℤ}
 use Rattle.engine_meaning.specs.Engine.{Asks}
 use Rattle.kernel_meaning.specs.Partition.{ticked}
 use Rattle.bursts.specs.Bursts.{burst, later}
-use Rattle.scripted.specs.Plays.{control_of, script_of}
-use Rattle.scripted.specs.Scripts.{script_engine}
-use Rattle.scripted.proofs.part.Part.advance.Given as goal
+use Rattle.library_tests.specs.Plays.{control_of, script_of}
+use Rattle.library_tests.specs.Scripts.{script_engine}
+use Rattle.library_tests.proofs.part.Part.advance.Given as goal
 
 -- the ticks so far, and those that are left from here, are all of them
 abbrev pub invariant-loop-left : goal.invariant-loop-left

@@ -9,9 +9,9 @@ use Rattle.bursts.specs.Bursts.{Told, Burst, later, burst, is_nothing, told_of}
 use Rattle.bursts.proofs.Until.{later_later, stops, ticked_once}
 use Rattle.partition_base.specs.Bursting.{at_place, burst_at}
 use Rattle.partition_base.proofs.Bursts.{burst_none}
-use Rattle.scripted.specs.Plays.{control_of}
-use Rattle.scripted.specs.Scripts.{script_engine}
-use Rattle.scripted.specs.declared.part.Part.{Part}
+use Rattle.library_tests.specs.Plays.{control_of}
+use Rattle.library_tests.specs.Scripts.{script_engine}
+use Rattle.library_tests.specs.declared.part.Part.{Part}
 
 abbrev playing : List (List Asks) → Option (List Asks) → List ℤ → Told (Option (List Asks)) (List ℤ) Asks
 playing scripts c words = told_of (ticked (script_engine scripts) c words)

@@ -2,10 +2,10 @@ use Rattle.std.proofs.Common.{rules, arith, ◌∙◌}
 use Rattle.kernel_meaning.specs.Partition.{ticked}
 use Rattle.bursts.specs.Bursts.{burst}
 use Rattle.processor.specs.Views.{asks_of}
-use Rattle.scripted.specs.Plays.{control_of}
-use Rattle.scripted.specs.Scripts.{script_engine}
-use Rattle.scripted.proofs.Bursts.{ends_at, goes_on, all_done}
-use Rattle.scripted.proofs.part.Part.advance.Goals as goal
+use Rattle.library_tests.specs.Plays.{control_of}
+use Rattle.library_tests.specs.Scripts.{script_engine}
+use Rattle.library_tests.proofs.Bursts.{ends_at, goes_on, all_done}
+use Rattle.library_tests.proofs.part.Part.advance.Goals as goal
 
 pub returns-then-not-is_quiet-clause-burst : goal.returns-then-not-is_quiet-clause-burst
 returns-then-not-is_quiet-clause-burst c scripts words =

@@ -7,9 +7,9 @@ use Rattle.std.proofs.lemmas.Option.{slice_get-map, slice_get_past, slice_get-ge
 use Rattle.engine_meaning.specs.Engine.{Asks}
 use Rattle.kernel_meaning.specs.Partition.{control_at, no_control, replied}
 use Rattle.regions.specs.Space.{Space}
-use Rattle.scripted.specs.Plays.{script_of, laid_of}
-use Rattle.scripted.specs.Scripts.{script_engine}
-use Rattle.scripted.specs.declared.part.Part.{Part}
+use Rattle.library_tests.specs.Plays.{script_of, laid_of}
+use Rattle.library_tests.specs.Scripts.{script_engine}
+use Rattle.library_tests.specs.declared.part.Part.{Part}
 
 -- the script of a part in its place
 pub script_there : (parts : List Part) (place : ℕ) (part : Part) → slice_get parts place ≡ Some part → script_of part ≡ get_or (map script_of parts) place []

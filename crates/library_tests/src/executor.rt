@@ -1,8 +1,9 @@
-//! The executor that plays the scripts of a partition.
+//! An executor that plays scripts: the outcomes of the ticks of each runner are written down. It stands
+//! in for the processor, to define what the processes of a partition do.
 
 ghost use Rattle.std.specs.Prelude.{◌≡◌, map};
 ghost use Rattle.kernel_meaning.specs.Partition.{no_control};
-ghost use Rattle.scripted.specs.Plays.{control_of, script_of};
+ghost use Rattle.library_tests.specs.Plays.{control_of, script_of};
 
 use crate::part::Part;
 use apex_types::Runner;
@@ -57,7 +58,7 @@ fn stop_each(parts: &mut Vec<Part>)
 impl Executor for Scripted {
     ghost use Rattle.std.specs.Prelude.{List};
     ghost use Rattle.engine_meaning.specs.Engine.{Asks};
-    ghost use Rattle.scripted.specs.Plays.{engine_of, controls_of, initial_of, layout_of, laid_of};
+    ghost use Rattle.library_tests.specs.Plays.{engine_of, controls_of, initial_of, layout_of, laid_of};
 
     type Mem = PartitionMem;
 

@@ -2,8 +2,10 @@
 
 ghost use Rattle.std.specs.Prelude.{◌≡◌, [], ◌∷◌, length, map, IfOk, IfSome};
 ghost use Rattle.partition.specs.Fresh.{AreWithinLimits};
-ghost use Rattle.scripted.specs.Plays.{laid_of, layout_of};
+ghost use Rattle.library_tests.specs.Plays.{laid_of, layout_of};
 
+use crate::executor::Scripted;
+use crate::part::Part;
 use apex_types::{
     At, BodyRow, Call, ErrorKind, Events, HealthTable, Moment, Name, PartitionAction, PartitionId,
     Priority, ProcessRow, Section, StartCondition, Ticks, TraceBuffer, WriterSink,
@@ -11,7 +13,6 @@ use apex_types::{
 use partition::{Fixed, Partition, PartitionRows};
 use processor::Outcome;
 use regions::{Memory, MemoryPlan, PartitionMem};
-use scripted::{Part, Scripted};
 use std::alloc::{AllocError, Global};
 use window_table::read_table;
 
@@ -54,7 +55,7 @@ pub fn tell(rt: &HostRuntime) -> Option<()> {
 }
 
 /// While the process has a fault to come, no tick is still; behind it, all are.
-#[tactic(auto, using(scripted::proofs::Parts::laid_first))]
+#[tactic(auto, using(crate::proofs::Parts::laid_first))]
 fn tell_fault(rt: &HostRuntime) -> Option<()> {
     let mut memory = memory(rt.alloc()).ok()?;
     let mut trace = TraceBuffer::new(rt.alloc()).ok()?;
@@ -70,7 +71,7 @@ fn tell_fault(rt: &HostRuntime) -> Option<()> {
 }
 
 /// While nothing happens, the partition asks its executor for many ticks at once.
-#[tactic(auto, using(scripted::proofs::Parts::laid_first))]
+#[tactic(auto, using(crate::proofs::Parts::laid_first))]
 fn tell_busy(rt: &HostRuntime) -> Option<()> {
     let mut memory = memory(rt.alloc()).ok()?;
     let mut trace = TraceBuffer::new(rt.alloc()).ok()?;
