@@ -22,7 +22,7 @@ use Rattle.text_beginnings.proofs.Images.{no_image}
 use Rattle.text_beginnings.proofs.Inputs.{same_device_text, same_replay_text}
 use Rattle.module.specs.Running.{IsRefused}
 use Rattle.module.specs.Upgrades.{IsUpgraded}
-use Rattle.stopped_run.specs.Ends.{RunsUntil}
+use Rattle.command_line.specs.Stops.{RunsUntil}
 use Rattle.command_line.specs.Done.{AreInputsOf, ImageAndText, IsImageIn, IsReplayOf, IsRunOf, IsTraced, IsUpgradedIn}
 use Rattle.command_line.specs.declared.outcome.Outcome.{Outcome}
 use Rattle.command_line.specs.declared.outcome.Outcome.TheVariants.{Usual, Remarkable}

@@ -12,3 +12,10 @@ pub mod Replayed
 pub mod Shown
 pub mod Spelled
 pub mod Usual
+pub mod WholeLines
+pub mod Ahead
+pub mod Reached
+pub mod StopBegun
+pub mod OpcodeNames
+pub mod UnderWay
+pub mod Rows

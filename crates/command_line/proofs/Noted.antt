@@ -7,7 +7,7 @@ use Rattle.module.specs.declared.fault.BuildFault.{BuildFault}
 use Rattle.module.specs.declared.fault.BuildFault.TheVariants as build
 use Rattle.pal_base.specs.declared.fault.PalFault.{PalFault}
 use Rattle.compiler.specs.declared.fault.CompileFault.{CompileFault}
-use Rattle.explanations.specs.Explanation.{IsSourceExplanation, length_explanation}
+use Rattle.command_line.specs.Explanation.{IsSourceExplanation, length_explanation}
 use Rattle.module.specs.Costs.{AreCosts}
 use Rattle.module.specs.declared.costing.PartitionCosts.{PartitionCosts}
 use Rattle.command_line.specs.Explained.{Costed, IsExplained, IsExplainedWith, IsLengthExplained, IsLengthExplainedWith, IsNoted, Source, costed_of, form_in, report_on, source_of}

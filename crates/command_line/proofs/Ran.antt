@@ -14,7 +14,7 @@ use Rattle.module.specs.declared.fault.RunFault.{RunFault}
 use Rattle.module.specs.declared.fault.RunFault.TheVariants.{Ticks, Image as NoImage, Partition, Device, Memory, Write, Failed}
 use Rattle.std.specs.Prelude.{IsErr, IsErrAnd, IsErrOf, IfErr, not}
 use Rattle.std.specs.Str.Parse.{IsNumeral, digits_value}
-use Rattle.stopped_run.specs.Ends.{IsBegun, RunsUntil, text_to}
+use Rattle.command_line.specs.Stops.{IsBegun, RunsUntil, text_to}
 use Rattle.machine_meaning.specs.ImageReading.{image_at}
 use Rattle.streams.specs.Contents.{Contents, Holds}
 use Rattle.command_line.specs.Done.{ImageAndText, IsDoneWith, IsRunDone, IsFirstRun, IsTraced, is_ok}

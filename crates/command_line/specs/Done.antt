@@ -5,8 +5,8 @@ use Rattle.std.specs.Io.KnownBytes.{Appends}
 use Rattle.std.specs.Str.Parse.{IsNumeral, digits_value}
 use Rattle.machine_meaning.specs.Image.{Image}
 use Rattle.machine_meaning.specs.ImageReading.{Fault, image_at}
-use Rattle.listing.specs.Code.{code_text}
-use Rattle.listing.specs.Costs.{costs_text}
+use Rattle.command_line.specs.Code.{code_text}
+use Rattle.command_line.specs.Costs.{costs_text}
 use Rattle.module.specs.Building.{IsImageOf}
 use Rattle.module.specs.Costs.{AreCosts}
 use Rattle.module.specs.Promises.{Means}
@@ -19,7 +19,7 @@ use Rattle.module.specs.declared.fault.BuildAndRunFault.{BuildAndRunFault}
 use Rattle.module.specs.declared.inputs_fault.InputsFault.{InputsFault}
 use Rattle.module.specs.declared.fault.RunFault.{RunFault}
 use Rattle.streams.specs.Contents.{Contents, Holds, HoldAll, Spares}
-use Rattle.stopped_run.specs.Ends.{RunsUntil}
+use Rattle.command_line.specs.Stops.{RunsUntil}
 use Rattle.command_line.specs.Orders.{Order, First, Check, Build, Run, Replay, Inputs, Cost, Dis, Upgrade, Load, Lint, Dashed}
 use Rattle.command_line.specs.Loading.{AreLoaded, IsLoadOfText, IsTextOf, Shown}
 use Rattle.command_line.specs.Linting.{AreFound, IsReadModule}

@@ -7,10 +7,10 @@ use Rattle.finding_lines.specs.Lines.{rule_line}
 use Rattle.finding_lines.specs.Reports.{Form, Report, json, plain}
 use Rattle.image.specs.declared.fault.ImageFault.{ImageFault}
 use Rattle.module_meaning.specs.Table.{Partition, Table}
-use Rattle.explanations.specs.Explanation.{IsSourceExplanation, IsTableExplanation, length_explanation}
-use Rattle.explanations.specs.Files.{IsDeviceExplanation, IsImageExplanation, IsReplayExplanation}
-use Rattle.explanations.specs.Sentences.{command_sentence, device_sentence, file_sentence, image_sentence, replay_sentence, source_sentence, table_sentence}
-use Rattle.explanations.specs.declared.sentences.CommandFault.TheVariants as command
+use Rattle.command_line.specs.Explanation.{IsSourceExplanation, IsTableExplanation, length_explanation}
+use Rattle.command_line.specs.Files.{IsDeviceExplanation, IsImageExplanation, IsReplayExplanation}
+use Rattle.command_line.specs.Sentences.{command_sentence, device_sentence, file_sentence, image_sentence, replay_sentence, source_sentence, table_sentence}
+use Rattle.command_line.specs.declared.explanations.sentences.CommandFault.TheVariants as command
 use Rattle.module_meaning.specs.Accepted.{IsTable}
 use Rattle.module.specs.Costs.{AreCosts}
 use Rattle.module.specs.Lines.{build_line, inputs_line, run_line}

@@ -16,3 +16,12 @@ pub mod Spelled
 pub mod States
 pub mod Told
 pub mod Words
+pub mod Awaited
+pub mod Stops
+pub mod StopSteps
+pub mod Code
+pub mod Costs
+pub mod Listed
+pub mod Explanation
+pub mod Files
+pub mod Sentences

@@ -8,8 +8,8 @@ use Rattle.streams.specs.States.{HasFailed, Seen}
 use Rattle.apex_types.specs.Line.{TakesBeginning}
 use Rattle.machine_meaning.specs.Image.{Image}
 use Rattle.machine_meaning.specs.ImageReading.{image_at}
-use Rattle.listing.specs.Code.{code_text}
-use Rattle.listing.specs.Costs.{costs_text}
+use Rattle.command_line.specs.Code.{code_text}
+use Rattle.command_line.specs.Costs.{costs_text}
 use Rattle.module.specs.Refusals.{IsRefusal}
 use Rattle.module.specs.Costs.{IsCostRefusal}
 use Rattle.module.specs.Running as promises

@@ -7,15 +7,15 @@ ghost use Rattle.window_table.specs.Views.{partition_view, table_of};
 ghost use Rattle.finding_lines.specs.Reports.{form_of, report_of};
 ghost use Rattle.command_line.specs.Explained.{IsCompleted, IsExplained, IsExplainedWith, IsLengthExplained, IsLengthExplainedWith, IsNoted, IsNotedBy, IsNoteOf, IsOfImage, IsOfInputs, IsOfReplay, IsOfRun, build_sentence, costed_file, costed_of, files_of, form_in, inputs_sentence, object_of, report_in, report_on, run_sentence, sentence_of, sentence_of_replay, source_file, source_of, told_text};
 
-use crate::outcome::Outcome;
-use crate::refusal::{Refusal, Rule};
-use apex_types::Name;
-use command_words::Failure;
-use explanations::{
+use crate::explanations::{
     CommandFault, command_sentence, device_sentence, explain_devices, explain_image,
     explain_inputs, explain_length, explain_source, explain_table, file_sentence, image_sentence,
     replay_sentence, source_sentence, table_sentence,
 };
+use crate::outcome::Outcome;
+use crate::refusal::{Refusal, Rule};
+use apex_types::Name;
+use command_words::Failure;
 use finding_lines::{Form, Report, rule_line};
 use image::ImageFault;
 use module::{BuildFault, InputsFault, PartitionCosts, RunFault, costs};

@@ -15,10 +15,10 @@ use crate::grammar::bad_ticks;
 use crate::outcome::Outcome;
 use crate::reading::read_as;
 use crate::refusal::Refusal;
+use crate::stopping::run_until;
 use command_words::{Failure, number_of};
 use module::{BuildAndRunFault, RunFault, Watch};
 use std::alloc::Global;
-use stopped_run::run_until;
 use streams::{Files, Stream};
 use text_beginnings::TextKind;
 

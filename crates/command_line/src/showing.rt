@@ -4,8 +4,8 @@ ghost use Rattle.std.specs.Prelude.{◌≡◌, ◌-◌, ◌^◌, ◌<◌, map, I
 ghost use Rattle.std.specs.Io.KnownBytes.{Appends};
 ghost use Rattle.apex_types.specs.Line.{TakesBeginning};
 ghost use Rattle.image.specs.Views.{image_of};
-ghost use Rattle.listing.specs.Code.{code_text};
-ghost use Rattle.listing.specs.Costs.{costs_text};
+ghost use Rattle.command_line.specs.Code.{code_text};
+ghost use Rattle.command_line.specs.Costs.{costs_text};
 ghost use Rattle.command_line.specs.Done.{IsDone};
 ghost use Rattle.command_line.specs.Orders.{Cost, Dis};
 ghost use Rattle.command_line.specs.Refusals.{IsCostRefused, IsDisRefused};
@@ -14,11 +14,11 @@ ghost use Rattle.command_line.specs.Told.{IsOfFailed};
 ghost use Rattle.streams.specs.States.{HasFailed, IsFlushed, seen};
 
 use crate::explaining::Note;
+use crate::listing::{write_code, write_costs};
 use crate::reading::{costs_named, load_named};
 use crate::refusal::Refusal;
 use apex_types::SinkFault;
 use image::Image;
-use listing::{write_code, write_costs};
 use module::PartitionCosts;
 use std::alloc::Global;
 use streams::{Files, Stream};

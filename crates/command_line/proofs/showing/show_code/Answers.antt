@@ -1,6 +1,6 @@
 use Rattle.std.proofs.Common.{rules}
 use Rattle.image.specs.Views.{image_of}
-use Rattle.listing.specs.Code.{code_text}
+use Rattle.command_line.specs.Code.{code_text}
 use Rattle.command_line.proofs.Shown.{whole_is_begun}
 use Rattle.command_line.proofs.showing.show_code.Goals as goal
 

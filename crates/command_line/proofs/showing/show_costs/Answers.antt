@@ -1,5 +1,5 @@
 use Rattle.std.proofs.Common.{rules}
-use Rattle.listing.specs.Costs.{costs_text}
+use Rattle.command_line.specs.Costs.{costs_text}
 use Rattle.command_line.proofs.Shown.{whole_is_begun}
 use Rattle.command_line.proofs.showing.show_costs.Goals as goal
 

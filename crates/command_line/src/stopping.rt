@@ -1,0 +1,8 @@
+//! Runs that end behind a line: with the first tick that has a line with the words that are asked
+//! for.
+
+mod running;
+mod stepping;
+mod words;
+
+pub use running::run_until;

@@ -1,0 +1,102 @@
+//! A run that waits for a line.
+
+ghost use Rattle.std.specs.Prelude.{◌≡◌, ◌≢◌, ◌≤◌, ◌<◌, ◌+◌, ◌-◌, ◌^◌, map, IfErr, OnOk, IsErrOf};
+ghost use Rattle.apex_types.specs.declared.limits.TheConstants.{MOST_TICKS};
+ghost use Rattle.machine_meaning.specs.ImageReading.{image_at};
+ghost use Rattle.module.specs.Machines.{fresh_machine, machine_of};
+ghost use Rattle.module.specs.Written.{AreFrom};
+ghost use Rattle.command_line.specs.Stops.{EndsImage, RunsUntil};
+
+use crate::stopping::stepping::{MOST_UNTOLD, hand_on, tell, tick_held, until_line};
+use crate::stopping::words::has_line;
+use apex_types::limits::MOST_TICKS;
+use apex_types::{DeviceLine, Sink, WriterSink};
+use image::load_image;
+use module::{Machine, RunFault, Watch};
+use std::alloc::Global;
+
+/// Runs the image with the device text, up to the end of the first tick with a line that has the
+/// words `asked` behind its tick and no others; `_` stands for any one word. Answers whether such a
+/// line came in `ticks` ticks. Writes the text of the ticks that are run into the sink, and tells a
+/// watcher how far the run is.
+///
+/// # Errors
+///
+/// Those of [`run`](module::run). After [`RunFault::Write`] the sink has failed once. After it, and
+/// after [`RunFault::Memory`], the sink has taken a beginning of the text.
+pub fn run_until<S: Sink, W: Watch>(
+    alloc: Global,
+    image: &[u8],
+    devices: &[u8],
+    ticks: u64,
+    asked: &[&str],
+    sink: &mut S,
+    watch: &mut W,
+) -> Result<bool, RunFault>
+    requires { S.failures sink.old < 2 ^ 64 - 1 }
+    ensures trace { RunsUntil (image_at image.now) devices.now (map (λ a. a.now) asked.now) ticks
+        (S.taken sink.old) (S.taken sink.new) result }
+    ensures ok { OnOk result (S.failures sink.new ≡ S.failures sink.old) }
+    ensures write { IsErrOf result RunFault.Write → S.failures sink.new ≡ S.failures sink.old + 1 }
+    ensures quiet { IfErr result
+        (λ fault. fault ≢ RunFault.Write → S.failures sink.new ≡ S.failures sink.old) }
+{
+    if ticks > MOST_TICKS {
+        return Err(RunFault::Ticks);
+    }
+    let mut machine = Machine::load(alloc, load_image(alloc, image)?)?;
+    let lines = machine.devices(alloc, devices)?;
+    ticks_until(alloc, &mut machine, &lines, ticks, asked, sink, watch)
+}
+
+/// `ticks`, or the most that are skipped between two offers of nothing.
+fn at_once(ticks: u64) -> u32
+    ensures { result ≤ ticks }
+{
+    ticks.min(MOST_UNTOLD) as u32
+}
+
+/// The ticks of a machine, with these lines of the devices, up to the first with a line that is
+/// asked for; after a shutdown nothing happens.
+fn ticks_until<S: Sink, W: Watch>(
+    alloc: Global,
+    machine: &mut Machine,
+    devices: &[DeviceLine],
+    ticks: u64,
+    asked: &[&str],
+    sink: &mut S,
+    watch: &mut W,
+) -> Result<bool, RunFault>
+    requires ticks { ticks ≤ MOST_TICKS }
+    requires fresh { machine_of machine.old ≡ fresh_machine (machine_of machine.old).image }
+    requires order { AreFrom 0 devices.now }
+    requires failures { S.failures sink.old < 2 ^ 64 - 1 }
+    ensures trace { EndsImage (map (λ a. a.now) asked.now) (machine_of machine.old).image
+        devices.now ticks (S.taken sink.old) (S.taken sink.new) result }
+    ensures ok { OnOk result (S.failures sink.new ≡ S.failures sink.old) }
+    ensures write { IsErrOf result RunFault.Write → S.failures sink.new ≡ S.failures sink.old + 1 }
+    ensures quiet { IfErr result
+        (λ fault. fault ≢ RunFault.Write → S.failures sink.new ≡ S.failures sink.old) }
+{
+    let mut left = ticks;
+    let mut lines = devices;
+    let mut told = 0;
+    let mut held = WriterSink::new(Vec::new(alloc));
+    while left > 0 && !machine.is_shut_down() {
+        told = tell(told, machine.now(), ticks, sink, watch)?;
+        let quiet = until_line(machine, lines, at_once(left));
+        let count = machine.skip(quiet);
+        if count > 0 {
+            left -= u64::from(count);
+            continue;
+        }
+        lines = tick_held(machine, lines, &mut held)?;
+        hand_on(held.writer.as_slice(), sink)?;
+        if has_line(asked, held.writer.as_slice()) {
+            return Ok(true);
+        }
+        held.writer.clear();
+        left -= 1;
+    }
+    Ok(false)
+}

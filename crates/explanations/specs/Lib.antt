@@ -1,3 +1,0 @@
-pub mod Explanation
-pub mod Files
-pub mod Sentences

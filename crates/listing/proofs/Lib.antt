@@ -1,2 +1,0 @@
-pub mod OpcodeNames
-pub mod UnderWay

@@ -1,3 +1,0 @@
-pub mod Code
-pub mod Costs
-pub mod Listed

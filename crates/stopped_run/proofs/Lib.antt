@@ -1,4 +1,0 @@
-pub mod WholeLines
-pub mod Ahead
-pub mod Reached
-pub mod Begun
