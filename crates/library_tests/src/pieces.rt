@@ -70,14 +70,23 @@ fn tell_slow(rt: &HostRuntime, most: usize) -> Option<()> {
 /// The lines of the events that a stream gives.
 fn streamed<R: Read + Drop>(alloc: Global, reader: R) -> Option<Vec<u8>> {
     let mut stream = TraceStream::new(alloc, reader).ok()?;
-    let mut lines = WriterSink::new(Vec::new(alloc));
+    let mut lines = Vec::new(alloc);
     for _ in 0..TRACE.len() {
         match stream.next_event().ok()? {
-            Some(event) => write_event(&event, &mut lines).ok()?,
+            Some(event) => lines
+                .extend_from_slice(line_of(alloc, &event).as_slice())
+                .ok()?,
             None => break,
         }
     }
-    Some(lines.writer)
+    Some(lines)
+}
+
+/// The line of an event; a beginning of it, if memory runs out.
+fn line_of(alloc: Global, event: &Event) -> Vec<u8> {
+    let mut sink = WriterSink::new(Vec::new(alloc));
+    let _ = write_event(event, &mut sink);
+    sink.writer
 }
 
 /// The text is refused soon, and then again.

@@ -1,6 +1,6 @@
 //! A partition of INIT and one process that play scripts in place of code.
 
-ghost use Rattle.std.specs.Prelude.{◌≡◌, [], ◌∷◌, length, map, IfOk, IfSome};
+ghost use Rattle.std.specs.Prelude.{◌≡◌, [], ◌∷◌, length, map, IfOk};
 ghost use Rattle.partition.specs.Fresh.{AreWithinLimits};
 ghost use Rattle.library_tests.specs.Plays.{laid_of, layout_of};
 
@@ -14,7 +14,7 @@ use partition::{Fixed, Partition, PartitionRows};
 use processor::Outcome;
 use regions::{Memory, MemoryPlan, PartitionMem};
 use std::alloc::{AllocError, Global};
-use window_table::read_table;
+use window_table::{Schedule, read_table};
 
 const TABLE: &str = "frame = 20
 fault = 'RESET'
@@ -57,15 +57,15 @@ pub fn tell(rt: &HostRuntime) -> Option<()> {
 /// While the process has a fault to come, no tick is still; behind it, all are.
 #[tactic(auto, using(crate::proofs::Parts::laid_first))]
 fn tell_fault(rt: &HostRuntime) -> Option<()> {
+    let script = fault_script(rt.alloc()).ok()?;
+    let mut partition = partition(rt.alloc(), script).ok()?;
     let mut memory = memory(rt.alloc()).ok()?;
-    let mut trace = TraceBuffer::new(rt.alloc()).ok()?;
-    let mut partition = partition(rt.alloc(), fault_script(rt.alloc()).ok()?)?;
     let mem = memory.lend(PartitionId(1));
-    begin(rt, &mut partition, mem, &mut trace);
-    tick(rt, &mut partition, mem, 4, &mut trace);
+    begin(rt, &mut partition, mem)?;
+    tick(rt, &mut partition, mem, 4)?;
     tell_still(rt, &partition, 5);
-    tick(rt, &mut partition, mem, 5, &mut trace);
-    tick(rt, &mut partition, mem, 6, &mut trace);
+    tick(rt, &mut partition, mem, 5)?;
+    tick(rt, &mut partition, mem, 6)?;
     tell_still(rt, &partition, 7);
     Some(())
 }
@@ -73,11 +73,10 @@ fn tell_fault(rt: &HostRuntime) -> Option<()> {
 /// While nothing happens, the partition asks its executor for many ticks at once.
 #[tactic(auto, using(crate::proofs::Parts::laid_first))]
 fn tell_busy(rt: &HostRuntime) -> Option<()> {
+    let mut partition = partition(rt.alloc(), Vec::new(rt.alloc())).ok()?;
     let mut memory = memory(rt.alloc()).ok()?;
-    let mut trace = TraceBuffer::new(rt.alloc()).ok()?;
-    let mut partition = partition(rt.alloc(), Vec::new(rt.alloc()))?;
     let mem = memory.lend(PartitionId(1));
-    begin(rt, &mut partition, mem, &mut trace);
+    begin(rt, &mut partition, mem)?;
     let before = partition.executor().calls();
     let mut events = Events::new();
     let made = partition.advance(mem, moment(4), 1000, &mut events);
@@ -91,32 +90,31 @@ fn begin(
     rt: &HostRuntime,
     partition: &mut Partition<Scripted>,
     mem: &mut PartitionMem,
-    trace: &mut TraceBuffer,
-)
+) -> Option<()>
     requires { laid_of mem.old ≡ layout_of partition.old.executor }
     ensures { laid_of mem.new ≡ layout_of partition.new.executor }
 {
     let mut events = Events::new();
     partition.clear(mem, moment(0), StartCondition::NormalStart, &mut events);
-    tick(rt, partition, mem, 0, trace);
-    tick(rt, partition, mem, 1, trace);
-    tick(rt, partition, mem, 2, trace);
-    tick(rt, partition, mem, 3, trace);
+    tick(rt, partition, mem, 0)?;
+    tick(rt, partition, mem, 1)?;
+    tick(rt, partition, mem, 2)?;
+    tick(rt, partition, mem, 3)
 }
 
-/// Makes a tick, and prints its lines. A line that is lost is missed in what the program prints.
+/// Makes a tick, and prints its lines.
 fn tick(
     rt: &HostRuntime,
     partition: &mut Partition<Scripted>,
     mem: &mut PartitionMem,
     now: u8,
-    trace: &mut TraceBuffer,
-)
+) -> Option<()>
     requires { laid_of mem.old ≡ layout_of partition.old.executor }
     ensures { laid_of mem.new ≡ layout_of partition.new.executor }
 {
-    partition.tick(mem, moment(now), trace);
-    let _ = trace.write_events(&mut WriterSink::new(rt.stdout()));
+    let mut trace = TraceBuffer::new(rt.alloc()).ok()?;
+    partition.tick(mem, moment(now), &mut trace);
+    trace.write_events(&mut WriterSink::new(rt.stdout())).ok()
 }
 
 /// Prints in how many of the thousand ticks from a tick on nothing happens.
@@ -126,7 +124,9 @@ fn tell_still(rt: &HostRuntime, partition: &Partition<Scripted>, now: u8) {
 }
 
 /// This tick of a module that began at tick 0.
-fn moment(now: u8) -> Moment {
+fn moment(now: u8) -> Moment
+    ensures { result.at.now.0 ≡ now }
+{
     Moment {
         at: At {
             now: Ticks(u64::from(now)),
@@ -144,25 +144,35 @@ fn fault_script(alloc: Global) -> Result<Vec<Outcome>, AllocError> {
 }
 
 /// The partition of the table, with the process `p`, which plays its script.
-fn partition(alloc: Global, script: Vec<Outcome>) -> Option<Partition<Scripted>>
-    ensures { IfSome result (λ partition. layout_of partition.executor ≡ 0 ∷ []) }
+fn partition(alloc: Global, script: Vec<Outcome>) -> Result<Partition<Scripted>, AllocError>
+    ensures { IfOk result (λ partition. layout_of partition.executor ≡ 0 ∷ []) }
 {
-    let table = read_table(alloc, TABLE.as_bytes()).ok()?;
     let fixed = Fixed {
-        name: Name::new(b"flight")?,
+        name: name(b"flight")?,
         number: PartitionId(1),
         period: 20,
         duration: 20,
-        schedule: table.schedule.try_clone(alloc).ok()?,
+        schedule: schedule(alloc)?,
         health: HEALTH,
     };
-    let section = section(alloc, Name::new(b"p")?).ok()?;
+    let section = section(alloc, name(b"p")?)?;
     let rows = PartitionRows {
         ports: &[],
         section: &section,
     };
-    let executor = scripted(alloc, script).ok()?;
-    Partition::new(alloc, fixed, rows, executor).ok()
+    Partition::new(alloc, fixed, rows, scripted(alloc, script)?)
+}
+
+fn name(text: &[u8]) -> Result<Name, AllocError> {
+    Name::new(text).ok_or(AllocError)
+}
+
+/// The schedule of the table.
+fn schedule(alloc: Global) -> Result<Schedule, AllocError> {
+    match read_table(alloc, TABLE.as_bytes()) {
+        Ok(table) => table.schedule.try_clone(alloc),
+        Err(_) => Err(AllocError),
+    }
 }
 
 /// INIT creates and starts the process and enters normal mode, a call a tick. The process plays its
