@@ -50,16 +50,15 @@ const BODY: BodyRow = BodyRow {
 /// Prints the lines of a partition whose process asks for the time in its second tick and is faulty
 /// in its third, and of one whose process is busy for ever; and how they spend a thousand ticks.
 pub fn tell(rt: &HostRuntime) -> Option<()> {
-    let script = fault_script(rt.alloc()).ok()?;
-    tell_script(rt, script, true)?;
-    tell_script(rt, Vec::new(rt.alloc()), false)
+    tell_script(rt, fault_script(rt.alloc()).ok()?, true).ok()?;
+    tell_script(rt, Vec::new(rt.alloc()), false).ok()
 }
 
 /// Plays a script, which has a fault or is empty.
 #[tactic(auto, using(crate::proofs::Parts::laid_first))]
-fn tell_script(rt: &HostRuntime, script: Vec<Outcome>, has_fault: bool) -> Option<()> {
-    let mut partition = partition(rt.alloc(), script).ok()?;
-    let mut memory = memory(rt.alloc()).ok()?;
+fn tell_script(rt: &HostRuntime, script: Vec<Outcome>, has_fault: bool) -> Result<(), AllocError> {
+    let mut memory = memory(rt.alloc())?;
+    let mut partition = partition(rt.alloc(), script)?;
     let mem = memory.lend(PartitionId(1));
     begin(rt, &mut partition, mem);
     if has_fault {
@@ -67,7 +66,7 @@ fn tell_script(rt: &HostRuntime, script: Vec<Outcome>, has_fault: bool) -> Optio
     } else {
         tell_busy(rt, &mut partition, mem);
     }
-    Some(())
+    Ok(())
 }
 
 /// While the process has a fault to come, no tick is still; behind it, all are.
