@@ -15,7 +15,7 @@
 //!   copy for `TICKS` ticks.
 //! - `scripts` runs a partition whose processes play scripts in place of code.
 //! - `pieces` reads traces from readers that give few bytes a read, or never end.
-//! - `traces` makes the calls on whole traces.
+//! - `views` shows no ticks at all, and makes the calls on whole traces.
 //!
 //! In the folder lie a table, the source of its one partition `a`, a device text, the inputs that
 //! it brings the partition, and the trace.
@@ -32,7 +32,7 @@ mod playing;
 mod row;
 mod sinks;
 mod steps;
-mod traces;
+mod views;
 
 use row::Row;
 use std::fs;
@@ -69,7 +69,7 @@ fn answer(rt: &HostRuntime, base: &mut Vec<u8>, line: &str) -> io::Result<()> {
         }
         (Some("scripts"), None, None) => finished(rt, playing::tell(rt)),
         (Some("pieces"), None, None) => finished(rt, pieces::tell(rt)),
-        (Some("traces"), None, None) => finished(rt, traces::tell(rt)),
+        (Some("views"), None, None) => finished(rt, views::tell(rt)),
         _ => println!(rt; "no such line: {line}"),
     }
 }
