@@ -30,14 +30,17 @@ pub fn show<F: Sources, O: Stream>(
 ) -> Result<Outcome, Refusal>
     requires { O.failures out.old < 2 ^ 64 - 1 }
     ensures trace { OnOk result
-        (IsTraceIn (F.texts sources.old) (number_of request.now.ran) (string_bytes request.now.trace)) }
-    ensures table { OnOk result (IsTableAsked (F.texts sources.old) (asked_text request.now.table)) }
+        (IsTraceIn (F.texts sources.old) (number_of request.now.ran)
+        (string_bytes request.now.trace)) }
+    ensures table { OnOk result
+        (IsTableAsked (F.texts sources.old) (asked_text request.now.table)) }
     ensures opened { OnOk result (F.unopened sources.new ≡ F.unopened sources.old) }
     ensures flushed { OnOk result
         (IsFlushed (seen O.taken O.failures O.is_flushed out.old)
         (seen O.taken O.failures O.is_flushed out.new)) }
     ensures refused { IfErr result
-        (λ r. IsRefused (F.texts sources.old) (number_of request.now.ran) (string_bytes request.now.trace)
+        (λ r. IsRefused (F.texts sources.old) (number_of request.now.ran)
+        (string_bytes request.now.trace)
         (state (F.unopened sources.old) (seen O.taken O.failures O.is_flushed out.old))
         (state (F.unopened sources.new) (seen O.taken O.failures O.is_flushed out.new)) r
         ⊎ IsTableRefused (F.texts sources.old) (asked_text request.now.table)
