@@ -1,6 +1,7 @@
 //! The shape of each service: its name, its arguments, its outputs, and its cost.
 
 ghost use Rattle.std.specs.Prelude.{◌≡◌, ◌≤◌, length, true, false};
+ghost use Rattle.apex_types.specs.ServiceShape.{Has};
 
 use crate::cost::Costs;
 use crate::denotation::ObjectKind;
@@ -89,10 +90,7 @@ const PORT: ArgumentKind = ArgumentKind::Object(ObjectKind::Port);
 /// The row of a service that creates nothing.
 #[inline(always)]
 fn row(word: &'static str, arguments: &'static [ArgumentKind], outputs: u8) -> Shape
-    ensures word { result.word.now ≡ word.now }
-    ensures arguments { result.arguments.now ≡ arguments.now }
-    ensures outputs { result.outputs ≡ outputs }
-    ensures creates { result.creates ≡ false }
+    ensures { Has result word.now arguments.now outputs false }
 {
     Shape {
         word,
@@ -105,10 +103,7 @@ fn row(word: &'static str, arguments: &'static [ArgumentKind], outputs: u8) -> S
 /// The row of a service that creates an object, a port, a process or the handler.
 #[inline(always)]
 fn creation(word: &'static str, arguments: &'static [ArgumentKind], outputs: u8) -> Shape
-    ensures word { result.word.now ≡ word.now }
-    ensures arguments { result.arguments.now ≡ arguments.now }
-    ensures outputs { result.outputs ≡ outputs }
-    ensures creates { result.creates ≡ true }
+    ensures { Has result word.now arguments.now outputs true }
 {
     Shape {
         creates: true,
@@ -123,13 +118,7 @@ impl Service {
     /// The row of this service.
     #[inline(always)]
     pub fn shape(self) -> Shape
-        ensures word { result.word.now ≡ (shape self).word }
-        ensures short { length result.word.now ≤ 26 }
-        ensures arguments { result.arguments.now ≡ (shape self).arguments }
-        ensures few { length result.arguments.now ≤ 4 }
-        ensures outputs { result.outputs ≡ (shape self).outputs }
-        ensures answers { result.outputs ≤ 6 }
-        ensures creates { result.creates ≡ (shape self).creates }
+        ensures { Has result (shape self).word (shape self).arguments (shape self).outputs (shape self).creates }
     {
         match self {
             Self::GetPartitionStatus => row("GET_PARTITION_STATUS", &[], 6),

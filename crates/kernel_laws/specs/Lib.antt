@@ -1,3 +1,11 @@
 pub mod Choice
 pub mod WaitingOrder
 pub mod Ready
+pub mod Numbers
+pub mod Agreement
+pub mod OrderLaw
+pub mod History
+pub mod RunLaw
+pub mod Bursts
+pub mod Quiet
+pub mod Running

@@ -5,8 +5,8 @@ use Rattle.std.proofs.lemmas.Option.{none-some, same_Some}
 use Rattle.std.proofs.lemmas.List.{map-set}
 use Rattle.engine_meaning.specs.Engine.{Asks, Nothing}
 use Rattle.kernel_meaning.specs.Partition.{control_at, ticked}
-use Rattle.bursts.specs.Bursts.{Told, Burst, later, burst, is_nothing, told_of}
-use Rattle.bursts.proofs.Until.{later_later, stops, ticked_once}
+use Rattle.kernel_laws.specs.Bursts.{Told, Burst, later, burst, is_nothing, told_of}
+use Rattle.kernel_laws.proofs.Until.{later_later, stops, ticked_once}
 use Rattle.partition_base.specs.Bursting.{at_place, burst_at}
 use Rattle.partition_base.proofs.Bursts.{burst_none}
 use Rattle.library_tests.specs.Plays.{control_of}

@@ -2,7 +2,7 @@
 
 ghost use Rattle.std.specs.Prelude.{◌≡◌, ◌<◌, ℤ, List, Some, None, true, length};
 ghost use Rattle.kernel_meaning.specs.Partition.{ticked};
-ghost use Rattle.bursts.specs.Bursts.{burst, is_nothing};
+ghost use Rattle.kernel_laws.specs.Bursts.{burst, is_nothing};
 ghost use Rattle.processor.specs.Views.{asks_of};
 ghost use Rattle.library_tests.specs.Plays.{control_of, script_of};
 ghost use Rattle.library_tests.specs.Scripts.{script_engine};

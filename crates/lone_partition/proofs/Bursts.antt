@@ -11,10 +11,10 @@ use Rattle.kernel_meaning.specs.Windows.{at_tick, tick_from, owner, ended}
 use Rattle.isolation.specs.Alone.{Gone, Path, Surroundings, and_then, alone_from, goes, inputs_in, keeps_on, sends_ended, sends_port, sends_ports, sends_so_many, stays, tick_alone, ticks_own}
 use Rattle.isolation.specs.declared.input.InputLine.{InputLine}
 use Rattle.partition.specs.Members.{HasAdvanced}
-use Rattle.bursts.specs.Bursts.{Burst, later, alone}
-use Rattle.bursts.specs.Quiet.{IsAtRest, IsStill}
-use Rattle.bursts.specs.Running.{is_silent, advances_by, partition_tick}
-use Rattle.bursts.proofs.Quiet.{idle_tick}
+use Rattle.kernel_laws.specs.Bursts.{Burst, later, alone}
+use Rattle.kernel_laws.specs.Quiet.{IsAtRest, IsStill}
+use Rattle.kernel_laws.specs.Running.{is_silent, advances_by, partition_tick}
+use Rattle.kernel_laws.proofs.Quiet.{idle_tick}
 use Rattle.lone_partition.proofs.LinesOfTicks.{inputs_are, none_before}
 use Rattle.lone_partition.proofs.Outputs.{CompletesLines, lines_go_on, nothing_sent}
 use Rattle.lone_partition.specs.Lines.{AreFrom, inputs_of, tick_of_input}

@@ -6,11 +6,11 @@ ghost use Rattle.std.specs.Prelude.{◌≤◌};
 mod progress;
 
 use command_line::command;
-use host::{HostFiles, Program, run};
 use progress::Progress;
 use std::alloc::AllocGlobal;
 use std::process::ExitCode;
 use streams::Stream;
+use streams::host::{HostFiles, Program, run};
 
 /// The commands, over the files of the host.
 #[derive(Drop)]

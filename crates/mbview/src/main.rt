@@ -3,10 +3,10 @@
 
 ghost use Rattle.std.specs.Prelude.{◌≤◌};
 
-use host::{HostSources, Program, run};
 use std::alloc::AllocGlobal;
 use std::process::ExitCode;
 use streams::Stream;
+use streams::host::{HostSources, Program, run};
 use view_command::view;
 
 /// The views, over the texts of the host.

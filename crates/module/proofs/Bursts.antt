@@ -12,12 +12,12 @@ use Rattle.kernel_meaning.specs.Kernel.{Kernel}
 use Rattle.module_meaning.specs.Module.{Plan, trace_from}
 use Rattle.kernel_meaning.specs.Partition.{Member, World, with_world}
 use Rattle.kernel_meaning.specs.Windows.{Schedule, at_tick, tick_from, owner, ended}
-use Rattle.bursts.specs.Bursts.{Burst}
+use Rattle.kernel_laws.specs.Bursts.{Burst}
 use Rattle.partition.specs.Members.{HasAdvanced}
-use Rattle.bursts.specs.Quiet.{IsStill, AreStill, HaveNoLines}
-use Rattle.bursts.specs.Running.{advances_by}
-use Rattle.bursts.proofs.Quiet.{jump}
-use Rattle.bursts.proofs.Pieces.{IsAlone, piece, HasNobody, empty_piece}
+use Rattle.kernel_laws.specs.Quiet.{IsStill, AreStill, HaveNoLines}
+use Rattle.kernel_laws.specs.Running.{advances_by}
+use Rattle.kernel_laws.proofs.Quiet.{jump}
+use Rattle.kernel_laws.proofs.Pieces.{IsAlone, piece, HasNobody, empty_piece}
 use Rattle.lone_partition.proofs.Outputs.{nothing_sent}
 use Rattle.lone_partition.specs.Sent.{Sent}
 use Rattle.module.specs.Pieces.{LeadsTo, HasPassedSome, HasSkippedSome, HasRun, IsBrokenOff, HasMoved, HasMovedWritten}

@@ -8,7 +8,7 @@ use Rattle.apex_types.specs.declared.event.Event.{Event}
 use Rattle.apex_types.specs.declared.identity.At.{At}
 use Rattle.module_meaning.specs.Module.{Plan}
 use Rattle.kernel_meaning.specs.Partition.{Member, with_world}
-use Rattle.bursts.specs.Running.{advances_by}
+use Rattle.kernel_laws.specs.Running.{advances_by}
 use Rattle.lone_partition.specs.Sent.{Sent, HasSent}
 use Rattle.module.specs.Standing.{Standing, lines_of}
 

@@ -4,7 +4,7 @@ ghost use Rattle.std.specs.Prelude.{◌≡◌, ◌≢◌, ◌≤◌, ◌<◌, �
 ghost use Rattle.apex_types.specs.declared.limits.TheConstants.{MOST_TICKS};
 ghost use Rattle.apex_types.specs.declared.device.DeviceLine.{DeviceLine};
 ghost use Rattle.kernel_meaning.specs.Windows.{tick_from, owner, ended};
-ghost use Rattle.bursts.specs.Quiet.{AreStill};
+ghost use Rattle.kernel_laws.specs.Quiet.{AreStill};
 ghost use Rattle.lone_partition.specs.Outputs.{sent_of};
 ghost use Rattle.module.specs.Pieces.{HasMovedWritten, HasPassedSome, HasSkippedSome};
 ghost use Rattle.module.specs.Standing.{ticks_in};

@@ -9,7 +9,7 @@ use Rattle.kernel_meaning.specs.PortServices.{list}
 use Rattle.kernel_meaning.specs.Step.{nothing}
 use Rattle.kernel_meaning.specs.Sharing.{waiting, waiting_count}
 use Rattle.kernel_meaning.specs.Windows.{tick_from}
-use Rattle.bursts.specs.Quiet.{IsAtRest, IsStill, HasNothingDue}
+use Rattle.kernel_laws.specs.Quiet.{IsAtRest, IsStill, HasNothingDue}
 
 empty : {A : Type 0} (xs : List A) → length xs ≡ 0 → xs ≡ []
 empty [] h = refl

@@ -7,7 +7,7 @@ use Rattle.kernel_meaning.specs.HealthServices.{action_of, free_places, starts_h
 use Rattle.kernel_meaning.specs.Kernel.{Kernel, of_processes, with_errors}
 use Rattle.kernel_meaning.specs.Partition.{chooses, chooses_with_handler}
 use Rattle.kernel_meaning.specs.Step.{nothing, after}
-use Rattle.bursts.specs.Quiet.{HasNothingDue}
+use Rattle.kernel_laws.specs.Quiet.{HasNothingDue}
 use Rattle.process_table_base.specs.Timed.{AreQuiet}
 use Rattle.process_table_base.proofs.Quiet.{none_due}
 

@@ -6,7 +6,7 @@ use Rattle.apex_types.specs.declared.log.EventLog.{Ghosts as Log}
 use Rattle.apex_types.specs.Runners.{Action}
 use Rattle.kernel_meaning.specs.Kernel.{Kernel}
 use Rattle.kernel_meaning.specs.Partition.{Member, Moved, with_world, act, act_all}
-use Rattle.bursts.specs.Running.{Goes, advances_by}
+use Rattle.kernel_laws.specs.Running.{Goes, advances_by}
 use Rattle.partition_base.specs.declared.executor.Executor.{Ghosts}
 use Rattle.partition.specs.declared.partition.Partition.{Partition}
 

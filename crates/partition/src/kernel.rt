@@ -9,7 +9,7 @@ ghost use Rattle.kernel_meaning.specs.Processes.{subject};
 ghost use Rattle.kernel_meaning.specs.Made.{IsMade};
 ghost use Rattle.kernel_meaning.specs.Step.{nothing};
 ghost use Rattle.kernel_meaning.specs.Windows.{tick_from};
-ghost use Rattle.bursts.specs.Quiet.{HasNothingDue};
+ghost use Rattle.kernel_laws.specs.Quiet.{HasNothingDue};
 ghost use Rattle.partition.specs.Fresh.{idle_kernel};
 ghost use Rattle.partition.specs.View.{fixed_of};
 ghost use Rattle.process_table_base.specs.declared.rooms.TheConstants.{ACTIONS_TO_TREAT_DUE, LINES_TO_TREAT_DUE};

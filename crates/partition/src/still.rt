@@ -6,7 +6,7 @@ ghost use Rattle.apex_types.specs.declared.limits.TheConstants.{MOST_OBJECTS};
 ghost use Rattle.kernel_meaning.specs.PortServices as arrival;
 ghost use Rattle.kernel_meaning.specs.Kernel.{with_ports};
 ghost use Rattle.kernel_meaning.specs.Step.{nothing};
-ghost use Rattle.bursts.specs.Quiet.{IsAtRest, IsStill};
+ghost use Rattle.kernel_laws.specs.Quiet.{IsAtRest, IsStill};
 
 use crate::kernel::Kernel;
 use apex_types::{ListKey, Moment};

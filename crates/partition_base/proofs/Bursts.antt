@@ -8,7 +8,7 @@ use Rattle.engine_meaning.specs.Engine.{Engine, Asks, Nothing}
 use Rattle.machine_meaning.specs.MachineControl.{MachineControl, machine_tick}
 use Rattle.kernel_meaning.specs.Partition.{control_at, ticked}
 use Rattle.machine_laws.proofs.StackLength.{tick_keeps_stack, tick_keeps_words}
-use Rattle.bursts.specs.Bursts.{Burst, later, alone, burst, machine_burst, is_nothing, told_of}
+use Rattle.kernel_laws.specs.Bursts.{Burst, later, alone, burst, machine_burst, is_nothing, told_of}
 use Rattle.partition_base.specs.Bursting.{at_place, burst_at}
 use Rattle.partition_base.specs.Slots.{controls_from}
 use Rattle.partition_base.specs.declared.slot.Slot.{Slot}

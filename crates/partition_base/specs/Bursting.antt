@@ -2,7 +2,7 @@
 use Rattle.std.specs.Prelude.{ℕ, ℤ, List, Option, slice_set}
 use Rattle.engine_meaning.specs.Engine.{Engine, Asks}
 use Rattle.kernel_meaning.specs.Partition.{control_at, ticked}
-use Rattle.bursts.specs.Bursts.{Burst, burst}
+use Rattle.kernel_laws.specs.Bursts.{Burst, burst}
 
 -- a burst of the control at a place; the others are unchanged
 abbrev pub at_place : {C : Type 0} → ℕ → List (Option C) → Burst (Option C) (List ℤ) Asks → Burst (List (Option C)) (List ℤ) Asks

@@ -5,7 +5,7 @@ ghost use Rattle.apex_types.specs.declared.limits.TheConstants.{MOST_WORDS};
 ghost use Rattle.apex_types.specs.Runners.{place_of};
 ghost use Rattle.engine_meaning.specs.Engine.{Engine, Ticked};
 ghost use Rattle.kernel_meaning.specs.Partition.{control_at, no_control, replied, ticked, message_from, written};
-ghost use Rattle.bursts.specs.Bursts.{is_nothing};
+ghost use Rattle.kernel_laws.specs.Bursts.{is_nothing};
 ghost use Rattle.processor.specs.Views.{asks_of};
 ghost use Rattle.partition_base.specs.Bursting.{burst_at};
 

@@ -5,7 +5,7 @@ ghost use Rattle.apex_types.specs.declared.identity.Runner.{Runner};
 ghost use Rattle.apex_types.specs.declared.row.BodyRow.{BodyRow};
 ghost use Rattle.machine_meaning.specs.MachineControl.{machine_engine, machine_start};
 ghost use Rattle.kernel_meaning.specs.Partition.{control_at, no_control, replied, ticked};
-ghost use Rattle.bursts.specs.Bursts.{burst, is_nothing};
+ghost use Rattle.kernel_laws.specs.Bursts.{burst, is_nothing};
 ghost use Rattle.processor.specs.Views.{asks_of};
 ghost use Rattle.regions.specs.Space.{put, stacks_of, zeros};
 ghost use Rattle.partition_base.specs.Bursting.{burst_at};

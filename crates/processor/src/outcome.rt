@@ -1,7 +1,7 @@
 //! The outcome of one tick of a process.
 
 ghost use Rattle.std.specs.Prelude.{◌≡◌};
-ghost use Rattle.bursts.specs.Bursts.{is_nothing};
+ghost use Rattle.kernel_laws.specs.Bursts.{is_nothing};
 ghost use Rattle.processor.specs.Views.{asks_of};
 
 use apex_types::{Call, ErrorKind};

@@ -3,6 +3,7 @@
 #![tactic(auto)]
 
 mod files;
+pub mod host;
 mod names;
 mod read_names;
 mod reading;

@@ -1,6 +1,6 @@
 use Rattle.std.proofs.Common.{◌≤◌, ◌<◌, ◌+◌, subst, arith}
 use Rattle.kernel_meaning.specs.Kernel.{Kernel}
-use Rattle.bursts.specs.Quiet.{IsStill}
+use Rattle.kernel_laws.specs.Quiet.{IsStill}
 use Rattle.partition.specs.Members.{member_of}
 use Rattle.lone_partition.specs.Around.{around}
 use Rattle.lone_partition.specs.Outputs.{sent_of}

@@ -4,7 +4,7 @@ use Rattle.std.proofs.lemmas.Bool.{ltb-false}
 use Rattle.engine_meaning.specs.Engine.{Asks, Nothing}
 use Rattle.machine_meaning.specs.MachineControl.{MachineControl, machine_engine}
 use Rattle.kernel_meaning.specs.Partition.{control_at, ticked}
-use Rattle.bursts.specs.Bursts.{Burst, burst}
+use Rattle.kernel_laws.specs.Bursts.{Burst, burst}
 use Rattle.processor.specs.Views.{asks_of}
 use Rattle.regions.specs.Space.{Space, seen, stacks_of}
 use Rattle.partition_base.specs.Bursting.{at_place}

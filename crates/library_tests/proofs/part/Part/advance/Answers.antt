@@ -1,6 +1,6 @@
 use Rattle.std.proofs.Common.{rules, arith, ◌∙◌}
 use Rattle.kernel_meaning.specs.Partition.{ticked}
-use Rattle.bursts.specs.Bursts.{burst}
+use Rattle.kernel_laws.specs.Bursts.{burst}
 use Rattle.processor.specs.Views.{asks_of}
 use Rattle.library_tests.specs.Plays.{control_of}
 use Rattle.library_tests.specs.Scripts.{script_engine}

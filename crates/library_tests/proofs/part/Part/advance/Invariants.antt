@@ -1,7 +1,7 @@
 use Rattle.std.proofs.Common.{◌≡◌, ◌≤◌, ◌-◌, List, ℤ}
 use Rattle.engine_meaning.specs.Engine.{Asks}
 use Rattle.kernel_meaning.specs.Partition.{ticked}
-use Rattle.bursts.specs.Bursts.{burst, later}
+use Rattle.kernel_laws.specs.Bursts.{burst, later}
 use Rattle.library_tests.specs.Plays.{control_of, script_of}
 use Rattle.library_tests.specs.Scripts.{script_engine}
 use Rattle.library_tests.proofs.part.Part.advance.Given as goal

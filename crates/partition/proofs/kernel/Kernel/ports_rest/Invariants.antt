@@ -1,5 +1,5 @@
 use Rattle.std.proofs.Common.{◌<◌, ◌+◌, ℕ}
-use Rattle.bursts.specs.Quiet.{IsAtRest}
+use Rattle.kernel_laws.specs.Quiet.{IsAtRest}
 use Rattle.partition.proofs.kernel.Kernel.ports_rest.Given as goal
 
 abbrev pub invariant-loop-place : goal.invariant-loop-place

@@ -1,7 +1,7 @@
 use Rattle.std.proofs.Common.{◌≡◌, ◌≤◌, ◌-◌}
 use Rattle.apex_types.specs.Room.{IsEmpty}
 use Rattle.kernel_meaning.specs.Partition.{with_world}
-use Rattle.bursts.specs.Running.{SoFar}
+use Rattle.kernel_laws.specs.Running.{SoFar}
 use Rattle.partition.specs.Members.{member_of, TellsSome}
 use Rattle.partition.proofs.partition.Partition.advance.Given as goal
 

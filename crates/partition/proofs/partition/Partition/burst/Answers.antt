@@ -2,8 +2,8 @@ use Rattle.std.proofs.Common.{ℕ, ◌+◌, ◌-◌, ◌++◌, ap, ◌∙◌}
 use Rattle.kernel_meaning.specs.Partition.{Member, Moved, given, moved, treats_asked, with_world}
 use Rattle.kernel_meaning.specs.Windows.{tick_from}
 use Rattle.processor.specs.Views.{asks_of}
-use Rattle.bursts.specs.Running.{burst_of, with_control}
-use Rattle.bursts.proofs.Running.{goes_as}
+use Rattle.kernel_laws.specs.Running.{burst_of, with_control}
+use Rattle.kernel_laws.proofs.Running.{goes_as}
 use Rattle.partition.specs.Members.{member_of}
 use Rattle.partition.proofs.partition.Partition.burst.Goals as goal
 

@@ -1,7 +1,7 @@
 use Rattle.std.proofs.Common.{◌≡◌, [], refl, ap, sym, rules, arith}
 use Rattle.std.specs.Prelude.{None}
 use Rattle.kernel_meaning.specs.Partition.{Member, advances}
-use Rattle.bursts.proofs.Running.{goes_idle, goes_once}
+use Rattle.kernel_laws.proofs.Running.{goes_idle, goes_once}
 use Rattle.partition.specs.Members.{member_of}
 use Rattle.partition.proofs.Told.{tells_none}
 use Rattle.partition.proofs.partition.Partition.phase.Goals as goal

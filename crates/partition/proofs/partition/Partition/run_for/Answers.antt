@@ -1,7 +1,7 @@
 use Rattle.std.proofs.Common.{◌≡◌, ap, arith}
-use Rattle.bursts.specs.Bursts.{Burst}
-use Rattle.bursts.specs.Running.{burst_of}
-use Rattle.bursts.proofs.Running.{burst_ticks}
+use Rattle.kernel_laws.specs.Bursts.{Burst}
+use Rattle.kernel_laws.specs.Running.{burst_of}
+use Rattle.kernel_laws.proofs.Running.{burst_ticks}
 use Rattle.partition.specs.Members.{member_of}
 use Rattle.partition.proofs.partition.Partition.run_for.Goals as goal
 

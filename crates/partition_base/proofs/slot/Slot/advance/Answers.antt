@@ -3,7 +3,7 @@ use Rattle.std.specs.Prelude.{ℕ, ℤ, List, Option, None}
 use Rattle.engine_meaning.specs.Engine.{Asks, Nothing}
 use Rattle.machine_meaning.specs.MachineControl.{MachineControl, machine_engine}
 use Rattle.kernel_meaning.specs.Partition.{ticked}
-use Rattle.bursts.specs.Bursts.{Burst, burst}
+use Rattle.kernel_laws.specs.Bursts.{Burst, burst}
 use Rattle.processor.specs.Views.{asks_of, control_of}
 use Rattle.partition_base.specs.Slots.{control_of_slot, control_on, control_while}
 use Rattle.partition_base.proofs.Bursts.{burst_keeps_stack, burst_keeps_words, burst_none, burst_some, some_burst}

@@ -1,4 +1,0 @@
-pub mod Until
-pub mod Quiet
-pub mod Pieces
-pub mod Running

@@ -1,3 +1,0 @@
-pub mod Bursts
-pub mod Quiet
-pub mod Running

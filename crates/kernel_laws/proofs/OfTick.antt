@@ -1,0 +1,192 @@
+-- Each step of a partition continues the numbers.
+use Rattle.std.proofs.Common.{List, None, Option, Some, [], ap, refl, subst, sym, ℕ, ℤ, ◌∙◌, ◌∷◌, ◌≡◌, ◌↔◌, ◌++◌}
+use Rattle.std.proofs.lemmas.List.{map-append}
+use Rattle.std.specs.Prelude.{map, slice_set}
+use Rattle.arrayvec.specs.ArrayVec.{ArrayVec}
+use Rattle.apex_types.specs.Runners.{place_of}
+use Rattle.apex_types.specs.declared.codes.Discipline.{Discipline}
+use Rattle.apex_types.specs.declared.codes.Mode.{Mode}
+use Rattle.apex_types.specs.declared.codes.Mode.TheVariants as mode
+use Rattle.apex_types.specs.declared.codes.StartCondition.{StartCondition}
+use Rattle.apex_types.specs.declared.event.EventKind.{EventKind}
+use Rattle.apex_types.specs.declared.identity.At.{At}
+use Rattle.apex_types.specs.declared.identity.ListKey.{ListKey}
+use Rattle.apex_types.specs.declared.identity.ListKey.TheVariants as key
+use Rattle.apex_types.specs.declared.identity.PortId.{PortId}
+use Rattle.apex_types.specs.declared.identity.Runner.{Runner}
+use Rattle.apex_types.specs.Runners.{Action}
+use Rattle.apex_types.specs.Runners as action
+use Rattle.apex_types.specs.declared.process.Entry.{Entry}
+use Rattle.kernel_meaning.specs.PortServices as arrival
+use Rattle.kernel_laws.specs.Choice.{IsNumbered, Picks}
+use Rattle.engine_meaning.specs.Engine.{Engine}
+use Rattle.kernel_meaning.specs.HealthServices.{breaks, then_clears}
+use Rattle.kernel_meaning.specs.Kernel.{Kernel, of_ports, with_errors, with_ports, of_ports_alone, of_processes}
+use Rattle.kernel_meaning.specs.Partition.{chooses_with_handler, pick, treats_asked, treats_due, World, Member, act, act_all, admits, arrives, breaks_down, choice_phase, cold_start, control_at, due_phase, given, moved, place_of_port, prepares, spends_chosen, ticked, told, leaves, Moved, followed_by, treating_phase, clearing_phase, goes_out}
+use Rattle.kernel_meaning.specs.PartitionServices.{clears}
+use Rattle.kernel_meaning.specs.Objects.{Port, discipline_of, port_at}
+use Rattle.kernel_meaning.specs.Processes.{Processes}
+use Rattle.kernel_meaning.specs.Queues.{Queues}
+use Rattle.kernel_meaning.specs.Step.{nothing, Step}
+use Rattle.kernel_laws.proofs.Choosing as choosing
+use Rattle.kernel_laws.specs.Agreement.{RecordsAgree}
+use Rattle.kernel_laws.specs.Numbers.{Goes, IsInOrder, Numbers, ready_lines, take_all, May, nobody, may_asked}
+use Rattle.kernel_laws.specs.OrderLaw.{GoesOn, IsOrdered, TickGoes, chosen_among, kind_of, may_of_chosen}
+use Rattle.kernel_laws.proofs.OfKernel.{IsReady, Moves, breaks_moves, clears_moves, due_moves, of_ports_moves, then_clears_moves}
+use Rattle.kernel_laws.proofs.OfPorts.{admits_shares, arrives_shares}
+use Rattle.kernel_laws.proofs.OfServices.{asked_moves, choice_stays, handler_stays}
+use Rattle.kernel_laws.proofs.Primitives.{take_after, told_after, allowed_after}
+use Rattle.kernel_laws.proofs.RecordChoice.{runs_ready}
+use Rattle.kernel_laws.proofs.RecordKernel.{then_clears_agrees, clears_agrees, breaks_agrees}
+use Rattle.kernel_laws.proofs.RecordObjects.{arrives_agrees, admits_agree}
+use Rattle.kernel_laws.proofs.RecordTick.{due_agrees, choice_agrees, choice_runs, acts_same, asked_agrees}
+use Rattle.kernel_laws.proofs.Shares.{each_put}
+
+kinds_told : (name : List ℕ) (at : At) (kinds : List EventKind) → kinds ≡ map kind_of (told name at kinds)
+kinds_told name at [] = refl
+kinds_told name at (k ∷ ks) = ap (λ rest. k ∷ rest) (kinds_told name at ks)
+
+module _ (d : ListKey → Discipline) (names : ℕ → List ℕ) where
+  ready_of : (n : Numbers) (k : Kernel) → IsOrdered d names n k → IsReady d names k
+  ready_of n k h = record { named = h.named; objects = h.objects; ports = h.ports }
+
+  picks_allowed : (n : Numbers) (k : Kernel) → IsOrdered d names n k → (p : Runner) → (pick k.mode (chosen_among k) ≡ Some p ↔ Picks n.ready k.mode (chosen_among k) p)
+  picks_allowed n k h p =
+      let g = handler_stays d names k.mode (with_errors k) h.named in
+      choosing.chosen n.ready n.next k.mode (chosen_among k) p (subst (IsNumbered n.ready n.next) (sym g.ready) h.order.ready)
+
+  leaves_moves : (k : Kernel) (place : ℕ) → IsReady d names k → Moves d names nobody k (of_ports_alone k (arrival.leaves k.ports place))
+  leaves_moves k place h = by_port (port_at k.ports place) refl
+    where
+      still : Goes d names nobody k.processes (nothing k.processes)
+      still = record { takings = []; follows = λ n o. o; named = h.named; told = refl; allowed = tt }
+
+      by_first : (x : Port) (ms : List (ArrayVec ℤ)) → port_at k.ports place ≡ Some x → Moves d names nobody k (of_ports_alone k (arrival.leaves_first k.ports place x ms))
+      by_first x [] q = record { goes = still; objects = h.objects; ports = h.ports }
+      by_first x (m ∷ rest) q = record {
+        goes = record { takings = []; follows = λ n o. o; named = h.named; told = refl; allowed = tt };
+        objects = h.objects;
+        ports = each_put (λ i y. discipline_of y.row.kind ≡ d (key.Port i)) k.ports.ports place (record x { messages = rest }) h.ports (h.ports place x q);
+      }
+
+      by_port : (o : Option Port) → port_at k.ports place ≡ o → Moves d names nobody k (of_ports_alone k (arrival.leaves_of k.ports place o))
+      by_port None q = record { goes = still; objects = h.objects; ports = h.ports }
+      by_port (Some x) q = by_first x x.messages q
+
+module _ {C : Type 0} (d : ListKey → Discipline) (names : ℕ → List ℕ) where
+  act_keeps : (n : Numbers) (e : Engine C) (a : Action) (w : World C) → IsOrdered d names n w.kernel → IsOrdered d names n (act e a w).kernel
+  act_keeps n e (action.Begin p) w h = h
+  act_keeps n e (action.Stop p) w h = h
+  act_keeps n e action.StopAll w h = record { order = h.order; records = h.records; named = h.named; objects = h.objects; ports = h.ports }
+  act_keeps n e (action.Reply p answer) w h = h
+  act_keeps n e action.Restore w h = h
+  act_keeps n e (action.Write place array) w h = h
+  act_keeps n e (action.Queue error) w h = record { order = h.order; records = h.records; named = h.named; objects = h.objects; ports = h.ports }
+
+  all_keep : (n : Numbers) (e : Engine C) (actions : List Action) (w : World C) → IsOrdered d names n w.kernel → IsOrdered d names n (act_all e actions w).kernel
+  all_keep n e [] w h = h
+  all_keep n e (a ∷ rest) w h = all_keep n e rest (act e a w) (act_keeps n e a w h)
+
+  moved_goes : (at : At) (e : Engine C) (may : May) (n : Numbers) (s : Step Kernel) (w : World C) → IsOrdered d names n w.kernel → Moves d names may w.kernel s
+      → RecordsAgree s.part.processes → GoesOn d names may n (moved at e s w)
+  moved_goes at e may n s w h g agree = record {
+    takings = g.goes.takings;
+    ordered = all_keep (take_all g.goes.takings n) e s.actions (record w { kernel = s.part })
+        (record { order = g.goes.follows n h.order; records = agree; named = g.goes.named; objects = g.objects; ports = g.ports });
+    told = g.goes.told ∙ ap ready_lines (kinds_told w.kernel.fixed.name at s.lines);
+    allowed = g.goes.allowed;
+  }
+
+  -- one step, then another from the world after it
+  followed_goes : (may : May) (n : Numbers) (m : Moved C) (rest : World C → Moved C) → (g : GoesOn d names may n m) → GoesOn d names may (take_all g.takings n) (rest m.world)
+      → GoesOn d names may n (followed_by m rest)
+  followed_goes may n m rest g h = record {
+    takings = g.takings ++ h.takings;
+    ordered = subst (λ (k : Numbers). IsOrdered d names k (rest m.world).world.kernel) (sym (take_after g.takings h.takings n)) h.ordered;
+    told = told_after names g.takings h.takings (map kind_of m.lines) (map kind_of (rest m.world).lines) g.told h.told ∙ ap ready_lines (sym (map-append kind_of m.lines (rest m.world).lines));
+    allowed = allowed_after may g.takings h.takings g.allowed h.allowed;
+  }
+
+  treating_goes : (e : Engine C) (at : At) (n : Numbers) (w : World C) → IsOrdered d names n w.kernel → GoesOn d names nobody n (treating_phase e at w)
+  treating_goes e at n w h = moved_goes at e nobody n (of_processes w.kernel (treats_due at w.kernel).step) w h (due_moves d names at w.kernel (ready_of d names n w.kernel h)) (due_agrees at w.kernel h.records)
+
+  clearing_goes : (e : Engine C) (at : At) (clears : Option Mode) (n : Numbers) (w : World C) → IsOrdered d names n w.kernel → GoesOn d names nobody n (clearing_phase e at clears w)
+  clearing_goes e at clears n w h = moved_goes at e nobody n (then_clears w.kernel clears) w h (then_clears_moves d names nobody w.kernel clears (ready_of d names n w.kernel h)) (then_clears_agrees w.kernel clears h.records)
+
+  due_goes : (e : Engine C) (at : At) (n : Numbers) (w : World C) → IsOrdered d names n w.kernel → GoesOn d names nobody n (due_phase e at w)
+  due_goes e at n w h =
+      let g = treating_goes e at n w h in
+      followed_goes nobody n (treating_phase e at w) (clearing_phase e at (treats_due at w.kernel).clears) g
+      (clearing_goes e at (treats_due at w.kernel).clears (take_all g.takings n) (treating_phase e at w).world g.ordered)
+
+  choice_keeps : (e : Engine C) (at : At) (n : Numbers) (w : World C) → IsOrdered d names n w.kernel → IsOrdered d names n (choice_phase e at w).world.kernel
+  choice_keeps e at n w h =
+      let s = chooses_with_handler w.kernel in
+      let g = choice_stays d names w.kernel h.named in
+      all_keep n e s.actions (record w { kernel = s.part })
+      (record {
+        order = subst (λ (q : Queues). IsInOrder d n s.part.processes.ready q) (sym g.queues) (subst (λ (q : List Entry). IsInOrder d n q w.kernel.processes.queues) (sym g.ready) h.order);
+        records = choice_agrees w.kernel h.records;
+        named = g.named;
+        objects = h.objects;
+        ports = h.ports;
+      })
+
+  -- the picked runner runs
+  chosen_runs : (e : Engine C) (at : At) (w : World C) → RecordsAgree w.kernel.processes → (choice_phase e at w).world.kernel.processes.running ≡ pick w.kernel.mode (chosen_among w.kernel)
+  chosen_runs e at w h =
+      let s = chooses_with_handler w.kernel in
+      ap (λ (t : Processes). t.running) (acts_same e s.actions (record w { kernel = s.part })) ∙ choice_runs w.kernel h
+
+  spends_goes : (e : Engine C) (at : At) (n : Numbers) (w : World C) (o : Option Runner) → w.kernel.processes.running ≡ o → IsOrdered d names n w.kernel
+      → GoesOn d names (may_of_chosen e w o) n (spends_chosen e at o w)
+  spends_goes e at n w None is h = record { takings = []; ordered = h; told = refl; allowed = tt }
+  spends_goes e at n w (Some p) is h =
+      let r = ticked e (control_at w.controls (place_of p)) w.words in
+      let v : World C = record w { controls = slice_set w.controls (place_of p) r.control; words = r.words } in
+      moved_goes at e (may_asked p r.asks) n (treats_asked at w.kernel p r.asks (given r.asks r.words)) v h
+      (asked_moves d names at w.kernel p r.asks (given r.asks r.words) (ready_of d names n w.kernel h))
+      (asked_agrees at w.kernel h.records p (runs_ready w.kernel.processes h.records p is) r.asks (given r.asks r.words))
+
+  pub tick_goes : (n : Numbers) (e : Engine C) (at : At) (w : World C) → IsOrdered d names n w.kernel → TickGoes d names n e at w
+  tick_goes n e at w h =
+      let g = due_goes e at n w h in
+      let k = choice_keeps e at (take_all g.takings n) (due_phase e at w).world g.ordered in
+      record {
+        due = g;
+        picks = picks_allowed d names (take_all g.takings n) (due_phase e at w).world.kernel g.ordered;
+        runs = chosen_runs e at (due_phase e at w).world g.ordered.records;
+        prepared = k;
+        spent = spends_goes e at (take_all g.takings n) (prepares e at w).world (prepares e at w).world.kernel.processes.running refl k;
+      }
+
+  pub cold_start_goes : (n : Numbers) (at : At) (c : StartCondition) (x : Member C) → IsOrdered d names n x.world.kernel → GoesOn d names nobody n (cold_start at c x)
+  cold_start_goes n at c x h =
+      moved_goes at x.engine nobody n (clears x.world.kernel mode.ColdStart c) x.world h (clears_moves d names nobody x.world.kernel mode.ColdStart c (ready_of d names n x.world.kernel h))
+      (clears_agrees x.world.kernel mode.ColdStart c h.records)
+
+  pub breaks_down_goes : (n : Numbers) (at : At) (x : Member C) → IsOrdered d names n x.world.kernel → GoesOn d names nobody n (breaks_down at x)
+  breaks_down_goes n at x h = moved_goes at x.engine nobody n (breaks x.world.kernel) x.world h (breaks_moves d names nobody x.world.kernel (ready_of d names n x.world.kernel h)) (breaks_agrees x.world.kernel h.records)
+
+  pub arrives_goes : (n : Numbers) (at : At) (port : PortId) (m : ArrayVec ℤ) (x : Member C) → IsOrdered d names n x.world.kernel → GoesOn d names nobody n (arrives at port m x)
+  arrives_goes n at port m x h =
+      moved_goes at x.engine nobody n (of_ports x.world.kernel (arrival.arrives at (with_ports x.world.kernel) (place_of_port port) m)) x.world h
+      (of_ports_moves d names nobody x.world.kernel _ (ready_of d names n x.world.kernel h)
+      (arrives_shares d names nobody at (with_ports x.world.kernel) (place_of_port port) m (record { named = h.named; fit = h.ports })))
+      (arrives_agrees (with_ports x.world.kernel) h.records at (place_of_port port) m)
+
+  pub admits_goes : (n : Numbers) (at : At) (port : PortId) (x : Member C) → IsOrdered d names n x.world.kernel → GoesOn d names nobody n (admits at port x)
+  admits_goes n at port x h =
+      moved_goes at x.engine nobody n (of_ports x.world.kernel (arrival.admits (with_ports x.world.kernel) (place_of_port port))) x.world h
+      (of_ports_moves d names nobody x.world.kernel _ (ready_of d names n x.world.kernel h)
+      (admits_shares d names nobody (with_ports x.world.kernel) (place_of_port port) (record { named = h.named; fit = h.ports })))
+      (admits_agree (with_ports x.world.kernel) (place_of_port port) h.records)
+
+  pub leaves_goes : (n : Numbers) (at : At) (port : PortId) (x : Member C) → IsOrdered d names n x.world.kernel → GoesOn d names nobody n (leaves at port x)
+  leaves_goes n at port x h =
+      moved_goes at x.engine nobody n (of_ports_alone x.world.kernel (arrival.leaves x.world.kernel.ports (place_of_port port))) x.world h
+      (leaves_moves d names x.world.kernel (place_of_port port) (ready_of d names n x.world.kernel h)) h.records
+
+  -- a message that goes out by a channel changes nothing
+  pub goes_out_goes : (n : Numbers) (at : At) (channel : List ℕ) (m : ArrayVec ℤ) (x : Member C) → IsOrdered d names n x.world.kernel → GoesOn d names nobody n (goes_out at channel m x)
+  goes_out_goes n at channel m x h = record { takings = []; ordered = h; told = refl; allowed = tt }

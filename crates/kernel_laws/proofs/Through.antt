@@ -1,0 +1,98 @@
+-- Through every history the lists of each partition keep the order of its numbers.
+use Rattle.std.proofs.Common.{◌≡◌, ℕ, zero, suc, Bool, true, false, List, [], ◌∷◌, Option, Some, None, refl, sym, ap, subst, ◌∙◌}
+use Rattle.std.proofs.lemmas.Bool.{eqb-true, eqb-false}
+use Rattle.std.proofs.lemmas.Option.{none-some, same_Some}
+use Rattle.std.specs.Prelude.{◌==◌, if◌then◌else◌, slice_get, slice_set}
+use Rattle.apex_types.specs.declared.codes.Discipline.{Discipline}
+use Rattle.apex_types.specs.declared.identity.ListKey.{ListKey}
+use Rattle.module_meaning.specs.Table.{at_number}
+use Rattle.module_meaning.specs.Module.{steps_member}
+use Rattle.kernel_meaning.specs.Partition.{Member, with_world}
+use Rattle.kernel_laws.specs.History.{Move, Starts, BreaksDown, Arrives, Leaves, Admits, GoesOut, Advances, makes, Happening, Moves, Tells, happens, all_happen}
+use Rattle.kernel_laws.specs.Numbers.{Numbers}
+use Rattle.kernel_laws.specs.OrderLaw.{IsOrdered}
+use Rattle.kernel_laws.specs.RunLaw.{MoveGoes, numbers_by, MoveGoesAt, numbers_at, AreOrdered, with_numbers, GoThrough}
+use Rattle.kernel_laws.proofs.OfTick.{tick_goes, cold_start_goes, breaks_down_goes, arrives_goes, leaves_goes, admits_goes, goes_out_goes}
+use Rattle.kernel_laws.proofs.Places.{get_set_same, get_set_other}
+
+-- ---- one partition
+
+module _ {C : Type 0} (d : ListKey → Discipline) (names : ℕ → List ℕ) where
+  pub move_goes : (n : Numbers) (move : Move) (x : Member C) → IsOrdered d names n x.world.kernel → MoveGoes d names n move x
+  move_goes n (Starts at condition) x h = cold_start_goes d names n at condition x h
+  move_goes n (BreaksDown at) x h = breaks_down_goes d names n at x h
+  move_goes n (Arrives at port message) x h = arrives_goes d names n at port message x h
+  move_goes n (Leaves at port) x h = leaves_goes d names n at port x h
+  move_goes n (Admits at port) x h = admits_goes d names n at port x h
+  move_goes n (GoesOut at channel message) x h = goes_out_goes d names n at channel message x h
+  move_goes n (Advances at) x h = tick_goes d names n x.engine at x.world h
+
+  -- after it the lists are in order again
+  ordered_by : (n : Numbers) (move : Move) (x : Member C) (g : MoveGoes d names n move x) → IsOrdered d names (numbers_by d names n move x g) (makes move x).world.kernel
+  ordered_by n (Starts at condition) x g = g.ordered
+  ordered_by n (BreaksDown at) x g = g.ordered
+  ordered_by n (Arrives at port message) x g = g.ordered
+  ordered_by n (Leaves at port) x g = g.ordered
+  ordered_by n (Admits at port) x g = g.ordered
+  ordered_by n (GoesOut at channel message) x g = g.ordered
+  ordered_by n (Advances at) x g = g.spent.ordered
+
+  at_goes : (n : Numbers) (move : Move) (o : Option (Member C)) → ((x : Member C) → o ≡ Some x → IsOrdered d names n x.world.kernel) → MoveGoesAt d names n move o
+  at_goes n move None h = tt
+  at_goes n move (Some x) h = move_goes n move x (h x refl)
+
+-- ---- all partitions
+
+-- a partition that keeps its numbers has them
+same_numbers : (numbers : ℕ → Numbers) (p q : ℕ) → with_numbers p (numbers p) numbers q ≡ numbers q
+same_numbers numbers p q = by_test (p == q) refl
+  where
+    by_test : (b : Bool) → (p == q) ≡ b → (if b then numbers p else numbers q) ≡ numbers q
+    by_test true e = ap numbers (eqb-true p q e)
+    by_test false e = refl
+
+module _ {C : Type 0} (d : ℕ → ListKey → Discipline) (names : ℕ → ℕ → List ℕ) where
+  -- a partition of other numbers or another place
+  abbrev IsSo : ℕ → Numbers → Member C → Type 0
+  IsSo p n x = IsOrdered (d p) (names p) n x.world.kernel
+
+  put_ordered : (numbers : ℕ → Numbers) (ms : List (Member C)) (place : ℕ) (x y : Member C) (n : Numbers) → AreOrdered d names numbers ms → slice_get ms place ≡ Some x → IsSo (suc place) n y
+      → AreOrdered d names (with_numbers (suc place) n numbers) (slice_set ms place y)
+  put_ordered numbers ms place x y n h there own zero z e = absurd (none-some z e)
+  put_ordered numbers ms place x y n h there own (suc j) z e = by_test (suc place == suc j) refl
+    where
+      by_test : (b : Bool) → (suc place == suc j) ≡ b → IsSo (suc j) (if b then n else numbers (suc j)) z
+      by_test true q =
+          let same : suc place ≡ suc j = eqb-true (suc place) (suc j) q in
+          let here : slice_get (slice_set ms place y) place ≡ Some z = subst (λ (p : ℕ). at_number (slice_set ms place y) p ≡ Some z) (sym same) e in
+          let is : y ≡ z = same_Some y z (sym (get_set_same ms place x y there) ∙ here) in
+          subst (λ (p : ℕ). IsSo p n z) same (subst (λ (w : Member C). IsSo (suc place) n w) is own)
+      by_test false q = h (suc j) z (sym (get_set_other ms place j y (λ k. eqb-false (suc place) (suc j) q (ap suc k))) ∙ e)
+
+  step_ordered : (numbers : ℕ → Numbers) (move : Move) (ms : List (Member C)) (place : ℕ) (o : Option (Member C)) → slice_get ms place ≡ o → AreOrdered d names numbers ms
+      → (g : MoveGoesAt (d (suc place)) (names (suc place)) (numbers (suc place)) move o)
+      → AreOrdered d names (with_numbers (suc place) (numbers_at (d (suc place)) (names (suc place)) (numbers (suc place)) move o g) numbers) (steps_member (makes move) ms place o).members
+  step_ordered numbers move ms place None there h g = λ q x e. subst (λ (n : Numbers). IsSo q n x) (sym (same_numbers numbers (suc place) q)) (h q x e)
+  step_ordered numbers move ms place (Some x) there h g =
+      put_ordered numbers ms place x (with_world x (makes move x).world) (numbers_by (d (suc place)) (names (suc place)) (numbers (suc place)) move x g) h there
+      (ordered_by (d (suc place)) (names (suc place)) (numbers (suc place)) move x g)
+
+  happens_ordered : (numbers : ℕ → Numbers) (move : Move) (p : ℕ) (ms : List (Member C)) → AreOrdered d names numbers ms → (g : MoveGoesAt (d p) (names p) (numbers p) move (at_number ms p))
+      → AreOrdered d names (with_numbers p (numbers_at (d p) (names p) (numbers p) move (at_number ms p) g) numbers) (happens (Moves p move) ms).members
+  happens_ordered numbers move zero ms h g = λ q x e. subst (λ (n : Numbers). IsSo q n x) (sym (same_numbers numbers 0 q)) (h q x e)
+  happens_ordered numbers move (suc place) ms h g = step_ordered numbers move ms place (slice_get ms place) refl h g
+
+  -- If all lists are in order, they are in order throughout every history, and every move continues
+  -- the numbers.
+  pub goes_through : (hs : List Happening) (numbers : ℕ → Numbers) (ms : List (Member C)) → AreOrdered d names numbers ms → GoThrough d names hs numbers ms
+  goes_through [] numbers ms h = h
+  goes_through (Tells line ∷ hs) numbers ms h = goes_through hs numbers ms h
+  goes_through (Moves p move ∷ hs) numbers ms h =
+      let g = at_goes (d p) (names p) (numbers p) move (at_number ms p) (h p) in
+      (h, (g, goes_through hs _ _ (happens_ordered numbers move p ms h g)))
+
+  -- and they are so at its end
+  pub ends_ordered : (hs : List Happening) (numbers : ℕ → Numbers) (ms : List (Member C)) → GoThrough d names hs numbers ms → (later : ℕ → Numbers) × AreOrdered d names later (all_happen hs ms).members
+  ends_ordered [] numbers ms h = (numbers, h)
+  ends_ordered (Tells line ∷ hs) numbers ms h = ends_ordered hs numbers ms h
+  ends_ordered (Moves p move ∷ hs) numbers ms h = let rest = h.1 in ends_ordered hs _ _ rest.1

@@ -1,0 +1,62 @@
+-- The effect of a partition's steps on its numbers.
+use Rattle.std.specs.Prelude.{◌≡◌, ◌↔◌, ℕ, List, Option, Some, None, map}
+use Rattle.apex_types.specs.Runners.{place_of}
+use Rattle.apex_types.specs.declared.codes.Discipline.{Discipline}
+use Rattle.apex_types.specs.declared.event.Event.{Event}
+use Rattle.apex_types.specs.declared.event.EventKind.{EventKind}
+use Rattle.apex_types.specs.declared.identity.At.{At}
+use Rattle.apex_types.specs.declared.identity.ListKey.{ListKey}
+use Rattle.apex_types.specs.declared.identity.Runner.{Runner}
+use Rattle.kernel_laws.specs.Choice.{Picks}
+use Rattle.engine_meaning.specs.Engine.{Engine}
+use Rattle.kernel_meaning.specs.HealthServices.{starts_handler}
+use Rattle.kernel_meaning.specs.Kernel.{Kernel, with_errors}
+use Rattle.kernel_meaning.specs.Partition.{World, Moved, control_at, due_phase, pick, prepares, spending_phase, ticked}
+use Rattle.kernel_meaning.specs.Processes.{Processes}
+use Rattle.kernel_laws.specs.Agreement.{RecordsAgree}
+use Rattle.kernel_laws.specs.Numbers.{Numbers, Taking, May, nobody, may_asked, AreAllowed, AreNamed, HaveDisciplines, IsInOrder, PortsHaveDisciplines, ready_lines, subject_at, take_all, those_ready}
+
+abbrev pub kind_of : Event → EventKind
+kind_of e = e.kind
+
+-- The lists of a partition have the order of these numbers. Its ready list and its records agree, its processes have
+-- these names, and its waiting lists these disciplines.
+pub record IsOrdered (disciplines : ListKey → Discipline) (names : ℕ → List ℕ) (n : Numbers) (k : Kernel) : Type 0 where
+  pub order : IsInOrder disciplines n k.processes.ready k.processes.queues
+  pub records : RecordsAgree k.processes
+  pub named : AreNamed (subject_at names) k.processes.rows
+  pub objects : HaveDisciplines disciplines k.objects
+  pub ports : PortsHaveDisciplines disciplines k.ports
+
+-- A step of a partition continues its numbers: the processes that its lines call ready take numbers
+-- in the order of these lines; of the others, only those that may take a number do; and all that
+-- take none keep theirs.
+pub record GoesOn {C : Type 0} (disciplines : ListKey → Discipline) (names : ℕ → List ℕ) (may : May) (n : Numbers) (m : Moved C) : Type 0 where
+  pub takings : List Taking
+  pub ordered : IsOrdered disciplines names (take_all takings n) m.world.kernel
+  pub told : those_ready names takings ≡ ready_lines (map kind_of m.lines)
+  pub allowed : AreAllowed may takings
+
+-- who may take a number in the tick of the chosen runner
+abbrev pub may_of_chosen : {C : Type 0} → Engine C → World C → Option Runner → May
+may_of_chosen e w None = nobody
+may_of_chosen e w (Some p) = let r = ticked e (control_at w.controls (place_of p)) w.words in may_asked p r.asks
+
+abbrev pub may_spent : {C : Type 0} → Engine C → World C → May
+may_spent e w = may_of_chosen e w w.kernel.processes.running
+
+-- the processes from which the choice is made: the handler has started, if an error waits for it
+abbrev pub chosen_among : Kernel → Processes
+chosen_among k = let s = starts_handler k.mode (with_errors k) in s.part
+
+-- In a tick of a partition, the processes that become ready by what is due take numbers. The choice
+-- gives nobody a number: it picks the only runner that `Picks` allows by these numbers. The picked
+-- runner runs, and spends the tick; if nobody is picked, nobody runs.
+pub record TickGoes {C : Type 0} (disciplines : ListKey → Discipline) (names : ℕ → List ℕ) (n : Numbers) (e : Engine C) (at : At) (w : World C) : Type 0 where
+  pub due : GoesOn disciplines names nobody n (due_phase e at w)
+  pub picks : (p : Runner)
+      → (pick (due_phase e at w).world.kernel.mode (chosen_among (due_phase e at w).world.kernel) ≡ Some p
+      ↔ Picks (take_all due.takings n).ready (due_phase e at w).world.kernel.mode (chosen_among (due_phase e at w).world.kernel) p)
+  pub runs : (prepares e at w).world.kernel.processes.running ≡ pick (due_phase e at w).world.kernel.mode (chosen_among (due_phase e at w).world.kernel)
+  pub prepared : IsOrdered disciplines names (take_all due.takings n) (prepares e at w).world.kernel
+  pub spent : GoesOn disciplines names (may_spent e (prepares e at w).world) (take_all due.takings n) (spending_phase e at (prepares e at w).world)

@@ -1,0 +1,93 @@
+//! Laws of the definitions: their functions do nothing, and promise a law each.
+//!
+//! The state of a partition stores no number. Each process that becomes ready, goes last, or begins to
+//! wait takes a fresh and greater number; the lists have the order of these numbers.
+
+ghost use Rattle.std.specs.Prelude.{◌≡◌, ◌↔◌, ℕ, List, Some, slice_get};
+ghost use Rattle.apex_types.specs.declared.codes.Discipline.{Discipline};
+ghost use Rattle.apex_types.specs.declared.device.DeviceLine.{DeviceLine};
+ghost use Rattle.apex_types.specs.declared.identity.At.{At};
+ghost use Rattle.apex_types.specs.declared.identity.ListKey.{ListKey};
+ghost use Rattle.apex_types.specs.declared.process.Entry.{Entry};
+ghost use Rattle.engine_meaning.specs.Engine.{Engine};
+ghost use Rattle.machine_meaning.specs.Image.{Image};
+ghost use Rattle.module_meaning.specs.Table.{Table, at_number};
+ghost use Rattle.kernel_meaning.specs.Kernel.{Kernel};
+ghost use Rattle.machine_meaning.specs.MachineControl.{MachineControl};
+ghost use Rattle.kernel_meaning.specs.Partition.{Member, World};
+ghost use Rattle.pal_meaning.specs.Program.{Program};
+ghost use Rattle.pal_meaning.specs.SourceControl.{SourceControl};
+ghost use Rattle.machine_meaning.specs.MachineMeaning.{machine_module};
+ghost use Rattle.module_meaning.specs.SourceMeaning.{source_module};
+ghost use Rattle.kernel_meaning.specs.Sharing.{waiting};
+ghost use Rattle.kernel_laws.specs.WaitingOrder.{IsReleasedFirst};
+ghost use Rattle.kernel_laws.specs.History.{Move, members_after};
+ghost use Rattle.kernel_laws.specs.Numbers.{Numbers};
+ghost use Rattle.kernel_laws.specs.OrderLaw.{IsOrdered, TickGoes};
+ghost use Rattle.kernel_laws.specs.RunLaw.{HasOrder, HoldsReady, MoveGoes, RunGoes};
+
+/// A tick of a partition whose lists are in order continues its numbers, on any engine: on the
+/// machine as on the sources.
+pub fn tick_goes_on()
+    ensures machine { (disciplines : ListKey → Discipline) (names : ℕ → List ℕ) (n : Numbers)
+        (e : Engine MachineControl) (at : At) (w : World MachineControl)
+        → IsOrdered disciplines names n w.kernel → TickGoes disciplines names n e at w }
+    ensures source { (disciplines : ListKey → Discipline) (names : ℕ → List ℕ) (n : Numbers)
+        (e : Engine SourceControl) (at : At) (w : World SourceControl)
+        → IsOrdered disciplines names n w.kernel → TickGoes disciplines names n e at w }
+{}
+
+/// So does each step that a module makes of a partition: besides its ticks, its starts, a fault of
+/// its hardware, and the messages that arrive at its ports and leave them.
+pub fn steps_go_on()
+    ensures machine { (disciplines : ListKey → Discipline) (names : ℕ → List ℕ) (n : Numbers)
+        (step : Move) (x : Member MachineControl) → IsOrdered disciplines names n x.world.kernel
+        → MoveGoes disciplines names n step x }
+    ensures source { (disciplines : ListKey → Discipline) (names : ℕ → List ℕ) (n : Numbers)
+        (step : Move) (x : Member SourceControl) → IsOrdered disciplines names n x.world.kernel
+        → MoveGoes disciplines names n step x }
+{}
+
+/// In every state of every run, of every image and of all sources, the ready list and the waiting
+/// lists of each partition have the order of its numbers, and each step continues them. So each
+/// tick chooses the only runner that the numbers allow.
+pub fn order_in_every_run()
+    ensures machine { (image : Image) (devices : List DeviceLine) (n : ℕ)
+        → RunGoes (machine_module image) devices n }
+    ensures source { (t : Table) (sources : List Program) (devices : List DeviceLine) (n : ℕ)
+        → RunGoes (source_module t sources) devices n }
+{}
+
+/// So in the state after any number of ticks there are numbers by which the lists of each partition
+/// are in order.
+pub fn order_in_every_state()
+    ensures machine { (image : Image) (devices : List DeviceLine) (n p : ℕ)
+        (x : Member MachineControl)
+        → at_number (members_after (machine_module image) devices n) p ≡ Some x
+        → HasOrder (machine_module image) p x }
+    ensures source { (t : Table) (sources : List Program) (devices : List DeviceLine) (n p : ℕ)
+        (x : Member SourceControl)
+        → at_number (members_after (source_module t sources) devices n) p ≡ Some x
+        → HasOrder (source_module t sources) p x }
+{}
+
+/// In such a state the ready list of a partition holds exactly the processes whose records are
+/// READY or RUNNING, each with its current priority.
+pub fn ready_ones_are_listed()
+    ensures machine { (image : Image) (devices : List DeviceLine) (n p : ℕ)
+        (x : Member MachineControl)
+        → at_number (members_after (machine_module image) devices n) p ≡ Some x → HoldsReady x }
+    ensures source { (t : Table) (sources : List Program) (devices : List DeviceLine) (n p : ℕ)
+        (x : Member SourceControl)
+        → at_number (members_after (source_module t sources) devices n) p ≡ Some x → HoldsReady x }
+{}
+
+/// If the lists are in order, an entry is at the head of a waiting list if and only if it is to be
+/// released first.
+pub fn head_is_released_first()
+    ensures { (disciplines : ListKey → Discipline) (names : ℕ → List ℕ) (n : Numbers) (k : Kernel)
+        (list : ListKey) (e : Entry)
+        → IsOrdered disciplines names n k
+        → (slice_get (waiting k.processes list) 0 ≡ Some e
+        ↔ IsReleasedFirst (disciplines list) n.waiting (waiting k.processes list) e) }
+{}

@@ -1,5 +1,0 @@
-use Rattle.order.proofs.Law.{head_is_first}
-use Rattle.order.proofs.laws.head_is_released_first.Goals as goal
-
-pub returns : goal.returns
-returns c = λ d names n k list e h. head_is_first d names n k list e h

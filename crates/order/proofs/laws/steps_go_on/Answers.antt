@@ -1,8 +1,0 @@
-use Rattle.order.proofs.Through.{move_goes}
-use Rattle.order.proofs.laws.steps_go_on.Goals as goal
-
-pub returns-clause-machine : goal.returns-clause-machine
-returns-clause-machine c = λ d names n step x h. move_goes d names n step x h
-
-pub returns-clause-source : goal.returns-clause-source
-returns-clause-source c = λ d names n step x h. move_goes d names n step x h

@@ -1,5 +1,0 @@
-pub mod Numbers
-pub mod Agreement
-pub mod OrderLaw
-pub mod History
-pub mod RunLaw
