@@ -63,29 +63,43 @@ def without_derives(text):
     return re.sub(r"#\[derive\(([^)]*)\)\]\n", lambda found: f"#[derive({', '.join(kept(found))})]\n" if kept(found) else "", text)
 
 
+@functools.cache
+def text_of(file):
+    return file.read_text()
+
+
 def without_imports(file):
     """The text of a file without lines of comment, and without its imports, which say where a name stands. What a name says counts where it
     stands (`promises_sum`)."""
     comment, ends = ("//", r"[^;]*;\n") if file.suffix == ".rt" else ("--", r".*\n")
-    text = without_derives(without_comments(file.read_text(), comment))
+    text = without_derives(without_comments(text_of(file), comment))
     return re.sub(rf"^ *(?:pub |ghost )?use {ends}", "", text, flags=re.M)
 
 
 def without_layout(text):
     """The text with each break of a line as a space: where a clause is broken does not count."""
-    text = re.sub(r" ?([()\[\]{}]) ?", r"\1", re.sub(r"\s+", " ", text))
-    return re.sub(r"[,;]([)\]}])", r"\1", text)
+    text = re.sub(r"\s+", " ", text)
+    for bracket in "()[]{}":
+        text = text.replace(" " + bracket, bracket).replace(bracket + " ", bracket)
+    return re.sub(r"[,;](?=[)\]}])", "", text)
+
+
+@functools.cache
+def counted(file):
+    """What counts in a file."""
+    return f"{file.relative_to(ROOT)}\0{without_layout(without_imports(file))}"
 
 
 def texts_sum(files):
     """The sum of what counts in these files."""
-    return sum_of([f"{it.relative_to(ROOT)}\0{without_layout(without_imports(it))}" for it in files])
+    return sum_of([counted(it) for it in files])
 
 
-def named_proofs(name, text):
-    """The files of lemmas of a crate that a text names: an import of a proof, or an attribute of code."""
+@functools.cache
+def named_proofs(name, file):
+    """The files of lemmas of a crate that a file names: an import of a proof, or an attribute of code."""
     folder = ROOT / "crates" / name / "proofs"
-    paths = re.findall(rf"\b(?:Rattle\.{name}\.proofs\.|crate::proofs::)(\w+)", text)
+    paths = re.findall(rf"\b(?:Rattle\.{name}\.proofs\.|crate::proofs::)(\w+)", text_of(file))
     return {it for it in (folder / f"{path}.antt" for path in paths) if it.is_file()}
 
 
@@ -100,7 +114,7 @@ def proof_of(name, edit):
     left = [*own, *(it for it in code if it.is_file())]
     found = set(own)
     while left:
-        more = named_proofs(name, left.pop().read_text()) - found
+        more = named_proofs(name, left.pop()) - found
         found |= more
         left += more
     return sorted(found)
@@ -125,7 +139,7 @@ def file_of(crate, path):
 @functools.cache
 def promise_of(file):
     """The definitions of a file, or the clauses of one of code, and the files that these name in turn: where they call a crate, all its code."""
-    text = heads(without_derives(file.read_text())) if file.suffix == ".rt" else without_comments(file.read_text(), "--")
+    text = heads(without_derives(text_of(file))) if file.suffix == ".rt" else without_comments(text_of(file), "--")
     named = {file_of(crate, path) for crate, path in re.findall(r"\bRattle\.(\w+)\.specs\.([\w.]*\w)", text) if (ROOT / "crates" / crate).is_dir()}
     called = {crate for crate in re.findall(r"^ *(?:pub )?use (\w+)::", text, re.M) if (ROOT / "crates" / crate).is_dir()}
     return without_layout(text), named.union(*(set(files_of(crate, ("src",))) for crate in called))

@@ -26,7 +26,8 @@ def found():
     for file in files():
         for line in file.read_text().splitlines():
             text = line.strip()
-            if not text.startswith(("//", "--")) and NUMBER.search(BYTES.sub("", OF_TYPES.sub("", TEXT.sub('""', text)))):
+            is_code = NUMBER.search(text) and not text.startswith(("//", "--"))
+            if is_code and NUMBER.search(BYTES.sub("", OF_TYPES.sub("", TEXT.sub('""', text)))):
                 yield f"{file.relative_to(ROOT)}: {text}"
 
 
