@@ -13,6 +13,10 @@ text key value others = member key (string value) others
 abbrev pub count : List ℕ → ℕ → Members → Members
 count key value others = member key (number (unsigned value)) others
 
+-- what each object has
+abbrev pub told : List ℕ → List ℕ → List ℕ → Members
+told rule said advice = text (codes "advice") advice (text (codes "message") said (text (codes "rule") rule no_members))
+
 -- a finding at a place of a text; the line and the column count from 1
 abbrev pub at_place : List ℕ → ℕ → ℕ → List ℕ → List ℕ → List ℕ → Data
 at_place file line column rule said advice =
@@ -30,4 +34,4 @@ of_file file rule said advice =
 
 -- a refusal that is about no file
 abbrev pub of_rule : List ℕ → List ℕ → List ℕ → Data
-of_rule rule said advice = object (text (codes "advice") advice (text (codes "message") said (text (codes "rule") rule no_members)))
+of_rule rule said advice = object (told rule said advice)
