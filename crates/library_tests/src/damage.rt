@@ -1,6 +1,6 @@
 //! Damaged images.
 
-use crate::sinks::Forgetful;
+use crate::sinks::Narrow;
 use module::run;
 use std::alloc::{AllocError, Global};
 use std::io;
@@ -24,7 +24,8 @@ pub fn tell<'a>(
             return println!(rt; "no such change: {word}");
         }
     }
-    match run(rt.alloc(), image.as_slice(), &[], ticks, &mut Forgetful) {
+    let mut sink = Narrow::wide(b"");
+    match run(rt.alloc(), image.as_slice(), &[], ticks, &mut sink) {
         Ok(()) => println!(rt; "runs"),
         Err(fault) => println!(rt; "{fault}"),
     }

@@ -137,26 +137,31 @@ fn failed_ticks(
     let Ok(image) = load_image(alloc, image) else {
         return Ok(None);
     };
-    let Ok(mut machine) = Machine::load(alloc, image) else {
-        return Err(AllocError);
-    };
+    match Machine::load(alloc, image) {
+        Ok(mut machine) => Ok(failed_ticks_of(&mut machine, row, room, way)),
+        Err(_) => Err(AllocError),
+    }
+}
+
+/// The same of a machine that was just loaded.
+fn failed_ticks_of(machine: &mut Machine, row: &Row, room: usize, way: &Way) -> Option<usize> {
     let mut sink = Narrow::new(row.trace.as_slice(), room, way);
     let mut failed = 0usize;
     for _ in 0..row.ticks {
         if sink.failures > 1 {
-            return Ok(None);
+            return None;
         }
         let had_failed = sink.failures == 1;
         match machine.tick(&[], &mut sink) {
             Ok(()) if !had_failed => {}
             Err(RunFault::Write) if !had_failed => {}
             Err(RunFault::Failed) if had_failed => failed = failed.saturating_add(1),
-            _ => return Ok(None),
+            _ => return None,
         }
     }
     if sink.failures == 1 && sink.has_beginning(room) {
-        Ok(Some(failed))
+        Some(failed)
     } else {
-        Ok(None)
+        None
     }
 }

@@ -183,11 +183,9 @@ fn scripted(alloc: Global, process: Vec<Outcome>) -> Result<Scripted, AllocError
     let create = Outcome::Call(Call::CreateProcess { name: 1 });
     let start = Outcome::Call(Call::Start { process: 1 });
     let normal = Outcome::Call(Call::SetPartitionMode { mode: 3 });
-    let init = vec![in alloc; create, start, normal]?;
-    let mut parts = Vec::new(alloc);
-    parts.push(Part::new(init))?;
-    parts.push(Part::new(Vec::new(alloc)))?;
-    parts.push(Part::new(process))?;
+    let init = Part::new(vec![in alloc; create, start, normal]?);
+    let handler = Part::new(Vec::new(alloc));
+    let parts = vec![in alloc; init, handler, Part::new(process)]?;
     Ok(Scripted::new(parts, Vec::new(alloc)))
 }
 
@@ -196,12 +194,11 @@ fn memory(alloc: Global) -> Result<Memory, AllocError>
     ensures count { IfOk result (λ memory. length memory ≡ 1) }
     ensures laid { IfOk result (λ memory. map laid_of memory ≡ (0 ∷ []) ∷ []) }
 {
-    let mut plan = Vec::new(alloc);
-    plan.push(MemoryPlan {
+    let plan = MemoryPlan {
         initial: Vec::new(alloc),
         stacks: vec![in alloc; 0]?,
-    })?;
-    Memory::new(alloc, &plan)
+    };
+    Memory::new(alloc, &[plan])
 }
 
 /// The section of INIT and a process of the name, without code.

@@ -4,20 +4,6 @@ ghost use Rattle.std.specs.Prelude.{◌≡◌, None};
 
 use apex_types::{Sink, SinkFault};
 
-/// Takes all and keeps none.
-#[derive(Clone, Copy)]
-pub struct Forgetful;
-
-impl Sink for Forgetful {
-    ghost taken = { λ _. None };
-
-    ghost failures = { λ _. 0 };
-
-    fn put(&mut self, bytes: &[u8]) -> Result<usize, SinkFault> {
-        Ok(bytes.len())
-    }
-}
-
 /// How a sink takes bytes, and how it fails.
 pub struct Way {
     pub name: &'static str,
