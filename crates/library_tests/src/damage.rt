@@ -6,16 +6,12 @@ use std::alloc::{AllocError, Global};
 use std::io;
 use std::str::SplitWhitespace;
 
-/// Prints the answer to a damaged copy of the image: `runs`, or the refusal. The extent is its
-/// length and the ticks of its run; the words say which bytes are changed.
-pub fn tell<'a>(
-    rt: &HostRuntime,
-    base: &[u8],
-    extent: (&str, &str),
-    words: SplitWhitespace<'a>,
-) -> io::Result<()> {
-    let (length, ticks) = extent;
-    let (Ok(length), Ok(ticks)) = (length.parse::<usize>(), ticks.parse::<u64>()) else {
+/// Prints the answer to a damaged copy of the image: `runs`, or the refusal. The words are its
+/// length, the ticks of its run, and which bytes are changed.
+pub fn tell(rt: &HostRuntime, base: &[u8], mut words: SplitWhitespace<'_>) -> io::Result<()> {
+    let length = words.next().unwrap_or("").parse::<usize>();
+    let ticks = words.next().unwrap_or("").parse::<u64>();
+    let (Ok(length), Ok(ticks)) = (length, ticks) else {
         return println!(rt; "no such length or ticks");
     };
     let mut image = copy(rt.alloc(), base, length)?;

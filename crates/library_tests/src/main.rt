@@ -50,26 +50,18 @@ fn main(rt: HostRuntime) -> io::Result<()> {
 /// Answers a line. The image that was read last is `base`.
 fn answer(rt: &HostRuntime, base: &mut Vec<u8>, line: &str) -> io::Result<()> {
     let mut words = line.split_whitespace();
-    match (words.next(), words.next(), words.next()) {
-        (Some("calls"), Some(folder), Some(ticks)) => {
-            calls::tell(rt, &Row::read(rt, folder, ticks))
-        }
-        (Some("drive"), Some(folder), Some(ticks)) => {
-            driving::tell(rt, &Row::read(rt, folder, ticks))
-        }
-        (Some("sinks"), Some(folder), Some(ticks)) => {
-            failing::tell(rt, &Row::read(rt, folder, ticks))
-        }
-        (Some("base"), Some(name), None) => {
-            *base = fs::read(rt, name)?;
+    match words.next() {
+        Some("calls") => calls::tell(rt, &Row::read(rt, words)),
+        Some("drive") => driving::tell(rt, &Row::read(rt, words)),
+        Some("sinks") => failing::tell(rt, &Row::read(rt, words)),
+        Some("base") => {
+            *base = fs::read(rt, words.next().unwrap_or(""))?;
             Ok(())
         }
-        (Some("image"), Some(length), Some(ticks)) => {
-            damage::tell(rt, base.as_slice(), (length, ticks), words)
-        }
-        (Some("scripts"), None, None) => finished(rt, playing::tell(rt)),
-        (Some("pieces"), None, None) => finished(rt, pieces::tell(rt)),
-        (Some("views"), None, None) => finished(rt, views::tell(rt)),
+        Some("image") => damage::tell(rt, base.as_slice(), words),
+        Some("scripts") => finished(rt, playing::tell(rt)),
+        Some("pieces") => finished(rt, pieces::tell(rt)),
+        Some("views") => finished(rt, views::tell(rt)),
         _ => println!(rt; "no such line: {line}"),
     }
 }

@@ -1,6 +1,7 @@
 //! The modules that are tried.
 
 use std::fs;
+use std::str::SplitWhitespace;
 
 /// The texts of a module with one partition, the inputs of this partition, and the trace of `ticks`
 /// ticks.
@@ -15,8 +16,11 @@ pub struct Row {
 }
 
 impl Row {
-    /// The module in a folder. A file that cannot be read is empty, and the answers show it.
-    pub fn read(rt: &HostRuntime, folder: &str, ticks: &str) -> Self {
+    /// The module in a folder, which the words name, and the ticks behind it. A file that cannot be read
+    /// is empty, and the answers show it.
+    pub fn read(rt: &HostRuntime, mut words: SplitWhitespace<'_>) -> Self {
+        let folder = words.next().unwrap_or("");
+        let ticks = words.next().unwrap_or("");
         Row {
             table: text(rt, folder, "table"),
             source: text(rt, folder, "source"),
