@@ -99,22 +99,22 @@ fn tell_numbered<S: Sink>(
 /// Collects the inputs that `ticks` ticks with these device lines bring the watched partition.
 pub fn collect(
     alloc: Global,
-    module: &mut Module<PartitionProcessor>,
+    running: &mut Module<PartitionProcessor>,
     devices: &[DeviceLine],
     ticks: u64,
     watched: PartitionId,
 ) -> Result<Collected, InputsFault>
     requires ticks { ticks ≤ MOST_TICKS }
-    requires fresh { standing_of machine module.old
-        ≡ at_first (machine_module (image_of module.old.image)).members }
+    requires fresh { standing_of machine running.old
+        ≡ at_first (machine_module (image_of running.old.image)).members }
     requires order { AreFrom 0 devices.now }
-    ensures image { module.new.image ≡ module.old.image }
+    ensures image { running.new.image ≡ running.old.image }
     ensures inputs { IfOk result
         (λ inputs. inputs.lines.items
-        ≡ machine_inputs (image_of module.old.image) watched.0 devices.now ticks) }
+        ≡ machine_inputs (image_of running.old.image) watched.0 devices.now ticks) }
     ensures refused { IfErr result
         (HasNoRoom
-        (length (machine_inputs (image_of module.old.image) watched.0 devices.now ticks))) }
+        (length (machine_inputs (image_of running.old.image) watched.0 devices.now ticks))) }
 {
     let mut trace = TraceBuffer::new(alloc)?;
     let mut nowhere = Forgetful;
@@ -122,9 +122,9 @@ pub fn collect(
     let mut inputs = Collected::new(alloc);
     let mut left = ticks;
     let mut lines = devices;
-    while left > 0 && module.origin.is_some() {
-        let (now, later) = split_tick(lines, module.now.0);
-        module.tick_watched(now, watched, &mut inputs, &mut output)?;
+    while left > 0 && running.origin.is_some() {
+        let (now, later) = split_tick(lines, running.now.0);
+        running.tick_watched(now, watched, &mut inputs, &mut output)?;
         lines = later;
         left -= 1;
     }

@@ -27,14 +27,14 @@ pub(crate) fn load_at(words: &[i64], address: i64) -> Option<i64>
 
 /// The place of an element of the array of `size` words at `place`; `None` if the array lies
 /// outside of the data, or the element outside of the array.
-pub(crate) fn element_place(data: &[i64], place: u32, size: i64, index: i64) -> Option<usize>
-    ensures { result ≡ element_at data.now place size index }
+pub(crate) fn element_place(words: &[i64], place: u32, size: i64, index: i64) -> Option<usize>
+    ensures { result ≡ element_at words.now place size index }
 {
     if size < 0 || index < 0 {
         return None;
     }
     let place = u64::from(place);
-    if index < size && place + size.unsigned_abs() <= data.len() as u64 {
+    if index < size && place + size.unsigned_abs() <= words.len() as u64 {
         Some((place + index.unsigned_abs()) as usize)
     } else {
         None
@@ -43,11 +43,11 @@ pub(crate) fn element_place(data: &[i64], place: u32, size: i64, index: i64) -> 
 
 /// The element of the array of `size` words at `place`; `None` if the array lies outside of the
 /// data, or the element outside of the array.
-pub(crate) fn element(data: &[i64], place: u32, size: i64, index: i64) -> Option<i64>
-    ensures { result ≡ element_word data.now (element_at data.now place size index) }
+pub(crate) fn element(words: &[i64], place: u32, size: i64, index: i64) -> Option<i64>
+    ensures { result ≡ element_word words.now (element_at words.now place size index) }
 {
-    let place = element_place(data, place, size, index)?;
-    load(data, place)
+    let place = element_place(words, place, size, index)?;
+    load(words, place)
 }
 
 /// Whether the array argument of a call, if it has one, lies within the data.

@@ -17,7 +17,7 @@ use trace_stays::MemoryFull;
 pub struct Page {
     alloc: Global,
     /// The lines so far, as they stand in the string of the script.
-    data: Vec<u8>,
+    lines: Vec<u8>,
     /// For how many ticks the module ran, if that is known.
     ran: Option<Ticks>,
 }
@@ -26,12 +26,12 @@ impl Page {
     /// A page without lines, of a run of so many ticks, if that is known. Without them it ends behind
     /// its last line.
     pub fn new(alloc: Global, ran: Option<Ticks>) -> Page
-        ensures lines { result.data.items ≡ [] }
+        ensures lines { result.lines.items ≡ [] }
         ensures ran { result.ran ≡ ran }
     {
         Page {
             alloc,
-            data: Vec::new(alloc),
+            lines: Vec::new(alloc),
             ran,
         }
     }
@@ -43,11 +43,11 @@ impl Page {
     /// Memory ran out.
     pub fn add(&mut self, event: &Event) -> Result<(), MemoryFull>
         ensures lines { OnOk result
-            (self.new.data.items ≡ self.old.data.items ++ escaped_line event.now) }
+            (self.new.lines.items ≡ self.old.lines.items ++ escaped_line event.now) }
         ensures ran { self.new.ran ≡ self.old.ran }
     {
         let line = line_of(self.alloc, event)?;
-        push_escaped(&mut self.data, line.as_slice())?;
+        push_escaped(&mut self.lines, line.as_slice())?;
         Ok(())
     }
 
@@ -60,13 +60,13 @@ impl Page {
     pub fn into_text(self, windows: &[u8]) -> Result<Vec<u8>, MemoryFull>
         ensures { IfOk result
             (λ text. text.items
-            ≡ FRONT.now ++ self.data.items ++ BETWEEN.now ++ windows.now ++ BEHIND_WINDOWS.now
+            ≡ FRONT.now ++ self.lines.items ++ BETWEEN.now ++ windows.now ++ BEHIND_WINDOWS.now
             ++ ticks_text self.ran ++ BACK.now) }
     {
         let ticks = ticks_text(self.alloc, self.ran)?;
         let mut text = Vec::new(self.alloc);
         text.extend_from_slice(FRONT.as_bytes())?;
-        text.extend_from_slice(self.data.as_slice())?;
+        text.extend_from_slice(self.lines.as_slice())?;
         text.extend_from_slice(BETWEEN.as_bytes())?;
         text.extend_from_slice(windows)?;
         text.extend_from_slice(BEHIND_WINDOWS.as_bytes())?;

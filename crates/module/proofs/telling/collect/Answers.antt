@@ -20,7 +20,7 @@ use Rattle.module.proofs.telling.collect.Goals.{then-loop-left-test+else-is_some
 
 pub loop-left-init : goal.loop-left-init
 loop-left-init c =
-    let m = c.args.module.now in
+    let m = c.args.running.now in
     let devices = c.args.devices.now in
     let watched = c.args.watched.0 in
     let meant = machine_module (image_of m.image) in
@@ -37,10 +37,10 @@ loop-left-init c =
 pub loop-left-preserved : goal.loop-left-preserved
 loop-left-preserved c =
     let i = c.loop-left.invariant in
-    let m = c.loop-left.module in
+    let m = c.loop-left.running in
     let s = standing_of machine m in
     let next = c.tick_watched.new.self in
-    let plan = plan_of c.args.module.now.image in
+    let plan = plan_of c.args.running.now.image in
     let same : plan_of m.image ≡ plan = ap (λ (image : code.Image). plan_of image) i.image in
     let watched = c.args.watched.0 in
     let now = c.split_tick.result.0.now in
@@ -65,8 +65,8 @@ loop-left-preserved c =
 
 pub returns-clause-inputs : goal.returns-clause-inputs
 returns-clause-inputs c =
-    let m = c.loop-left.module in
-    let plan = plan_of c.args.module.now.image in
+    let m = c.loop-left.running in
+    let plan = plan_of c.args.running.now.image in
     let lines = c.loop-left.lines.now in
     let s = standing_of machine m in
     let none : brought_of plan c.args.watched.0 lines c.loop-left.left s ≡ [] = elim c.loop-left-test.branch [
@@ -78,9 +78,9 @@ returns-clause-inputs c =
 pub returns-in_err-tick_watched-clause-refused : goal.returns-in_err-tick_watched-clause-refused
 returns-in_err-tick_watched-clause-refused c =
     let i = c.loop-left.invariant in
-    let m = c.loop-left.module in
+    let m = c.loop-left.running in
     let s = standing_of machine m in
-    let plan = plan_of c.args.module.now.image in
+    let plan = plan_of c.args.running.now.image in
     let same : plan_of m.image ≡ plan = ap (λ (image : code.Image). plan_of image) i.image in
     let watched = c.args.watched.0 in
     let now = c.split_tick.result.0.now in
@@ -94,4 +94,4 @@ returns-in_err-tick_watched-clause-refused c =
     let here = subst (λ (p : Plan). HasNoRoom (length so_far + length (brought_next p watched now s)) fault) same c.in_err-tick_watched.ensures.inputs in
     let all = no_room_for_all m.now.0 _ so_far _ _ (brought_next plan watched now s) fault i.so_far split here in
     let answer : c.from_residual-in_err-tick_watched.result ≡ Err fault = search rules in
-    subst (λ (r : Result Collected InputsFault). IfErr r (HasNoRoom (length (machine_inputs (image_of c.args.module.now.image) watched c.args.devices.now c.args.ticks)))) (sym answer) all
+    subst (λ (r : Result Collected InputsFault). IfErr r (HasNoRoom (length (machine_inputs (image_of c.args.running.now.image) watched c.args.devices.now c.args.ticks)))) (sym answer) all

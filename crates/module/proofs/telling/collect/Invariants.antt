@@ -11,10 +11,10 @@ use Rattle.module.proofs.telling.collect.Given as goal
 
 abbrev pub invariant-loop-left : goal.invariant-loop-left
 invariant-loop-left l = record {
-  image : l.module.image ≡ l.fn.module.image;
-  order : AreFrom l.module.now.0 l.lines;
-  limit : l.module.now.0 + l.left ≤ MOST_TICKS;
-  so_far : machine_inputs (image_of l.fn.module.image) l.watched.0 l.devices l.ticks ≡ l.inputs.lines.items ++ brought_of (machine_module (image_of l.fn.module.image)).plan l.watched.0 l.lines l.left (standing_of machine l.module);
+  image : l.running.image ≡ l.fn.running.image;
+  order : AreFrom l.running.now.0 l.lines;
+  limit : l.running.now.0 + l.left ≤ MOST_TICKS;
+  so_far : machine_inputs (image_of l.fn.running.image) l.watched.0 l.devices l.ticks ≡ l.inputs.lines.items ++ brought_of (machine_module (image_of l.fn.running.image)).plan l.watched.0 l.lines l.left (standing_of machine l.running);
 }
 
 abbrev pub decreases-loop-left : goal.decreases-loop-left

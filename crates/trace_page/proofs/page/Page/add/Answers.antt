@@ -3,4 +3,4 @@ use Rattle.trace_page.specs.Escaping.{escaped}
 use Rattle.trace_page.proofs.page.Page.add.Goals as goal
 
 pub returns-clause-lines : goal.returns-clause-lines
-returns-clause-lines c = c.in_ok-push_escaped.ensures ∙ ap (λ (t : List ℕ). c.args.self.now.data.items ++ escaped t) (c.as_slice.ensures.value ∙ c.in_ok-line.ensures)
+returns-clause-lines c = c.in_ok-push_escaped.ensures ∙ ap (λ (t : List ℕ). c.args.self.now.lines.items ++ escaped t) (c.as_slice.ensures.value ∙ c.in_ok-line.ensures)

@@ -5,7 +5,7 @@ use Rattle.trace_page.proofs.page.Page.into_text.Goals as goal
 
 pub returns : goal.returns
 returns c =
-    let held = c.args.self.data.items in
+    let held = c.args.self.lines.items in
     let windows = c.args.windows.now in
     let ticks = ticks_text c.args.self.ran in
     let one : c.extend_from_slice.new.self.items ≡ FRONT.now =
