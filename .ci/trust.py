@@ -14,12 +14,11 @@ libraries of the kit is left out.
 import re
 import sys
 from functools import cache
+from pathlib import Path
 
-sys.dont_write_bytecode = True
-import ledger  # noqa: E402
-
-PAGE = ledger.ROOT / "docs/TRUST.md"
-CRATES = ledger.ROOT / "crates"
+ROOT = Path(__file__).resolve().parent.parent
+PAGE = ROOT / "docs/TRUST.md"
+CRATES = ROOT / "crates"
 PROMISE = re.compile(r"^\| (?P<letter>[A-Z]) \|.*\| \[`(?P<name>\w+)`\]\(\.\./(?P<path>crates/\S+\.antt)\) \| (?P<counts>.*) \|$", re.M)
 ROW = re.compile(r"^\| \[\S+\]\(\.\./(?P<path>crates/\S+\.(?:antt|rt))\) \| (?P<needs>(?:\d+ \| )?[A-Z]+) \| (?P<says>.+) \|$", re.M)
 
@@ -28,11 +27,20 @@ class Differs(Exception):
     """The page does not say what is computed."""
 
 
+def file_with(crate, path):
+    """The file of a crate that has what a path after `Rattle.CRATE.specs.` names: one of `specs`, or of code where it is a name of code."""
+    folder, words, ending = CRATES / crate / "specs", path.split("."), ".antt"
+    if words[0] in ("declared", "contracts"):
+        folder, words, ending = folder.parent / "src", words[1:], ".rt"
+    longest_first = [(folder / "/".join(words[:n])).with_suffix(ending) for n in range(len(words), 0, -1)]
+    return next((it for it in longest_first if it.is_file()), folder / "lib.rt")
+
+
 @cache
 def named(path):
     """The files of definitions, and the files of types, that the `use` lines of a file name."""
     found = re.findall(r"^ *(?:pub )?use Rattle\.(\w+)\.specs\.([\w.]*\w)", path.read_text(), re.M)
-    files = {ledger.file_of(crate, name) for crate, name in found if (CRATES / crate).is_dir()}
+    files = {file_with(crate, name) for crate, name in found if (CRATES / crate).is_dir()}
     return {it for it in files if it.suffix == ".antt"}, {it for it in files if it.suffix == ".rt"}
 
 
@@ -53,7 +61,7 @@ def lines_of(path):
 
 def reading_order():
     """The files of definitions, as `crates.txt` names the crates and each `Lib.antt` its files."""
-    for crate in ledger.crates():
+    for crate in re.findall(r"^(\w+).*:", (ROOT / "crates.txt").read_text(), re.M):
         lib = CRATES / crate / "specs/Lib.antt"
         if lib.is_file():
             yield from (lib.parent / f"{name}.antt" for name in re.findall(r"^(?:pub )?mod (\w+)$", lib.read_text(), re.M))
@@ -82,7 +90,7 @@ def computed():
     """What the page has to say: the promises with their counts, and the rows of the files, with the letters of those that need each."""
     promises, needs = [], {}
     for row in PROMISE.finditer(PAGE.read_text()):
-        path = ledger.ROOT / row["path"]
+        path = ROOT / row["path"]
         if file_of(f"{path.parts[-3]}.{path.stem}.{row['name']}") != path:
             raise Differs(f"{row['name']} is not defined in {row['path']}")
         definitions, types = needed(path)
@@ -99,16 +107,16 @@ def compare():
     for row, counts in promises:
         if row["counts"] != counts:
             raise Differs(f"{row['name']} needs {counts} (files, lines, files of types), and docs/TRUST.md has {row['counts']}")
-    rows = {ledger.ROOT / row["path"]: row["needs"] for row in ROW.finditer(PAGE.read_text())}
+    rows = {ROOT / row["path"]: row["needs"] for row in ROW.finditer(PAGE.read_text())}
     for path, needs in files.items():
-        where = path.relative_to(ledger.ROOT)
+        where = path.relative_to(ROOT)
         if path not in rows:
             raise Differs(f"docs/TRUST.md lacks {where}, which {needs.split(' | ')[-1]} need")
         if rows[path] != needs:
             raise Differs(f"docs/TRUST.md has '{rows[path]}' of {where}, which is '{needs}'")
     for path in rows:
         if path not in files:
-            raise Differs(f"docs/TRUST.md has {path.relative_to(ledger.ROOT)}, which no promise needs")
+            raise Differs(f"docs/TRUST.md has {path.relative_to(ROOT)}, which no promise needs")
     return f"{len(promises)} promises and {len(files)} files"
 
 
@@ -117,12 +125,12 @@ def write():
     promises, files = computed()
     counts = {row["name"]: it for row, it in promises}
     text = PROMISE.sub(lambda row: row[0].replace(f" | {row['counts']} |", f" | {counts[row['name']]} |"), PAGE.read_text())
-    had = {ledger.ROOT / row["path"] for row in ROW.finditer(text)}
-    text = ROW.sub(lambda row: row[0].replace(f" | {row['needs']} | ", f" | {files.get(ledger.ROOT / row['path'], 'no promise')} | ", 1), text)
+    had = {ROOT / row["path"] for row in ROW.finditer(text)}
+    text = ROW.sub(lambda row: row[0].replace(f" | {row['needs']} | ", f" | {files.get(ROOT / row['path'], 'no promise')} | ", 1), text)
     PAGE.write_text(text)
     for path, needs in files.items():
         if path not in had:
-            print(f"| [{path.stem}](../{path.relative_to(ledger.ROOT)}) | {needs} | ... |")
+            print(f"| [{path.stem}](../{path.relative_to(ROOT)}) | {needs} | ... |")
 
 
 def main(words):
