@@ -105,6 +105,9 @@ pub const BACK: &str = ";
 const STATES = [\"DORMANT\", \"READY\", \"RUNNING\", \"WAITING\"];
 const MESSAGE_KINDS = [\"MOVE\", \"ARRIVE\", \"LOST\", \"OUT\"];
 
+/** Whether a message leaves by a line. */
+const isSent = (line) => line.kind === \"MOVE\" || line.kind === \"OUT\";
+
 /** The kinds of marks, in the order in which they are drawn: errors last, and so above all others. */
 const SIGNS = [\"message\", \"lost\", \"report\", \"flag\"];
 
@@ -487,27 +490,27 @@ class Pencil {
     this.pen.fillRect(left, y, width, LANE);
   }
 
-  /** A mark; the tip of a flag is on the right of its pole, or on the left. */
-  mark(sign, kind, x, y, isFollowed = false, side = 1) {
+  /** A mark, with its middle at a height; the tip of a flag is on the right of its pole, or on the left. */
+  mark(sign, isSent, x, y, isFollowed = false, side = 1) {
     const { pen } = this;
     pen.fillStyle = this.theme[sign];
     pen.strokeStyle = this.theme[sign];
     pen.lineWidth = 1;
     if (sign === \"flag\") this.flag(x, y, side);
-    else if (sign === \"report\") this.lozenge(x, y + LANE / 2);
-    else if (sign === \"lost\") this.cross(x, y + LANE / 2, isFollowed ? 6 : 3.5);
-    else this.ring(x, y + LANE / 2, isFollowed ? 6 : 3.5, kind === \"MOVE\" || kind === \"OUT\");
+    else if (sign === \"report\") this.lozenge(x, y);
+    else if (sign === \"lost\") this.cross(x, y, isFollowed ? 5 : 3);
+    else this.circle(x, y, isFollowed ? 5 : 3.5, isSent);
   }
 
   /** A flag has an edge in the colour of the ground, so that it is seen above bars and other flags. */
   flag(x, y, side) {
     const { pen } = this;
     pen.beginPath();
-    pen.moveTo(x - side, y + 1);
-    pen.lineTo(x + 10 * side, y + 5);
-    pen.lineTo(x + side, y + 9);
-    pen.lineTo(x + side, y + LANE - 1);
-    pen.lineTo(x - side, y + LANE - 1);
+    pen.moveTo(x - side, y - 4);
+    pen.lineTo(x + 10 * side, y);
+    pen.lineTo(x + side, y + 4);
+    pen.lineTo(x + side, y + LANE - 6);
+    pen.lineTo(x - side, y + LANE - 6);
     pen.closePath();
     pen.strokeStyle = this.theme.ground;
     pen.lineWidth = 2;
@@ -540,7 +543,7 @@ class Pencil {
   }
 
   /** A disc for a message that leaves, a ring for one that arrives. */
-  ring(x, y, reach, isSent) {
+  circle(x, y, reach, isSent) {
     const { pen } = this;
     pen.beginPath();
     pen.arc(x, y, reach, 0, 2 * Math.PI);
@@ -617,11 +620,12 @@ class Drawing {
     return this.view.from + (x - GUTTER) * this.aPixel;
   }
 
-  /** Where a bar begins and how wide it is: between pixels of the screen, at least one wide, and not far outside of what is seen. */
+  /** Where a bar begins and how wide it is: between pixels of the screen, at least one wide, not far outside of what is seen, and not after its last pixel. */
   bar(from, to) {
     const scale = window.devicePixelRatio || 1;
-    const edge = (tick) => Math.round(Math.min(Math.max(this.x(tick), GUTTER - 9), GUTTER + this.width + 9) * scale) / scale;
-    const left = edge(from);
+    const end = GUTTER + this.width;
+    const edge = (tick) => Math.round(Math.min(Math.max(this.x(tick), GUTTER - 9), end + 9) * scale) / scale;
+    const left = Math.min(edge(from), end - 1);
     return [left, Math.max(edge(to) - left, 1)];
   }
 
@@ -787,23 +791,25 @@ class Drawing {
     return flags;
   }
 
-  /** Of other marks of one kind within one pixel one is drawn. */
+  /** Of other marks of one shape within one pixel one is drawn. */
   drawMarks(lane, y) {
     for (const sign of SIGNS.filter((it) => it !== \"flag\")) {
-      let last = -Infinity;
+      const last = new Map();
       for (const [mark, x] of this.marksIn(lane, sign)) {
+        const shape = isSent(mark.line);
         const isFollowed = this.followed !== null && mark.message === this.followed;
-        if (x - last < 1 && !isFollowed) continue;
-        last = x;
+        if (x - (last.get(shape) ?? -Infinity) < 1 && !isFollowed) continue;
+        last.set(shape, x);
         this.drawMark(mark, x, y, isFollowed);
       }
     }
   }
 
   /** A flag at the end of what is seen points to the left. */
-  drawMark(mark, x, y, isFollowed) {
-    this.pencil.mark(mark.sign, mark.line.kind, x, y, isFollowed, x + 11 > GUTTER + this.width ? -1 : 1);
-    this.marks.push({ mark, x, y: y + (mark.sign === \"flag\" ? 5 : LANE / 2) });
+  drawMark(mark, x, top, isFollowed) {
+    const y = top + heightOf(mark);
+    this.pencil.mark(mark.sign, isSent(mark.line), x, y, isFollowed, x + 11 > GUTTER + this.width ? -1 : 1);
+    this.marks.push({ mark, x, y });
   }
 
   /** What the module did on each error, where there is room up to the next one; the name of a shutdown is in its bar. */
@@ -838,6 +844,12 @@ class Drawing {
   }
 }
 
+/** How far below the top of its lane the middle of a mark is: no kind of message is on another. */
+function heightOf({ sign, line }) {
+  if (sign === \"flag\" || isSent(line)) return 5;
+  return sign === \"lost\" ? LANE - 5 : LANE / 2;
+}
+
 /** The place of the first mark at or after a tick. */
 function firstMark(marks, tick) {
   return lowest(marks.length, (place) => marks[place].tick >= tick);
@@ -859,11 +871,11 @@ const LEGEND = [
   [\"IDLE\", (pencil) => pencil.mode(\"IDLE\", 0, SWATCH, 0)],
   [\"shutdown of the module\", (pencil) => pencil.mode(\"SHUTDOWN\", 0, SWATCH, 0), \"shutdown\"],
   [\"windows of the partition\", (pencil) => pencil.window(0, SWATCH, 0), \"windows\"],
-  [\"error\", (pencil) => pencil.mark(\"flag\", \"HM\", 10, 0)],
-  [\"application message\", (pencil) => pencil.mark(\"report\", \"REPORT\", SWATCH / 2, 0)],
-  [\"message leaves\", (pencil) => pencil.mark(\"message\", \"MOVE\", SWATCH / 2, 0)],
-  [\"message arrives\", (pencil) => pencil.mark(\"message\", \"ARRIVE\", SWATCH / 2, 0)],
-  [\"message is lost\", (pencil) => pencil.mark(\"lost\", \"LOST\", SWATCH / 2, 0)],
+  [\"error\", (pencil) => pencil.mark(\"flag\", false, SWATCH / 3, 5)],
+  [\"application message\", (pencil) => pencil.mark(\"report\", false, SWATCH / 2, LANE / 2)],
+  [\"message leaves\", (pencil) => pencil.mark(\"message\", true, SWATCH / 2, LANE / 2)],
+  [\"message arrives\", (pencil) => pencil.mark(\"message\", false, SWATCH / 2, LANE / 2)],
+  [\"message is lost\", (pencil) => pencil.mark(\"lost\", false, SWATCH / 2, LANE / 2)],
 ];
 
 /** The most lines that are listed at once of those that a search found, and that a tooltip shows. */
