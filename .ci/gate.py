@@ -1,5 +1,6 @@
 """The gate: proves everything, tries the wrong edits in `must-fail` and runs the tests (`rt ci`), tries the named wrong edits and some others
-(`.ci/edits --named`), then the programs as processes (`.ci/programs`). At its end it prints how long that took, by part and by crate.
+(`.ci/edits --named`), then the programs as processes (`.ci/programs`). At its end it prints how long that took, by part and by crate. Pages are
+tried in a Chromium; where none starts, the line `browser` says so (`tests/browser/install` gets one from Debian).
 
 Each check of `rt ci` has one job, and as many run side by side as there are cores, if there are 5 GiB of memory for each; else `rt ci` plans by
 itself. With more jobs, which it would give the last checks, each job loads all libraries again: such a check ends sooner, and takes a tenth to a

@@ -12,6 +12,12 @@
 const STATES = ["DORMANT", "READY", "RUNNING", "WAITING"];
 const MESSAGE_KINDS = ["MOVE", "ARRIVE", "LOST", "OUT"];
 
+/** Whether a message leaves by a line. */
+const isSent = (line) => line.kind === "MOVE" || line.kind === "OUT";
+
+/** The kinds of marks, in the order in which they are drawn: errors last, and so above all others. */
+const SIGNS = ["message", "lost", "report", "flag"];
+
 /** Reads the lines of a trace. A line has its tick, its partition, its kind and the words behind that. */
 function readTrace(text) {
   const lines = [];
@@ -30,14 +36,30 @@ function textOf(line) {
   return [line.tick, line.partition, line.kind, ...line.words].join(" ");
 }
 
+/** The lowest of so many places that fits, if all those after it fit too; their number if none does. */
+function lowest(places, fits) {
+  let low = 0;
+  let high = places;
+  while (low < high) {
+    const middle = (low + high) >> 1;
+    if (fits(middle)) high = middle;
+    else low = middle + 1;
+  }
+  return low;
+}
+
 // ---- stays in a state
 
-/** The stays of a process in a state, or of a partition in a mode: from a tick on, and before another. */
+/** The states and modes, in the order in which they win: of short stays that share a pixel the first of these is drawn. */
+const FOREMOST = ["RUNNING", "READY", "WAITING", "DORMANT", "SHUTDOWN", "IDLE", "COLD_START", "WARM_START", "NORMAL"];
+
+/** The stays of a process in a state, of a partition in a mode, or of the module in its shutdown: from a tick on, and before another. */
 class Stays {
   constructor() {
     this.from = [];
     this.to = [];
     this.state = [];
+    this.places = new Map();
   }
 
   /** A stay begins; the one before it ends with the tick before `tick`, or with `tick` itself. */
@@ -47,9 +69,19 @@ class Stays {
     this.state.push(state);
   }
 
-  /** The open stay ends before `tick`. */
+  /** The open stay ends before `tick`; one without a tick is none. */
   end(tick) {
-    if (this.to.length < this.from.length) this.to.push(Math.max(tick, this.from[this.from.length - 1]));
+    const place = this.to.length;
+    if (place === this.from.length) return;
+    const state = this.state[place];
+    if (tick <= this.from[place]) {
+      this.from.pop();
+      this.state.pop();
+      return;
+    }
+    this.to.push(tick);
+    if (!this.places.has(state)) this.places.set(state, []);
+    this.places.get(state).push(place);
   }
 
   /** Whether a stay is open, and in which state. */
@@ -59,14 +91,17 @@ class Stays {
 
   /** The place of the last stay that begins at or before `tick`; -1 if none does. */
   at(tick) {
-    let low = 0;
-    let high = this.from.length;
-    while (low < high) {
-      const middle = (low + high) >> 1;
-      if (this.from[middle] <= tick) low = middle + 1;
-      else high = middle;
+    return lowest(this.from.length, (place) => this.from[place] > tick) - 1;
+  }
+
+  /** Of the stays that begin at or after a tick and before another, the place of the one whose state wins; -1 if there are none. */
+  foremost(from, to) {
+    for (const state of FOREMOST) {
+      const places = this.places.get(state) ?? [];
+      const first = places[lowest(places.length, (it) => this.from[places[it]] >= from)];
+      if (first !== undefined && this.from[first] < to) return first;
     }
-    return low - 1;
+    return -1;
   }
 
   /** The state in a tick, or null. */
@@ -81,47 +116,70 @@ class Story {
   constructor(lines, windows, ticks) {
     this.lines = lines;
     this.windows = windows;
+    this.windowsBy = new Map();
     this.lanes = [];
     this.messages = [];
+    this.marks = new Map();
     this.origins = [0];
+    this.down = Infinity;
+    this.module = null;
     this.byPartition = new Map();
     for (const line of lines) this.take(line);
     const last = lines.length ? lines[lines.length - 1].tick + 1 : 0;
     this.ticks = Math.max(ticks ?? last, last, 1);
-    for (const lane of this.lanes) if (lane.stays) lane.stays.end(this.ticks);
+    for (const lane of this.lanes) lane.stays.end(this.ticks);
     this.sort();
   }
 
+  lane(kind, partition, name) {
+    const lane = { kind, partition, name, stays: new Stays(), marks: [] };
+    this.lanes.push(lane);
+    return lane;
+  }
+
   partition(name) {
-    if (!this.byPartition.has(name)) {
-      const mode = { kind: "mode", partition: name, name: "mode", stays: new Stays(), marks: [] };
-      this.byPartition.set(name, { mode, processes: new Map() });
-      this.lanes.push(mode);
-    }
+    if (!this.byPartition.has(name)) this.byPartition.set(name, { mode: this.lane("mode", name, "mode"), messages: null, processes: new Map() });
     return this.byPartition.get(name);
   }
 
   process(partition, name) {
     const { processes } = this.partition(partition);
-    if (!processes.has(name)) {
-      const lane = { kind: "process", partition, name, stays: new Stays(), marks: [] };
-      processes.set(name, lane);
-      this.lanes.push(lane);
-    }
+    if (!processes.has(name)) processes.set(name, this.lane("process", partition, name));
     return processes.get(name);
   }
 
+  /** The lane of the messages of a partition; they have one of their own, so that they cover no mode. */
+  messagesOf(partition) {
+    const lanes = this.partition(partition);
+    lanes.messages ??= this.lane("messages", partition, "messages");
+    return lanes.messages;
+  }
+
   take(line) {
-    const { tick, partition, kind, words } = line;
-    if (partition === "-") {
-      if (words[words.length - 1] === "RESET") this.origins.push(tick);
-      return;
-    }
-    if (kind === "STATE") this.takeState(line);
+    const { partition, kind, words } = line;
+    if (partition === "-") this.takeModule(line);
+    else if (kind === "STATE") this.takeState(line);
     else if (kind === "MODE") this.takeMode(line);
-    else if (kind === "HM") this.marked(partition, words[1]).marks.push({ tick, line, sign: "flag" });
-    else if (kind === "REPORT") this.process(partition, words[0]).marks.push({ tick, line, sign: "report" });
+    else if (kind === "HM") this.mark(this.marked(partition, words[1]), line, "flag");
+    else if (kind === "REPORT") this.mark(this.process(partition, words[0]), line, "report");
     else if (MESSAGE_KINDS.includes(kind)) this.takeMessage(line);
+  }
+
+  mark(lane, line, sign, message = null) {
+    const mark = { tick: line.tick, line, sign, message };
+    lane.marks.push(mark);
+    this.marks.set(line.number, mark);
+  }
+
+  /** Windows count anew from a reset of the module on; from its shutdown on there are none. */
+  takeModule(line) {
+    this.module ??= this.lane("module", "-", "the module");
+    this.mark(this.module, line, "flag");
+    const action = line.words[line.words.length - 1];
+    if (action === "RESET") this.origins.push(line.tick);
+    if (action !== "SHUTDOWN") return;
+    this.down = Math.min(this.down, line.tick);
+    this.module.stays.begin(line.tick, "SHUTDOWN", false);
   }
 
   takeState({ tick, partition, words: [name, state] }) {
@@ -145,74 +203,84 @@ class Story {
 
   /** A message begins with its MOVE, or at its arrival if it comes from outside; what follows it belongs to it. */
   takeMessage(line) {
-    const lane = this.partition(line.partition).mode;
+    const lane = this.messagesOf(line.partition);
     const last = this.messages[this.messages.length - 1];
     const follows = last && line.kind !== "MOVE" && last.lines[0].tick === line.tick && sameWords(last.lines[0], line);
     const message = follows ? last : { lines: [] };
     if (!follows) this.messages.push(message);
     message.lines.push(line);
-    lane.marks.push({ tick: line.tick, line, message, sign: line.kind === "LOST" ? "lost" : "message" });
+    this.mark(lane, line, line.kind === "LOST" ? "lost" : "message", message);
   }
 
-  /** Partition by partition, each with its modes first, and INIT before the others. */
+  /** The module first, and then partition by partition, each with its modes and messages first, and INIT before the others. */
   sort() {
-    const order = new Map([...this.byPartition.keys()].map((name, place) => [name, place]));
-    const rank = (lane) => (lane.kind === "mode" ? 0 : lane.name === "INIT" ? 1 : lane.name === "HANDLER" ? 2 : 3);
+    const order = new Map(["-", ...this.byPartition.keys()].map((name, place) => [name, place]));
+    const ranks = { mode: 0, messages: 1, INIT: 2, HANDLER: 3 };
+    const rank = ({ kind, name }) => ranks[kind === "process" ? name : kind] ?? 4;
     this.lanes.sort((one, other) => order.get(one.partition) - order.get(other.partition) || rank(one) - rank(other));
   }
 
-  /** Whether a partition owns a tick; null if windows are not known. */
-  owns(partition, tick) {
-    if (!this.windows) return null;
-    const place = (tick - this.originOf(tick)) % this.windows.frame;
-    return this.windows.windows.some(([name, offset, length]) => name === partition && offset <= place && place < offset + length);
+  /** The lane in which a line is looked for. */
+  laneOf({ partition, kind, words }) {
+    if (partition === "-") return this.module;
+    const { mode, messages, processes } = this.byPartition.get(partition) ?? {};
+    if (MESSAGE_KINDS.includes(kind)) return messages;
+    return processes?.get(words[kind === "HM" ? 1 : 0]) ?? mode;
   }
 
-  /** From where on windows count in a tick: the start, or the last reset of the module. */
-  originOf(tick) {
-    let origin = 0;
-    for (const at of this.origins) if (at <= tick) origin = at;
-    return origin;
+  /** The windows of a partition, in the order of their offsets. */
+  windowsOf(partition) {
+    const windows = this.windowsBy.get(partition) ?? this.windows.windows.filter(([name]) => name === partition);
+    if (!this.windowsBy.has(partition)) this.windowsBy.set(partition, windows.sort(([, one], [, other]) => one - other));
+    return windows;
   }
 
   /** The windows of a partition between two ticks, as pairs. */
   *windowsIn(partition, from, to) {
-    const own = this.windows.windows.filter(([name]) => name === partition);
-    for (const [place, origin] of this.origins.entries()) {
-      const end = Math.min(to, this.origins[place + 1] ?? Infinity);
-      const first = origin + Math.max(0, Math.floor((from - origin) / this.windows.frame)) * this.windows.frame;
-      for (let frame = first; frame < end; frame += this.windows.frame) {
-        for (const [, offset, length] of own) {
-          const begin = frame + offset;
-          if (begin < end && begin + length > from) yield [begin, Math.min(begin + length, end)];
+    const { frame } = this.windows;
+    const first = Math.max(lowest(this.origins.length, (place) => this.origins[place] > from) - 1, 0);
+    for (let place = first; place < this.origins.length && this.origins[place] < to; place += 1) {
+      const origin = this.origins[place];
+      const end = Math.min(to, this.origins[place + 1] ?? Infinity, this.down);
+      for (let begin = origin + Math.max(0, Math.floor((from - origin) / frame)) * frame; begin < end; begin += frame) {
+        for (const [, offset, length] of this.windowsOf(partition)) {
+          const [window, until] = [Math.max(begin + offset, from), Math.min(begin + offset + length, end)];
+          if (window < until) yield [window, until];
         }
       }
     }
   }
 
-  /** The state of each process in a tick; RUNNING and READY outside of the windows of the partition are `held`. */
+  /** When processes of a partition may work between two ticks: in its windows if these are known, and not in a shutdown. */
+  *worksIn(partition, from, to) {
+    if (this.windows) yield* this.windowsIn(partition, from, to);
+    else if (from < this.down) yield [from, Math.min(to, this.down)];
+  }
+
+  /** Why a process that is RUNNING or READY does not work in a tick; null if it may. */
+  heldAt(lane, state, tick) {
+    if (lane.kind !== "process" || (state !== "RUNNING" && state !== "READY")) return null;
+    if (tick >= this.down) return "the module is shut down";
+    return this.worksIn(lane.partition, tick, tick + 1).next().done ? "not in its window" : null;
+  }
+
+  /** The state of each process and the mode of each partition in a tick, and why a process is held. */
   statesAt(tick) {
-    return this.lanes.map((lane) => {
+    const lanes = this.lanes.filter((lane) => lane.kind === "mode" || lane.kind === "process");
+    return lanes.map((lane) => {
       const state = lane.stays.stateAt(tick);
-      const isHeld = lane.kind === "process" && (state === "RUNNING" || state === "READY") && this.owns(lane.partition, tick) === false;
-      return { lane, state, isHeld };
+      return { lane, state, held: this.heldAt(lane, state, tick) };
     });
   }
 
-  /** The first line behind a line number that has all of these words; from the beginning again behind the last. */
-  find(words, behind) {
+  /** The lines that have all of these words. */
+  find(words) {
     const wanted = words.toLowerCase().split(/\s+/).filter(Boolean);
-    if (!wanted.length) return null;
-    const fits = (line) => {
+    if (!wanted.length) return [];
+    return this.lines.filter((line) => {
       const text = textOf(line).toLowerCase();
       return wanted.every((word) => text.includes(word));
-    };
-    const { length } = this.lines;
-    for (let step = 0; step < length; step += 1) {
-      const line = this.lines[(behind + step) % length];
-      if (fits(line)) return line;
-    }
-    return null;
+    });
   }
 }
 
@@ -232,16 +300,23 @@ class View {
     this.to = story.ticks;
     this.top = 0;
     this.hidden = new Set();
-    this.kinds = new Set(["flag", "report", "message", "lost"]);
+    this.kinds = new Set(SIGNS);
     this.filter = "";
   }
 
   get lanes() {
     const wanted = this.filter.toLowerCase();
     return this.story.lanes.filter((lane) => {
-      const isNamed = lane.kind === "mode" || `${lane.partition} ${lane.name}`.toLowerCase().includes(wanted);
+      const isNamed = lane.kind !== "process" || `${lane.partition} ${lane.name}`.toLowerCase().includes(wanted);
       return isNamed && !this.hidden.has(lane.partition);
     });
+  }
+
+  /** The errors in these lanes, in their order. */
+  get errors() {
+    if (!this.kinds.has("flag")) return [];
+    const errors = this.lanes.flatMap((lane) => lane.marks.filter((mark) => mark.sign === "flag"));
+    return errors.sort((one, other) => one.line.number - other.line.number);
   }
 
   /** Shows these ticks, at least two and at most all. */
@@ -276,12 +351,140 @@ function stepOf(ticks, count) {
 const GUTTER = 190;
 const HEAD = 34;
 const LANE = 22;
+const FONT = "12px system-ui, sans-serif";
+const BOLD = `600 ${FONT}`;
 const THEMES = {
-  light: { ground: "#ffffff", band: "#f3f5f8", ink: "#1f2933", grid: "#d5dbe1", RUNNING: "#4b86b8", READY: "#d99a2b", WAITING: "#7b8794", DORMANT: "#cbd2d9", held: "#b9cfe2", window: "#dfeaf3", flag: "#c4302b", report: "#1f2933", message: "#33691e", lost: "#b42318", cursor: "#7c3aed" },
-  dark: { ground: "#15191e", band: "#1d232a", ink: "#e4e7eb", grid: "#333c46", RUNNING: "#5b9bd5", READY: "#e0a93e", WAITING: "#8a97a6", DORMANT: "#3e4a56", held: "#35506a", window: "#22303d", flag: "#ff6b63", report: "#e4e7eb", message: "#9ccc65", lost: "#ff8a80", cursor: "#b794f4" },
+  light: {
+    ground: "#ffffff", band: "#f3f5f8", ink: "#1f2933", grid: "#d5dbe1", window: "#dfeaf3", cursor: "#7c3aed",
+    RUNNING: "#4b86b8", READY: "#d99a2b", WAITING: "#7b8794", DORMANT: "#cbd2d9", heldRUNNING: "#b9cfe2", heldREADY: "#f0dcb6",
+    COLD_START: "#b4bcc5", WARM_START: "#d6b985", IDLE: "#f0a3a3", SHUTDOWN: "#c9bfd9",
+    flag: "#c4302b", report: "#1f2933", message: "#33691e", lost: "#b42318",
+  },
+  dark: {
+    ground: "#15191e", band: "#1d232a", ink: "#e4e7eb", grid: "#333c46", window: "#22303d", cursor: "#b794f4",
+    RUNNING: "#5b9bd5", READY: "#e0a93e", WAITING: "#8a97a6", DORMANT: "#4d5b69", heldRUNNING: "#35506a", heldREADY: "#5c4a26",
+    COLD_START: "#48525d", WARM_START: "#6b5426", IDLE: "#8c2f2f", SHUTDOWN: "#4f4560",
+    flag: "#ff6b63", report: "#e4e7eb", message: "#9ccc65", lost: "#ff8a80",
+  },
 };
-const MODES = { NORMAL: null, COLD_START: "#9aa5b1", WARM_START: "#c3a16a", IDLE: "#e57373" };
 
+/** Draws states, modes and marks in the colours of a theme, each in a lane with its top at a height. */
+class Pencil {
+  constructor(pen, theme) {
+    this.pen = pen;
+    this.theme = theme;
+  }
+
+  /** The bar of a state: the nearer a process is to run, the higher it is. A process that is held gets a paler one. */
+  state(state, left, width, y, isHeld = false) {
+    const { pen, theme } = this;
+    pen.fillStyle = theme[isHeld ? `held${state}` : state];
+    if (state === "RUNNING" && isHeld) pen.fillRect(left, y + LANE / 2 - 2, width, 4);
+    else if (state === "RUNNING") pen.fillRect(left, y + 3, width, LANE - 6);
+    else if (state === "READY") pen.fillRect(left, y + LANE / 2, width, LANE / 2 - 3);
+    else pen.fillRect(left, y + LANE / 2 - 1, width, state === "WAITING" ? 2 : 1);
+  }
+
+  /** The bar of a mode. NORMAL has none. */
+  mode(mode, left, width, y) {
+    if (!this.theme[mode]) return;
+    this.pen.fillStyle = this.theme[mode];
+    this.pen.fillRect(left, y + 3, width, LANE - 6);
+  }
+
+  window(left, width, y) {
+    this.pen.fillStyle = this.theme.window;
+    this.pen.fillRect(left, y, width, LANE);
+  }
+
+  /** A mark, with its middle at a height; the tip of a flag is on the right of its pole, or on the left. */
+  mark(sign, isSent, x, y, isFollowed = false, side = 1) {
+    const { pen } = this;
+    pen.fillStyle = this.theme[sign];
+    pen.strokeStyle = this.theme[sign];
+    pen.lineWidth = 1;
+    if (sign === "flag") this.flag(x, y, side);
+    else if (sign === "report") this.lozenge(x, y);
+    else if (sign === "lost") this.cross(x, y, isFollowed ? 5 : 3);
+    else this.circle(x, y, isFollowed ? 5 : 3.5, isSent);
+  }
+
+  /** A flag has an edge in the colour of the ground, so that it is seen above bars and other flags. */
+  flag(x, y, side) {
+    const { pen } = this;
+    pen.beginPath();
+    pen.moveTo(x - side, y - 4);
+    pen.lineTo(x + 10 * side, y);
+    pen.lineTo(x + side, y + 4);
+    pen.lineTo(x + side, y + LANE - 6);
+    pen.lineTo(x - side, y + LANE - 6);
+    pen.closePath();
+    pen.strokeStyle = this.theme.ground;
+    pen.lineWidth = 2;
+    pen.stroke();
+    pen.fill();
+  }
+
+  lozenge(x, y) {
+    const { pen } = this;
+    pen.beginPath();
+    pen.moveTo(x, y - 6);
+    pen.lineTo(x + 5, y);
+    pen.lineTo(x, y + 6);
+    pen.lineTo(x - 5, y);
+    pen.closePath();
+    pen.strokeStyle = this.theme.ground;
+    pen.stroke();
+    pen.fill();
+  }
+
+  cross(x, y, reach) {
+    const { pen } = this;
+    pen.lineWidth = 2;
+    pen.beginPath();
+    pen.moveTo(x - reach, y - reach);
+    pen.lineTo(x + reach, y + reach);
+    pen.moveTo(x - reach, y + reach);
+    pen.lineTo(x + reach, y - reach);
+    pen.stroke();
+  }
+
+  /** A disc for a message that leaves, a ring for one that arrives. */
+  circle(x, y, reach, isSent) {
+    const { pen } = this;
+    pen.beginPath();
+    pen.arc(x, y, reach, 0, 2 * Math.PI);
+    if (isSent) pen.fill();
+    else pen.stroke();
+  }
+
+  cursor(x, place, height) {
+    const { pen } = this;
+    pen.strokeStyle = this.theme.cursor;
+    pen.lineWidth = 1;
+    pen.setLineDash(place ? [5, 4] : []);
+    pen.beginPath();
+    pen.moveTo(x, 0);
+    pen.lineTo(x, height);
+    pen.stroke();
+    pen.setLineDash([]);
+  }
+}
+
+/** A canvas of this size for the pixels of the screen; returns its pen, with the ground drawn. */
+function cleared(canvas, width, height, theme) {
+  const scale = window.devicePixelRatio || 1;
+  const [across, down] = [Math.round(width * scale), Math.round(height * scale)];
+  if (canvas.width !== across || canvas.height !== down) [canvas.width, canvas.height] = [across, down];
+  const pen = canvas.getContext("2d");
+  pen.setTransform(scale, 0, 0, scale, 0, 0);
+  pen.fillStyle = theme.ground;
+  pen.fillRect(0, 0, width, height);
+  pen.textBaseline = "middle";
+  return pen;
+}
+
+/** Draws what is seen. It keeps which marks and names it drew, and where. */
 class Drawing {
   constructor(canvas, view) {
     this.canvas = canvas;
@@ -291,6 +494,8 @@ class Drawing {
     this.followed = null;
     this.frames = [];
     this.isAsked = false;
+    this.marks = [];
+    this.names = [];
   }
 
   /** Draws before the next picture of the screen, however often it is asked for until then. */
@@ -309,33 +514,40 @@ class Drawing {
     return this.canvas.clientWidth - GUTTER;
   }
 
+  /** How many ticks a pixel shows. */
+  get aPixel() {
+    return (this.view.to - this.view.from) / this.width;
+  }
+
   x(tick) {
-    return GUTTER + ((tick - this.view.from) / (this.view.to - this.view.from)) * this.width;
+    return GUTTER + (tick - this.view.from) / this.aPixel;
   }
 
   tick(x) {
-    return this.view.from + ((x - GUTTER) / this.width) * (this.view.to - this.view.from);
+    return this.view.from + (x - GUTTER) * this.aPixel;
   }
 
-  /** The lane at a height, with its place. */
+  /** Where a bar begins and how wide it is: between pixels of the screen, at least one wide, not far outside of what is seen, and not after its last pixel. */
+  bar(from, to) {
+    const scale = window.devicePixelRatio || 1;
+    const end = GUTTER + this.width;
+    const edge = (tick) => Math.round(Math.min(Math.max(this.x(tick), GUTTER - 9), end + 9) * scale) / scale;
+    const left = Math.min(edge(from), end - 1);
+    return [left, Math.max(edge(to) - left, 1)];
+  }
+
+  /** The lane at a height. */
   laneAt(y) {
     const place = Math.floor((y - HEAD) / LANE + this.view.top);
     return y < HEAD ? null : this.view.lanes[place] ?? null;
   }
 
   draw() {
-    const scale = window.devicePixelRatio || 1;
     const { clientWidth: width, clientHeight: height } = this.canvas;
-    if (this.canvas.width !== width * scale || this.canvas.height !== height * scale) {
-      this.canvas.width = width * scale;
-      this.canvas.height = height * scale;
-    }
-    const pen = this.canvas.getContext("2d");
-    pen.setTransform(scale, 0, 0, scale, 0, 0);
-    pen.fillStyle = this.theme.ground;
-    pen.fillRect(0, 0, width, height);
-    pen.font = "12px system-ui, sans-serif";
-    pen.textBaseline = "middle";
+    const pen = cleared(this.canvas, width, height, this.theme);
+    this.pencil = new Pencil(pen, this.theme);
+    this.marks = [];
+    this.names = [];
     this.drawGrid(pen, height);
     const first = Math.floor(this.view.top);
     const lanes = this.view.lanes.slice(first, first + Math.ceil(height / LANE) + 1);
@@ -345,12 +557,15 @@ class Drawing {
     pen.clip();
     lanes.forEach((lane, place) => this.drawLane(pen, lane, HEAD + (first + place - this.view.top) * LANE));
     pen.restore();
-    this.cursors.forEach((tick, place) => tick !== null && this.drawCursor(pen, tick, place, height));
+    this.cursors.forEach((tick, place) => tick !== null && this.x(tick) >= GUTTER && this.pencil.cursor(this.x(tick), place, height));
   }
 
   drawGrid(pen, height) {
     const { from, to } = this.view;
     const step = stepOf(to - from, this.width / 110);
+    pen.font = FONT;
+    pen.fillStyle = this.theme.ink;
+    pen.fillText("tick", 8, HEAD / 2);
     for (let tick = Math.ceil(from / step) * step; tick < to; tick += step) {
       const x = Math.round(this.x(tick)) + 0.5;
       pen.strokeStyle = this.theme.grid;
@@ -358,13 +573,13 @@ class Drawing {
       pen.moveTo(x, HEAD - 8);
       pen.lineTo(x, height);
       pen.stroke();
-      pen.fillStyle = this.theme.ink;
       pen.fillText(String(tick), x + 3, HEAD / 2);
     }
   }
 
   drawLane(pen, lane, y) {
-    if (lane.kind === "mode") {
+    const isProcess = lane.kind === "process";
+    if (!isProcess) {
       pen.fillStyle = this.theme.band;
       pen.fillRect(0, y, this.canvas.clientWidth, LANE);
     }
@@ -372,163 +587,207 @@ class Drawing {
     pen.beginPath();
     pen.rect(GUTTER, y, this.width, LANE);
     pen.clip();
-    if (this.view.story.windows) this.drawWindows(pen, lane.partition, y);
-    this.drawStays(pen, lane, y);
-    this.drawMarks(pen, lane, y);
+    const flags = this.flagsIn(lane);
+    if (this.view.story.windows && lane.kind !== "module") this.drawWindows(lane.partition, y);
+    this.drawStays(pen, lane, y, flags);
+    this.drawMarks(lane, y);
+    for (const flag of flags) this.drawMark(flag.mark, flag.x, y + flag.down);
+    if (lane.kind === "module") this.drawActions(pen, flags, y);
     pen.restore();
+    const isHead = lane.kind === "mode" || lane.kind === "module";
     pen.fillStyle = this.theme.ink;
-    pen.font = lane.kind === "mode" ? "600 12px system-ui, sans-serif" : "12px system-ui, sans-serif";
-    pen.fillText(lane.kind === "mode" ? lane.partition : lane.name, lane.kind === "mode" ? 8 : 22, y + LANE / 2, GUTTER - 28);
+    pen.font = isHead ? BOLD : FONT;
+    pen.fillText(lane.kind === "mode" ? lane.partition : lane.name, isHead ? 8 : 22, y + LANE / 2, GUTTER - 28);
   }
 
-  drawWindows(pen, partition, y) {
+  drawWindows(partition, y) {
     const { story, from, to } = this.view;
     // Where windows are narrower than a pixel, the whole lane would be filled.
-    if ((to - from) / story.windows.frame > this.width) return;
-    pen.fillStyle = this.theme.window;
-    for (const [begin, end] of story.windowsIn(partition, from, to)) pen.fillRect(this.x(begin), y, Math.max(this.x(end) - this.x(begin), 1), LANE);
+    if (this.aPixel > story.windows.frame) return;
+    for (const [begin, end] of story.windowsIn(partition, from, to)) this.pencil.window(...this.bar(begin, end), y);
   }
 
-  /** Of the stays that begin within one pixel the widest is drawn, so that no more are drawn than there are pixels. */
-  drawStays(pen, lane, y) {
-    const { stays } = lane;
-    const { from, to } = this.view;
-    const aPixel = (to - from) / this.width;
-    let place = Math.max(stays.at(from), 0);
-    while (place < stays.from.length && stays.from[place] < to) {
-      let widest = place;
-      if (stays.to[place] - stays.from[place] < aPixel) {
-        const behind = stays.at(stays.from[place] + aPixel);
-        for (let next = place + 1; next <= Math.min(behind, place + 8); next += 1) {
-          if (stays.to[next] - stays.from[next] > stays.to[widest] - stays.from[widest]) widest = next;
-        }
-        this.drawStay(pen, lane, widest, y);
-        place = Math.max(behind, place) + 1;
-      } else {
-        this.drawStay(pen, lane, place, y);
+  /** The stays that are drawn: those that are wider than a pixel, and of the others the foremost of each pixel, so that there are no more than pixels. */
+  staysIn({ stays }) {
+    const { aPixel } = this;
+    const isWide = (place) => stays.to[place] - stays.from[place] >= aPixel;
+    const drawn = [];
+    let place = Math.max(stays.at(this.view.from), 0);
+    while (place < stays.from.length && stays.from[place] < this.view.to) {
+      if (isWide(place)) {
+        drawn.push(place);
         place += 1;
+        continue;
+      }
+      const end = (Math.floor(stays.from[place] / aPixel) + 1) * aPixel;
+      drawn.push(Math.max(stays.foremost(stays.from[place], end), place));
+      const last = lowest(stays.from.length, (it) => stays.from[it] >= end) - 1;
+      // The last one that begins in the pixel may be wide.
+      place = Math.max(isWide(last) ? last : last + 1, place + 1);
+    }
+    return drawn;
+  }
+
+  /** Draws the foremost states last, so that no other covers them. */
+  drawStays(pen, lane, y, flags) {
+    const drawn = this.staysIn(lane);
+    for (const state of [...FOREMOST].reverse()) {
+      for (const place of drawn) if (lane.stays.state[place] === state) this.drawStay(pen, lane, place, y, flags);
+    }
+  }
+
+  drawStay(pen, lane, place, y, flags) {
+    const { from, to, state } = lane.stays;
+    const bar = this.bar(from[place], to[place]);
+    if (lane.kind !== "process") {
+      this.pencil.mode(state[place], ...bar, y);
+      this.drawName(pen, state[place], ...bar, y, flags);
+      return;
+    }
+    if (state[place] === "RUNNING" || state[place] === "READY") this.drawChosen(lane, place, y);
+    else this.pencil.state(state[place], ...bar, y);
+  }
+
+  /** The name of a mode in its bar, behind the flags that would be on it; a short one if there is no room, or none. */
+  drawName(pen, mode, left, width, y, flags) {
+    pen.font = FONT;
+    pen.fillStyle = this.theme.ink;
+    const end = Math.min(left + width, GUTTER + this.width) - 4;
+    for (const name of [mode, mode.split("_")[0]]) {
+      const wide = pen.measureText(name).width;
+      let begin = Math.max(left, GUTTER) + 4;
+      for (const { x } of flags) if (x - 12 < begin + wide && begin < x + 12) begin = x + 12;
+      if (begin + wide > end) continue;
+      pen.fillText(name, begin, y + LANE / 2);
+      this.names.push({ name, left: begin, right: begin + wide, top: y + 4, bottom: y + LANE - 4 });
+      return;
+    }
+  }
+
+  /** A stay that is RUNNING or READY. It is paler where no process of the partition works, and what is not paler covers that. */
+  drawChosen(lane, place, y) {
+    const { story } = this.view;
+    const { from, to, state } = lane.stays;
+    const [begin, end] = [Math.max(from[place], this.view.from), Math.min(to[place], this.view.to)];
+    // Where windows are narrower than a pixel, they are all one.
+    const isCut = story.windows && this.aPixel <= story.windows.frame;
+    const works = isCut ? [...story.worksIn(lane.partition, begin, end)] : [[begin, Math.min(end, story.down)]];
+    const isHeld = works.reduce((ticks, [window, until]) => ticks + until - window, 0) < end - begin;
+    if (isHeld) this.pencil.state(state[place], ...this.bar(begin, end), y, true);
+    for (const [window, until] of works) if (window < until) this.pencil.state(state[place], ...this.bar(window, until), y);
+  }
+
+  /** The marks of one kind that are seen, each with its place. */
+  *marksIn(lane, sign) {
+    if (!this.view.kinds.has(sign)) return;
+    for (let place = firstMark(lane.marks, this.view.from); place < lane.marks.length && lane.marks[place].tick < this.view.to; place += 1) {
+      const mark = lane.marks[place];
+      if (mark.sign === sign) yield [mark, this.x(mark.tick)];
+    }
+  }
+
+  /** The errors that are seen. Those of one pixel stand one below the other, three of them at most. */
+  flagsIn(lane) {
+    const flags = [];
+    let [last, count] = [-Infinity, 0];
+    for (const [mark, x] of this.marksIn(lane, "flag")) {
+      count = x - last < 1 ? count + 1 : 0;
+      if (count === 0) last = x;
+      if (count < 3) flags.push({ mark, x, down: 5 * count });
+    }
+    return flags;
+  }
+
+  /** Of other marks of one shape within one pixel one is drawn. */
+  drawMarks(lane, y) {
+    for (const sign of SIGNS.filter((it) => it !== "flag")) {
+      const last = new Map();
+      for (const [mark, x] of this.marksIn(lane, sign)) {
+        const shape = isSent(mark.line);
+        const isFollowed = this.followed !== null && mark.message === this.followed;
+        if (x - (last.get(shape) ?? -Infinity) < 1 && !isFollowed) continue;
+        last.set(shape, x);
+        this.drawMark(mark, x, y, isFollowed);
       }
     }
   }
 
-  drawStay(pen, lane, place, y) {
+  /** A flag at the end of what is seen points to the left. */
+  drawMark(mark, x, top, isFollowed) {
+    const y = top + heightOf(mark);
+    this.pencil.mark(mark.sign, isSent(mark.line), x, y, isFollowed, x + 11 > GUTTER + this.width ? -1 : 1);
+    this.marks.push({ mark, x, y });
+  }
+
+  /** What the module did on each error, where there is room up to the next one; the name of a shutdown is in its bar. */
+  drawActions(pen, flags, y) {
+    pen.font = FONT;
+    pen.fillStyle = this.theme.ink;
+    flags.forEach(({ mark, x }, place) => {
+      const word = mark.line.words[mark.line.words.length - 1];
+      if (word === "SHUTDOWN") return;
+      const room = (flags[place + 1]?.x ?? GUTTER + this.width) - x;
+      if (pen.measureText(word).width + 18 < room) pen.fillText(word, x + 13, y + LANE / 2);
+    });
+  }
+
+  /** The place of the stay that is drawn at a point of a lane; -1 if there is none. */
+  stayAt(lane, x) {
     const { stays } = lane;
-    const left = this.x(stays.from[place]);
-    const width = Math.max(this.x(stays.to[place]) - left, 1);
-    const state = stays.state[place];
-    if (lane.kind === "mode") {
-      pen.fillStyle = MODES[state] ?? "transparent";
-      pen.fillRect(left, y + 3, width, LANE - 6);
-      pen.fillStyle = this.theme.ink;
-      const room = Math.min(left + width, GUTTER + this.width) - Math.max(left, GUTTER);
-      if (room > 44) pen.fillText(state, Math.max(left, GUTTER) + 4, y + LANE / 2, room - 8);
-      return;
-    }
-    pen.fillStyle = this.theme[state];
-    if (state === "RUNNING") pen.fillRect(left, y + 3, width, LANE - 6);
-    else if (state === "READY") pen.fillRect(left, y + LANE / 2, width, LANE / 2 - 3);
-    else pen.fillRect(left, y + LANE / 2 - 1, width, state === "WAITING" ? 2 : 1);
-    if (state === "RUNNING") this.drawHeld(pen, lane, place, y);
+    const place = stays.foremost(this.tick(x), this.tick(x + 1));
+    if (place >= 0) return place;
+    const last = stays.at(this.tick(x));
+    return last >= 0 && this.tick(x) < stays.to[last] ? last : -1;
   }
 
-  /** What is outside of the windows of the partition: it was chosen there, and did not run. */
-  drawHeld(pen, lane, place, y) {
-    const { story, from, to } = this.view;
-    if (!story.windows || (to - from) / story.windows.frame > this.width) return;
-    const begin = Math.max(lane.stays.from[place], from);
-    const end = Math.min(lane.stays.to[place], to);
-    let held = begin;
-    const fill = (until) => {
-      if (until <= held) return;
-      pen.fillStyle = this.theme.ground;
-      pen.fillRect(this.x(held), y + 3, this.x(until) - this.x(held), LANE - 6);
-      pen.fillStyle = this.theme.held;
-      pen.fillRect(this.x(held), y + LANE / 2 - 2, this.x(until) - this.x(held), 4);
-    };
-    for (const [from, to] of [...story.windowsIn(lane.partition, begin, end)].sort((one, other) => one[0] - other[0])) {
-      fill(Math.min(from, end));
-      held = Math.max(held, to);
-    }
-    fill(end);
-  }
-
-  drawMarks(pen, lane, y) {
-    const { from, to } = this.view;
-    let last = -Infinity;
-    for (let place = firstMark(lane.marks, from); place < lane.marks.length && lane.marks[place].tick < to; place += 1) {
-      const mark = lane.marks[place];
-      const x = this.x(mark.tick);
-      const isFollowed = this.followed !== null && mark.message === this.followed;
-      if (!this.view.kinds.has(mark.sign) || (x - last < 1 && !isFollowed)) continue;
-      last = x;
-      this.drawMark(pen, mark, x, y, isFollowed);
-    }
-  }
-
-  drawMark(pen, mark, x, y, isFollowed) {
-    pen.fillStyle = this.theme[mark.sign];
-    pen.strokeStyle = this.theme[mark.sign];
-    pen.beginPath();
-    if (mark.sign === "flag") {
-      pen.moveTo(x, y + 2);
-      pen.lineTo(x + 9, y + 6);
-      pen.lineTo(x, y + 10);
-      pen.fill();
-      pen.fillRect(x - 0.5, y + 2, 1, LANE - 4);
-    } else if (mark.sign === "report") {
-      pen.moveTo(x, y + 5);
-      pen.lineTo(x + 5, y + LANE / 2);
-      pen.lineTo(x, y + LANE - 5);
-      pen.lineTo(x - 5, y + LANE / 2);
-      pen.fill();
-    } else {
-      const isSent = mark.line.kind === "MOVE" || mark.line.kind === "OUT";
-      pen.arc(x, y + LANE / 2, isFollowed ? 6 : 3.5, 0, 2 * Math.PI);
-      if (isSent) pen.fill();
-      else pen.stroke();
-    }
-  }
-
-  drawCursor(pen, tick, place, height) {
-    const x = this.x(tick);
-    if (x < GUTTER) return;
-    pen.strokeStyle = this.theme.cursor;
-    pen.setLineDash(place ? [5, 4] : []);
-    pen.beginPath();
-    pen.moveTo(x, 0);
-    pen.lineTo(x, height);
-    pen.stroke();
-    pen.setLineDash([]);
-  }
-
-  /** The mark that is nearest to a point of a lane, at most six pixels away. */
+  /** The mark that was drawn nearest to a point, at most nine pixels away. */
   markAt(x, y) {
-    const lane = this.laneAt(y);
-    if (!lane) return null;
-    const reach = (6 / this.width) * (this.view.to - this.view.from);
-    let found = null;
-    for (let place = firstMark(lane.marks, this.tick(x) - reach); place < lane.marks.length; place += 1) {
-      const mark = lane.marks[place];
-      if (mark.tick > this.tick(x) + reach) break;
-      if (this.view.kinds.has(mark.sign) && (!found || Math.abs(this.x(mark.tick) - x) < Math.abs(this.x(found.tick) - x))) found = mark;
+    let [found, least] = [null, 81];
+    for (const it of this.marks) {
+      const far = (it.x - x) ** 2 + (it.y - y) ** 2;
+      if (far <= least) [found, least] = [it.mark, far];
     }
     return found;
   }
 }
 
-/** The place of the first mark at or behind a tick. */
+/** How far below the top of its lane the middle of a mark is: no kind of message is on another. */
+function heightOf({ sign, line }) {
+  if (sign === "flag" || isSent(line)) return 5;
+  return sign === "lost" ? LANE - 5 : LANE / 2;
+}
+
+/** The place of the first mark at or after a tick. */
 function firstMark(marks, tick) {
-  let low = 0;
-  let high = marks.length;
-  while (low < high) {
-    const middle = (low + high) >> 1;
-    if (marks[middle].tick < tick) low = middle + 1;
-    else high = middle;
-  }
-  return low;
+  return lowest(marks.length, (place) => marks[place].tick >= tick);
 }
 
 // ---- the page
+
+/** What the legend explains: for each what draws it into a lane that is as wide as a swatch. */
+const SWATCH = 30;
+const LEGEND = [
+  ["RUNNING", (pencil) => pencil.state("RUNNING", 0, SWATCH, 0)],
+  ["RUNNING, not in its window", (pencil) => pencil.state("RUNNING", 0, SWATCH, 0, true), "windows"],
+  ["READY", (pencil) => pencil.state("READY", 0, SWATCH, 0)],
+  ["READY, not in its window", (pencil) => pencil.state("READY", 0, SWATCH, 0, true), "windows"],
+  ["WAITING", (pencil) => pencil.state("WAITING", 0, SWATCH, 0)],
+  ["DORMANT", (pencil) => pencil.state("DORMANT", 0, SWATCH, 0)],
+  ["COLD_START of a partition", (pencil) => pencil.mode("COLD_START", 0, SWATCH, 0)],
+  ["WARM_START", (pencil) => pencil.mode("WARM_START", 0, SWATCH, 0)],
+  ["IDLE", (pencil) => pencil.mode("IDLE", 0, SWATCH, 0)],
+  ["shutdown of the module", (pencil) => pencil.mode("SHUTDOWN", 0, SWATCH, 0), "shutdown"],
+  ["windows of the partition", (pencil) => pencil.window(0, SWATCH, 0), "windows"],
+  ["error", (pencil) => pencil.mark("flag", false, SWATCH / 3, 5)],
+  ["application message", (pencil) => pencil.mark("report", false, SWATCH / 2, LANE / 2)],
+  ["message leaves", (pencil) => pencil.mark("message", true, SWATCH / 2, LANE / 2)],
+  ["message arrives", (pencil) => pencil.mark("message", false, SWATCH / 2, LANE / 2)],
+  ["message is lost", (pencil) => pencil.mark("lost", false, SWATCH / 2, LANE / 2)],
+];
+
+/** The most lines that are listed at once of those that a search found, and that a tooltip shows. */
+const LISTED = 100;
+const TIPPED = 8;
 
 /** What the page does when it is moved, clicked and searched. */
 class Page {
@@ -536,19 +795,43 @@ class Page {
     this.story = story;
     this.view = new View(story);
     this.drawing = new Drawing(document.getElementById("lanes"), this.view);
-    this.found = 0;
+    this.sought = { words: "", lines: [], place: -1 };
     this.drag = null;
+    this.shown = null;
+    this.name();
     this.listen();
     this.listFilters();
     this.choose(matchMedia("(prefers-color-scheme: dark)").matches ? "dark" : "light");
     this.tell();
   }
 
+  /** The page is called as its file is, which is the name of the trace that one chose. */
+  name() {
+    const file = decodeURIComponent(location.pathname.split("/").pop()).replace(/\.html?$/, "");
+    if (!file) return;
+    document.title = file;
+    document.getElementById("title").textContent = file;
+  }
+
   choose(theme) {
     this.themeName = theme;
     document.documentElement.dataset.theme = theme;
     this.drawing.theme = THEMES[theme];
+    this.drawLegend();
     this.drawing.ask();
+  }
+
+  drawLegend() {
+    const { theme } = this.drawing;
+    const needed = { windows: this.story.windows, shutdown: this.story.down < Infinity };
+    const rows = LEGEND.filter(([, , need]) => !need || needed[need]).map(([words, draw]) => {
+      const [row, canvas] = [document.createElement("div"), document.createElement("canvas")];
+      canvas.style.width = `${SWATCH}px`;
+      draw(new Pencil(cleared(canvas, SWATCH, LANE, theme), theme));
+      row.append(canvas, words);
+      return row;
+    });
+    document.getElementById("legend").replaceChildren(...rows);
   }
 
   listen() {
@@ -557,6 +840,7 @@ class Page {
     canvas.addEventListener("pointerdown", (event) => this.press(event));
     canvas.addEventListener("pointermove", (event) => this.pull(event));
     canvas.addEventListener("pointerup", (event) => this.release(event));
+    canvas.addEventListener("pointerleave", () => this.tip([]));
     window.addEventListener("resize", () => this.drawing.ask());
     document.addEventListener("keydown", (event) => this.type(event));
     document.getElementById("theme").addEventListener("click", () => this.choose(this.themeName === "light" ? "dark" : "light"));
@@ -572,9 +856,11 @@ class Page {
 
   listFilters() {
     const list = document.getElementById("partitions");
-    for (const name of this.story.byPartition.keys()) this.addBox(list, name, (isOn) => (isOn ? this.view.hidden.delete(name) : this.view.hidden.add(name)));
+    const addLanes = (partition, name) => this.addBox(list, name, (isOn) => (isOn ? this.view.hidden.delete(partition) : this.view.hidden.add(partition)));
+    if (this.story.module) addLanes("-", this.story.module.name);
+    for (const name of this.story.byPartition.keys()) addLanes(name, name);
     const kinds = document.getElementById("kinds");
-    for (const [sign, name] of [["flag", "errors"], ["report", "reports"], ["message", "messages"], ["lost", "lost messages"]]) {
+    for (const [sign, name] of [["flag", "errors"], ["report", "application messages"], ["message", "messages"], ["lost", "lost messages"]]) {
       this.addBox(kinds, name, (isOn) => (isOn ? this.view.kinds.add(sign) : this.view.kinds.delete(sign)));
     }
   }
@@ -600,6 +886,7 @@ class Page {
 
   roll(event) {
     event.preventDefault();
+    this.tip([]);
     const span = this.view.to - this.view.from;
     if (event.shiftKey || Math.abs(event.deltaX) > Math.abs(event.deltaY)) this.view.move(((event.deltaX || event.deltaY) / 600) * span);
     else if (event.altKey) this.scroll(Math.sign(event.deltaY) * 2);
@@ -618,6 +905,7 @@ class Page {
   }
 
   pull(event) {
+    this.tip(this.drag ? [] : this.linesAt(event.offsetX, event.offsetY), event);
     if (!this.drag) return;
     const [right, down] = [event.offsetX - this.drag.x, event.offsetY - this.drag.y];
     if (Math.abs(right) + Math.abs(down) > 3) this.drag.hasMoved = true;
@@ -639,6 +927,40 @@ class Page {
     this.put(tick, event.shiftKey ? 1 : 0, mark);
   }
 
+  /** What is at a point: the lane, the stay that is drawn there, and the lines of the marks. */
+  linesAt(x, y) {
+    const { drawing } = this;
+    const lane = drawing.laneAt(y);
+    if (!lane) return [];
+    const name = lane.kind === "module" ? lane.name : lane.kind === "mode" ? lane.partition : `${lane.partition} ${lane.name}`;
+    const place = drawing.stayAt(lane, x);
+    const lines = [x < GUTTER || place < 0 ? name : `${name} ${this.stayText(lane, place, Math.floor(drawing.tick(x)))}`];
+    if (x < GUTTER) return lines;
+    const near = [drawing.tick(x - 9), drawing.tick(x + 9)];
+    const marks = lane.marks.slice(firstMark(lane.marks, near[0]), firstMark(lane.marks, near[1])).filter((it) => this.view.kinds.has(it.sign));
+    marks.sort((one, other) => SIGNS.indexOf(other.sign) - SIGNS.indexOf(one.sign));
+    lines.push(...marks.slice(0, TIPPED).map(({ line }) => textOf(line)));
+    if (marks.length > TIPPED) lines.push(`and ${marks.length - TIPPED} lines more`);
+    return lines;
+  }
+
+  stayText({ kind, partition, stays }, place, tick) {
+    const [from, to, state] = [stays.from[place], stays.to[place], stays.state[place]];
+    const held = this.story.heldAt({ kind, partition }, state, Math.min(Math.max(tick, from), to - 1));
+    return `${state}${held ? `, ${held}` : ""}, ticks ${from} to ${to - 1} (${to - from})`;
+  }
+
+  /** Shows lines at the pointer; none are no tooltip. */
+  tip(lines, event) {
+    const tip = document.getElementById("tooltip");
+    tip.hidden = !lines.length;
+    if (tip.hidden) return;
+    tip.textContent = lines.join("\n");
+    const { offsetWidth: width, offsetHeight: height } = tip;
+    tip.style.left = `${Math.max(Math.min(event.clientX + 12, innerWidth - width - 4), 0)}px`;
+    tip.style.top = `${event.clientY + 18 + height > innerHeight ? event.clientY - height - 8 : event.clientY + 18}px`;
+  }
+
   /** Sets a cursor. */
   put(tick, place, mark = null) {
     this.drawing.cursors[place] = Math.min(Math.max(tick, 0), this.story.ticks - 1);
@@ -647,8 +969,13 @@ class Page {
     this.tell();
   }
 
+  /** Does what a key says. Keys with Ctrl and the like are those of the browser, and letters in a field are letters. */
   type(event) {
-    if (event.target instanceof HTMLInputElement) return;
+    if (event.ctrlKey || event.metaKey || event.altKey) return;
+    if (event.target instanceof HTMLInputElement && event.target.type !== "checkbox") {
+      if (event.key === "Escape") event.target.blur();
+      return;
+    }
     const span = this.view.to - this.view.from;
     const middle = (this.view.from + this.view.to) / 2;
     const deeds = {
@@ -659,12 +986,15 @@ class Page {
       "+": () => this.view.zoom(0.6, middle),
       "-": () => this.view.zoom(1 / 0.6, middle),
       0: () => this.view.show(0, this.story.ticks),
+      n: () => this.goToError(1),
+      p: () => this.goToError(-1),
       "/": () => document.getElementById("words").focus(),
       Escape: () => this.clear(),
     };
     const deed = deeds[event.key];
     if (!deed) return;
     event.preventDefault();
+    this.tip([]);
     deed();
     this.drawing.ask();
   }
@@ -676,18 +1006,78 @@ class Page {
     this.tell();
   }
 
-  /** Goes to the next line that has these words. */
-  search(words) {
-    const line = this.story.find(words, this.found);
-    document.getElementById("answer").textContent = line ? `line ${line.number}: ${textOf(line)}` : "no line has these words";
-    if (!line) return;
-    this.found = line.number;
-    const lanes = this.view.lanes;
-    const place = lanes.findIndex((lane) => lane.partition === line.partition && (lane.kind === "mode" || lane.name === line.words[0]));
+  answer(text) {
+    const answer = document.getElementById("answer");
+    answer.textContent = text;
+    answer.title = text;
+  }
+
+  /** Goes to a line: it puts a cursor there, and shows its lane and its tick. */
+  goTo(line) {
+    const mark = this.story.marks.get(line.number) ?? { tick: line.tick, line };
+    const place = this.view.lanes.indexOf(this.story.laneOf(line));
     const shown = Math.floor((this.drawing.canvas.clientHeight - HEAD) / LANE);
     if (place >= 0 && (place < this.view.top || place >= this.view.top + shown - 1)) this.view.top = Math.max(place - 2, 0);
     if (line.tick < this.view.from || line.tick >= this.view.to) this.view.center(line.tick);
-    this.put(line.tick, 0);
+    this.drawing.followed = mark.message ?? null;
+    this.put(line.tick, 0, mark);
+  }
+
+  /** Goes to the next error in the lanes that are shown, or to the one before; after the last comes the first. */
+  goToError(step) {
+    const { errors } = this.view;
+    if (!errors.length) {
+      this.answer("no error is shown");
+      return;
+    }
+    const tick = this.drawing.cursors[0] ?? this.view.from;
+    const here = this.shown?.line.number ?? lowest(this.story.lines.length, (place) => this.story.lines[place].tick >= tick) + 0.5;
+    const behind = lowest(errors.length, (place) => errors[place].line.number > here);
+    const before = lowest(errors.length, (place) => errors[place].line.number >= here) - 1;
+    const place = ((step > 0 ? behind : before) + errors.length) % errors.length;
+    this.answer(`error ${place + 1} of ${errors.length}: line ${errors[place].line.number}: ${textOf(errors[place].line)}`);
+    this.goTo(errors[place].line);
+  }
+
+  /** Goes to the next line that has these words; the first search for them finds all. */
+  search(words) {
+    if (this.sought.words !== words) this.sought = { words, lines: this.story.find(words), place: -1 };
+    const { lines } = this.sought;
+    if (lines.length) this.goToFound((this.sought.place + 1) % lines.length);
+    else this.answer("no line has these words");
+    this.listFound();
+  }
+
+  goToFound(place) {
+    const { lines } = this.sought;
+    this.sought.place = place;
+    this.answer(`${place + 1} of ${lines.length}: line ${lines[place].number}: ${textOf(lines[place])}`);
+    this.goTo(lines[place]);
+  }
+
+  /** Lists what a search found; of many lines the hundred with the one that is shown. */
+  listFound() {
+    const { words, lines, place } = this.sought;
+    const count = document.getElementById("count");
+    const first = Math.floor(Math.max(place, 0) / LISTED) * LISTED;
+    const listed = lines.slice(first, first + LISTED);
+    count.hidden = !words;
+    count.textContent = lines.length === 1 ? "1 line found" : `${lines.length} lines found`;
+    if (listed.length < lines.length) count.textContent += `, here ${first + 1} to ${first + listed.length}`;
+    const buttons = listed.map((line, at) => this.foundButton(line, first + at));
+    document.getElementById("found").replaceChildren(...buttons);
+    buttons[place - first]?.scrollIntoView({ block: "nearest" });
+  }
+
+  foundButton(line, place) {
+    const button = document.createElement("button");
+    button.textContent = textOf(line);
+    if (place === this.sought.place) button.setAttribute("aria-current", "true");
+    button.addEventListener("click", () => {
+      this.goToFound(place);
+      this.listFound();
+    });
+    return button;
   }
 
   /** Writes beside the lanes what the cursors show. */
@@ -696,18 +1086,18 @@ class Page {
     const place = document.getElementById("place");
     place.textContent = one === null ? `${this.story.ticks} ticks, ${this.story.lines.length} lines` : `tick ${one}`;
     if (one !== null && other !== null) place.textContent = `from tick ${Math.min(one, other)} to ${Math.max(one, other)}: ${Math.abs(other - one)} ticks`;
-    const list = document.getElementById("states");
-    list.replaceChildren();
-    if (one !== null) for (const { lane, state, isHeld } of this.story.statesAt(one)) if (!this.view.hidden.has(lane.partition)) this.tellState(list, lane, state, isHeld);
     const told = this.shown?.message?.lines ?? (this.shown ? [this.shown.line] : []);
     document.getElementById("told").textContent = told.map(textOf).join("\n");
+    const list = document.getElementById("states");
+    list.replaceChildren();
+    if (one !== null) for (const it of this.story.statesAt(one)) if (!this.view.hidden.has(it.lane.partition)) this.tellState(list, it);
   }
 
-  tellState(list, lane, state, isHeld) {
+  tellState(list, { lane, state, held }) {
     const row = document.createElement("tr");
-    const words = [lane.kind === "mode" ? lane.partition : lane.name, state === null ? "" : isHeld ? `${state}, not in its window` : state];
+    const words = [lane.kind === "mode" ? lane.partition : lane.name, state === null ? "" : held ? `${state}, ${held}` : state];
     for (const word of words) row.insertCell().textContent = word;
-    row.className = lane.kind;
+    row.className = lane.kind === "process" ? "process" : "mode";
     list.append(row);
   }
 }
