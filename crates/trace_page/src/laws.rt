@@ -46,7 +46,7 @@ pub fn page_of(
 /// A page with these lines.
 #[tactic(auto, using(std::proofs::lemmas::List::drop_more))]
 fn with_lines(alloc: Global, ran: Option<Ticks>, events: &[Event]) -> Result<Page, MemoryFull>
-    ensures lines { IfOk result (λ page. page.data.items ≡ flat_map escaped_line events.now) }
+    ensures lines { IfOk result (λ page. page.lines.items ≡ flat_map escaped_line events.now) }
     ensures ran { IfOk result (λ page. page.ran ≡ ran) }
 {
     let mut page = Page::new(alloc, ran);
