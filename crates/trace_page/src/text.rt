@@ -48,7 +48,7 @@ label { display: block; }
 <button id=\"theme\" type=\"button\">Light or dark</button>
 <span id=\"answer\" role=\"status\"></span>
 </header>
-<canvas id=\"lanes\" tabindex=\"0\"></canvas>
+<canvas id=\"lanes\" tabindex=\"0\" aria-label=\"lanes of the trace\"></canvas>
 <aside>
 <h2 id=\"place\"></h2>
 <pre id=\"told\"></pre>
@@ -491,7 +491,7 @@ class Pencil {
   }
 
   /** A mark, with its middle at a height; the tip of a flag is on the right of its pole, or on the left. */
-  mark(sign, isSent, x, y, isFollowed = false, side = 1) {
+  mark(sign, leaves, x, y, isFollowed = false, side = 1) {
     const { pen } = this;
     pen.fillStyle = this.theme[sign];
     pen.strokeStyle = this.theme[sign];
@@ -499,7 +499,7 @@ class Pencil {
     if (sign === \"flag\") this.flag(x, y, side);
     else if (sign === \"report\") this.lozenge(x, y);
     else if (sign === \"lost\") this.cross(x, y, isFollowed ? 5 : 3);
-    else this.circle(x, y, isFollowed ? 5 : 3.5, isSent);
+    else this.circle(x, y, isFollowed ? 5 : 3.5, leaves);
   }
 
   /** A flag has an edge in the colour of the ground, so that it is seen above bars and other flags. */
@@ -543,11 +543,11 @@ class Pencil {
   }
 
   /** A disc for a message that leaves, a ring for one that arrives. */
-  circle(x, y, reach, isSent) {
+  circle(x, y, reach, isFull) {
     const { pen } = this;
     pen.beginPath();
     pen.arc(x, y, reach, 0, 2 * Math.PI);
-    if (isSent) pen.fill();
+    if (isFull) pen.fill();
     else pen.stroke();
   }
 
@@ -684,7 +684,7 @@ class Drawing {
     if (this.view.story.windows && lane.kind !== \"module\") this.drawWindows(lane.partition, y);
     this.drawStays(pen, lane, y, flags);
     this.drawMarks(lane, y);
-    for (const flag of flags) this.drawMark(flag.mark, flag.x, y + flag.down);
+    for (const flag of flags) this.drawMark(lane, flag.mark, flag.x, y + flag.down);
     if (lane.kind === \"module\") this.drawActions(pen, flags, y);
     pen.restore();
     const isHead = lane.kind === \"mode\" || lane.kind === \"module\";
@@ -741,7 +741,7 @@ class Drawing {
     else this.pencil.state(state[place], ...bar, y);
   }
 
-  /** The name of a mode in its bar, behind the flags that would be on it; a short one if there is no room, or none. */
+  /** The name of a mode in its bar, to the right of the flags that would be on it; a short one if there is no room, or none. */
   drawName(pen, mode, left, width, y, flags) {
     pen.font = FONT;
     pen.fillStyle = this.theme.ink;
@@ -800,16 +800,16 @@ class Drawing {
         const isFollowed = this.followed !== null && mark.message === this.followed;
         if (x - (last.get(shape) ?? -Infinity) < 1 && !isFollowed) continue;
         last.set(shape, x);
-        this.drawMark(mark, x, y, isFollowed);
+        this.drawMark(lane, mark, x, y, isFollowed);
       }
     }
   }
 
   /** A flag at the end of what is seen points to the left. */
-  drawMark(mark, x, top, isFollowed) {
+  drawMark(lane, mark, x, top, isFollowed) {
     const y = top + heightOf(mark);
     this.pencil.mark(mark.sign, isSent(mark.line), x, y, isFollowed, x + 11 > GUTTER + this.width ? -1 : 1);
-    this.marks.push({ mark, x, y });
+    this.marks.push({ lane, mark, x, y });
   }
 
   /** What the module did on each error, where there is room up to the next one; the name of a shutdown is in its bar. */
@@ -833,11 +833,12 @@ class Drawing {
     return last >= 0 && this.tick(x) < stays.to[last] ? last : -1;
   }
 
-  /** The mark that was drawn nearest to a point, at most nine pixels away. */
+  /** The mark of the lane that was drawn nearest to a point, at most nine pixels away. */
   markAt(x, y) {
-    let [found, least] = [null, 81];
+    const lane = this.laneAt(y);
+    let [found, least] = [null, 9];
     for (const it of this.marks) {
-      const far = (it.x - x) ** 2 + (it.y - y) ** 2;
+      const far = it.lane === lane ? Math.hypot(it.x - x, it.y - y) : Infinity;
       if (far <= least) [found, least] = [it.mark, far];
     }
     return found;
@@ -898,12 +899,16 @@ class Page {
     this.tell();
   }
 
-  /** The page is called as its file is, which is the name of the trace that one chose. */
+  /** The page is called as its file is, if this has a name. The page does not have the name of the trace. */
   name() {
-    const file = decodeURIComponent(location.pathname.split(\"/\").pop()).replace(/\\.html?$/, \"\");
+    const [, file] = /([^/]*?)(\\.html?)?$/.exec(location.pathname);
     if (!file) return;
-    document.title = file;
-    document.getElementById(\"title\").textContent = file;
+    try {
+      document.title = decodeURIComponent(file);
+    } catch {
+      document.title = file;
+    }
+    document.getElementById(\"title\").textContent = document.title;
   }
 
   choose(theme) {
