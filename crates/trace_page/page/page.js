@@ -731,13 +731,14 @@ class Drawing {
     });
   }
 
-  /** The place of the stay that is drawn at a point of a lane; -1 if there is none. */
+  /** The place of the stay that is drawn in a column of a lane, where bars begin and end at the nearest column; -1 if there is none. */
   stayAt(lane, x) {
     const { stays } = lane;
-    const place = stays.foremost(this.tick(x), this.tick(x + 1));
+    const [from, to] = [Math.floor(x) - 0.5, Math.floor(x) + 0.5].map((it) => this.tick(it));
+    const place = stays.foremost(from, to);
     if (place >= 0) return place;
-    const last = stays.at(this.tick(x));
-    return last >= 0 && this.tick(x) < stays.to[last] ? last : -1;
+    const last = stays.at(to);
+    return last >= 0 && to < stays.to[last] ? last : -1;
   }
 
   /** The mark of the lane that was drawn nearest to a point, at most nine pixels away. */

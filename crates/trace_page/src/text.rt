@@ -12,7 +12,7 @@ pub const FRONT: &str = "<!doctype html>
 :root { --ground: #ffffff; --ink: #1f2933; --band: #f3f5f8; --edge: #d5dbe1; --cursor: #7c3aed; }
 :root[data-theme=\"dark\"] { --ground: #15191e; --ink: #e4e7eb; --band: #1d232a; --edge: #333c46; --cursor: #b794f4; color-scheme: dark; }
 * { box-sizing: border-box; }
-body { margin: 0; height: 100vh; display: grid; grid-template: auto 1fr / 1fr 300px; font: 13px system-ui, sans-serif; color: var(--ink); background: var(--ground); }
+body { margin: 0; height: 100vh; display: grid; grid-template: auto minmax(0, 1fr) / minmax(0, 1fr) 300px; font: 13px system-ui, sans-serif; color: var(--ink); background: var(--ground); }
 header { grid-column: 1 / 3; display: flex; flex-wrap: wrap; gap: 12px; align-items: center; padding: 6px 10px; background: var(--band); border-bottom: 1px solid var(--edge); }
 header h1 { font-size: 14px; margin: 0; }
 header input, header button { font: inherit; color: inherit; background: var(--ground); border: 1px solid var(--edge); border-radius: 4px; padding: 3px 7px; }
@@ -824,13 +824,14 @@ class Drawing {
     });
   }
 
-  /** The place of the stay that is drawn at a point of a lane; -1 if there is none. */
+  /** The place of the stay that is drawn in a column of a lane, where bars begin and end at the nearest column; -1 if there is none. */
   stayAt(lane, x) {
     const { stays } = lane;
-    const place = stays.foremost(this.tick(x), this.tick(x + 1));
+    const [from, to] = [Math.floor(x) - 0.5, Math.floor(x) + 0.5].map((it) => this.tick(it));
+    const place = stays.foremost(from, to);
     if (place >= 0) return place;
-    const last = stays.at(this.tick(x));
-    return last >= 0 && this.tick(x) < stays.to[last] ? last : -1;
+    const last = stays.at(to);
+    return last >= 0 && to < stays.to[last] ? last : -1;
   }
 
   /** The mark of the lane that was drawn nearest to a point, at most nine pixels away. */
