@@ -11,6 +11,7 @@ sources run by their meaning.
 import sys
 
 import commands
+from pal.grammar import number_of
 from refusal import Refusal
 
 sys.setrecursionlimit(20_000)
@@ -53,9 +54,11 @@ def do_dis(image):
 
 
 def with_text(command, road, image, partition, text, ticks):
-    data, lines = road(image), read(text)
-    commands.judge_ticks(int(ticks))
-    return command(data(), *partition, lines, int(ticks))
+    if not ticks.isascii() or not ticks.isdigit():
+        sys.exit(2)
+    data, lines, count = road(image), read(text), number_of(ticks)
+    commands.judge_ticks(count)
+    return command(data(), *partition, lines, count)
 
 
 def do_run(road, image, devices, ticks):

@@ -10,6 +10,7 @@ NUMBER = r"0|[1-9][0-9]*"
 TICK = rf"(?P<tick>{NUMBER})"
 NAME = r"(?P<name>[a-z][a-z0-9_]{0,29})"
 WORDS = r"(?P<words>(?: (?:0|-?[1-9][0-9]*))+)"
+LONGEST_WORD = len(str(limits.LEAST))
 FAULT = re.compile(rf"{TICK} (?P<what>FAULT)(?: {NAME})?")
 
 
@@ -41,10 +42,10 @@ def line_of(piece, form):
     if match is None or len(match["tick"]) > 13 or int(match["tick"]) > limits.LONGEST_TIME:
         return None
     parts = match.groupdict()
-    words = [int(it) for it in (parts.get("words") or "").split()]
-    if not all(map(limits.is_word, words)):
+    texts = (parts.get("words") or "").split()
+    if not all(len(it) <= LONGEST_WORD and limits.is_word(int(it)) for it in texts):
         return None
-    return int(parts["tick"]), parts["what"], parts["name"], words
+    return int(parts["tick"]), parts["what"], parts["name"], [int(it) for it in texts]
 
 
 def judge(line, before, count, room_of, has_part):

@@ -52,7 +52,7 @@ def judge(value, depth):
 def as_older(text):
     """The text with the forms that only TOML 1.1 has written as those of 1.0."""
     out, open_brackets = [], []
-    for piece in PIECE.findall(text):
+    for piece in PIECE.findall(text.replace("\r\n", "\n")):
         piece = older_escapes(piece)
         if piece in ("{", "["):
             open_brackets.append(piece)
