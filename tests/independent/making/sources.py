@@ -23,6 +23,23 @@ BY_STAGE = {
     HEALTH: "RAISE_APPLICATION_ERROR GET_ERROR_STATUS CREATE_ERROR_HANDLER SET_PARTITION_MODE",
 }
 KINDS = ("semaphore", "event", "buffer", "blackboard")
+# What processes do to each other, by the stage that has it.
+THEMES = {
+    PROCESSES: (
+        "SUSPEND_SELF SUSPEND RESUME RESUME RESUME STOP START START TIMED_WAIT SET_PRIORITY DELAYED_START GET_PROCESS_STATUS",
+        "LOCK_PREEMPTION UNLOCK_PREEMPTION LOCK_PREEMPTION UNLOCK_PREEMPTION UNLOCK_PREEMPTION TIMED_WAIT REPLENISH SET_PRIORITY",
+    ),
+    OBJECTS: (
+        "SEND_BUFFER RECEIVE_BUFFER SEND_BUFFER RECEIVE_BUFFER GET_BUFFER_STATUS SUSPEND RESUME STOP START",
+        "WAIT_SEMAPHORE SIGNAL_SEMAPHORE WAIT_SEMAPHORE SIGNAL_SEMAPHORE GET_SEMAPHORE_STATUS SET_PRIORITY SUSPEND RESUME",
+        "WAIT_EVENT WAIT_EVENT SET_EVENT RESET_EVENT GET_EVENT_STATUS READ_BLACKBOARD READ_BLACKBOARD DISPLAY_BLACKBOARD CLEAR_BLACKBOARD STOP START",
+    ),
+    PORTS: (
+        "SEND_QUEUING_MESSAGE SEND_QUEUING_MESSAGE RECEIVE_QUEUING_MESSAGE RECEIVE_QUEUING_MESSAGE CLEAR_QUEUING_PORT GET_QUEUING_PORT_STATUS SUSPEND RESUME",
+        "WRITE_SAMPLING_MESSAGE READ_SAMPLING_MESSAGE GET_SAMPLING_PORT_STATUS SEND_QUEUING_MESSAGE RECEIVE_QUEUING_MESSAGE",
+    ),
+    HEALTH: ("RAISE_APPLICATION_ERROR RAISE_APPLICATION_ERROR TIMED_WAIT SUSPEND RESUME START LOCK_PREEMPTION",),
+}
 # The services that put messages into ports, and take them out.
 MOVING = ("WRITE", "SEND", "READ", "RECEIVE")
 
@@ -40,6 +57,8 @@ class SourceMaker:
         if stage >= PORTS and random.random() < 0.7:
             self.favourites += [it for it in BY_STAGE[PORTS].split() if it.startswith(MOVING) and self.fitting_ports(it)]
         self.parameters, self.is_procedure, self.who = [], False, ""
+        themes = [it for key, texts in THEMES.items() if key <= stage for it in texts]
+        self.theme = random.choice(themes).split() if themes and random.random() < 0.7 else []
 
     def chance(self, likely):
         return self.random.random() < likely
@@ -81,7 +100,7 @@ class SourceMaker:
         if self.stage >= WHOLE_PAL:
             self.procedures = {f"f{n}": random.randint(0, 3) for n in range(random.randint(0, 3))} | ({"deep": 1} if self.chance(0.5) else {})
         if self.stage >= OBJECTS:
-            lines += [self.object(kind, n) for kind in KINDS for n in range(random.randint(0, 2))]
+            lines += [self.object(kind, n) for kind in KINDS for n in range(random.choice((0, 1, 1, 1, 2)))]
         if self.stage >= PORTS:
             self.port_names = [it["name"] for it in self.table_ports if self.chance(0.9)] + (["nowhere"] if self.chance(0.3) else [])
             lines += [f"port {it};" for it in self.port_names]
@@ -94,7 +113,7 @@ class SourceMaker:
     def object(self, kind, n):
         name, random = f"{kind[:2]}{n}", self.random
         self.declared[kind].append(name)
-        words, discipline = random.randint(1, self.size.words), random.choice(("fifo", "priority"))
+        words, discipline = random.choice((self.size.words, self.size.words, random.randint(1, self.size.words))), random.choice(("fifo", "priority"))
         first = random.choice((0, 0, 1, 2))
         return {
             "semaphore": f"semaphore {name} {first} {max(1, first) + random.randint(0, 2)} {discipline};",
@@ -119,7 +138,7 @@ class SourceMaker:
 
     def init(self):
         self.who = "INIT"
-        makes = [f"CREATE_{kind.upper()}({name}) -> r, x;" for kind in KINDS for name in self.declared[kind] if self.chance(0.9)]
+        makes = [f"CREATE_{kind.upper()}({name}) -> r, x;" for kind in KINDS for name in self.declared[kind] if self.chance(0.96)]
         makes += [f"{self.create_port(it)} -> r, x;" for it in self.port_names if self.chance(0.9)]
         if self.has_handler and self.chance(0.85):
             makes.append("CREATE_ERROR_HANDLER() -> r;")
@@ -160,7 +179,7 @@ class SourceMaker:
             period = self.period * random.choice((1, 1, 2, 3))
         capacity = random.choice((-1, -1, 10, 50, 200, 2**40)) if self.stage >= PROCESSES else -1
         priority = random.choice((1, 5, 5, 5, 9, 9, 100, 239)) if self.stage >= PREEMPTION else 5
-        statements = self.statements(2)
+        statements = self.themed() if self.theme and self.chance(0.8) else self.statements(2)
         if period != -1 and self.chance(0.85):
             statements = ["while 1 { " + " ".join([*statements, "PERIODIC_WAIT() -> r;"]) + " }"]
         elif self.chance(0.6):
@@ -168,9 +187,13 @@ class SourceMaker:
         head = f"process {name} priority {priority} period {period} capacity {capacity} stack 0 "
         return head + self.body(statements)
 
+    def themed(self):
+        calls = [self.service_call(self.random.choice(self.theme)) for _ in range(self.random.randint(1, 4))]
+        return calls + ([self.make_report(0)] if self.chance(0.3) else [])
+
     def pause(self):
         if self.stage >= PREEMPTION and self.chance(0.7):
-            return f"TIMED_WAIT({self.random.choice((1, 5, 20, 50))}) -> r;"
+            return f"TIMED_WAIT({self.random.choice((1, 5, 20, 50, self.random.randint(1, 80)))}) -> r;"
         return f"work {self.random.choice((1, 9, 60))};"
 
     # ---- statements
@@ -218,7 +241,9 @@ class SourceMaker:
         return f"y := 0; while y < {self.random.randint(1, 4)} {{ {' '.join(self.statements(depth - 1))} y := y + 1; }}"
 
     def make_service(self, _):
-        name = self.random.choice(self.favourites if self.chance(0.6) else self.services)
+        return self.service_call(self.random.choice(self.favourites if self.chance(0.6) else self.services))
+
+    def service_call(self, name):
         row = BY_NAME[name]
         if name == "SET_PARTITION_MODE":
             arguments = [str(self.random.choice((0, 1, 2, 2, 3, 3, 4, -1)))] if self.chance(0.2) else ["3"]
@@ -238,7 +263,7 @@ class SourceMaker:
         if kind != "e":
             names = self.port_names if kind == "port" else self.declared[kind]
             return self.random.choice(names) if names else None
-        if self.chance(0.06):
+        if self.chance(0.04):
             return str(self.random.choice(WRONG)) if self.stage < WHOLE_PAL else self.expression(1)
         return str(self.word(name, place, array))
 
