@@ -1,6 +1,7 @@
 """A TOML 1.1 document, read by `tomllib`, which knows TOML 1.0.
 
-Before that, what 1.1 allows besides is written as 1.0: line ends, comments and a last comma within an inline table, and the escapes `\\e` and `\\xHH`.
+Before that, what 1.1 allows besides is written as 1.0: line ends, comments and a last comma within an inline table, and the
+escapes `\\e` and `\\xHH`.
 """
 
 import re

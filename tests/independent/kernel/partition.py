@@ -1,9 +1,10 @@
 """A partition's kernel: what is kept, a tick, and the steps that several services share (KERNEL.md)."""
 
 import limits
+from kernel.asked import ASKED
 from kernel.records import A_DELAY, A_LIST, A_RELEASE, A_RESUME, COLD_START, DORMANT, HM_PARTITION_RESTART, IDLE, NORMAL, NORMAL_START
-from kernel.records import NOTHING, NO_ERROR, PARTITION_RESTART, READY, RUNNING, THE_START, TIMED_OUT, WAITING
-from kernel.records import BlackboardState, BufferState, EventState, PortState, Refused, Runner, SemaphoreState
+from kernel.records import INVALID_MODE, NOTHING, NOT_AVAILABLE, NO_ERROR, PARTITION_RESTART, READY, RUNNING, THE_START, TIMED_OUT, WAITING
+from kernel.records import BlackboardState, BufferState, EventState, PortState, Refused, Runner, SemaphoreState, Waiter, refuse
 from model import ERRORS
 from services import service
 
@@ -55,10 +56,6 @@ class Partition:
         if request is not None:
             self.earliest = None
             getattr(self, request[0])(runner, *request[1:])
-
-    def is_quiet(self, now):
-        """Whether this tick would only be counted, or is nobody's."""
-        return self.quiet_ticks(now) > 0
 
     def quiet_ticks(self, now):
         """How many ticks from this one on would only be counted, if the partition had them all."""
@@ -143,8 +140,6 @@ class Partition:
     # ---- what the chosen one asks for
 
     def call(self, runner, number, arguments):
-        from kernel.asked import ASKED
-
         row = service(number)
         try:
             ASKED[number](self, runner, *arguments)
@@ -359,8 +354,6 @@ class Partition:
 
     def wait_in_list(self, runner, row, waiting, time_out, message=None, array=None):
         """The two checks of a caller that has to wait, and the wait."""
-        from kernel.records import INVALID_MODE, NOT_AVAILABLE, Waiter, refuse
-
         refuse(time_out == 0, NOT_AVAILABLE)
         refuse(self.is_busy(runner), INVALID_MODE)
         self.waits(runner, A_LIST, None if time_out == -1 else self.now + time_out, row)

@@ -8,7 +8,9 @@ from services import SERVICES
 NUMBERS = (0, 1, 2, 3, 15, 16, 17, 31, 32, 33, 63, 64, 65, 239, 240, 256, 1000, 1001, 4096, 4097, 65535, 65536, 65537, 10**6, 10**6 + 1)
 LARGE = (2**24, 2**24 + 1, 2**31, 2**32, 2**40, 2**40 + 1, 2**63 - 1, 2**63, 2**64)
 OTHER_TYPES = ("20.0", "true", '"x"', "[]", "{}", "1e3", "0x10", "+7", "-0", "1_000", "01", "1979-05-27", "inf")
-WORDS = ("DEVICE", "IGNORE", "RESET", "SHUTDOWN", "IDLE", "WARM_START", "SAMPLING", "QUEUING", "SOURCE", "DESTINATION", "FIFO", "PRIORITY", "", "A", "a.b")
+WORDS = ("DEVICE", "IGNORE", "RESET", "SHUTDOWN", "IDLE", "WARM_START", "SAMPLING", "QUEUING", "SOURCE", "DESTINATION", "FIFO", "PRIORITY")
+KEYS = ("name", "words", "depth", "refresh", "kind", "x", "offset")
+WORDS += ("", "A", "a.b")
 
 
 def number(random):
@@ -71,7 +73,7 @@ def damaged_table(random, text):
         lambda it: change_matches(random, it, r'"[^"\n]*"', lambda _: other_text(random, it)),
         lambda it: change_matches(random, it, r'"[^"\n]*"', lambda _: other_text(random, it)),
         lambda it: change_matches(random, it, r"true|false", lambda _: random.choice(("true", "false", "0", '"true"'))),
-        lambda it: change_matches(random, it, r"(?m)^[a-z]+(?= = )", lambda _: random.choice(("name", "words", "depth", "refresh", "kind", "x", "offset"))),
+        lambda it: change_matches(random, it, r"(?m)^[a-z]+(?= = )", lambda _: random.choice(KEYS)),
         lambda it: change_lines(random, it),
         lambda it: change_lines(random, it),
         lambda it: change_character(random, it, '"=[]{},.#\n 0aZ-é\x00\x7f\r\\'),

@@ -21,7 +21,8 @@ class Limits:
 
 def small(random, stage):
     if stage < LARGE:
-        return Limits(1 if stage < WINDOWS else random.choice((1, 2, 2, 3, 4)), 1 if stage == FIRST else random.randint(1, 6), random.choice((1, 2, 4)))
+        partitions = 1 if stage < WINDOWS else random.choice((1, 2, 2, 3, 4))
+        return Limits(partitions, 1 if stage == FIRST else random.randint(1, 6), random.choice((1, 2, 4)))
     partitions = random.choice((1, 2, 3, 5, 16, 17, 32))
     return Limits(partitions, random.choice((8, 31, 32, 63)) if partitions <= 5 else random.choice((2, 4)), random.choice((16, 17, 64)))
 
