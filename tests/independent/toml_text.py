@@ -9,7 +9,9 @@ import tomllib
 
 from limits import GREATEST, LEAST
 
+# So deep may brackets be nested, and so many parts may a key have.
 DEEPEST = 80
+SEPARATORS = ("\n", "=", ",", "[", "]", "{", "}")
 
 PIECE = re.compile(
     r'"""(?:\\.|(?!""").)*?"{3,5}' r"|'''.*?'{3,5}" r'|"(?:\\.|[^"\\\n])*"' r"|'[^'\n]*'" r"|\#[^\n]*|[][{}\n,]|[ \t]+|.",
@@ -24,11 +26,11 @@ class NoDocument(Exception):
 def read(data):
     """The document that the bytes stand for."""
     try:
-        text = as_older(data.decode("utf-8"))
+        text = as_older(data.decode("utf-8").removeprefix("\ufeff"))
         document = tomllib.loads(text, parse_float=read_float)
     except (UnicodeDecodeError, tomllib.TOMLDecodeError, ValueError, RecursionError) as why:
         raise NoDocument from why
-    judge(document, 0)
+    judge(document)
     return document
 
 
@@ -39,20 +41,18 @@ def read_float(text):
     return value
 
 
-def judge(value, depth):
-    """Refuses an integer that does not fit 64 bits, and values that are nested too deep."""
+def judge(value):
+    """Refuses an integer that does not fit 64 bits."""
     if isinstance(value, int) and not isinstance(value, bool) and not LEAST <= value <= GREATEST:
         raise NoDocument
     if isinstance(value, (dict, list)):
-        if depth > DEEPEST:
-            raise NoDocument
         for it in value.values() if isinstance(value, dict) else value:
-            judge(it, depth + 1)
+            judge(it)
 
 
 def as_older(text):
     """The text with the forms that only TOML 1.1 has written as those of 1.0."""
-    out, open_brackets = [], []
+    out, open_brackets, dots = [], [], 0
     for piece in PIECE.findall(text.replace("\r\n", "\n")):
         piece = older_escapes(piece)
         if piece in ("{", "["):
@@ -63,6 +63,9 @@ def as_older(text):
             open_brackets.pop()
         elif open_brackets and open_brackets[-1] == "{" and (piece == "\n" or piece.startswith("#")):
             piece = " "
+        dots = dots + 1 if piece == "." else 0 if piece in SEPARATORS else dots
+        if len(open_brackets) > DEEPEST or dots >= DEEPEST:
+            raise NoDocument
         out.append(piece)
     return "".join(out)
 

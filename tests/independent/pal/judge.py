@@ -198,7 +198,7 @@ def node_lines(node):
         case Number():
             yield from great_numbers([node])
         case Work(ticks, line):
-            if not 1 <= ticks.value <= limits.WORK:
+            if not lies_within(ticks, 1, limits.WORK):
                 yield line
 
 
@@ -251,22 +251,27 @@ def numbers_of(declaration):
     return [it.value for it in declaration.numbers]
 
 
+def lies_within(number, low, high):
+    """Whether the number is within its limits. One above 2^63 - 1 is judged by that alone, at its own place."""
+    return number.value > limits.GREATEST or low <= number.value <= high
+
+
 def array_fits(made):
-    return len(made.values) <= made.numbers[0].value
+    return lies_within(made.numbers[0], len(made.values), limits.GREATEST)
 
 
 def semaphore_fits(made):
-    first, maximum = numbers_of(made)
-    return 1 <= maximum <= limits.SEMAPHORE_MAXIMUM and first <= maximum
+    first, maximum = made.numbers
+    return lies_within(maximum, 1, limits.SEMAPHORE_MAXIMUM) and lies_within(first, 0, maximum.value)
 
 
 def buffer_fits(made):
-    words, depth = numbers_of(made)
-    return 1 <= words <= limits.MESSAGE_WORDS and 1 <= depth <= limits.DEPTH
+    words, depth = made.numbers
+    return lies_within(words, 1, limits.MESSAGE_WORDS) and lies_within(depth, 1, limits.DEPTH)
 
 
 def blackboard_fits(made):
-    return 1 <= made.numbers[0].value <= limits.MESSAGE_WORDS
+    return lies_within(made.numbers[0], 1, limits.MESSAGE_WORDS)
 
 
 def procedure_fits(made):
@@ -289,28 +294,37 @@ def count_lines(program):
     yield from (it.line for it in program.processes[limits.PROCESSES :])
 
 
+def size_of(array):
+    """The words of an array; none where its size is no word."""
+    size = array.numbers[0].value
+    return size if size <= limits.GREATEST else 0
+
+
 def data_lines(program):
     words = 0
     for it in program.declarations:
         if it.kind in ("var", "array"):
-            words += 1 if it.kind == "var" else it.numbers[0].value
+            words += 1 if it.kind == "var" else size_of(it)
             if words > limits.DATA_WORDS:
                 yield it.line
 
 
 def runner_lines(runner):
-    stack = runner.stack.value
-    if not limits.LEAST_STACK <= stack <= limits.GREATEST_STACK:
+    if not lies_within(runner.stack, limits.LEAST_STACK, limits.GREATEST_STACK):
         yield runner.line
     if runner.kind == "process" and not process_fits(runner):
         yield runner.line
-    if is_too_large([], runner.body, False, stack):
+    if is_too_large([], runner.body, False, runner.stack.value):
         yield runner.body.line
 
 
 def process_fits(runner):
-    times = value(runner.period), value(runner.capacity)
-    return 1 <= runner.priority.value <= limits.GREATEST_PRIORITY and all(it == -1 or 1 <= it <= limits.LONGEST_TIME for it in times)
+    return lies_within(runner.priority, 1, limits.GREATEST_PRIORITY) and time_fits(runner.period) and time_fits(runner.capacity)
+
+
+def time_fits(integer):
+    sign, number = integer
+    return value(integer) == -1 or number.value > limits.GREATEST or (sign == 1 and lies_within(number, 1, limits.LONGEST_TIME))
 
 
 def is_too_large(parameters, body, is_procedure, stack):
