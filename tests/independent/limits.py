@@ -1,0 +1,51 @@
+"""The numbers of TABLE.md and section 9 of PAL.md."""
+
+LONGEST_TIME = 2**40
+LONGEST_FRAME = 2**24
+GREATEST = 2**63 - 1
+LEAST = -(2**63)
+
+NAME_LENGTH = 30
+PARTITIONS = 32
+WINDOWS = 64
+CHANNELS = 64
+PORTS = 16
+DESTINATIONS = 16
+MESSAGE_WORDS = 64
+DEPTH = 32
+COST = 1000
+
+SOURCE_BYTES = 1_048_576
+LEVELS = 64
+DATA_WORDS = 65_536
+OBJECTS = 16
+PROCESSES = 63
+PROCEDURES = 256
+PARAMETERS = 8
+LOCALS = 64
+SLOTS = 72
+LEAST_STACK = 16
+GREATEST_STACK = 4096
+GREATEST_PRIORITY = 239
+SEMAPHORE_MAXIMUM = 1_000_000
+WORK = 1_000_000
+INSTRUCTIONS = 65_536
+
+LINES = 65_536
+ERRORS = 64
+LOCK_LEVEL = 16
+# The words of REPORT_APPLICATION_MESSAGE, RAISE_APPLICATION_ERROR and GET_ERROR_STATUS.
+REPORT_WORDS = 16
+
+
+def is_word(value):
+    """Whether the value is a word of the processor."""
+    return LEAST <= value <= GREATEST
+
+
+def is_delay(value):
+    return 0 <= value <= LONGEST_TIME
+
+
+def is_time_out(value):
+    return value == -1 or is_delay(value)

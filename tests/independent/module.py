@@ -1,0 +1,163 @@
+"""The run of a module, tick by tick (KERNEL.md), and the run of one partition alone (ISOLATION.md)."""
+
+from kernel.partition import FOREVER
+from kernel.records import COLD_START, HM_MODULE_RESTART, NORMAL_START
+from model import DEVICE
+from schedule import Schedule
+
+
+class Trace:
+    """The lines of a trace."""
+
+    def __init__(self):
+        self.lines = []
+
+    def __call__(self, tick, who, words):
+        self.lines.append(f"{tick:013d} {who} {words}\n")
+
+    def text(self):
+        return "".join(self.lines).encode("ascii")
+
+
+class Clock:
+    """What a module and a partition alone share: the loop over the ticks. Quiet ticks are made at once."""
+
+    def __init__(self, schedule, lines):
+        self.schedule, self.lines, self.place = schedule, lines, 0
+        self.is_shut = False
+
+    def run(self, ticks):
+        if ticks == 0:
+            return
+        self.start(0, NORMAL_START)
+        now = 0
+        while now < ticks and not self.is_shut:
+            self.tick(now)
+            now = self.next_tick(now + 1, ticks)
+
+    def start(self, now, condition):
+        for it in self.partitions.values():
+            it.now = now
+            it.clear(COLD_START, condition)
+
+    def tick(self, now):
+        while not self.is_shut and self.place < len(self.lines) and self.lines[self.place][0] == now:
+            self.place += 1
+            self.act(now, *self.lines[self.place - 1][1:])
+        if self.is_shut:
+            return
+        self.move(now)
+        owner = self.partitions.get(self.schedule.owner(now))
+        if owner is not None:
+            owner.tick(now)
+
+    def move(self, now):
+        number = self.schedule.ended(now)
+        if number in self.partitions:
+            self.partitions[number].move(now, lambda port, words: self.send(now, number, port, words))
+
+    def module_fault(self, now, action):
+        if action == "SHUTDOWN":
+            self.is_shut = True
+        elif action == "RESET":
+            self.schedule.origin = now
+            self.start(now, HM_MODULE_RESTART)
+
+    def next_tick(self, now, limit):
+        """The first tick from this one on in which something may happen. Those before it are only counted."""
+        while now < limit:
+            line = self.lines[self.place][0] if self.place < len(self.lines) else limit
+            if line == now or self.has_moves(now):
+                return now
+            if all(it.sleeps() for it in self.partitions.values()):
+                return min(limit, line, self.next_waking(now))
+            stop = min(limit, line, self.schedule.next_edge(now))
+            owner = self.partitions.get(self.schedule.owner(now))
+            if owner is not None:
+                quiet = min(stop - now, owner.quiet_ticks(now))
+                owner.spend(quiet)
+                if now + quiet < stop:
+                    return now + quiet
+            now = stop
+        return limit
+
+    def has_moves(self, now):
+        number = self.schedule.ended(now)
+        return number in self.partitions and any(it.is_source and it.messages for it in self.partitions[number].ports)
+
+    def next_waking(self, now):
+        """The first tick in which something is due, where all partitions sleep."""
+        dues = {number: it.next_due() for number, it in self.partitions.items()}
+        return min((self.schedule.first_own(number, max(due, now)) for number, due in dues.items() if due != FOREVER), default=FOREVER)
+
+
+class Module(Clock):
+    """`make` makes a partition of its number, the schedule, and what takes the lines."""
+
+    def __init__(self, table, make, lines, trace):
+        super().__init__(Schedule(table.frame, table.windows), lines)
+        self.table, self.trace = table, trace
+        self.partitions = {n: make(n, self.schedule, trace) for n in range(1, len(table.partitions) + 1)}
+        self.channels = {it.source: it for it in table.channels if it.source != DEVICE}
+        self.watched, self.inputs = None, []
+
+    def watch(self, number):
+        """From now on, what comes to this partition is written down."""
+        self.watched = number
+
+    def note(self, number, text):
+        if self.watched is not None and number in (self.watched, None):
+            self.inputs.append(text)
+
+    def act(self, now, what, name, words):
+        if what == "MSG":
+            channel = next(it for it in self.table.channels if it.name == name)
+            for end in channel.destinations:
+                self.arrive(now, end, words)
+        elif name is not None:
+            number = self.table.number_of(name)
+            self.note(number, f"{now} FAULT {name}\n")
+            self.partitions[number].hardware_fault(now)
+        else:
+            self.note(None, f"{now} FAULT\n")
+            self.trace(now, "-", f"HM HARDWARE_FAULT - MODULE {self.table.action}")
+            self.module_fault(now, self.table.action)
+
+    def arrive(self, now, end, words):
+        number, port = end
+        name = self.table.partitions[number - 1].ports[port - 1].name
+        self.note(number, f"{now} ARRIVE {name} {' '.join(map(str, words))}\n")
+        self.partitions[number].arrive(now, port, words)
+
+    def send(self, now, number, port, words):
+        channel = self.channels.get((number, port))
+        for end in channel.destinations if channel else []:
+            if end == DEVICE:
+                self.trace(now, self.table.partitions[number - 1].name, f"OUT {channel.name} {' '.join(map(str, words))}")
+            else:
+                self.arrive(now, end, words)
+
+
+class LonePartition(Clock):
+    """One partition with its replay text. Of the module it knows only its slice."""
+
+    def __init__(self, table, number, make, lines, trace):
+        own = [it for it in table.windows if it.partition == number]
+        super().__init__(Schedule(table.frame, own), lines)
+        self.action, self.number, self.trace = table.action, number, trace
+        self.name = table.partitions[number - 1].name
+        self.ports = {it.name: n for n, it in enumerate(table.partitions[number - 1].ports, 1)}
+        self.partitions = {number: make(number, self.schedule, trace)}
+        self.outward = {it.source[1]: it.name for it in table.channels if it.source[0] == number and DEVICE in it.destinations}
+
+    def act(self, now, what, name, words):
+        if what == "ARRIVE":
+            self.partitions[self.number].arrive(now, self.ports[name], words)
+        elif name is not None:
+            self.partitions[self.number].hardware_fault(now)
+        else:
+            self.module_fault(now, self.action)
+
+    def send(self, now, number, port, words):
+        if port in self.outward:
+            self.trace(now, self.name, f"OUT {self.outward[port]} {' '.join(map(str, words))}")

@@ -1,0 +1,42 @@
+"""Whose a tick is, where windows end, and the release points (section 2 of TABLE.md)."""
+
+
+class Schedule:
+    def __init__(self, frame, windows):
+        self.frame, self.windows, self.origin = frame, windows, 0
+        self.edges = sorted({0, *(it.offset for it in windows), *(it.end % frame for it in windows)})
+
+    def place(self, tick):
+        return (tick - self.origin) % self.frame
+
+    def owner(self, tick):
+        """The number of the partition that owns the tick, or None."""
+        place = self.place(tick)
+        return next((it.partition for it in self.windows if it.offset <= place < it.end), None)
+
+    def ended(self, tick):
+        """The number of the partition whose window ended with the tick before, or None."""
+        if tick == self.origin:
+            return None
+        place = self.place(tick)
+        return next((it.partition for it in self.windows if it.end % self.frame == place), None)
+
+    def next_edge(self, tick):
+        """The first tick after this one at which a window begins or ends, or the frame begins."""
+        place = self.place(tick)
+        later = next((it for it in self.edges if it > place), self.frame)
+        return tick - place + later
+
+    def next_place(self, tick, places):
+        """The first tick after this one that has one of the places in the frame."""
+        place = self.place(tick)
+        return tick + min((it - place - 1) % self.frame + 1 for it in places)
+
+    def next_release(self, partition, tick):
+        return self.next_place(tick, [it.offset for it in self.windows if it.partition == partition and it.release])
+
+    def first_own(self, partition, tick):
+        """The first tick from this one on that the partition owns."""
+        if self.owner(tick) == partition:
+            return tick
+        return self.next_place(tick, [it.offset for it in self.windows if it.partition == partition])
