@@ -32,6 +32,8 @@ pub struct Module<E: Executor<Mem = PartitionMem>> {
     pub now: Ticks,
     /// The tick from which the major frames count; `None` after a shutdown.
     pub origin: Option<Ticks>,
+    /// Where the window of the last span stands in the table: a hint for the next one.
+    pub window: usize,
     ghost limit: { now.0 ≤ MOST_TICKS },
     ghost past: { origin_or_zero origin ≤ now.0 },
 }

@@ -7,7 +7,7 @@ use Rattle.partition.specs.Members.{member_of}
 use Rattle.module.specs.Members.{members_of}
 use Rattle.module.specs.Pieces.{HasMovedWritten}
 use Rattle.module.proofs.Members.{few_set, fit_at, fit_set, get_member, set_member, no_member, same_length}
-use Rattle.module.proofs.Bursts.{has_moved}
+use Rattle.module.proofs.Bursts.{advances_some, has_moved}
 use Rattle.module.proofs.member.Members.advance_at.Goals as goal
 
 pub lend-mem-requires : goal.lend-mem-requires
@@ -53,14 +53,8 @@ returns-clause-written g c =
       told.3,
     ))
 
-pub returns-then-place-len-clause-written : goal.returns-then-place-len-clause-written
-returns-then-place-len-clause-written g c =
+pub returns-clause-some : goal.returns-clause-some
+returns-clause-some g c = λ more.
     let e = g.E.Executor in
-    let ps = c.args.self.now.partitions.items in
-    let memory = c.args.self.now.memory in
-    let place = c.args.place in
-    let members = members_of e ps memory in
-    let behind : length ps ≤ place = search rules in
-    let none : slice_get members place ≡ None = no_member e ps memory place behind in
-    let sent = sent_of g.S.Sink c.args.output.now in
-    subst (λ (o : Option (Member e.Control)). HasMovedWritten c.args.moment.at c.args.most place members o members sent sent 0) (sym none) (omega arith, [], (refl, refl, refl), nothing_sent sent)
+    let told = c.write_advance.ensures.written in
+    advances_some c.args.moment.at c.args.most c.write_advance.result (member_of e c.index_mut.result.now c.lend-mem.result.now) (member_of e c.write_advance.new.partition c.write_advance.new.mem) told.1 more told.2
