@@ -18,8 +18,8 @@ use isolation::InputLine;
 use partition::Partition;
 use partition_base::Executor;
 
-/// Executes `most` ticks of the partition, or those up to the first with an event, and writes their
-/// lines; returns how many.
+/// Executes some of `most` ticks of the partition, as many as the buffer has room for the lines of,
+/// and writes their lines; returns how many.
 pub fn write_advance<E: Executor, S: Sink>(
     partition: &mut Partition<E>,
     mem: &mut E::Mem,
@@ -33,6 +33,7 @@ pub fn write_advance<E: Executor, S: Sink>(
     ensures written { HasAdvancedWritten moment.at most (member_of E.Executor partition.old mem.old)
         (member_of E.Executor partition.new mem.new) (sent_of S.Sink output.old)
         (sent_of S.Sink output.new) result }
+    ensures some { 0 < most → 0 < result }
 {
     output.trace.clear();
     let count = partition.advance(mem, moment, most, output.trace);
@@ -40,8 +41,8 @@ pub fn write_advance<E: Executor, S: Sink>(
     count
 }
 
-/// Executes `most` ticks of the partition, from one event to the next, and writes their lines;
-/// returns how many. Stops once the sink has failed.
+/// Executes `most` ticks of the partition, and writes their lines; returns how many. Stops once the
+/// sink has failed.
 fn write_piece<E: Executor, S: Sink>(
     partition: &mut Partition<E>,
     mem: &mut E::Mem,

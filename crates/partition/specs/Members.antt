@@ -1,12 +1,13 @@
 -- A partition with its memory, as the member of the definitions.
-use Rattle.std.specs.Prelude.{◌≡◌, ℕ, ◌+◌, List, ◌++◌, Option, Some, None}
+use Rattle.std.specs.Prelude.{◌≡◌, ℕ, zero, suc, ◌+◌, List, [], ◌++◌, Option, Some, None}
 use Rattle.apex_types.specs.declared.identity.At.{At}
 use Rattle.apex_types.specs.declared.event.Event.{Event}
 use Rattle.apex_types.specs.declared.log.EventLog.{Ghosts as Log}
 use Rattle.apex_types.specs.Runners.{Action}
 use Rattle.kernel_meaning.specs.Kernel.{Kernel}
-use Rattle.kernel_meaning.specs.Partition.{Member, Moved, with_world, act, act_all}
-use Rattle.kernel_laws.specs.Running.{Goes, advances_by}
+use Rattle.engine_meaning.specs.Engine.{Engine}
+use Rattle.kernel_meaning.specs.Partition.{Member, Moved, World, with_world, act, act_all, tick}
+use Rattle.kernel_meaning.specs.Windows.{tick_from}
 use Rattle.partition_base.specs.declared.executor.Executor.{Ghosts}
 use Rattle.partition.specs.declared.partition.Partition.{Partition}
 
@@ -42,10 +43,14 @@ TellsSome g old new is_so = (told : List Event) × IsTold g old new told × is_s
 abbrev pub IsMoved : {C : Type 0} → Moved C → Member C → Member C → (List Event → Type 0) → Type 0
 IsMoved m before after is_told = (after ≡ with_world before m.world) × is_told m.lines
 
--- Ticks of a member from `at` on: `ticks` ticks lead to `after` and write `lines`.
-abbrev pub HasGone : {C : Type 0} → At → Member C → Member C → List Event → ℕ → Type 0
-HasGone at before after lines ticks = (after ≡ with_world before after.world) × Goes before.engine at.origin.0 before.world at.now.0 (record { control = after.world; words = at.now.0 + ticks; told = lines; ticks = ticks })
+-- n ticks of a partition from tick `t` on: the world after them, and their lines
+abbrev pub ticks_by : {C : Type 0} → Engine C → (origin : ℕ) → ℕ → World C → ℕ → Moved C
+ticks_by e origin zero w t = record { world = w; lines = [] }
+ticks_by e origin (suc n) w t =
+    let a = tick e (tick_from origin t) w in
+    let b = ticks_by e origin n a.world (t + 1) in
+    record { world = b.world; lines = a.lines ++ b.lines }
 
--- n ticks of a member from `at` on, or those up to the first with a line: `ticks` ticks.
-abbrev pub HasAdvanced : {C : Type 0} → At → ℕ → Member C → Member C → List Event → ℕ → Type 0
-HasAdvanced at n before after lines ticks = (after ≡ with_world before after.world) × (advances_by before.engine at.origin.0 n before.world at.now.0 ≡ record { control = after.world; words = at.now.0 + ticks; told = lines; ticks = ticks })
+-- So many ticks of a member from `at` on lead to `after` and write these lines.
+abbrev pub HasAdvanced : {C : Type 0} → At → Member C → Member C → List Event → ℕ → Type 0
+HasAdvanced at before after lines ticks = (after ≡ with_world before after.world) × (ticks_by before.engine at.origin.0 ticks before.world at.now.0 ≡ record { world = after.world; lines = lines })

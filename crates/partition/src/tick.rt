@@ -34,6 +34,7 @@ impl<E: Executor> Partition<E> {
         ensures told { IsTold L.EventLog log.old log.new
             (meaning.told name moment.at self.old.out.lines) }
         ensures few { L.room log.old ≤ L.room log.new + length self.old.out.lines }
+        ensures known { self.old.room ≤ L.room log.old → self.new.room ≤ L.room log.new }
         ensures empty { IsEmpty self.new.out }
     {
         if self.out.is_empty() {
@@ -41,6 +42,7 @@ impl<E: Executor> Partition<E> {
         }
         act_all(&mut self.kernel, &mut self.executor, mem, &self.out);
         tell(name, moment, &self.out, log);
+        self.room = self.room.saturating_sub(self.out.line_count());
         self.out.clear();
     }
 
@@ -97,6 +99,7 @@ impl<E: Executor> Partition<E> {
             IsMoved (meaning.treating_phase x.engine moment.at x.world) x
             (member_of E.Executor self.new mem.new) (IsTold L.EventLog log.old log.new) }
         ensures few { L.room log.old ≤ L.room log.new + LINES_TO_TREAT_DUE }
+        ensures known { self.old.room ≤ L.room log.old → self.new.room ≤ L.room log.new }
     {
         let name = self.kernel.name();
         let clears = self.kernel.treat_due(moment, &mut self.out);
@@ -121,6 +124,7 @@ impl<E: Executor> Partition<E> {
             IsMoved (meaning.clearing_phase x.engine moment.at clears x.world) x
             (member_of E.Executor self.new mem.new) (IsTold L.EventLog log.old log.new) }
         ensures few { L.room log.old ≤ L.room log.new + LINES_TO_CLEAR }
+        ensures known { self.old.room ≤ L.room log.old → self.new.room ≤ L.room log.new }
     {
         if clears.is_some() {
             let name = self.kernel.name();
@@ -140,6 +144,7 @@ impl<E: Executor> Partition<E> {
             IsMoved (meaning.due_phase x.engine moment.at x.world) x
             (member_of E.Executor self.new mem.new) (IsTold L.EventLog log.old log.new) }
         ensures few { L.room log.old ≤ L.room log.new + LINES_FOR_DUE }
+        ensures known { self.old.room ≤ L.room log.old → self.new.room ≤ L.room log.new }
     {
         let clears = self.treat(mem, moment, log);
         self.then_clear(mem, moment, clears, log);
@@ -156,6 +161,7 @@ impl<E: Executor> Partition<E> {
             IsMoved (meaning.choice_phase x.engine moment.at x.world) x
             (member_of E.Executor self.new mem.new) (IsTold L.EventLog log.old log.new) }
         ensures few { L.room log.old ≤ L.room log.new + LINES_TO_CHOOSE }
+        ensures known { self.old.room ≤ L.room log.old → self.new.room ≤ L.room log.new }
     {
         let name = self.kernel.name();
         self.kernel.choose(&mut self.out);
@@ -163,7 +169,7 @@ impl<E: Executor> Partition<E> {
     }
 
     /// Treats what is due, then chooses the runner.
-    fn prepare<L: EventLog>(&mut self, mem: &mut E::Mem, moment: Moment, log: &mut L)
+    pub(crate) fn prepare<L: EventLog>(&mut self, mem: &mut E::Mem, moment: Moment, log: &mut L)
         requires fits { E.laid mem.old ≡ E.layout self.old.executor }
         requires idle { IsEmpty self.old.out }
         requires room { LINES_TO_PREPARE ≤ L.room log.old }
@@ -173,6 +179,7 @@ impl<E: Executor> Partition<E> {
             IsMoved (meaning.prepares x.engine moment.at x.world) x
             (member_of E.Executor self.new mem.new) (IsTold L.EventLog log.old log.new) }
         ensures few { L.room log.old ≤ L.room log.new + LINES_TO_PREPARE }
+        ensures known { self.old.room ≤ L.room log.old → self.new.room ≤ L.room log.new }
     {
         self.treat_due(mem, moment, log);
         self.choose(mem, moment, log);
@@ -224,20 +231,6 @@ impl<E: Executor> Partition<E> {
             (IsTold L.EventLog log.old log.new) }
     {
         self.out.clear();
-        self.whole_tick(mem, moment, log);
-    }
-
-    /// The same, if no line or action of a phase remains to be done.
-    pub(crate) fn whole_tick<L: EventLog>(&mut self, mem: &mut E::Mem, moment: Moment, log: &mut L)
-        requires fits { E.laid mem.old ≡ E.layout self.old.executor }
-        requires idle { IsEmpty self.old.out }
-        requires room { LINES_FOR_TICK ≤ L.room log.old }
-        ensures fits { E.laid mem.new ≡ E.layout self.new.executor }
-        ensures idle { IsEmpty self.new.out }
-        ensures moved { let x = member_of E.Executor self.old mem.old in
-            IsMoved (meaning.advances moment.at x) x (member_of E.Executor self.new mem.new)
-            (IsTold L.EventLog log.old log.new) }
-    {
         self.prepare(mem, moment, log);
         self.spend_chosen(mem, moment, log);
     }
