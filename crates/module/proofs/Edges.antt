@@ -13,7 +13,8 @@ use Rattle.module_meaning.specs.Module.{Advanced, Course, Plan, goes_on, inputs_
 use Rattle.module_meaning.specs.Table.{Channel}
 use Rattle.lone_partition.proofs.Outputs.{lines_sent, nothing_sent}
 use Rattle.lone_partition.specs.Sent.{Sent}
-use Rattle.module.specs.Pieces.{LeadsTo, LeadsBehind, HasPassed, HasPassedSome, HasPassedBehind, HasPassedSomeBehind, HasMoved, HasMovedWritten, behind_from, lines_behind, ticks_by}
+use Rattle.partition.specs.Members.{ticks_by}
+use Rattle.module.specs.Pieces.{LeadsTo, LeadsBehind, HasPassed, HasPassedSome, HasPassedBehind, HasPassedSomeBehind, HasMoved, HasMovedWritten, lines_behind}
 use Rattle.module.specs.Standing.{Standing, lines_of, origin_of, ticks_in}
 use Rattle.module.specs.Written.{AreFrom, IsMade}
 use Rattle.module.proofs.Bursts.{from_lower, lift, standing_at}

@@ -6,10 +6,10 @@ use Rattle.apex_types.specs.Line.{TakesBeginning}
 use Rattle.apex_types.specs.declared.device.DeviceLine.{DeviceLine}
 use Rattle.apex_types.specs.declared.event.Event.{Event}
 use Rattle.apex_types.specs.declared.identity.At.{At}
-use Rattle.engine_meaning.specs.Engine.{Engine}
 use Rattle.module_meaning.specs.Module.{Plan, ticks_owner}
-use Rattle.kernel_meaning.specs.Partition.{Member, Moved, World, tick, with_world}
+use Rattle.kernel_meaning.specs.Partition.{Member, with_world}
 use Rattle.kernel_meaning.specs.Windows.{owner, tick_from}
+use Rattle.partition.specs.Members.{ticks_by}
 use Rattle.lone_partition.specs.Sent.{Sent, HasSent}
 use Rattle.module.specs.Standing.{Standing, lines_of}
 
@@ -49,14 +49,6 @@ pub record IsBrokenOff {C : Type 0} (plan : Plan) (lines : List DeviceLine) (k :
   pub failed : after ≡ before + 1
 
 -- ---- the ticks of one partition
-
--- n ticks of a partition from tick `t` on: the world after them, and their lines
-abbrev pub ticks_by : {C : Type 0} → Engine C → (origin : ℕ) → ℕ → World C → ℕ → Moved C
-ticks_by e origin zero w t = record { world = w; lines = [] }
-ticks_by e origin (suc n) w t =
-    let a = tick e (tick_from origin t) w in
-    let b = ticks_by e origin n a.world (t + 1) in
-    record { world = b.world; lines = a.lines ++ b.lines }
 
 -- The partition at `place` made n ticks, which wrote these lines.
 abbrev pub HasMoved : {C : Type 0} → At → ℕ → ℕ → List (Member C) → Option (Member C) → List (Member C) → List Event → Type 0

@@ -60,8 +60,8 @@ impl<E: Executor<Mem = PartitionMem>> Members<E> {
         }
     }
 
-    /// Executes `most` ticks of the partition at `place`, or those up to the first with an event,
-    /// and writes their lines; returns how many. The partition borrows its own part of the memory,
+    /// Executes some of `most` ticks of the partition at `place`, and writes their lines; returns how
+    /// many. The partition borrows its own part of the memory,
     /// and no other partition's memory changes.
     #[tactic(auto, using(crate::proofs::Members::others))]
     fn advance_at<S: Sink>(
@@ -129,8 +129,7 @@ impl<E: Executor<Mem = PartitionMem>> Module<E> {
         self.now = Ticks(self.now.0 + u64::from(ticks));
     }
 
-    /// Executes `most` ticks of the partition at `place`, or those up to the first with an event;
-    /// returns how many.
+    /// Executes some of `most` ticks of the partition at `place`; returns how many.
     fn stretch<S: Sink>(
         &mut self,
         origin: Ticks,
@@ -164,8 +163,8 @@ impl<E: Executor<Mem = PartitionMem>> Module<E> {
         count
     }
 
-    /// Executes `most` ticks of the owner of a window, from one event to the next. Once the sink
-    /// has failed it stops, but not before the first event. The messages of the first tick have
+    /// Executes `most` ticks of the owner of a window, some at a time. Once the sink has failed
+    /// it stops, but not before the first of them. The messages of the first tick have
     /// moved already.
     fn piece<S: Sink>(
         &mut self,

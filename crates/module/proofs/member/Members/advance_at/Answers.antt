@@ -7,7 +7,7 @@ use Rattle.partition.specs.Members.{member_of}
 use Rattle.module.specs.Members.{members_of}
 use Rattle.module.specs.Pieces.{HasMovedWritten}
 use Rattle.module.proofs.Members.{few_set, fit_at, fit_set, get_member, set_member, no_member, same_length}
-use Rattle.module.proofs.Bursts.{advances_some, has_moved}
+use Rattle.module.proofs.Bursts.{has_moved}
 use Rattle.module.proofs.member.Members.advance_at.Goals as goal
 
 pub lend-mem-requires : goal.lend-mem-requires
@@ -49,12 +49,6 @@ returns-clause-written g c =
     rw c.number_at.ensures.place (subst (λ (o : Option (Member e.Control)). HasMovedWritten c.args.moment.at c.args.most place members o (members_of e (slice_set ps place p_new) (slice_set memory place s_new)) (sent_of g.S.Sink c.args.output.now) (sent_of g.S.Sink c.write_advance.new.output) c.write_advance.result) (sym got) (
       told.0,
       told.1,
-      has_moved c.args.moment.at c.args.most place c.write_advance.result members (member_of e p s) (member_of e p_new s_new) _ told.1 (set_member e ps memory place p_new s_new) told.2,
+      has_moved c.args.moment.at place c.write_advance.result members (member_of e p s) (member_of e p_new s_new) _ told.1 (set_member e ps memory place p_new s_new) told.2,
       told.3,
     ))
-
-pub returns-clause-some : goal.returns-clause-some
-returns-clause-some g c = λ more.
-    let e = g.E.Executor in
-    let told = c.write_advance.ensures.written in
-    advances_some c.args.moment.at c.args.most c.write_advance.result (member_of e c.index_mut.result.now c.lend-mem.result.now) (member_of e c.write_advance.new.partition c.write_advance.new.mem) told.1 more told.2
