@@ -78,10 +78,9 @@ class SourceMaker:
 
     def with_stacks(self, text):
         """The stacks are written when the frames are known: as many words as there have to be, or more."""
-        program = read_program(text)
         stacks = []
-        for it in [program.init, *([program.handler] if program.handler else []), *program.processes]:
-            frame = max(limits.LEAST_STACK, frame_of([], it.body, False))
+        for it in read_program(text).runners():
+            frame = max(limits.LEAST_STACK, frame_of(it.body))
             stacks.append(self.random.choice((frame, frame, frame + self.random.randint(0, 40), 1024, limits.GREATEST_STACK)))
         pieces = text.split("stack 0 ")
         return "".join(piece + f"stack {stack} " for piece, stack in zip(pieces, stacks)) + pieces[-1]
