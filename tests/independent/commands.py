@@ -1,5 +1,6 @@
 """The commands, as `mb` has them, over the files of a folder (COMMANDS.md)."""
 
+import functools
 import sys
 from pathlib import Path
 
@@ -58,6 +59,12 @@ class MachineRoad:
         return Partition(number, row, section.objects, processes, section.handler is not None, engine, schedule, trace)
 
 
+@functools.lru_cache(maxsize=2)
+def road_of(*files):
+    """That of an image, or that of a table and its sources. The last ones are kept, since most are run more than once."""
+    return MachineRoad(*files) if len(files) == 1 else MeaningRoad(*files)
+
+
 class Folder:
     """The commands over the files of a folder. In place of an image there may be a table and its sources, with commas between them."""
 
@@ -101,7 +108,7 @@ class Folder:
         *files, text = [self.read(it) for it in [*image.split(","), text]]
         if number_of(ticks) > limits.LONGEST_TIME:
             raise Refusal("ticks")
-        return MachineRoad(*files) if len(files) == 1 else MeaningRoad(*files), text, number_of(ticks)
+        return road_of(*files), text, number_of(ticks)
 
     def run(self, image, devices, ticks):
         road, devices, ticks = self.begin(image, devices, ticks)

@@ -100,11 +100,11 @@ class Compiler:
 
     def service(self, node):
         row = BY_NAME[node.service]
-        for kind, argument in zip(row.arguments, node.arguments):
-            if kind == "e":
+        for kind, argument in zip(row.kinds, node.arguments):
+            if kind == "value":
                 self.expression(argument)
             else:
-                for it in self.places[argument.text] if kind == "a" else [self.numbers[argument.text]]:
+                for it in self.places[argument.text] if kind == "array" else [self.numbers[argument.text]]:
                     self.emit("PUSH", v=it)
         self.emit("SVC", row.number)
         for it in node.targets:

@@ -137,14 +137,14 @@ class Control:
 
     def open_service(self, node):
         row = BY_NAME[node.service]
-        arguments = [task for kind, it in zip(row.arguments, node.arguments) for task in self.argument(kind, it)]
+        arguments = [task for kind, it in zip(row.kinds, node.arguments) for task in self.argument(kind, it)]
         targets = [self.price("scalar", lambda name=it.text: self.put(name, self.reply.pop(0))) for it in node.targets]
         self.add(*arguments, self.price(row.cost_key, lambda: ("call", row.number, self.top.pop(row.argument_words))), *targets)
 
     def argument(self, kind, node):
-        if kind == "e":
+        if kind == "value":
             return [("value", node)]
-        words = self.source.places[node.text] if kind == "a" else [self.source.numbers[node.text]]
+        words = self.source.places[node.text] if kind == "array" else [self.source.numbers[node.text]]
         return [self.price("literal", lambda it=it: self.push(it)) for it in words]
 
     # ---- values

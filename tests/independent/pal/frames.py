@@ -35,9 +35,9 @@ def most_of_statement(node):
 
 def most_of_service(node):
     row, below, most = BY_NAME[node.service], 0, 0
-    for kind, argument in zip(row.arguments, node.arguments):
-        words = 2 if kind == "a" else 1
-        most = max(most, below + (most_operands(argument) if kind == "e" else words))
+    for kind, argument in zip(row.kinds, node.arguments):
+        words = 2 if kind == "array" else 1
+        most = max(most, below + (most_operands(argument) if kind == "value" else words))
         below += words
     return max(most, row.answer_words)
 

@@ -103,11 +103,11 @@ class NameJudge:
         if len(node.arguments) != len(row.arguments) or len(node.targets) != row.answer_words:
             self.misused.append(node.line)
         for place, argument in enumerate(node.arguments):
-            kind = row.arguments[place] if place < len(row.arguments) else "e"
-            if kind != "e" and isinstance(argument, Name):
-                self.want(argument, "array" if kind == "a" else kind)
+            kind = row.kinds[place] if place < len(row.kinds) else "value"
+            if kind != "value" and isinstance(argument, Name):
+                self.want(argument, kind)
                 continue
-            if kind != "e":
+            if kind != "value":
                 self.misused.append(node.line)
             self.judge(argument)
         for it in node.targets:
