@@ -1,6 +1,6 @@
 #!/usr/bin/env python3
-"""Whether the pages hold together: every relative link of every page leads to a file and, behind a `#`, to a heading of it; and all lists of
-services, in pages and for editors, are the list in the code.
+"""Whether the pages hold together: every relative link of every page leads to a file and, after a `#`, to a heading of it; all lists of
+services, in pages and for editors, are the list in the code; and each name in code style on README.md and in docs is in the tree.
 
     .ci/pages.py        compares, and says what is wrong; `.ci/programs` does too
 """
@@ -18,6 +18,11 @@ LIST = ROOT / "crates/apex_types/src/service.rt"
 INDEX = ROOT / "docs/SERVICES.md"
 VIM = ROOT / "editors/vim/syntax/pal.vim"
 VSCODE = ROOT / "editors/vscode/syntaxes/pal.tmLanguage.json"
+# Names that are not in the tree: of the toolchain, of a dump, whose code puts them together, of an output, and of wrong bodies that only tests hold.
+NAMES = {"13b", "Crate", "DrainKeeps", "linux", "option_append", "set_word", "PORT_MOVE", "PORT_ARRIVE", "PORT_LOST", "CHANNEL_OUT", "PORT_MOVE_WORD"}
+NAMES |= {"start_condition", "always_out_of_memory", "upgrade_always_out_of_memory"}
+PATHS = {"./-", "arrayvec/uses"}
+PLACES = re.compile(r"\b(?:NAME|FILE|FUNCTION|EDIT|PID|TICK)\b|(?:^|/)out/")
 LINK = re.compile(r"\[(?:[^\[\]]|\[[^\[\]]*\](?:\([^()]*\))?)*\]\(([^()\s]+)\)")
 
 
@@ -135,9 +140,78 @@ def expect_services():
     return "the lists of the pages and of the editors"
 
 
+def files():
+    """The files of the repository, without its pages: what git tracks, or would."""
+    words = ["git", "ls-files", "--cached", "--others", "--exclude-standard"]
+    listed = subprocess.run(words, cwd=ROOT, stdout=subprocess.PIPE, check=True, encoding="utf-8").stdout
+    return [it for it in map(Path, listed.splitlines()) if it.suffix != ".md" and (ROOT / it).is_file()]
+
+
+def words_of(paths):
+    """The words in the names and the texts of files; of rows only in their names, since their traces have words of any module."""
+    found = set()
+    for path in paths:
+        found.update(re.findall(r"\w+", str(path)))
+        if path.parts[:2] != ("tests", "rows"):
+            found.update(re.findall(r"\w+", (ROOT / path).read_bytes().decode(errors="replace")))
+    return found
+
+
+def is_path(page, name):
+    """Whether a name with `/` is a file or a folder, from the top, from its page or from a crate, or a wrong edit of a crate."""
+    crates = [it for it in (ROOT / "crates").iterdir() if it.is_dir()]
+    folders = [ROOT, ROOT / "crates", page.parent, *crates, *(it / part for it in crates for part in ("src", "specs", "proofs"))]
+    if any(next(folder.glob(name.rstrip("/") + end), None) for folder in folders for end in ("", ".antt", ".rt")):
+        return True
+    crate, _, edit = name.partition("/")
+    edits = ROOT / "crates" / crate / "edits"
+    return (edits.parent / f"must-fail/{edit}.edit").is_file() or (edits.is_file() and f"edit: {edit}\n" in edits.read_text())
+
+
+@cache
+def in_blocks(page):
+    """The words in the blocks of code of a page, and after four blanks."""
+    lines = zip(page.read_text().splitlines(), prose(page))
+    return {word for line, said in lines if not said or said.startswith("    ") for word in re.findall(r"\w+", line)}
+
+
+def names(page):
+    """The names in code style of a page, each with its line: a word, a path, or a function with its arguments."""
+    for number, line in enumerate(prose(page), 1):
+        for text in re.findall(r"`([^`]+)`", line):
+            if re.fullmatch(r"[\w.*/:#-]+(\(.*\))?", text):
+                yield number, text.partition("(")[0]
+
+
+def is_name(page, name, words):
+    """Whether a name is in the tree, or in a block of its page. Of a path `crate::name` the crate has to have the name."""
+    if name in PATHS or name.startswith("/") or PLACES.search(name):
+        return True
+    if "/" in name:
+        return is_path(page, name)
+    parts = [it for it in re.findall(r"\w+", name) if not it.isdigit()]
+    crate = parts[0] if parts and "::" in name else ""
+    known = words[crate] if crate and crate in words else words[""] | in_blocks(page)
+    return all(it in known or (it.endswith("_") and f"{it}meaning" in known) for it in parts)
+
+
+def expect_names():
+    """Expects that each name in code style of README.md and of docs is in the tree; returns what it compared."""
+    found = files()
+    words = {"": words_of(found) | NAMES}
+    for crate in {it.parts[1] for it in found if it.parts[0] == "crates" and len(it.parts) > 2}:
+        words[crate] = words_of(it for it in found if it.parts[:2] == ("crates", crate))
+    read = [it for it in pages() if it == ROOT / "README.md" or it.is_relative_to(ROOT / "docs")]
+    named = [(page, number, name) for page in read for number, name in names(page)]
+    wrong = [f"{page.relative_to(ROOT)}, line {number}: {name}" for page, number, name in named if not is_name(page, name, words)]
+    if wrong:
+        raise Differs("not in the tree: " + "; ".join(wrong))
+    return "those of README and docs"
+
+
 def main():
     status = 0
-    for name, compare in (("links", expect_links), ("services", expect_services)):
+    for name, compare in (("links", expect_links), ("services", expect_services), ("names", expect_names)):
         try:
             print(f"{name}: {compare()} as written")
         except Differs as why:
