@@ -4,7 +4,9 @@ pub mod Bytes
 pub mod Endings
 pub mod Entries
 pub mod Low
+pub mod Noted
 pub mod Outcomes
 pub mod Spelling
 pub mod Spent
 pub mod Stack
+pub mod Straight

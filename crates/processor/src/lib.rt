@@ -14,9 +14,15 @@ mod codec;
 mod context;
 mod execute;
 mod memory;
+mod operation;
 mod outcome;
+mod prepared;
 mod registers;
+mod run_limits;
+mod running;
+mod runs;
 mod turn;
+mod within;
 
 pub use burst::{advance, step};
 pub use code::{Code, CodeRows};
