@@ -10,7 +10,9 @@ pub mod Room
 pub mod Runners
 pub mod ServiceCalls
 pub mod ServiceShape
+pub mod Stamps
 pub mod StepBytes
 pub mod Sink
 pub mod StoredName
 pub mod Versions
+pub mod Written

@@ -3,7 +3,7 @@
 ghost use Rattle.apex_types.specs.declared.limits.TheConstants.{MOST_NAME_BYTES};
 ghost use Rattle.apex_types.specs.NameText.{is_lower_case, is_name, is_name_byte};
 ghost use Rattle.std.specs.List.{list_all};
-ghost use Rattle.std.specs.Prelude.{◌≡◌, ◌≤◌, ◌↔◌, length, IfSome, IsSome, IsTrue};
+ghost use Rattle.std.specs.Prelude.{◌≡◌, ◌≤◌, ◌↔◌, length, take, IfSome, IsSome, IsTrue};
 
 use crate::limits::MOST_NAME_BYTES;
 use std::marker::Model;
@@ -57,6 +57,22 @@ impl Name {
     {
         let (text, _) = self.text.split_at(self.len as usize);
         text
+    }
+
+    /// The bytes in which the name lies: its text first.
+    pub(crate) fn stored(&self) -> &[u8; MOST_NAME_BYTES]
+        ensures text { take (length self.now) result.now ≡ self.now }
+        ensures long { length result.now ≡ MOST_NAME_BYTES }
+    {
+        &self.text
+    }
+
+    /// The number of bytes of its text.
+    pub(crate) fn len(&self) -> usize
+        ensures len { result ≡ length self.now }
+        ensures short { result ≤ MOST_NAME_BYTES }
+    {
+        usize::from(self.len)
     }
 
     /// The text of the name.

@@ -1,56 +1,28 @@
 //! The text of a trace.
 
-ghost use Rattle.std.specs.Prelude.{◌≡◌, ℕ, ◌+◌, ◌-◌, ◌*◌, ◌/◌, ◌%◌, ◌^◌, ◌<◌, ◌≤◌, List, [], ◌∷◌, ◌++◌, codes, length, All, IfOk, IsTrue, OnErr, OnOk, ◌↔◌};
-ghost use Rattle.std.specs.Fmt.{signed_decimal};
+ghost use Rattle.std.specs.Prelude.{◌≡◌, ℕ, ◌+◌, ◌-◌, ◌*◌, ◌/◌, ◌%◌, ◌^◌, ◌<◌, ◌≤◌, [], ◌∷◌, ◌++◌, codes, length, take, IfOk, IsTrue, OnErr, OnOk, ◌↔◌};
+ghost use Rattle.std.specs.Fmt.{decimal, signed_decimal};
 ghost use Rattle.std.specs.Io.KnownBytes.{Appends};
 ghost use Rattle.apex_types.specs.Line.{space};
-ghost use Rattle.arrayvec.specs.ArrayVec.{array_vec_len};
+ghost use Rattle.apex_types.specs.CodeWords.{return_code_number, state_word};
 ghost use Rattle.apex_types.specs.Line.{culprit_text, kind_text, line_of, partition_text, subject_text, text_of, thirteen_digits, words_text};
+ghost use Rattle.apex_types.specs.Stamps.{with_last_digits};
+ghost use Rattle.apex_types.specs.Written.{IsWritten, line_text};
 ghost use Rattle.apex_types.specs.Line.{TakesBeginning};
 ghost use Rattle.apex_types.specs.Output.{event_of};
 ghost use Rattle.apex_types.specs.declared.event.EventKind.TheVariants as event;
-ghost use Rattle.apex_types.specs.declared.limits.TheConstants.{MOST_KIND_BYTES, MOST_LINE_BYTES, MOST_NAME_BYTES, MOST_WORDS, MOST_WORD_BYTES};
+ghost use Rattle.apex_types.specs.declared.limits.TheConstants.{MOST_KIND_BYTES, MOST_LINE_BYTES, MOST_NAME_BYTES, MOST_STEP_BYTES, MOST_WORDS, MOST_WORD_BYTES};
 
-use crate::codes::{ErrorKind, Response, ReturnCode};
+use crate::codes::{ErrorKind, ProcessState, Response, ReturnCode};
 use crate::event::{Event, LineKind, Subject};
 use crate::identity::Ticks;
-use crate::limits::{MOST_LINE_BYTES, MOST_STEP_BYTES};
+use crate::limits::{MOST_LINE_BYTES, MOST_NAME_BYTES, MOST_STEP_BYTES};
 use crate::log::EventLog;
 use crate::name::Name;
 use crate::service::Service;
 use crate::sink::{Sink, SinkFault, put_all};
-use arrayvec::ArrayVec;
 use std::alloc::{AllocError, Global};
 use std::marker::Model;
-
-/// The bytes of one line.
-type Line = ArrayVec<u8, MOST_LINE_BYTES>;
-
-/// Where the bytes of lines go, with room for so many more.
-trait Text {
-    ghost text: { Self → List ℕ };
-
-    ghost room: { Self → ℕ };
-
-    /// Appends bytes.
-    fn append(&mut self, bytes: &[u8])
-        requires { length bytes.now ≤ room self.old }
-        ensures text { text self.new ≡ text self.old ++ bytes.now }
-        ensures room { room self.old ≤ room self.new + length bytes.now };
-}
-
-impl<const N: usize> Text for ArrayVec<u8, N> {
-    ghost text = { λ line. line.items };
-
-    ghost room = { λ line. N - array_vec_len line };
-
-    fn append(&mut self, bytes: &[u8]) {
-        // Without bytes nothing is said of the room.
-        if !bytes.is_empty() {
-            self.try_extend_from_slice(bytes).unwrap();
-        }
-    }
-}
 
 /// The bytes of the lines of a step, in memory that is taken once. A contract sees the bytes.
 #[derive(Drop)]
@@ -100,19 +72,23 @@ impl StepText {
     {
         self.len = 0;
     }
-}
 
-impl Text for StepText {
-    ghost use Rattle.apex_types.specs.declared.limits.TheConstants.{MOST_STEP_BYTES};
-
-    ghost text = { λ t. t };
-
-    ghost room = { λ t. MOST_STEP_BYTES - length t };
-
-    fn append(&mut self, bytes: &[u8]) {
-        let end = self.len + bytes.len();
-        self.bytes[self.len..end].copy_from_slice(bytes);
-        self.len = end;
+    /// Appends the line of an event.
+    fn push_line(
+        &mut self,
+        digits: &[u8; 13],
+        partition: &Option<Name>,
+        kind: &LineKind,
+        words: &[i64],
+    )
+        requires room { length self.old + MOST_LINE_BYTES ≤ MOST_STEP_BYTES }
+        requires few { length words.now ≤ MOST_WORDS }
+        ensures items { self.new
+            ≡ self.old
+            ++ line_text digits.now partition.now (event_of kind.now words.now) }
+        ensures room { length self.new ≤ length self.old + MOST_LINE_BYTES }
+    {
+        self.len = put_line(&mut self.bytes, self.len, digits, partition, kind, words);
     }
 }
 
@@ -120,19 +96,20 @@ impl Text for StepText {
 #[derive(Drop)]
 struct Stamp {
     tick: Ticks,
+    /// The first tick of its thousand.
+    from: u64,
     digits: [u8; 13],
 }
 
 impl Model for Stamp {
-    ghost use Rattle.std.specs.Prelude.{◌≡◌};
-    ghost use Rattle.apex_types.specs.Line.{thirteen_digits};
+    ghost use Rattle.apex_types.specs.Stamps.{IsStamp};
     ghost use Rattle.apex_types.specs.declared.identity.Ticks.{Ticks as Tick};
 
     ghost Value = { Tick };
 
     ghost view = { λ s. s.tick };
 
-    ghost invariant = { λ s. s.digits ≡ thirteen_digits s.tick.0 };
+    ghost invariant = { IsStamp };
 }
 
 impl Stamp {
@@ -141,6 +118,7 @@ impl Stamp {
     {
         Stamp {
             tick,
+            from: tick.0 - tick.0 % 1_000,
             digits: digits(tick.0),
         }
     }
@@ -153,18 +131,19 @@ impl Stamp {
 
     /// Changes the stamp to another tick. Most ticks are of the same thousand as the one before,
     /// and share its first ten digits.
+    #[tactic(auto, using(crate::proofs::Digits::same_from))]
     fn renew(&mut self, tick: Ticks)
         ensures { self.new ≡ tick }
     {
         if self.tick.0 == tick.0 {
             return;
         }
-        if self.tick.0 / 1_000 == tick.0 / 1_000 {
-            put_last_digits(&mut self.digits, tick.0);
+        if self.from <= tick.0 && tick.0 - self.from < 1_000 {
+            put_last_digits(&mut self.digits, (tick.0 - self.from) as u32);
+            self.tick = tick;
         } else {
-            self.digits = digits(tick.0);
+            *self = Stamp::new(tick);
         }
-        self.tick = tick;
     }
 }
 
@@ -179,9 +158,9 @@ pub fn write_event<S: Sink>(event: &Event, sink: &mut S) -> Result<(), SinkFault
 {
     let stamp = Stamp::new(event.tick);
     let (kind, words) = (event.kind.line(), event.kind.words());
-    let mut line = Line::new();
-    push_line(&mut line, stamp.digits(), &event.partition, &kind, words);
-    put_all(sink, line.as_slice())
+    let mut line = [0; MOST_LINE_BYTES];
+    let end = put_line(&mut line, 0, stamp.digits(), &event.partition, &kind, words);
+    put_all(sink, &line[..end])
 }
 
 /// The lines of a step until they are written. An event becomes its line at once; the digits of the
@@ -251,7 +230,8 @@ impl EventLog for TraceBuffer {
 
     fn tell(&mut self, tick: Ticks, partition: &Option<Name>, kind: &LineKind, words: &[i64]) {
         self.stamp.renew(tick);
-        push_line(&mut self.text, self.stamp.digits(), partition, kind, words);
+        self.text
+            .push_line(self.stamp.digits(), partition, kind, words);
     }
 
     fn is_empty(&self) -> bool {
@@ -259,45 +239,65 @@ impl EventLog for TraceBuffer {
     }
 }
 
-/// Appends the line of an event.
-fn push_line<T: Text>(
-    line: &mut T,
+/// Writes the line of an event behind the first `at` bytes; returns the place behind it.
+fn put_line(
+    line: &mut [u8],
+    at: usize,
     digits: &[u8; 13],
     partition: &Option<Name>,
     kind: &LineKind,
     words: &[i64],
-)
-    requires room { MOST_LINE_BYTES ≤ T.room line.old }
+) -> usize
+    requires room { at + MOST_LINE_BYTES ≤ length line.old }
     requires few { length words.now ≤ MOST_WORDS }
-    ensures items { T.text line.new
-        ≡ T.text line.old
-        ++ (digits.now ++ codes " " ++ partition_text partition.now ++ codes " "
-        ++ kind_text (event_of kind.now words.now) ++ 10
-        ∷ []) }
-    ensures room { T.room line.old ≤ T.room line.new + MOST_LINE_BYTES }
+    ensures { IsWritten line.old at line.new result
+        (line_text digits.now partition.now (event_of kind.now words.now)) MOST_LINE_BYTES }
 {
-    push_bytes(line, digits);
-    push_text(line, " ");
-    push_partition(line, partition);
-    push_text(line, " ");
-    push_kind(line, kind, words);
-    push_text(line, "\n");
+    let at = put(line, at, digits);
+    let at = put_text(line, at, " ");
+    let at = put_partition(line, at, partition);
+    let at = put_text(line, at, " ");
+    let at = put_kind(line, at, kind, words);
+    put_text(line, at, "\n")
 }
 
-fn push_bytes<T: Text>(line: &mut T, bytes: &[u8])
-    requires { length bytes.now ≤ T.room line.old }
-    ensures items { T.text line.new ≡ T.text line.old ++ bytes.now }
-    ensures room { T.room line.old ≤ T.room line.new + length bytes.now }
+/// Writes a piece behind the first `at` bytes; returns the place behind it.
+fn put(line: &mut [u8], at: usize, piece: &[u8]) -> usize
+    requires { at + length piece.now ≤ length line.old }
+    ensures { IsWritten line.old at line.new result piece.now (length piece.now) }
 {
-    line.append(bytes);
+    let end = at + piece.len();
+    line[at..end].copy_from_slice(piece);
+    end
 }
 
-fn push_text<T: Text>(line: &mut T, text: &str)
-    requires { length text.now ≤ T.room line.old }
-    ensures items { T.text line.new ≡ T.text line.old ++ text.now }
-    ensures room { T.room line.old ≤ T.room line.new + length text.now }
+fn put_text(line: &mut [u8], at: usize, text: &str) -> usize
+    requires { at + length text.now ≤ length line.old }
+    ensures { IsWritten line.old at line.new result text.now (length text.now) }
 {
-    push_bytes(line, text.as_bytes());
+    put(line, at, text.as_bytes())
+}
+
+/// Writes a name. As many bytes are copied for each name, and by way of a copy here, so that they
+/// need no loop; what comes next is written over those behind its text.
+#[inline(always)]
+fn put_name(line: &mut [u8], at: usize, name: &Name) -> usize
+    requires { at + MOST_NAME_BYTES ≤ length line.old }
+    ensures { IsWritten line.old at line.new result name.now MOST_NAME_BYTES }
+{
+    let bytes = *name.stored();
+    line[at..at + MOST_NAME_BYTES].copy_from_slice(&bytes);
+    at + name.len()
+}
+
+/// Changes the last three digits to those of a number below 1,000.
+fn put_last_digits(digits: &mut [u8; 13], number: u32)
+    requires { number < 1_000 }
+    ensures { digits.new ≡ with_last_digits digits.old number }
+{
+    digits[10] = b'0' + (number / 100) as u8;
+    digits[11] = b'0' + (number / 10 % 10) as u8;
+    digits[12] = b'0' + (number % 10) as u8;
 }
 
 fn digit(number: u64, unit: u64) -> u8
@@ -327,152 +327,169 @@ fn digits(number: u64) -> [u8; 13]
     ]
 }
 
-/// Changes the digits of a number to those of another number of the same thousand.
-#[tactic(auto, using(crate::proofs::Digits::same_thousand))]
-fn put_last_digits(digits: &mut [u8; 13], number: u64)
-    ensures { (other : ℕ) → digits.old ≡ thirteen_digits other → other / 1000 ≡ number / 1000
-        → digits.new ≡ thirteen_digits number }
-{
-    digits[10] = digit(number, 100);
-    digits[11] = digit(number, 10);
-    digits[12] = digit(number, 1);
-}
-
-fn push_partition<T: Text>(line: &mut T, partition: &Option<Name>)
-    requires { MOST_NAME_BYTES ≤ T.room line.old }
-    ensures items { T.text line.new ≡ T.text line.old ++ partition_text partition.now }
-    ensures room { T.room line.old ≤ T.room line.new + MOST_NAME_BYTES }
+fn put_partition(line: &mut [u8], at: usize, partition: &Option<Name>) -> usize
+    requires { at + MOST_NAME_BYTES ≤ length line.old }
+    ensures { IsWritten line.old at line.new result (partition_text partition.now)
+        MOST_NAME_BYTES }
 {
     match partition {
-        Some(name) => push_bytes(line, name.as_bytes()),
-        None => push_text(line, "-"),
+        Some(name) => put_name(line, at, name),
+        None => put_text(line, at, "-"),
     }
 }
 
-fn push_subject<T: Text>(line: &mut T, who: &Subject)
-    requires { MOST_NAME_BYTES ≤ T.room line.old }
-    ensures items { T.text line.new ≡ T.text line.old ++ subject_text who.now }
-    ensures room { T.room line.old ≤ T.room line.new + MOST_NAME_BYTES }
+fn put_subject(line: &mut [u8], at: usize, who: &Subject) -> usize
+    requires { at + MOST_NAME_BYTES ≤ length line.old }
+    ensures { IsWritten line.old at line.new result (subject_text who.now) MOST_NAME_BYTES }
 {
     match who {
-        Subject::Init => push_text(line, "INIT"),
-        Subject::Handler => push_text(line, "HANDLER"),
-        Subject::Process(name) => push_bytes(line, name.as_bytes()),
+        Subject::Init => put_text(line, at, "INIT"),
+        Subject::Handler => put_text(line, at, "HANDLER"),
+        Subject::Process(name) => put_name(line, at, name),
     }
 }
 
-fn push_culprit<T: Text>(line: &mut T, who: &Option<Subject>)
-    requires { MOST_NAME_BYTES ≤ T.room line.old }
-    ensures items { T.text line.new ≡ T.text line.old ++ culprit_text who.now }
-    ensures room { T.room line.old ≤ T.room line.new + MOST_NAME_BYTES }
+fn put_culprit(line: &mut [u8], at: usize, who: &Option<Subject>) -> usize
+    requires { at + MOST_NAME_BYTES ≤ length line.old }
+    ensures { IsWritten line.old at line.new result (culprit_text who.now) MOST_NAME_BYTES }
 {
     match who {
-        Some(who) => push_subject(line, who),
-        None => push_text(line, "-"),
+        Some(who) => put_subject(line, at, who),
+        None => put_text(line, at, "-"),
     }
 }
 
-fn push_word<T: Text>(line: &mut T, word: i64)
-    requires { MOST_WORD_BYTES ≤ T.room line.old }
-    ensures items { T.text line.new ≡ T.text line.old ++ space ∷ signed_decimal word }
-    ensures room { T.room line.old ≤ T.room line.new + MOST_WORD_BYTES }
+fn put_word(line: &mut [u8], at: usize, word: i64) -> usize
+    requires { at + MOST_WORD_BYTES ≤ length line.old }
+    ensures { IsWritten line.old at line.new result (space ∷ signed_decimal word) MOST_WORD_BYTES }
 {
     let mut buffer = itoa::Buffer::new();
-    push_text(line, " ");
-    push_text(line, buffer.format(word));
+    let at = put_text(line, at, " ");
+    put_text(line, at, buffer.format(word))
 }
 
-fn push_words<T: Text>(line: &mut T, words: &[i64])
-    requires { MOST_WORD_BYTES * length words.now ≤ T.room line.old }
-    ensures items { T.text line.new ≡ T.text line.old ++ words_text words.now }
-    ensures room { T.room line.old ≤ T.room line.new + MOST_WORD_BYTES * length words.now }
+fn put_words(line: &mut [u8], at: usize, words: &[i64]) -> usize
+    requires { at + MOST_WORD_BYTES * length words.now ≤ length line.old }
+    ensures { IsWritten line.old at line.new result (words_text words.now)
+        (MOST_WORD_BYTES * length words.now) }
 {
+    let mut end = at;
     for word in words {
-        push_word(line, *word);
+        end = put_word(line, end, *word);
+    }
+    end
+}
+
+/// Writes the name of a port or channel, and the words of its message.
+fn put_message(line: &mut [u8], at: usize, name: &Name, words: &[i64]) -> usize
+    requires { at + MOST_NAME_BYTES + MOST_WORD_BYTES * length words.now ≤ length line.old }
+    ensures { IsWritten line.old at line.new result (name.now ++ words_text words.now)
+        (MOST_NAME_BYTES + MOST_WORD_BYTES * length words.now) }
+{
+    let at = put_name(line, at, name);
+    put_words(line, at, words)
+}
+
+/// Writes a space and the word of a state. The length of each word is known where it is copied.
+fn put_state(line: &mut [u8], at: usize, state: ProcessState) -> usize
+    requires { at + 8 ≤ length line.old }
+    ensures { IsWritten line.old at line.new result (codes " " ++ state_word state) 8 }
+{
+    match state {
+        ProcessState::Dormant => put_text(line, at, " DORMANT"),
+        ProcessState::Ready => put_text(line, at, " READY"),
+        ProcessState::Running => put_text(line, at, " RUNNING"),
+        ProcessState::Waiting => put_text(line, at, " WAITING"),
     }
 }
 
-/// Appends the name of a port or channel, and the words of its message.
-fn push_message<T: Text>(line: &mut T, name: &Name, words: &[i64])
-    requires { MOST_NAME_BYTES + MOST_WORD_BYTES * length words.now ≤ T.room line.old }
-    ensures items { T.text line.new ≡ T.text line.old ++ name.now ++ words_text words.now }
-    ensures room { T.room line.old ≤ T.room line.new + MOST_NAME_BYTES + MOST_WORD_BYTES * length words.now }
+/// Writes a space and the digit of a return code.
+#[tactic(auto, using(crate::proofs::Digits::code_digit))]
+fn put_code(line: &mut [u8], at: usize, code: ReturnCode) -> usize
+    requires { at + 2 ≤ length line.old }
+    ensures { IsWritten line.old at line.new result
+        (codes " " ++ decimal (return_code_number code)) 2 }
 {
-    push_bytes(line, name.as_bytes());
-    push_words(line, words);
+    put(line, at, &[b' ', b'0' + code.number()])
 }
 
-fn push_return<T: Text>(line: &mut T, who: &Subject, service: Service, code: ReturnCode)
-    requires { 70 + MOST_NAME_BYTES ≤ T.room line.old }
-    ensures items { T.text line.new
-        ≡ T.text line.old ++ kind_text (event.Return who.now service code) }
-    ensures room { T.room line.old ≤ T.room line.new + 70 + MOST_NAME_BYTES }
+fn put_return(
+    line: &mut [u8],
+    at: usize,
+    who: &Subject,
+    service: Service,
+    code: ReturnCode,
+) -> usize
+    requires { at + 70 + MOST_NAME_BYTES ≤ length line.old }
+    ensures { IsWritten line.old at line.new result
+        (kind_text (event.Return who.now service code)) (70 + MOST_NAME_BYTES) }
 {
-    let mut buffer = itoa::Buffer::new();
-    push_text(line, "RET ");
-    push_subject(line, who);
-    push_text(line, " ");
-    push_text(line, service.word());
-    push_text(line, " ");
-    push_text(line, buffer.format(code.number()));
+    let at = put_text(line, at, "RET ");
+    let at = put_subject(line, at, who);
+    let at = put_text(line, at, " ");
+    let at = put_text(line, at, service.word());
+    put_code(line, at, code)
 }
 
-fn push_error<T: Text>(line: &mut T, error: ErrorKind, who: &Option<Subject>, response: Response)
-    requires { 70 + MOST_NAME_BYTES ≤ T.room line.old }
-    ensures items { T.text line.new
-        ≡ T.text line.old ++ kind_text (event.Error error who.now response) }
-    ensures room { T.room line.old ≤ T.room line.new + 70 + MOST_NAME_BYTES }
+fn put_error(
+    line: &mut [u8],
+    at: usize,
+    error: ErrorKind,
+    who: &Option<Subject>,
+    response: Response,
+) -> usize
+    requires { at + 70 + MOST_NAME_BYTES ≤ length line.old }
+    ensures { IsWritten line.old at line.new result
+        (kind_text (event.Error error who.now response)) (70 + MOST_NAME_BYTES) }
 {
-    push_text(line, "HM ");
-    push_text(line, error.word());
-    push_text(line, " ");
-    push_culprit(line, who);
-    push_text(line, " ");
-    push_text(line, response.level().word());
-    push_text(line, " ");
-    push_text(line, response.action_word());
+    let at = put_text(line, at, "HM ");
+    let at = put_text(line, at, error.word());
+    let at = put_text(line, at, " ");
+    let at = put_culprit(line, at, who);
+    let at = put_text(line, at, " ");
+    let at = put_text(line, at, response.level().word());
+    let at = put_text(line, at, " ");
+    put_text(line, at, response.action_word())
 }
 
-fn push_kind<T: Text>(line: &mut T, kind: &LineKind, words: &[i64])
-    requires room { MOST_KIND_BYTES + MOST_WORD_BYTES * MOST_WORDS ≤ T.room line.old }
+fn put_kind(line: &mut [u8], at: usize, kind: &LineKind, words: &[i64]) -> usize
+    requires room { at + MOST_KIND_BYTES + MOST_WORD_BYTES * MOST_WORDS ≤ length line.old }
     requires few { length words.now ≤ MOST_WORDS }
-    ensures items { T.text line.new
-        ≡ T.text line.old ++ kind_text (event_of kind.now words.now) }
-    ensures room { T.room line.old ≤ T.room line.new + MOST_KIND_BYTES + MOST_WORD_BYTES * MOST_WORDS }
+    ensures { IsWritten line.old at line.new result (kind_text (event_of kind.now words.now))
+        (MOST_KIND_BYTES + MOST_WORD_BYTES * MOST_WORDS) }
 {
     match kind {
         LineKind::State(who, state) => {
-            push_text(line, "STATE ");
-            push_subject(line, who);
-            push_text(line, " ");
-            push_text(line, state.word());
+            let at = put_text(line, at, "STATE ");
+            let at = put_subject(line, at, who);
+            put_state(line, at, *state)
         }
-        LineKind::Return(who, service, code) => push_return(line, who, *service, *code),
+        LineKind::Return(who, service, code) => put_return(line, at, who, *service, *code),
         LineKind::Mode(mode) => {
-            push_text(line, "MODE ");
-            push_text(line, mode.word());
+            let at = put_text(line, at, "MODE ");
+            put_text(line, at, mode.word())
         }
-        LineKind::Error(error, who, response) => push_error(line, *error, who, *response),
+        LineKind::Error(error, who, response) => put_error(line, at, *error, who, *response),
         LineKind::Report(who) => {
-            push_text(line, "REPORT ");
-            push_subject(line, who);
-            push_words(line, words);
+            let at = put_text(line, at, "REPORT ");
+            let at = put_subject(line, at, who);
+            put_words(line, at, words)
         }
         LineKind::Move(port) => {
-            push_text(line, "MOVE ");
-            push_message(line, port, words);
+            let at = put_text(line, at, "MOVE ");
+            put_message(line, at, port, words)
         }
         LineKind::Arrive(port) => {
-            push_text(line, "ARRIVE ");
-            push_message(line, port, words);
+            let at = put_text(line, at, "ARRIVE ");
+            put_message(line, at, port, words)
         }
         LineKind::Lost(port) => {
-            push_text(line, "LOST ");
-            push_message(line, port, words);
+            let at = put_text(line, at, "LOST ");
+            put_message(line, at, port, words)
         }
         LineKind::Out(channel) => {
-            push_text(line, "OUT ");
-            push_message(line, channel, words);
+            let at = put_text(line, at, "OUT ");
+            put_message(line, at, channel, words)
         }
     }
 }
