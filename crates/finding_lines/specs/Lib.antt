@@ -5,3 +5,5 @@ pub mod Views
 pub mod Lines
 pub mod Objects
 pub mod Reports
+pub mod Noted
+pub mod FoundView

@@ -3,33 +3,20 @@
 ghost use Rattle.std.specs.Prelude.{◌≡◌, [], IfSome};
 ghost use Rattle.toml_parser.specs.Reading.{key_view, path_view};
 ghost use Rattle.finding_lines.specs.Entries as spec;
-ghost use Rattle.finding_lines.specs.Views.{entries_of, owned_path};
+ghost use Rattle.finding_lines.specs.Views.{owned_path};
 
-use crate::path::{Entry, OwnedStep, leads_to_element};
+use crate::found::Found;
+use crate::path::OwnedStep;
 use std::alloc::Global;
 use toml_parser::Key;
 
-/// How many elements the array at a path has so far.
-#[tactic(auto, using(std::proofs::lemmas::List::drop_more))]
-fn elements_at(path: &[OwnedStep], found: &[Entry]) -> usize
-    ensures { result ≡ spec.elements_at (owned_path path.now) (entries_of found.now) }
-{
-    let mut elements: usize = 0;
-    for entry in found {
-        if leads_to_element(path, entry.path.as_slice()) {
-            elements += 1;
-        }
-    }
-    elements
-}
-
 /// The path, or that of its last element if it is that of an array.
-fn through(found: &[Entry], path: Vec<OwnedStep>) -> Option<Vec<OwnedStep>>
+fn through(alloc: Global, found: &Found, path: Vec<OwnedStep>) -> Option<Vec<OwnedStep>>
     ensures { IfSome result
-        (λ whole. owned_path whole.items ≡ spec.through (entries_of found.now) (owned_path path.items)) }
+        (λ whole. owned_path whole.items ≡ spec.through found.now (owned_path path.items)) }
 {
     let mut path = path;
-    let elements = elements_at(path.as_slice(), found);
+    let elements = found.elements_at(alloc, path.as_slice())?;
     if elements != 0 {
         path.push(OwnedStep::Element(elements - 1)).ok()?;
     }
@@ -37,13 +24,13 @@ fn through(found: &[Entry], path: Vec<OwnedStep>) -> Option<Vec<OwnedStep>>
 }
 
 /// The path of the keys of a header before its last one.
-fn header_path(alloc: Global, found: &[Entry], keys: &[String]) -> Option<Vec<OwnedStep>>
+fn header_path(alloc: Global, found: &Found, keys: &[String]) -> Option<Vec<OwnedStep>>
     ensures { IfSome result
-        (λ whole. owned_path whole.items ≡ spec.header_path (entries_of found.now) [] (path_view keys.now)) }
+        (λ whole. owned_path whole.items ≡ spec.header_path found.now [] (path_view keys.now)) }
 {
     let mut path = Vec::new(alloc);
     for key in keys {
-        path = through(found, with_key(alloc, path, key.as_str())?)?;
+        path = through(alloc, found, with_key(alloc, path, key.as_str())?)?;
     }
     Some(path)
 }
@@ -60,21 +47,21 @@ fn with_key(alloc: Global, path: Vec<OwnedStep>, key: &str) -> Option<Vec<OwnedS
 }
 
 /// The path that a header in single brackets names.
-pub fn table_path(alloc: Global, found: &[Entry], key: &Key) -> Option<Vec<OwnedStep>>
+pub fn table_path(alloc: Global, found: &Found, key: &Key) -> Option<Vec<OwnedStep>>
     ensures { IfSome result
-        (λ whole. owned_path whole.items ≡ spec.table_path (entries_of found.now) (key_view key.now)) }
+        (λ whole. owned_path whole.items ≡ spec.table_path found.now (key_view key.now)) }
 {
     let path = header_path(alloc, found, key.path.as_slice())?;
     with_key(alloc, path, key.last.as_str())
 }
 
 /// The path of the new element that a header in double brackets makes.
-pub fn element_path(alloc: Global, found: &[Entry], key: &Key) -> Option<Vec<OwnedStep>>
+pub fn element_path(alloc: Global, found: &Found, key: &Key) -> Option<Vec<OwnedStep>>
     ensures { IfSome result
-        (λ whole. owned_path whole.items ≡ spec.element_path (entries_of found.now) (key_view key.now)) }
+        (λ whole. owned_path whole.items ≡ spec.element_path found.now (key_view key.now)) }
 {
     let mut path = table_path(alloc, found, key)?;
-    let elements = elements_at(path.as_slice(), found);
+    let elements = found.elements_at(alloc, path.as_slice())?;
     path.push(OwnedStep::Element(elements)).ok()?;
     Some(path)
 }

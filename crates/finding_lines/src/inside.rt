@@ -1,12 +1,13 @@
 //! The entries of a value: the elements of an array and the pairs of an inline table, and those in
 //! them.
 
-ghost use Rattle.std.specs.Prelude.{◌≡◌, ℕ, ◌<◌, IfSome, OnSome, length, Some};
+ghost use Rattle.std.specs.Prelude.{◌≡◌, ℕ, ◌<◌, IfSome, length, Some};
 ghost use Rattle.finding_lines.specs.Entries as spec;
-ghost use Rattle.finding_lines.specs.Views.{entries_of, owned_path};
+ghost use Rattle.finding_lines.specs.Views.{owned_path};
 
+use crate::found::Found;
 use crate::lexical::{after_element, behind_atom, key_equals};
-use crate::path::{Entry, OwnedStep, copied, key_path};
+use crate::path::{OwnedStep, copied, key_path};
 use std::alloc::Global;
 use toml_parser::text::{first, skip, skip_blank};
 
@@ -16,13 +17,13 @@ use toml_parser::text::{first, skip, skip_blank};
 pub fn inside<'a>(
     alloc: Global,
     path: &[OwnedStep],
-    found: &mut Vec<Entry>,
+    found: &mut Found,
     text: &'a str,
     depth: usize,
 ) -> Option<&'a str>
     ensures value { IfSome result
-        (λ rest. spec.inside depth (owned_path path.now) (entries_of found.old.items) text.now
-        ≡ Some (entries_of found.new.items, rest.now)) }
+        (λ rest. spec.inside depth (owned_path path.now) found.old text.now
+        ≡ Some (found.new, rest.now)) }
     ensures shorter { IfSome result (λ rest. length rest.now < length text.now) }
 {
     let byte = first(text);
@@ -44,15 +45,15 @@ pub fn inside<'a>(
 fn elements<'a>(
     alloc: Global,
     path: &[OwnedStep],
-    found: &mut Vec<Entry>,
+    found: &mut Found,
     text: &'a str,
     depth: usize,
 ) -> Option<&'a str>
     ensures value { IfSome result
         (λ rest. (n : ℕ) → length text.now < n
-        → spec.elements (spec.inside depth) n (owned_path path.now) 0 (entries_of found.old.items)
+        → spec.elements (spec.inside depth) n (owned_path path.now) 0 found.old
         text.now
-        ≡ Some (entries_of found.new.items, rest.now)) }
+        ≡ Some (found.new, rest.now)) }
     ensures shorter { IfSome result (λ rest. length rest.now < length text.now) }
 {
     let mut rest = text;
@@ -63,7 +64,7 @@ fn elements<'a>(
             return Some(skip(start, 1));
         }
         let here = element_path(alloc, path, index)?;
-        add(alloc, found, here.as_slice(), start, start)?;
+        found.add(alloc, here.as_slice(), start, start)?;
         let after = inside(alloc, here.as_slice(), found, start, depth)?;
         rest = after_element(after, b']')?;
         index = index.checked_add(1)?;
@@ -75,15 +76,15 @@ fn elements<'a>(
 fn members<'a>(
     alloc: Global,
     path: &[OwnedStep],
-    found: &mut Vec<Entry>,
+    found: &mut Found,
     text: &'a str,
     depth: usize,
 ) -> Option<&'a str>
     ensures value { IfSome result
         (λ rest. (n : ℕ) → length text.now < n
-        → spec.members (spec.inside depth) n (owned_path path.now) (entries_of found.old.items)
+        → spec.members (spec.inside depth) n (owned_path path.now) found.old
         text.now
-        ≡ Some (entries_of found.new.items, rest.now)) }
+        ≡ Some (found.new, rest.now)) }
     ensures shorter { IfSome result (λ rest. length rest.now < length text.now) }
 {
     let mut rest = text;
@@ -94,7 +95,7 @@ fn members<'a>(
         }
         let (key, at_value) = key_equals(alloc, start)?;
         let here = key_path(alloc, path, &key)?;
-        add(alloc, found, here.as_slice(), start, at_value)?;
+        found.add(alloc, here.as_slice(), start, at_value)?;
         let after = inside(alloc, here.as_slice(), found, at_value, depth)?;
         rest = after_element(after, b'}')?;
     }
@@ -109,24 +110,4 @@ pub fn element_path(alloc: Global, path: &[OwnedStep], index: usize) -> Option<V
     let mut whole = copied(alloc, path).ok()?;
     whole.push(OwnedStep::Element(index)).ok()?;
     Some(whole)
-}
-
-/// Adds the entry of a path, with what is left of the text at its key and at its value.
-pub fn add(
-    alloc: Global,
-    found: &mut Vec<Entry>,
-    path: &[OwnedStep],
-    at_key: &str,
-    at_value: &str,
-) -> Option<()>
-    ensures { OnSome result
-        (entries_of found.new.items
-        ≡ spec.added (entries_of found.old.items) (owned_path path.now) at_key.now at_value.now) }
-{
-    let entry = Entry {
-        path: copied(alloc, path).ok()?,
-        key_left: at_key.len(),
-        value_left: at_value.len(),
-    };
-    found.push(entry).ok()
 }

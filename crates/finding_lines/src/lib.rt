@@ -5,6 +5,7 @@
 //! with a mark, and what to do. Or they are the same as a JSON object, for editors.
 #![tactic(auto)]
 
+mod found;
 mod header;
 mod inside;
 mod lexical;

@@ -4,8 +4,9 @@ ghost use Rattle.std.specs.Prelude.{◌≡◌, ◌<◌, IfSome, length, Some, op
 ghost use Rattle.finding_lines.specs.Entries as spec;
 ghost use Rattle.finding_lines.specs.Views.{entries_in, entries_of, entry_of, owned_path, path_of};
 
+use crate::found::Found;
 use crate::header::{element_path, table_path};
-use crate::inside::{add, inside};
+use crate::inside::inside;
 use crate::lexical::{after_bracket, header_key, key_equals, skip_bom};
 use crate::path::{Entry, OwnedStep, Step, copied, key_path, leads_to};
 use std::alloc::Global;
@@ -48,12 +49,12 @@ fn entries(alloc: Global, text: &str) -> Option<Vec<Entry>>
     ensures { IfSome result (λ found. spec.entries text.now ≡ Some (entries_of found.items)) }
 {
     let mut section = Vec::new(alloc);
-    let mut found = Vec::new(alloc);
+    let mut found = Found::new(alloc);
     let mut rest = skip_bom(text);
     'lines: loop {
         let start = skip_blank(rest, true);
         if start.is_empty() {
-            return Some(found);
+            return Some(found.into_entries());
         }
         rest = line(alloc, &mut section, &mut found, start)?;
     }
@@ -64,12 +65,12 @@ fn entries(alloc: Global, text: &str) -> Option<Vec<Entry>>
 fn line<'a>(
     alloc: Global,
     section: &mut Vec<OwnedStep>,
-    found: &mut Vec<Entry>,
+    found: &mut Found,
     start: &'a str,
 ) -> Option<&'a str>
     ensures value { IfSome result
-        (λ rest. spec.line (owned_path section.old.items, entries_of found.old.items) start.now
-        ≡ Some ((owned_path section.new.items, entries_of found.new.items), rest.now)) }
+        (λ rest. spec.line (owned_path section.old.items, found.old) start.now
+        ≡ Some ((owned_path section.new.items, found.new), rest.now)) }
     ensures shorter { IfSome result (λ rest. length rest.now < length start.now) }
 {
     if first(start) == b'[' && byte_at(start, 1) == b'[' {
@@ -85,19 +86,19 @@ fn line<'a>(
 fn array_line<'a>(
     alloc: Global,
     section: &mut Vec<OwnedStep>,
-    found: &mut Vec<Entry>,
+    found: &mut Found,
     start: &'a str,
 ) -> Option<&'a str>
     requires { slice_index start.now 1 ≡ 91 }
     ensures value { IfSome result
-        (λ rest. spec.array_line (entries_of found.old.items) start.now
-        ≡ Some ((owned_path section.new.items, entries_of found.new.items), rest.now)) }
+        (λ rest. spec.array_line found.old start.now
+        ≡ Some ((owned_path section.new.items, found.new), rest.now)) }
     ensures shorter { IfSome result (λ rest. length rest.now < length start.now) }
 {
     let (key, rest) = header_key(alloc, skip(start, 2))?;
     let after = after_bracket(rest)?;
-    *section = element_path(alloc, found.as_slice(), &key)?;
-    add(alloc, found, section.as_slice(), start, start)?;
+    *section = element_path(alloc, found, &key)?;
+    found.add(alloc, section.as_slice(), start, start)?;
     Some(after)
 }
 
@@ -105,18 +106,18 @@ fn array_line<'a>(
 fn table_line<'a>(
     alloc: Global,
     section: &mut Vec<OwnedStep>,
-    found: &mut Vec<Entry>,
+    found: &mut Found,
     start: &'a str,
 ) -> Option<&'a str>
     requires { slice_index start.now 0 ≡ 91 }
     ensures value { IfSome result
-        (λ rest. spec.table_line (entries_of found.old.items) start.now
-        ≡ Some ((owned_path section.new.items, entries_of found.new.items), rest.now)) }
+        (λ rest. spec.table_line found.old start.now
+        ≡ Some ((owned_path section.new.items, found.new), rest.now)) }
     ensures shorter { IfSome result (λ rest. length rest.now < length start.now) }
 {
     let (key, rest) = header_key(alloc, skip(start, 1))?;
-    *section = table_path(alloc, found.as_slice(), &key)?;
-    add(alloc, found, section.as_slice(), start, start)?;
+    *section = table_path(alloc, found, &key)?;
+    found.add(alloc, section.as_slice(), start, start)?;
     Some(rest)
 }
 
@@ -124,16 +125,16 @@ fn table_line<'a>(
 fn pair_line<'a>(
     alloc: Global,
     section: &[OwnedStep],
-    found: &mut Vec<Entry>,
+    found: &mut Found,
     start: &'a str,
 ) -> Option<&'a str>
     ensures value { IfSome result
-        (λ rest. spec.pair_line (owned_path section.now) (entries_of found.old.items) start.now
-        ≡ Some ((owned_path section.now, entries_of found.new.items), rest.now)) }
+        (λ rest. spec.pair_line (owned_path section.now) found.old start.now
+        ≡ Some ((owned_path section.now, found.new), rest.now)) }
     ensures shorter { IfSome result (λ rest. length rest.now < length start.now) }
 {
     let (key, at_value) = key_equals(alloc, start)?;
     let path = key_path(alloc, section, &key)?;
-    add(alloc, found, path.as_slice(), start, at_value)?;
+    found.add(alloc, path.as_slice(), start, at_value)?;
     inside(alloc, path.as_slice(), found, at_value, RECURSION_LIMIT)
 }

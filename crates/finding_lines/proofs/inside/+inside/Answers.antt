@@ -2,7 +2,7 @@ use Rattle.std.proofs.Common.{◌≡◌, ◌==◌, ◌-◌, ◌<◌, true, false
 use Rattle.std.proofs.lemmas.Grind.{common_steps}
 use Rattle.toml_parser.specs.Lexical.{first, skip_blank}
 use Rattle.finding_lines.specs.Entries.{inside}
-use Rattle.finding_lines.specs.Views.{entries_of, owned_path}
+use Rattle.finding_lines.specs.Views.{owned_path}
 use Rattle.finding_lines.proofs.Turns.{elements_end, elements_step, if_array, if_atom, if_table, members_end, members_step}
 use Rattle.finding_lines.proofs.inside.+inside.Goals as goal
 
@@ -26,7 +26,7 @@ elements-items-preserved c c' =
           let (m, room, loop) = l.invariant.2 n h in (
             m - 1,
             omega arith,
-            loop ∙ elements_step c'.args.depth m _ (owned_path c'.in_ok-here.here.items) l.index c'.in_ok-index.index _ (entries_of c'.add.new.found.items) _ l.rest.now c'.skip_blank-start.result.now _ _ (omega arith) other c'.skip_blank-start.ensures.rest c'.in_ok-here.ensures
+            loop ∙ elements_step c'.args.depth m _ (owned_path c'.in_ok-here.here.items) l.index c'.in_ok-index.index _ c'.add.new.self _ l.rest.now c'.skip_blank-start.result.now _ _ (omega arith) other c'.skip_blank-start.ensures.rest c'.in_ok-here.ensures
                 (rw c'.as_slice.ensures.value at c'.in_ok-add.ensures) (rw c'.as_slice-in-items.ensures.value at c'.in_ok-after.ensures.value) c'.in_ok-rest.ensures.value (omega arith),
           ),
     )
@@ -52,7 +52,7 @@ members-items-preserved c c' =
           let (m, room, loop) = l.invariant.2 n h in (
             m - 1,
             omega arith,
-            loop ∙ members_step c'.args.depth m _ (owned_path c'.in_ok-here.here.items) _ (entries_of c'.add.new.found.items) _ l.rest.now c'.skip_blank-start.result.now _ _ _ _ (omega arith) other c'.skip_blank-start.ensures.rest c'.in_ok-key.ensures.value c'.in_ok-here.ensures
+            loop ∙ members_step c'.args.depth m _ (owned_path c'.in_ok-here.here.items) _ c'.add.new.self _ l.rest.now c'.skip_blank-start.result.now _ _ _ _ (omega arith) other c'.skip_blank-start.ensures.rest c'.in_ok-key.ensures.value c'.in_ok-here.ensures
                 (rw c'.as_slice.ensures.value at c'.in_ok-add.ensures) (rw c'.as_slice-in-items.ensures.value at c'.in_ok-after.ensures.value) c'.in_ok-rest.ensures.value,
           ),
     )

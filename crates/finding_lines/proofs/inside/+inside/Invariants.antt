@@ -2,7 +2,7 @@ use Rattle.std.proofs.Common.{◌≡◌, ℕ, ◌+◌, ◌*◌, ◌<◌, ◌≤�
 use denote.Text.{Utf8}
 use denote.Shadow.{shadow}
 use Rattle.finding_lines.specs.Entries.{elements, inside, members}
-use Rattle.finding_lines.specs.Views.{entries_of, owned_path}
+use Rattle.finding_lines.specs.Views.{owned_path}
 use Rattle.finding_lines.proofs.inside.+inside.Given as goal
 
 abbrev pub decreases-elements : goal.decreases-elements
@@ -18,7 +18,7 @@ abbrev pub invariant-elements-items : goal.invariant-elements-items
 invariant-elements-items l =
     shadow (Utf8 l.rest) × (length l.rest ≤ length l.fn.text)
     × ((n : ℕ) → length l.fn.text < n → (m : ℕ) × (length l.rest < m)
-    × (elements (inside l.fn.depth) n (owned_path l.fn.path) 0 (entries_of l.fn.found.items) l.fn.text ≡ elements (inside l.fn.depth) m (owned_path l.fn.path) l.index (entries_of l.found.items) l.rest))
+    × (elements (inside l.fn.depth) n (owned_path l.fn.path) 0 l.fn.found l.fn.text ≡ elements (inside l.fn.depth) m (owned_path l.fn.path) l.index l.found l.rest))
 
 abbrev pub decreases-elements-items : goal.decreases-elements-items
 decreases-elements-items l = length l.rest
@@ -27,7 +27,7 @@ abbrev pub invariant-members-items : goal.invariant-members-items
 invariant-members-items l =
     shadow (Utf8 l.rest) × (length l.rest ≤ length l.fn.text)
     × ((n : ℕ) → length l.fn.text < n → (m : ℕ) × (length l.rest < m)
-    × (members (inside l.fn.depth) n (owned_path l.fn.path) (entries_of l.fn.found.items) l.fn.text ≡ members (inside l.fn.depth) m (owned_path l.fn.path) (entries_of l.found.items) l.rest))
+    × (members (inside l.fn.depth) n (owned_path l.fn.path) l.fn.found l.fn.text ≡ members (inside l.fn.depth) m (owned_path l.fn.path) l.found l.rest))
 
 abbrev pub decreases-members-items : goal.decreases-members-items
 decreases-members-items l = length l.rest

@@ -1,4 +1,4 @@
-use Rattle.std.proofs.Common.{◌≡◌, ◌==◌, ◌-◌, suc, length, true, false, ◌∙◌, rules, arith}
+use Rattle.std.proofs.Common.{◌≡◌, ◌==◌, ◌-◌, suc, length, true, false, Some, ap, sym, ◌∙◌, rules, arith}
 use Rattle.std.proofs.lemmas.Grind.{common_steps}
 use Rattle.toml_parser.specs.Lexical.{skip_blank}
 use Rattle.finding_lines.proofs.Turns.{entries_are, lines_end, lines_more}
@@ -10,7 +10,7 @@ lines-init c = (
   c.skip_bom-rest.ensures.within,
   suc (length c.args.text.now),
   omega (arith, c.skip_bom-rest.ensures.within),
-  rw (c.skip_bom-rest.ensures.rest, c.new-section.ensures.items, c.new-found.ensures.items),
+  rw (c.skip_bom-rest.ensures.rest, c.new-section.ensures.items, c.new-found.ensures),
 )
 
 pub returns-then-is_empty : goal.returns-then-is_empty
@@ -21,7 +21,7 @@ returns-then-is_empty c =
     let loop = l.invariant.4 in
     let start_is = c.skip_blank-start.ensures.rest in
     let none : (length (skip_blank l.rest.now) == 0) ≡ true = grind (arith, common_steps) in
-    entries_are c.args.text.now _ (loop ∙ lines_end m _ l.rest.now (omega arith) none)
+    entries_are c.args.text.now _ (loop ∙ lines_end m _ l.rest.now (omega arith) none) ∙ ap Some (sym c.into_entries.ensures)
 
 pub lines-preserved : goal.lines-preserved
 lines-preserved c =

@@ -1,7 +1,7 @@
 use Rattle.std.proofs.Common.{◌≡◌, ◌+◌, ◌≤◌, drop}
 use Rattle.finding_lines.specs.Entries.{elements_at}
 use Rattle.finding_lines.specs.Views.{entries_of, owned_path}
-use Rattle.finding_lines.proofs.header.elements_at.Given as goal
+use Rattle.finding_lines.proofs.found.elements_among.Given as goal
 
 abbrev pub invariant-loop-entry : goal.invariant-loop-entry
 invariant-loop-entry l =
