@@ -58,7 +58,7 @@ class Image:
 
 
 class Fields:
-    """The fields of an image in their order, each with its limits. A writer takes them from a value; the loader puts what it reads into an empty one."""
+    """The fields of an image in their order, each with its limits. A writer takes them from a value; the loader fills an empty one."""
 
     def image(self, it):
         table, it.version = it.table, self.version(it.version)
