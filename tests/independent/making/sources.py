@@ -131,7 +131,7 @@ class SourceMaker:
 
     # ---- bodies
 
-    def body(self, statements, parameters=(), is_procedure=False):
+    def body(self, statements):
         return "{ " + " ".join(f"local {it};" for it in LOCALS) + "\n  " + "\n  ".join(statements) + " }"
 
     def procedure(self, name):
@@ -256,7 +256,7 @@ class SourceMaker:
         arguments = [self.argument(name, it, array) for it in row.arguments]
         if None in arguments:
             return self.make_work(0)
-        targets = ["r", "a0", "a1", "a2", "a3", "a4", "a5"][: row.answer_words]
+        targets = [self.scalar() if self.chance(0.05) else it for it in ("r", "a0", "a1", "a2", "a3", "a4", "a5")[: row.answer_words]]
         return f"{name}({', '.join(map(str, arguments))})" + (f" -> {', '.join(targets)};" if targets else ";")
 
     def argument(self, service, name, array):
