@@ -26,7 +26,7 @@ class NoDocument(Exception):
 
 
 def read(data):
-    """The document that the bytes stand for."""
+    """The document that the bytes mean."""
     try:
         text = as_older(data.decode("utf-8").removeprefix("\ufeff"))
         document = tomllib.loads(text, parse_float=read_float)
@@ -86,7 +86,7 @@ def older_escape(found):
 
 
 def drop_last_comma(out):
-    """Drops a comma before a closing brace, unless nothing stands before it."""
+    """Drops a comma before a closing brace, unless nothing is before it."""
     place = len(out) - 1
     while place >= 0 and out[place].isspace():
         place -= 1
