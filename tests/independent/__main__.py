@@ -3,8 +3,8 @@
 
     python3 tests/independent COMMAND WORDS..
 
-The commands and their words are those of COMMANDS.md: check, build, run, inputs, replay, upgrade, cost, dis. For run, inputs and replay a table and its
-sources may be in place of the image, with commas between them: `run table,a.pal,b.pal devices 128`. Then the sources run by their meaning.
+The commands and their words are those of COMMANDS.md: check, build, run, inputs, replay, upgrade, cost, dis. For run, inputs and replay a table and
+its sources may be in place of the image, with commas between them: `run table,a.pal,b.pal devices 128`. Then the sources run by their meaning.
 """
 
 import sys

@@ -13,6 +13,7 @@ from table import RULES, is_name
 MAGIC = b"AP653IMG"
 TRUNCATED, FOREIGN, LIMIT, ORDER, TRAILING = range(1, 6)
 NEWEST = 3
+INSTRUCTION = struct.Struct("<IIq")
 # Of each version: the most partitions, processes and words of a message.
 MOST = {1: (16, 31, 16), 2: (16, 31, 16), 3: (32, 63, 64)}
 
@@ -57,7 +58,7 @@ class Image:
 
 
 class Fields:
-    """The fields of an image in their order, each with its limits. A writer takes them from a value; the loader puts what it reads into an empty one."""
+    """The fields of an image in their order, each with its limits. A writer takes them from a value; the loader fills an empty one."""
 
     def image(self, it):
         table, it.version = it.table, self.version(it.version)
@@ -105,8 +106,7 @@ class Fields:
         it.init = self.body(it.init)
         has_handler = self.number("B", it.handler is not None, 0, 1)
         it.handler = self.body(it.handler or Code()) if has_handler else None
-        entries = [body.entry for body in [*it.routines, *it.bodies()]]
-        it.code = self.all(it.code, 1, limits.INSTRUCTIONS, self.instruction, lambda: (0, 0, 0), entries)
+        it.code = self.code(it.code, [body.entry for body in [*it.routines, *it.bodies()]])
         return it
 
     def objects(self, kind, rows):
@@ -157,10 +157,6 @@ class Fields:
         self.judge(value != 0)
         return value
 
-    def instruction(self, it):
-        opcode, x, v = it
-        return self.number("I", opcode), self.number("I", x), self.number("q", v)
-
     def window(self, it):
         it.partition, it.offset = self.number("B", it.partition), self.number("I", it.offset)
         self.judge(it.offset >= self.end, ORDER)
@@ -203,6 +199,11 @@ class Writer(Fields):
         self.number("I", len(items))
         return [take(it) for it in items]
 
+    def code(self, code, _):
+        self.number("I", len(code))
+        self.pieces += [INSTRUCTION.pack(*it) for it in code]
+        return code
+
     def judge(self, *_):
         """A value that is written keeps its limits."""
 
@@ -212,6 +213,7 @@ class Loader(Fields):
 
     def __init__(self, data):
         self.data, self.place = data, 0
+        self.codes = []  # the places of the bytes of each section's instructions
 
     def judge(self, condition, fault=LIMIT):
         if not condition:
@@ -241,11 +243,16 @@ class Loader(Fields):
         before.add(text)
         return text
 
-    def all(self, _, low, high, take, empty, entries=()):
-        """A list. The entries that lead into it are judged when its number is known."""
-        count = self.number("I", 0, low, high)
+    def all(self, _, low, high, take, empty):
+        return [take(empty()) for _ in range(self.number("I", 0, low, high))]
+
+    def code(self, _, entries):
+        """The entries are judged when the number of instructions is known."""
+        count, first = self.number("I", 0, 1, limits.INSTRUCTIONS), self.place
         self.judge(all(it < count for it in entries))
-        return [take(empty()) for _ in range(count)]
+        code = list(INSTRUCTION.iter_unpack(self.take(INSTRUCTION.size * count)))
+        self.codes.append(range(first, self.place))
+        return code
 
 
 def write_image(image):
@@ -255,6 +262,16 @@ def write_image(image):
 
 
 def load_image(data):
+    return load(data)[0]
+
+
+def code_places(data):
+    """The places of the bytes of each partition's instructions, in a lawful image."""
+    return load(data)[1].codes
+
+
+def load(data):
+    """The image, and the loader after it."""
     loader = Loader(data)
     image = loader.image(Image())
     table = image.table
@@ -262,4 +279,4 @@ def load_image(data):
     loader.judge(all(1 <= it.partition <= len(table.partitions) for it in table.windows))
     loader.judge(all(it == DEVICE or table.port(it) is not None for channel in table.channels for it in channel.ends))
     loader.judge(all(rule(table) for rule in RULES.values()))
-    return image
+    return image, loader

@@ -1,4 +1,4 @@
-"""The run of a module, tick by tick (KERNEL.md), and the run of one partition alone (ISOLATION.md)."""
+"""The run of a module, tick by tick (KERNEL.md), and that of one partition without the others (ISOLATION.md)."""
 
 from kernel.partition import FOREVER
 from kernel.records import COLD_START, HM_MODULE_RESTART, NORMAL_START
@@ -20,7 +20,7 @@ class Trace:
 
 
 class Clock:
-    """What a module and a partition alone share: the loop over the ticks. Quiet ticks are made at once."""
+    """What a module and a lone partition share: the loop over the ticks. Quiet ticks are made at once."""
 
     def __init__(self, schedule, lines):
         self.schedule, self.lines, self.place = schedule, lines, 0

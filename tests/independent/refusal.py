@@ -2,7 +2,7 @@
 
 
 class Refusal(Exception):
-    """The words behind `mb: `."""
+    """Its words follow `mb: `."""
 
     def __init__(self, words):
         super().__init__(words)

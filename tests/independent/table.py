@@ -12,7 +12,7 @@ NAME = re.compile(r"[a-z][a-z0-9_]{0,29}")
 
 
 def read_table(data):
-    """The table that the bytes stand for; a refusal with the lowest number whose rule they break."""
+    """The table that the bytes mean; a refusal with the lowest number whose rule they break."""
     try:
         document = read(data)
     except NoDocument:

@@ -12,6 +12,8 @@ from limits import GREATEST, LEAST
 # So deep may brackets be nested, and so many parts may a key have.
 DEEPEST = 80
 SEPARATORS = ("\n", "=", ",", "[", "]", "{", "}")
+# A quote that is a piece of its own begins a text that its line does not end.
+QUOTES = ('"', "'")
 
 PIECE = re.compile(
     r'"""(?:\\.|(?!""").)*?"{3,5}' r"|'''.*?'{3,5}" r'|"(?:\\.|[^"\\\n])*"' r"|'[^'\n]*'" r"|\#[^\n]*|[][{}\n,]|[ \t]+|.",
@@ -24,7 +26,7 @@ class NoDocument(Exception):
 
 
 def read(data):
-    """The document that the bytes stand for."""
+    """The document that the bytes mean."""
     try:
         text = as_older(data.decode("utf-8").removeprefix("\ufeff"))
         document = tomllib.loads(text, parse_float=read_float)
@@ -64,7 +66,7 @@ def as_older(text):
         elif open_brackets and open_brackets[-1] == "{" and (piece == "\n" or piece.startswith("#")):
             piece = " "
         dots = dots + 1 if piece == "." else 0 if piece in SEPARATORS else dots
-        if len(open_brackets) > DEEPEST or dots >= DEEPEST:
+        if len(open_brackets) > DEEPEST or dots >= DEEPEST or piece in QUOTES:
             raise NoDocument
         out.append(piece)
     return "".join(out)
@@ -84,7 +86,7 @@ def older_escape(found):
 
 
 def drop_last_comma(out):
-    """Drops a comma before a closing brace, unless nothing stands before it."""
+    """Drops a comma before a closing brace, unless nothing is before it."""
     place = len(out) - 1
     while place >= 0 and out[place].isspace():
         place -= 1

@@ -6,7 +6,7 @@ from pathlib import Path
 
 import calls
 import trial
-from limits import part_of
+from at_limits import part_of
 from trial import Answer, Told
 
 CONSTANTS = dict(re.findall(r"^pub const (MOST_\w+): \w+ = (\d+);", (calls.ROOT / "crates/apex_types/src/limits.rt").read_text(), re.M))

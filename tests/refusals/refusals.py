@@ -22,9 +22,9 @@ from concurrent.futures import ProcessPoolExecutor
 from pathlib import Path
 
 sys.dont_write_bytecode = True
+import at_limits  # noqa: E402
 import calls  # noqa: E402
 import largest  # noqa: E402
-import limits  # noqa: E402
 import sinks  # noqa: E402
 import sweep  # noqa: E402
 import trial  # noqa: E402
@@ -83,8 +83,8 @@ def try_images(_, words):
 
 def try_limits(pool, words):
     """Inputs at the limits."""
-    tasks = [(limits.try_input, words.mb, number) for number in range(len(limits.INPUTS))]
-    told = gathered(pool, [(limits.name_limits,), *tasks, (largest.try_largest, words.mb, RUN, REPLAYED)])
+    tasks = [(at_limits.try_input, words.mb, number) for number in range(len(at_limits.INPUTS))]
+    told = gathered(pool, [(at_limits.name_limits,), *tasks, (largest.try_largest, words.mb, RUN, REPLAYED)])
     return finish("limits", [told], counted(told))
 
 

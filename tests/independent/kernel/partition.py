@@ -4,7 +4,7 @@ import limits
 from kernel.asked import Call
 from kernel.records import A_DELAY, A_LIST, A_RELEASE, A_RESUME, COLD_START, DORMANT, HM_PARTITION_RESTART, IDLE, INVALID_MODE, NO_ERROR, NORMAL
 from kernel.records import NORMAL_START, NOT_AVAILABLE, NOTHING, PARTITION_RESTART, READY, RUNNING, THE_START, TIMED_OUT, WAITING
-from kernel.records import Held, Refused, Runner, Waiter, refuse
+from kernel.records import Held, Refused, Runner, Waiter, line_up, refuse
 from model import ERRORS
 from services import service
 
@@ -173,23 +173,17 @@ class Partition:
         self.tell(f"STATE {runner.name} {state}")
 
     def become_ready(self, runner):
-        """It goes after all of its own or a higher priority. One that is suspended waits on."""
+        """It is the last of its priority. One that is suspended waits on."""
         runner.forget_wait()
         if not runner.suspended:
-            self.line_up(runner)
+            line_up(self.order, runner)
             self.enter(runner, READY)
-
-    def line_up(self, runner):
-        place = len(self.order)
-        while place and self.order[place - 1].priority < runner.priority:
-            place -= 1
-        self.order.insert(place, runner)
 
     def go_last(self, runner):
         """A ready or running process goes after all of its priority."""
         if runner in self.order:
             self.order.remove(runner)
-            self.line_up(runner)
+            line_up(self.order, runner)
 
     def leave_order(self, runner):
         if runner in self.order:

@@ -22,6 +22,14 @@ def refuse(condition, code):
         raise Refused(code)
 
 
+def line_up(rows, one):
+    """It goes after all of its own or a higher priority."""
+    place = len(rows)
+    while place and rows[place - 1].priority < one.priority:
+        place -= 1
+    rows.insert(place, one)
+
+
 @dataclass(eq=False)
 class Runner:
     """INIT, the error handler or a process."""
@@ -76,11 +84,10 @@ class WaitingList:
         return len(self.waiters)
 
     def join(self, waiter):
-        place = len(self.waiters)
         if self.discipline == "PRIORITY":
-            while place and self.waiters[place - 1].priority < waiter.priority:
-                place -= 1
-        self.waiters.insert(place, waiter)
+            line_up(self.waiters, waiter)
+        else:
+            self.waiters.append(waiter)
 
     def leave(self, runner):
         self.waiters = [it for it in self.waiters if it.runner is not runner]

@@ -6,95 +6,117 @@ from pal.words import FORM, GRAMMAR_WORDS
 from services import SERVICES
 
 NUMBERS = (0, 1, 2, 3, 15, 16, 17, 31, 32, 33, 63, 64, 65, 239, 240, 256, 1000, 1001, 4096, 4097, 65535, 65536, 65537, 10**6, 10**6 + 1)
-LARGE = (2**24, 2**24 + 1, 2**31, 2**32, 2**40, 2**40 + 1, 2**63 - 1, 2**63, 2**64)
+NUMBERS += (2**24, 2**24 + 1, 2**31, 2**32, 2**40, 2**40 + 1, 2**63 - 1, 2**63, 2**64)
 OTHER_TYPES = ("20.0", "true", '"x"', "[]", "{}", "1e3", "0x10", "+7", "-0", "1_000", "01", "1979-05-27", "inf")
 WORDS = ("DEVICE", "IGNORE", "RESET", "SHUTDOWN", "IDLE", "WARM_START", "SAMPLING", "QUEUING", "SOURCE", "DESTINATION", "FIFO", "PRIORITY")
-KEYS = ("name", "words", "depth", "refresh", "kind", "x", "offset")
 WORDS += ("", "A", "a.b")
+KEYS = ("name", "words", "depth", "refresh", "kind", "x", "offset")
 
 
-def number(random):
-    return random.choice(NUMBERS + LARGE) * random.choice((1, 1, 1, -1))
+# ---- ways to change a text; each takes the random numbers and the text
 
 
-def near(random, text):
-    """A number a little beside this one, or a very different one."""
-    return str(int(text) + random.choice((-1, 1, 2, -2))) if random.random() < 0.4 else str(number(random))
+def matching(pattern, change):
+    """Changes one place that matches: `change` gets what is there, and the whole text."""
+
+    def way(random, text):
+        found = list(re.finditer(pattern, text))
+        if not found:
+            return text
+        it = random.choice(found)
+        return text[: it.start()] + change(random, it[0], text) + text[it.end() :]
+
+    return way
 
 
-def change_matches(random, text, pattern, change):
-    """Changes one place that matches."""
-    found = list(re.finditer(pattern, text))
-    if not found:
-        return text
-    it = random.choice(found)
-    return text[: it.start()] + change(it[0]) + text[it.end() :]
+def one_of(words):
+    return lambda random, *_: random.choice(words)
 
 
-def change_lines(random, text):
+def near(random, text, _=None):
+    """A number next to this one, or a very different one."""
+    if random.random() < 0.4:
+        return str(int(text) + random.choice((-1, 1, 2, -2)))
+    return str(random.choice(NUMBERS) * random.choice((1, 1, 1, -1)))
+
+
+def other_lines(random, text):
     lines = text.splitlines(keepends=True)
-    place = random.randrange(len(lines)) if lines else 0
-    way = random.choice(("drop", "twice", "swap", "move"))
     if not lines:
         return text
-    if way == "drop":
-        del lines[place]
-    elif way == "twice":
-        lines.insert(random.randrange(len(lines)), lines[place])
-    elif way == "swap":
-        other = random.randrange(len(lines))
+    place, other = random.randrange(len(lines)), random.randrange(len(lines))
+    way = random.choice(("drop", "twice", "swap", "move"))
+    if way == "swap":
         lines[place], lines[other] = lines[other], lines[place]
     else:
-        lines.insert(random.randrange(len(lines)), lines.pop(place))
+        line = lines[place] if way == "twice" else lines.pop(place)
+        lines[other:other] = [line] if way != "drop" else []
     return "".join(lines)
 
 
-def change_character(random, text, letters):
-    place = random.randrange(len(text) + 1)
-    way = random.choice(("put", "drop", "other"))
-    put = "" if way == "drop" else random.choice(letters)
-    return text[:place] + put + text[place + (way != "put") :]
+def other_character(letters):
+    def way(random, text):
+        place, what = random.randrange(len(text) + 1), random.choice(("put", "drop", "other"))
+        put = "" if what == "drop" else random.choice(letters)
+        return text[:place] + put + text[place + (what != "put") :]
+
+    return way
+
+
+def cut(random, text):
+    return text[: random.randrange(len(text) + 1)]
 
 
 def several(random, text, ways):
     for _ in range(random.choice((1, 1, 1, 2, 3))):
-        text = random.choice(ways)(text)
+        text = random.choice(ways)(random, text)
     return text
 
 
 # ---- tables
 
 
-def damaged_table(random, text):
-    ways = [
-        lambda it: change_matches(random, it, r"(?<== )[0-9]+", lambda found: near(random, found)),
-        lambda it: change_matches(random, it, r"(?<== )[0-9]+", lambda found: near(random, found)),
-        lambda it: change_matches(random, it, r"(?<== )[0-9]+", lambda _: random.choice(OTHER_TYPES)),
-        lambda it: change_matches(random, it, r'"[^"\n]*"', lambda _: other_text(random, it)),
-        lambda it: change_matches(random, it, r'"[^"\n]*"', lambda _: other_text(random, it)),
-        lambda it: change_matches(random, it, r"true|false", lambda _: random.choice(("true", "false", "0", '"true"'))),
-        lambda it: change_matches(random, it, r"(?m)^[a-z]+(?= = )", lambda _: random.choice(KEYS)),
-        lambda it: change_lines(random, it),
-        lambda it: change_lines(random, it),
-        lambda it: change_character(random, it, '"=[]{},.#\n 0aZ-é\x00\x7f\r\\'),
-        lambda it: it[: random.randrange(len(it) + 1)],
-    ]
-    return several(random, text, ways).encode()
-
-
-def other_text(random, text):
-    words = re.findall(r'"([^"\n]*)"', text) + list(WORDS)
-    word = random.choice(words)
+def other_text(random, _, text):
+    word = random.choice(re.findall(r'"([^"\n]*)"', text) + list(WORDS))
     if random.random() < 0.2:
-        word = change_character(random, word, "aZ_.9 ")
-    return '"' + word.replace("\\", "").replace('"', "").replace("\n", "") + '"'
+        word = other_character("aZ_.9 ")(random, word)
+    return '"' + re.sub(r'[\\"\n]', "", word) + '"'
+
+
+TABLE_NUMBER, TABLE_TEXT = r"(?<== )[0-9]+", r'"[^"\n]*"'
+TABLE_WAYS = (
+    matching(TABLE_NUMBER, near), matching(TABLE_NUMBER, near), matching(TABLE_NUMBER, one_of(OTHER_TYPES)),
+    matching(TABLE_TEXT, other_text), matching(TABLE_TEXT, other_text),
+    matching(r"true|false", one_of(("true", "false", "0", '"true"'))), matching(r"(?m)^[a-z]+(?= = )", one_of(KEYS)),
+    other_lines, other_lines, other_character('"=[]{},.#\n 0aZ-é\x00\x7f\r\\'), cut,
+)
+
+
+def damaged_table(random, text):
+    return several(random, text, TABLE_WAYS).encode()
+
+
+# ---- device and replay texts
+
+LINE_WORD = r"[a-zA-Z_]+[0-9]*"
+LAST_LINES = ("5 FAULT\n", "1099511627776 FAULT\n", "1099511627777 FAULT\n", "7 FAULT x\n", "\n", "9")
+LINE_WAYS = (
+    other_lines, other_character(" \n0159-aZ_\0\r\té"), matching(r"-?[0-9]+", near),
+    matching(LINE_WORD, lambda random, _, text: random.choice(re.findall(LINE_WORD, text))),
+    matching(r" -?[0-9]+", lambda random, found, _: found * random.choice((2, 5, 65))),
+    lambda random, text: text + random.choice(LAST_LINES),
+)
+
+
+def damaged_lines(random, text):
+    return several(random, text, LINE_WAYS).encode("latin-1", "replace")
 
 
 # ---- sources
 
 
 def pieces_of(text):
-    """The words, blanks and comments of the text, one behind another."""
+    """The words, blanks and comments of the text, one after another."""
     pieces, place = [], 0
     while place < len(text):
         found = FORM.match(text, place)
@@ -103,44 +125,34 @@ def pieces_of(text):
     return pieces
 
 
-def spread(random, text):
+def spread(random, pieces):
     """The same words over more lines."""
     blanks = ("\n", "\n", " # a comment\n", "\t", " ")
-    return "".join(random.choice(blanks) if it.isspace() and random.random() < 0.5 else it for it in pieces_of(text))
+    return [random.choice(blanks) if it.isspace() and random.random() < 0.5 else it for it in pieces]
 
 
 def damaged_source(random, text):
-    pieces = pieces_of(spread(random, text))
+    pieces = spread(random, pieces_of(text))
     places = [n for n, it in enumerate(pieces) if not it.isspace() and not it.startswith("#")]
     for _ in range(random.choice((1, 1, 1, 2, 3))):
         place = random.choice(places)
-        pieces[place] = changed_word(random, pieces, places, place)
+        pieces[place] = other_word(random, [pieces[it] for it in places], pieces[place])
     text = "".join(pieces)
     if random.random() < 0.1:
-        text = change_character(random, text, "@$éÿ\r\f\0\"'.:<>=-_Aa0 \n")
-    if random.random() < 0.05:
-        text = text[: random.randrange(len(text) + 1)]
-    return text.encode("latin-1")
+        text = other_character("@$éÿ\r\f\0\"'.:<>=-_Aa0 \n")(random, text)
+    return (cut(random, text) if random.random() < 0.05 else text).encode("latin-1")
 
 
-def changed_word(random, pieces, places, place):
-    word = pieces[place]
+ODD_WORDS = ("x9", "a" * 31, "0", *map(str, NUMBERS), *"(){}[];,", "->", ":=", "<=", "not")
+
+
+def other_word(random, words, word):
     if word.isdigit() and random.random() < 0.6:
         return near(random, word).lstrip("-")
     if random.random() < 0.6:
-        return alike(random, pieces, places, word)
-    way = random.random()
-    if way < 0.2:
-        return ""
-    if way < 0.3:
-        return f"{word} {word}"
-    if way < 0.6:
-        return pieces[random.choice(places)]
-    if way < 0.75:
-        return random.choice(sorted(GRAMMAR_WORDS))
-    if way < 0.85:
-        return random.choice(SERVICES).name
-    return random.choice(("x9", "a" * 31, str(number(random)), "(", ")", "{", "}", "[", "]", ";", ",", "->", ":=", "<=", "not", "0"))
+        return alike(random, words, word)
+    chosen = random.choice(words), random.choice(sorted(GRAMMAR_WORDS)), random.choice(SERVICES).name, random.choice(ODD_WORDS)
+    return random.choices(("", f"{word} {word}", *chosen), (20, 10, 30, 15, 10, 15))[0]
 
 
 def class_of(word):
@@ -149,28 +161,12 @@ def class_of(word):
     return found.lastgroup if found and word not in GRAMMAR_WORDS else word
 
 
-def alike(random, pieces, places, word):
+def alike(random, words, word):
     """Another word of the text that the grammar takes in the same places."""
-    others = [pieces[it] for it in places if class_of(pieces[it]) == class_of(word) != "sign"]
-    if word[0].isupper():
-        others = [it.name for it in SERVICES if random.random() < 0.2]
-    return random.choice([*others, random.choice(others) if others else word, "a" * 31 if class_of(word) == "name" else word])
-
-
-# ---- device and replay texts
-
-
-def damaged_lines(random, text):
-    letters = " \n0159-aZ_\0\r\té"
-    ways = [
-        lambda it: change_lines(random, it),
-        lambda it: change_character(random, it, letters),
-        lambda it: change_matches(random, it, r"-?[0-9]+", lambda found: near(random, found)),
-        lambda it: change_matches(random, it, r"[a-zA-Z_]+[0-9]*", lambda _: random.choice(re.findall(r"[a-zA-Z_]+[0-9]*", it))),
-        lambda it: change_matches(random, it, r" -?[0-9]+", lambda found: found * random.choice((2, 5, 65))),
-        lambda it: it + random.choice(("5 FAULT\n", "1099511627776 FAULT\n", "1099511627777 FAULT\n", "7 FAULT x\n", "\n", "9")),
-    ]
-    return several(random, text, ways).encode("latin-1", "replace")
+    others = [it for it in words if class_of(it) == class_of(word) != "sign"]
+    if word[:1].isupper():
+        others = random.sample([it.name for it in SERVICES], 12)
+    return random.choice([*others, random.choice(others or [word]), "a" * 31 if class_of(word) == "name" else word])
 
 
 # ---- images
@@ -179,20 +175,20 @@ def damaged_lines(random, text):
 def damaged_image(random, data):
     data = bytearray(data)
     for _ in range(random.choice((1, 1, 1, 2))):
-        place = image_place(random, len(data))
-        way = random.random()
+        place, way = image_place(random, len(data)), random.random()
         if way < 0.7:
             data[place : place + 1] = bytes([changed_byte(random, data[place] if place < len(data) else 0)])
         elif way < 0.8:
             del data[place : place + random.randint(1, 4)]
         elif way < 0.9:
-            data[place:place] = bytes(random.choice((0, 1, 255)) for _ in range(random.randint(1, 4)))
+            data[place:place] = random.choices((0, 1, 255), k=random.randint(1, 4))
         else:
             del data[place:]
     return bytes(data)
 
 
 def image_place(random, length):
+    """A place, mostly near the beginning or the end."""
     way = random.random()
     if way < 0.5:
         return random.randrange(min(length, 300) + 1)

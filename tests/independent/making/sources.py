@@ -1,30 +1,36 @@
 """Random Pal sources that keep the rules."""
 
+import re
+
 import limits
 from making.tables import FIRST, HEALTH, LARGE, OBJECTS, PORTS, PREEMPTION, PROCESSES, WHOLE_PAL, WINDOWS
 from model import KINDS as PORT_KINDS
 from model import OBJECT_KINDS as KINDS
 from pal.frames import frame_of
 from pal.grammar import read_program
-from services import BY_NAME, DECLARED
+from services import BY_NAME, DECLARED, SERVICES
 
 LOCALS = ["r", "x", "y", "a0", "a1", "a2", "a3", "a4", "a5"]
 NUMBERS = (0, 0, 1, 1, 2, 3, 5, 7, 10, 100, 2**31, 2**40, 2**62, 2**63 - 1)
 TIMES = (0, 0, 1, 2, 3, 5, 8, 13, 20, 40, 90, 300, 2**40)
 WRONG = (-2, -1, 0, 2**40 + 1, 2**63 - 1)
-BY_STAGE = {
-    FIRST: "GET_TIME GET_PARTITION_STATUS GET_MY_ID",
-    PREEMPTION: "TIMED_WAIT GET_PROCESS_STATUS GET_PROCESS_ID",
+# The stage that first has a service, by its name; PROCESSES has all others.
+FIRST_STAGES = {
+    PORTS: "SAMPLING|QUEUING",
+    OBJECTS: "BUFFER|BLACKBOARD|SEMAPHORE|EVENT",
+    HEALTH: "ERROR|SET_PARTITION_MODE",
+    FIRST: "GET_TIME|GET_PARTITION_STATUS|GET_MY_ID",
+    PREEMPTION: "TIMED_WAIT|GET_PROCESS_STATUS|GET_PROCESS_ID",
     WINDOWS: "PERIODIC_WAIT",
-    PROCESSES: "SET_PRIORITY SUSPEND_SELF SUSPEND RESUME STOP START DELAYED_START LOCK_PREEMPTION UNLOCK_PREEMPTION REPLENISH STOP_SELF"
-    " CREATE_PROCESS",
-    OBJECTS: "SEND_BUFFER RECEIVE_BUFFER GET_BUFFER_ID GET_BUFFER_STATUS DISPLAY_BLACKBOARD READ_BLACKBOARD CLEAR_BLACKBOARD GET_BLACKBOARD_ID"
-    " GET_BLACKBOARD_STATUS WAIT_SEMAPHORE SIGNAL_SEMAPHORE GET_SEMAPHORE_ID GET_SEMAPHORE_STATUS SET_EVENT RESET_EVENT WAIT_EVENT GET_EVENT_ID"
-    " GET_EVENT_STATUS CREATE_BUFFER CREATE_EVENT CREATE_SEMAPHORE CREATE_BLACKBOARD",
-    PORTS: "WRITE_SAMPLING_MESSAGE READ_SAMPLING_MESSAGE GET_SAMPLING_PORT_ID GET_SAMPLING_PORT_STATUS SEND_QUEUING_MESSAGE RECEIVE_QUEUING_MESSAGE"
-    " GET_QUEUING_PORT_ID GET_QUEUING_PORT_STATUS CLEAR_QUEUING_PORT CREATE_SAMPLING_PORT CREATE_QUEUING_PORT",
-    HEALTH: "RAISE_APPLICATION_ERROR GET_ERROR_STATUS CREATE_ERROR_HANDLER SET_PARTITION_MODE",
 }
+REPORT = "REPORT_APPLICATION_MESSAGE"  # a statement of its own, in all stages
+
+
+def first_stage(service):
+    return next((stage for stage, pattern in FIRST_STAGES.items() if re.search(pattern, service)), PROCESSES)
+
+
+BY_STAGE = {stage: [it.name for it in SERVICES if first_stage(it.name) == stage and it.name != REPORT] for stage in (*FIRST_STAGES, PROCESSES)}
 # What processes do to each other, by the stage that has it.
 THEMES = {
     PROCESSES: (
@@ -53,12 +59,11 @@ class SourceMaker:
         self.arrays = {"big": random.choice((16, 20, 64)) if stage < LARGE else 64}
         self.variables, self.procedures, self.declared = ["g0"], {}, {kind: [] for kind in KINDS}
         self.processes, self.port_names = [], []
-        self.services = [it for key, text in BY_STAGE.items() if key <= stage for it in text.split()]
-        own = next((text for key, text in BY_STAGE.items() if key == min(stage, HEALTH)), " ".join(self.services)).split()
-        own = [it for it in own if not it.startswith("CREATE")]
+        self.services = [it for key, names in BY_STAGE.items() if key <= stage for it in names]
+        own = [it for it in BY_STAGE.get(min(stage, HEALTH), self.services) if not it.startswith("CREATE")]
         self.favourites = random.sample(self.services, min(4, len(self.services))) + random.sample(own, min(4, len(own)))
         if stage >= PORTS and random.random() < 0.7:
-            self.favourites += [it for it in BY_STAGE[PORTS].split() if it.startswith(MOVING) and self.fitting_ports(it)]
+            self.favourites += [it for it in BY_STAGE[PORTS] if it.startswith(MOVING) and self.fitting_ports(it)]
         self.parameters, self.is_procedure, self.who = [], False, ""
         themes = [it for key, texts in THEMES.items() if key <= stage for it in texts]
         self.theme = random.choice(themes).split() if themes and random.random() < 0.7 else []
@@ -126,7 +131,7 @@ class SourceMaker:
 
     # ---- bodies
 
-    def body(self, statements, parameters=(), is_procedure=False):
+    def body(self, statements):
         return "{ " + " ".join(f"local {it};" for it in LOCALS) + "\n  " + "\n  ".join(statements) + " }"
 
     def procedure(self, name):
@@ -251,7 +256,7 @@ class SourceMaker:
         arguments = [self.argument(name, it, array) for it in row.arguments]
         if None in arguments:
             return self.make_work(0)
-        targets = ["r", "a0", "a1", "a2", "a3", "a4", "a5"][: row.answer_words]
+        targets = [self.scalar() if self.chance(0.05) else it for it in ("r", "a0", "a1", "a2", "a3", "a4", "a5")[: row.answer_words]]
         return f"{name}({', '.join(map(str, arguments))})" + (f" -> {', '.join(targets)};" if targets else ";")
 
     def argument(self, service, name, array):

@@ -144,40 +144,47 @@ class TableMaker:
         return row
 
 
-# ---- the text
+# ---- the text, in one of several ways to write it
 
 
-def value_text(value):
+def value_text(random, value):
     if isinstance(value, dict):
-        return "{ " + ", ".join(f"{key} = {value_text(it)}" for key, it in value.items()) + " }"
+        items, way = [f"{key} = {value_text(random, it)}" for key, it in value.items()], random.random()
+        if way < 0.9 or not items:
+            return "{ " + ", ".join(items) + " }"
+        return "{\n  " + (", # a comment\n  " if way < 0.95 else ",\n").join([*items, ""]) + "}"
     if isinstance(value, list):
-        return "[" + ", ".join(map(value_text, value)) + "]"
+        return "[" + ", ".join(value_text(random, it) for it in value) + "]"
+    if isinstance(value, str) and random.random() < 0.1:
+        return random.choice((f"'{value}'", f'"""{value}"""', f'"\\x{ord(value[0]):02x}{value[1:]}"', f"\'\'\'\n{value}\'\'\'"))
     return json.dumps(value)
 
 
 def table_text(random, document):
-    """The document in one of several ways to write it."""
     if random.random() < 0.15:
-        return "\n".join(f"{key} = {value_text(it)}" for key, it in shuffled(random, document)) + "\n"
-    lines = [f"{key} = {value_text(document[key])}" for key in ("frame", "fault")]
-    for key in ("cost", "partition", "window", "channel"):
-        if key == "cost" and key in document:
-            lines += ["[cost]", *(f"{name} = {it}" for name, it in shuffled(random, document[key]))]
-        elif document.get(key):
-            for row in document[key]:
-                lines += row_lines(random, key, row)
+        return "\n".join(f"{key} = {value_text(random, it)}" for key, it in shuffled(random, document)) + "\n"
+    lines = key_lines(random, document, ("frame", "fault"))
+    if "cost" in document:
+        lines += ["[cost]", *key_lines(random, document["cost"], COST_KEYS)]
+    for key in ("partition", "window", "channel"):
+        for row in document.get(key, []):
+            lines += row_lines(random, key, row)
     return "\n".join(lines) + "\n"
 
 
 def row_lines(random, key, row):
     later = [name for name in ("hm", "port") if name in row and random.random() < 0.8]
-    lines = [f"[[{key}]]", *(f"{name} = {value_text(it)}" for name, it in shuffled(random, row) if name not in later)]
+    lines = [f"[[{key}]]", *key_lines(random, row, [name for name in row if name not in later])]
     if "hm" in later:
-        lines += [f"[{key}.hm]", *(f"{name} = {value_text(it)}" for name, it in row["hm"].items())]
+        lines += [f"[{key}.hm]", *key_lines(random, row["hm"], ERRORS)]
     if "port" in later:
         for port in row["port"]:
-            lines += [f"[[{key}.port]]", *(f"{name} = {value_text(it)}" for name, it in shuffled(random, port))]
+            lines += [f"[[{key}.port]]", *key_lines(random, port, port)]
     return lines
+
+
+def key_lines(random, table, keys):
+    return [f"{key} = {value_text(random, it)}" for key, it in shuffled(random, table) if key in keys]
 
 
 def shuffled(random, table):

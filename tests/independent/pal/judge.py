@@ -146,7 +146,7 @@ def word_lines(node):
 
 
 def lies_within(number, low, high):
-    """Whether the number is within its limits. One above 2^63 - 1 is judged by that alone, at its own place."""
+    """Whether the number is within its limits. One above 2^63 - 1 is judged by nothing else, at its own place."""
     return number.value > limits.GREATEST or low <= number.value <= high
 
 
@@ -230,7 +230,7 @@ def initial_data(program):
 
 
 def numbers_by_name(program, ports):
-    """What the name of an object, a process or a port stands for as an argument."""
+    """The number that the name of an object, a process or a port means as an argument."""
     numbers = {it.name.text: n for kind in OBJECT_KINDS for n, it in enumerate(program.of_kind(kind), 1)}
     numbers |= {it.name.text: n for n, it in enumerate(program.processes, 1)}
     known = {it.name: n for n, it in enumerate(ports, 1)}

@@ -2,7 +2,7 @@
 
 from collections import namedtuple
 
-# ---- expressions. A Name is read or written as a scalar; where another name stands, there is its Word.
+# ---- expressions. A Name is read or written as a scalar; any other name is a Word.
 
 Number = namedtuple("Number", "value line")
 Name = namedtuple("Name", "text line")
