@@ -2,8 +2,8 @@
 
 The edits of a crate are the blocks of its file `edits`, and the files in `must-fail`, which `rt ci` tries too. The ledger is a memory and no
 proof: it says which edits nothing has changed for since the prover refused them. So an edit's line is its name and a sum of its text, of the code,
-definitions and clauses of its crate, and of the definitions and clauses of each crate below, as `rt ci` left them in that crate's library. A
-proof takes of another crate no more than these. Written proofs do not count, nor do comments, breaks of lines and the place of the edit.
+definitions and clauses of its crate, and of what its crate can take of those below: the clauses that they export of what it names, and the
+definitions to which these lead (`promises.py`). Written proofs do not count, nor do comments, breaks of lines and the place of the edit.
 """
 
 import fcntl
@@ -18,6 +18,7 @@ from pathlib import Path
 # What a crate is, and what is below it, `rt` itself says.
 sys.path.insert(0, os.path.dirname(os.path.realpath(shutil.which("rt"))))
 import rtlib  # noqa: E402
+from promises import Library, taken, words_of  # noqa: E402
 
 ROOT = Path(__file__).resolve().parent.parent
 FILE = ROOT / "edits.tried"
@@ -114,30 +115,23 @@ def sum_of(texts):
     return hashlib.sha256("\0".join(texts).encode()).hexdigest()[:16]
 
 
-def text_of(file, folder):
-    """Returns the path of a file, and its words without lines of comment."""
-    lines = file.read_text().split("\n")
-    words = " ".join(it for it in lines if not it.lstrip().startswith(COMMENT[file.suffix])).split()
-    return f"{file.relative_to(folder)}\0{' '.join(words)}"
-
-
-def texts_of(folder, parts):
-    """Returns what counts of the code and the definitions below these parts of a folder."""
-    files = [it for part in parts for it in sorted((Path(folder) / part).rglob("*")) if it.suffix in COMMENT]
-    return [text_of(it, folder) for it in files]
+def texts_of(folder):
+    """Returns what counts of a crate's code and definitions: of each file its path and its words."""
+    files = [it for part in ("src", "specs") for it in sorted((Path(folder) / part).rglob("*")) if it.suffix in COMMENT]
+    return [f"{it.relative_to(folder)}\0{words_of(it.read_text(), COMMENT[it.suffix])}" for it in files]
 
 
 @functools.cache
-def promises_sum(library):
-    """Returns the sum of a library's definitions, and of its code without the bodies of functions, as `rt ci` left them."""
-    return sum_of(texts_of(library, ("lang/src", "lang/antt/specs")))
+def library(folder):
+    return Library(folder)
 
 
 @functools.cache
 def crate_sum(name):
     """Returns the sum of what the edits of a crate are tried on."""
     crate = next(it for it in crates() if it.name == name)
-    return sum_of([*texts_of(crate.folder, ("src", "specs")), *(promises_sum(it.rlib) for it in crate.below())])
+    own = texts_of(crate.folder)
+    return sum_of([*own, *taken("\0".join(own), {it.name: library(it.rlib) for it in crate.below()})])
 
 
 def sum_of_edit(edit):

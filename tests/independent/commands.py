@@ -1,128 +1,175 @@
-"""What the sub-commands do, over bytes. Each road answers the same questions."""
+"""The commands, as `mb` has them, over the files of a folder (COMMANDS.md)."""
+
+import functools
+import sys
+from pathlib import Path
 
 import limits
-from compiler import build
+from compiler import Compiler, build
 from device_text import read_devices, read_inputs
 from image import NEWEST, load_image, write_image
 from kernel.partition import Partition
 from meaning import SourceEngine
 from module import LonePartition, Module, Trace
-from pal.frames import constructs_of, frame_of, ticks_of
-from pal.judge import is_too_long, objects_of, process_rows, read_source
-from processor import NAMES, Machine
+from pal.grammar import number_of
+from pal.judge import objects_of, process_rows, read_source
+from processor import INSTRUCTIONS, Machine, ticks_of
 from refusal import Refusal
 from table import read_table
 
+# An expression of 64 levels is read by some thousand calls within each other.
+sys.setrecursionlimit(20_000)
 
-def accept(table_bytes, sources):
-    """The table and the programs, judged in the order of COMMANDS.md."""
-    table = read_table(table_bytes)
+
+def accept(table, sources):
+    """The table and the programs, judged in their order."""
+    table = read_table(table)
     if len(sources) != len(table.partitions):
         raise Refusal("sources")
     return table, [read_source(data, row) for data, row in zip(sources, table.partitions)]
 
 
-def build_image(table_bytes, sources):
-    return write_image(build(*accept(table_bytes, sources)))
-
-
-def upgrade(data):
-    image = load_image(data)
-    image.version = NEWEST
-    return write_image(image)
+def build_image(table, sources):
+    return write_image(build(*accept(table, sources)))
 
 
 class MeaningRoad:
     """Runs a module by the meaning of its sources."""
 
-    def __init__(self, table_bytes, sources):
-        self.table, self.programs = accept(table_bytes, sources)
-        for row, program in zip(self.table.partitions, self.programs):
-            if is_too_long(program):
-                raise Refusal(f"compile {row.name} 1")
+    def __init__(self, table, *sources):
+        self.table, self.programs = accept(table, sources)
+        build(self.table, self.programs)  # only for its refusal
 
     def make(self, number, schedule, trace):
         program, row = self.programs[number - 1], self.table.partitions[number - 1]
         engine = SourceEngine(program, row.ports, self.table.costs)
-        has_handler = program.handler is not None
-        return Partition(number, row, objects_of(program), process_rows(program), has_handler, engine, schedule, trace)
+        return Partition(number, row, objects_of(program), process_rows(program), program.handler is not None, engine, schedule, trace)
 
 
 class MachineRoad:
     """Runs an image."""
 
-    def __init__(self, data):
-        self.image = load_image(data)
+    def __init__(self, image):
+        self.image = load_image(image)
         self.table = self.image.table
 
     def make(self, number, schedule, trace):
         section, row = self.image.sections[number - 1], self.table.partitions[number - 1]
-        processes = [it for it, _ in section.processes]
-        engine = Machine(section, self.table.costs)
+        processes, engine = [it for it, _ in section.processes], Machine(section, self.table.costs)
         return Partition(number, row, section.objects, processes, section.handler is not None, engine, schedule, trace)
 
 
-def judge_ticks(ticks):
-    if ticks > limits.LONGEST_TIME:
-        raise Refusal("ticks")
+@functools.lru_cache(maxsize=2)
+def road_of(*files):
+    """That of an image, or that of a table and its sources. The last ones are kept, since most are run more than once."""
+    return MachineRoad(*files) if len(files) == 1 else MeaningRoad(*files)
 
 
-def run(road, devices, ticks):
-    trace = Trace()
-    module = Module(road.table, road.make, read_devices(devices, road.table), trace)
-    module.run(ticks)
-    return trace.text()
+class Folder:
+    """The commands over the files of a folder. In place of an image there may be a table and its sources, with commas between them."""
+
+    def __init__(self, path="."):
+        self.path = Path(path)
+
+    def read(self, name):
+        try:
+            return (self.path / name).read_bytes()
+        except OSError:
+            raise Refusal(f"file {name}") from None
+
+    def write(self, name, data):
+        (self.path / name).write_bytes(data)
+        return len(data)
+
+    def answer(self, words):
+        """What the command prints, or the line of its refusal."""
+        command, *words = words
+        try:
+            return COMMANDS[command](self, *words)
+        except Refusal as why:
+            return f"mb: {why.words}\n".encode("ascii")
+
+    def check(self, table, *sources):
+        build_image(self.read(table), [self.read(it) for it in sources])
+        return b"accepted\n"
+
+    def build(self, table, image, *sources):
+        return b"built %d bytes\n" % self.write(image, build_image(self.read(table), [self.read(it) for it in sources]))
+
+    def upgrade(self, old, new):
+        image = load_image(self.read(old))
+        image.version = NEWEST
+        return b"upgraded %d bytes\n" % self.write(new, write_image(image))
+
+    # ---- runs
+
+    def begin(self, image, text, ticks):
+        """The files are read first; then the ticks are judged, and then the image."""
+        *files, text = [self.read(it) for it in [*image.split(","), text]]
+        if number_of(ticks) > limits.LONGEST_TIME:
+            raise Refusal("ticks")
+        return road_of(*files), text, number_of(ticks)
+
+    def run(self, image, devices, ticks):
+        road, devices, ticks = self.begin(image, devices, ticks)
+        trace = Trace()
+        Module(road.table, road.make, read_devices(devices, road.table), trace).run(ticks)
+        return trace.text()
+
+    def inputs(self, image, partition, devices, ticks):
+        road, devices, ticks = self.begin(image, devices, ticks)
+        number = number_of_partition(road.table, partition)
+        module = Module(road.table, road.make, read_devices(devices, road.table), Trace(), watched=number)
+        module.run(ticks)
+        if len(module.inputs) > limits.LINES:
+            raise Refusal("inputs")
+        return "".join(module.inputs).encode("ascii")
+
+    def replay(self, image, partition, text, ticks):
+        road, text, ticks = self.begin(image, text, ticks)
+        number, trace = number_of_partition(road.table, partition), Trace()
+        lines = read_inputs(text, road.table.partitions[number - 1])
+        LonePartition(road.table, number, road.make, lines, trace).run(ticks)
+        return trace.text()
+
+    # ---- listings
+
+    def dis(self, image):
+        image, lines = load_image(self.read(image)), []
+        for row, section in zip(image.table.partitions, image.sections):
+            lines.append(f"partition {row.name}\n")
+            lines += [f"{n:05d} {name_of(opcode)} {x} {v}\n" for n, (opcode, x, v) in enumerate(section.code)]
+        return "".join(lines).encode("ascii")
+
+    def cost(self, table, *sources):
+        table, programs = accept(self.read(table), [self.read(it) for it in sources])
+        lines = [line for row, program in zip(table.partitions, programs) for line in cost_lines(row, program, table.costs)]
+        return "".join(lines).encode("ascii")
 
 
-def partition_of(road, name):
-    number = road.table.number_of(name)
+COMMANDS = {
+    "check": Folder.check, "build": Folder.build, "upgrade": Folder.upgrade, "run": Folder.run, "inputs": Folder.inputs,
+    "replay": Folder.replay, "dis": Folder.dis, "cost": Folder.cost,
+}
+
+
+def number_of_partition(table, name):
+    number = table.number_of(name)
     if number is None:
         raise Refusal("partition")
     return number
 
 
-def inputs(road, name, devices, ticks):
-    number = partition_of(road, name)
-    module = Module(road.table, road.make, read_devices(devices, road.table), Trace())
-    module.watch(number)
-    module.run(ticks)
-    if len(module.inputs) > limits.LINES:
-        raise Refusal("inputs")
-    return "".join(module.inputs).encode("ascii")
-
-
-def replay(road, name, text, ticks):
-    number = partition_of(road, name)
-    lines = read_inputs(text, road.table.partitions[number - 1])
-    trace = Trace()
-    LonePartition(road.table, number, road.make, lines, trace).run(ticks)
-    return trace.text()
-
-
-# ---- listings
-
-
-def dis(data):
-    image = load_image(data)
-    lines = []
-    for row, section in zip(image.table.partitions, image.sections):
-        lines.append(f"partition {row.name}\n")
-        lines += [f"{n:05d} {NAMES.get(opcode, f'?{opcode}')} {x} {v}\n" for n, (opcode, x, v) in enumerate(section.code)]
-    return "".join(lines).encode("ascii")
-
-
-def cost(table_bytes, sources):
-    table, programs = accept(table_bytes, sources)
-    lines = [line for row, it in zip(table.partitions, programs) for line in cost_lines(row, it, table.costs)]
-    return "".join(lines).encode("ascii")
+def name_of(opcode):
+    return INSTRUCTIONS[opcode].name if opcode in INSTRUCTIONS else f"?{opcode}"
 
 
 def cost_lines(row, program, costs):
-    runners = [("INIT", program.init)] + ([("HANDLER", program.handler)] if program.handler else [])
-    bodies = [(name, [], it.body, False) for name, it in [*runners, *((it.name.text, it) for it in program.processes)]]
-    bodies += [(it.name.text, it.parameters, it.body, True) for it in program.of_kind("proc")]
-    for name, parameters, body, is_procedure in bodies:
-        keys = list(constructs_of(body, is_procedure))
-        total = sum(ticks_of(it, costs) for it in keys)
-        frame = frame_of(parameters, body, is_procedure)
-        yield f"{row.name} {name} instructions {len(keys)} frame {frame} cost {total}\n"
+    section = Compiler(program, row.ports).section()
+    names = [it.name.text if it.name else "HANDLER" for it in [*program.runners(), *program.of_kind("proc")]]
+    bodies = [*section.bodies(), *section.routines]
+    ends = [*(it.entry for it in bodies[1:]), len(section.code)]
+    for name, body, end in zip(["INIT", *names[1:]], bodies, ends):
+        code = section.code[body.entry : end]
+        total = sum(ticks_of(it, costs) for it in code)
+        yield f"{row.name} {name} instructions {len(code)} frame {body.frame} cost {total}\n"

@@ -1,18 +1,15 @@
 """The second road begins here: a source becomes a section of the image (section 7 of PAL.md, PROCESSOR.md, IMAGE.md)."""
 
 import limits
-from image import Body, Image, Routine, Section
+from image import Code, Image, Routine, Section
 from pal.frames import frame_of
 from pal.judge import initial_data, numbers_by_name, objects_of, process_rows
-from pal.nodes import Assign, AssignElement, Ask, Call, Chain, Element, If, Name, Number, Parenthesis, Return, Unary, While, Work
-from processor import encode
+from pal.nodes import Assign, AssignElement, Ask, Call, Chain, Element, If, Name, Number, Return, Unary, While, Work
+from processor import OPCODES
 from refusal import Refusal
 from services import BY_NAME
 
-BINARY = {
-    "or": "OR", "and": "AND", "=": "EQ", "<>": "NE", "<": "LT", "<=": "LE", ">": "GT", ">=": "GE", "+": "ADD", "-": "SUB", "*": "MUL",
-    "/": "DIV", "%": "REM",
-}
+BINARY = dict(zip("or and = <> < <= > >= + - * / %".split(), "OR AND EQ NE LT LE GT GE ADD SUB MUL DIV REM".split()))
 UNARY = {"-": "NEG", "not": "NOT"}
 
 
@@ -21,10 +18,10 @@ class Compiler:
         self.program, self.code, self.slots = program, [], {}
         self.data, self.places = initial_data(program)
         self.numbers = numbers_by_name(program, ports)
-        self.routine_numbers = {it.name.text: n for n, it in enumerate(program.of_kind("proc"))}
+        self.routines = {it.name.text: n for n, it in enumerate(program.of_kind("proc"))}
 
     def emit(self, name, x=0, v=0):
-        self.code.append(encode(name, x, v))
+        self.code.append((OPCODES[name], x, v))
         return len(self.code) - 1
 
     def point(self, place):
@@ -36,24 +33,24 @@ class Compiler:
         program = self.program
         init = self.runner(program.init)
         handler = self.runner(program.handler) if program.handler else None
-        bodies = [self.runner(it) for it in program.processes]
-        routines = [self.routine(it) for it in program.of_kind("proc")]
-        processes = list(zip(process_rows(program), bodies))
+        processes = list(zip(process_rows(program), map(self.runner, program.processes)))
+        routines = [self.routine(it.body) for it in program.of_kind("proc")]
         return Section(self.data, objects_of(program), routines, processes, init, handler, self.code)
 
     def runner(self, runner):
-        entry = self.body([], runner.body)
+        entry = self.body(runner.body)
         self.emit("END")
-        return Body(runner.stack.value, entry, len(runner.body.local_names), frame_of([], runner.body, False))
+        return Code(runner.stack.value, entry, len(self.slots), frame_of(runner.body))
 
-    def routine(self, made):
-        entry = self.body(made.parameters, made.body)
+    def routine(self, body):
+        entry = self.body(body)
         self.emit("PUSH", v=0)
         self.emit("RET", len(self.slots))
-        return Routine(entry, len(made.parameters), len(self.slots), frame_of(made.parameters, made.body, True))
+        return Routine(entry, len(body.parameters), len(self.slots), frame_of(body))
 
-    def body(self, parameters, body):
-        self.slots = {it.text: n for n, it in enumerate([*parameters, *body.local_names])}
+    def body(self, body):
+        """Its entry."""
+        self.slots = {it.text: n for n, it in enumerate([*body.parameters, *body.local_names])}
         entry = len(self.code)
         self.statements(body.statements)
         return entry
@@ -68,11 +65,11 @@ class Compiler:
         match node:
             case Assign(name, value):
                 self.expression(value)
-                self.store(name.text)
-            case AssignElement(name, index, value):
+                self.scalar("ST", name.text)
+            case AssignElement(array, index, value):
                 self.expression(index)
                 self.expression(value)
-                self.emit("STA", *self.places[name.text])
+                self.emit("STA", *self.places[array.text])
             case If():
                 self.conditional(node)
             case While(test, body):
@@ -103,23 +100,22 @@ class Compiler:
 
     def service(self, node):
         row = BY_NAME[node.service]
-        for kind, argument in zip(row.arguments, node.arguments):
-            if kind == "e":
+        for kind, argument in zip(row.kinds, node.arguments):
+            if kind == "value":
                 self.expression(argument)
-            elif kind == "a":
-                for it in self.places[argument.text]:
-                    self.emit("PUSH", v=it)
             else:
-                self.emit("PUSH", v=self.numbers[argument.text])
+                for it in self.places[argument.text] if kind == "array" else [self.numbers[argument.text]]:
+                    self.emit("PUSH", v=it)
         self.emit("SVC", row.number)
         for it in node.targets:
-            self.store(it.text)
+            self.scalar("ST", it.text)
 
-    def store(self, name):
+    def scalar(self, way, name):
+        """Loads or stores a parameter, a local or a variable."""
         if name in self.slots:
-            self.emit("STL", self.slots[name])
+            self.emit(way + "L", self.slots[name])
         else:
-            self.emit("STG", self.places[name][0])
+            self.emit(way + "G", self.places[name][0])
 
     # ---- expressions
 
@@ -128,15 +124,10 @@ class Compiler:
             case Number(value, _):
                 self.emit("PUSH", v=value)
             case Name(text, _):
-                if text in self.slots:
-                    self.emit("LDL", self.slots[text])
-                else:
-                    self.emit("LDG", self.places[text][0])
-            case Parenthesis(inner):
-                self.expression(inner)
-            case Element(name, index):
+                self.scalar("LD", text)
+            case Element(array, index):
                 self.expression(index)
-                self.emit("LDA", *self.places[name.text])
+                self.emit("LDA", *self.places[array.text])
             case Unary(sign, operand):
                 self.expression(operand)
                 self.emit(UNARY[sign])
@@ -145,18 +136,17 @@ class Compiler:
                 for sign, it in rest:
                     self.expression(it)
                     self.emit(BINARY[sign])
-            case Call(name, arguments):
+            case Call(procedure, arguments):
                 for it in arguments:
                     self.expression(it)
-                self.emit("CALL", self.routine_numbers[name.text])
+                self.emit("CALL", self.routines[procedure.text])
 
 
 def build(table, programs):
     """The image of an accepted table and accepted sources."""
-    sections = []
+    image = Image(table)
     for row, program in zip(table.partitions, programs):
-        section = Compiler(program, row.ports).section()
-        if len(section.code) > limits.INSTRUCTIONS:
+        image.sections.append(Compiler(program, row.ports).section())
+        if len(image.sections[-1].code) > limits.INSTRUCTIONS:
             raise Refusal(f"compile {row.name} 1")
-        sections.append(section)
-    return Image(table, sections)
+    return image

@@ -62,13 +62,8 @@ def judge(line, before, count, room_of, has_part):
 
 
 def read_devices(data, table):
-    rooms = {it.name: words_of_channel(table, it) for it in table.channels if it.source == DEVICE}
+    rooms = {it.name: table.port(it.destinations[0]).words for it in table.channels if it.source == DEVICE}
     return read_lines(data, MSG, rooms.get, lambda name: table.number_of(name) is not None)
-
-
-def words_of_channel(table, channel):
-    number, port = channel.destinations[0]
-    return table.partitions[number - 1].ports[port - 1].words
 
 
 def read_inputs(data, row):

@@ -7,38 +7,42 @@ ticks, and what it does in the last of them.
 import limits
 from pal.frames import frame_of
 from pal.judge import initial_data, numbers_by_name
-from pal.nodes import Assign, AssignElement, Ask, Call, Chain, Element, If, Name, Number, Parenthesis, Return, Unary, While, Work
+from pal.nodes import Assign, AssignElement, Ask, Call, Chain, Element, If, Name, Number, Return, Unary, While, Work
 from services import BY_NAME
 
 
 class Fault(Exception):
     """The construct has an error."""
 
-    def __init__(self, error):
-        super().__init__(error)
-        self.error = error
-
 
 class Opened:
     """An open body: its values by name, its operands, its tasks, and how many words of the stack lie below it."""
 
-    def __init__(self, names, values, below, statements, is_procedure):
-        self.values = dict.fromkeys(names, 0) | values
-        self.below, self.is_procedure = below, is_procedure
+    def __init__(self, body, given, below):
+        self.values = dict.fromkeys((it.text for it in [*body.parameters, *body.local_names]), 0)
+        self.values |= zip((it.text for it in body.parameters), given)
+        self.below, self.is_procedure = below, body.is_procedure
         self.operands = []
-        self.tasks = [("close",), ("all", statements, 0)]
+        self.tasks = [("close",), ("all", body.statements, 0)]
 
     def kept(self):
         """The words that it keeps, with those below it, while it runs."""
         return self.below + len(self.values) + 2 + len(self.operands)
 
+    def pop(self, count):
+        """The last operands, which are taken away."""
+        place = len(self.operands) - count
+        found = self.operands[place:]
+        del self.operands[place:]
+        return found
+
 
 class Control:
     """What a body that was started has still to do."""
 
-    def __init__(self, source, body, stack):
-        self.source, self.stack = source, stack
-        self.opened = [Opened([it.text for it in body.local_names], {}, 0, body.statements, False)]
+    def __init__(self, source, runner):
+        self.source, self.stack = source, runner.stack.value
+        self.opened = [Opened(runner.body, [], 0)]
         self.spent, self.reply, self.pending = 0, None, None
         self.settle()
 
@@ -51,33 +55,35 @@ class Control:
     def settle(self):
         """Takes constructs apart until a priced one comes next."""
         while True:
-            task = self.top.tasks.pop()
-            if task[0] == "price":
-                self.pending = task[1:]
+            kind, *rest = self.top.tasks.pop()
+            if kind == "price":
+                self.pending = rest
                 return
-            getattr(self, "open_" + task[0])(*task[1:])
+            getattr(self, "open_" + kind)(*rest)
 
     def add(self, *tasks):
         """Tasks that come next, in this order."""
         self.top.tasks.extend(reversed(tasks))
 
     def price(self, key, effect):
-        ticks = key if isinstance(key, int) else self.source.costs[key]
-        return ("price", ticks, effect)
+        return ("price", self.source.costs[key], effect)
 
-    def wait(self):
+    def left(self):
+        """The ticks up to the last one of the construct that comes next, this one too."""
         return self.pending[0] - self.spent
+
+    def answer(self, words):
+        self.reply = list(words)
 
     def act(self):
         """The last tick of the construct that comes next."""
         try:
             request = self.pending[1]()
         except Fault as why:
-            return ("fault", why.error)
-        if request is not None and request[0] == "end":
-            return request
-        self.spent = 0
-        self.settle()
+            return ("fault", *why.args)
+        if request != ("end",):
+            self.spent = 0
+            self.settle()
         return request
 
     # ---- statements
@@ -90,14 +96,14 @@ class Control:
         match node:
             case Assign(name, value):
                 self.add(("value", value), self.price("scalar", lambda: self.put(name.text, self.pop())))
-            case AssignElement(name, index, value):
-                self.add(("value", index), ("value", value), self.price("array", lambda: self.put_element(name.text)))
+            case AssignElement(array, index, value):
+                self.add(("value", index), ("value", value), self.price("array", lambda: self.put_element(array.text)))
             case If():
                 self.add(("value", node.test), self.price("branch", lambda: self.branch(node)))
             case While():
                 self.add(("value", node.test), self.price("branch", lambda: self.round(node)))
             case Work(ticks, _):
-                self.add(self.price(ticks.value, lambda: None))
+                self.add(("price", ticks.value, lambda: None))
             case Return(value, _):
                 self.add(("value", value), self.price("return", self.give_back))
             case Ask():
@@ -118,36 +124,28 @@ class Control:
     def open_close(self):
         """The end of the body."""
         if self.top.is_procedure:
-            self.add(("value", Number(0, 0)), self.price("return", self.give_back))
+            self.open_statement(Return(Number(0, 0), 0))
         else:
             self.add(self.price("end", lambda: ("end",)))
 
     def give_back(self):
         value = self.pop()
         self.opened.pop()
-        self.top.operands.append(value)
+        self.push(value)
 
     # ---- services
 
     def open_service(self, node):
         row = BY_NAME[node.service]
-        tasks = [self.argument(kind, it) for kind, it in zip(row.arguments, node.arguments)]
-        flat = [it for group in tasks for it in group]
+        arguments = [task for kind, it in zip(row.kinds, node.arguments) for task in self.argument(kind, it)]
         targets = [self.price("scalar", lambda name=it.text: self.put(name, self.reply.pop(0))) for it in node.targets]
-        self.add(*flat, self.price(row.cost_key, lambda: self.call(row)), *targets)
+        self.add(*arguments, self.price(row.cost_key, lambda: ("call", row.number, self.top.pop(row.argument_words))), *targets)
 
     def argument(self, kind, node):
-        if kind == "e":
+        if kind == "value":
             return [("value", node)]
-        if kind == "a":
-            return [self.price("literal", lambda it=it: self.push(it)) for it in self.source.places[node.text]]
-        return [self.price("literal", lambda: self.push(self.source.numbers[node.text]))]
-
-    def call(self, row):
-        count = row.argument_words
-        words = self.top.operands[len(self.top.operands) - count :]
-        del self.top.operands[len(self.top.operands) - count :]
-        return ("call", row.number, words)
+        words = self.source.places[node.text] if kind == "array" else [self.source.numbers[node.text]]
+        return [self.price("literal", lambda it=it: self.push(it)) for it in words]
 
     # ---- values
 
@@ -175,11 +173,8 @@ class Control:
         return place + index
 
     def put_element(self, name):
-        value, index = self.pop(), self.pop()
+        index, value = self.top.pop(2)
         self.source.data[self.address(name, index)] = value
-
-    def take_element(self, name):
-        self.push(self.source.data[self.address(name, self.pop())])
 
     # ---- expressions
 
@@ -189,47 +184,34 @@ class Control:
                 self.add(self.price("literal", lambda: self.push(value)))
             case Name(text, _):
                 self.add(self.price("scalar", lambda: self.push(self.get(text))))
-            case Parenthesis(inner):
-                self.add(("value", inner))
-            case Element(name, index):
-                self.add(("value", index), self.price("array", lambda: self.take_element(name.text)))
+            case Element(array, index):
+                element = self.price("array", lambda: self.push(self.source.data[self.address(array.text, self.pop())]))
+                self.add(("value", index), element)
             case Unary(sign, operand):
-                self.add(("value", operand), self.price("logic", lambda: self.push(unary(sign, self.pop()))))
+                self.add(("value", operand), self.price("logic", lambda: self.push(UNARY[sign](self.pop()))))
             case Chain(first, rest):
                 self.add(("value", first), ("chain", rest, 0))
-            case Call(name, arguments):
-                self.add(*(("value", it) for it in arguments), self.price("call", lambda: self.enter(name.text)))
+            case Call(procedure, arguments):
+                self.add(*(("value", it) for it in arguments), self.price("call", lambda: self.enter(procedure.text)))
 
     def open_chain(self, rest, place):
         if place < len(rest):
             sign, operand = rest[place]
-            key = {"+": "add", "-": "add", "*": "mul", "/": "div", "%": "div"}.get(sign, "logic")
-            self.add(("value", operand), self.price(key, lambda: self.combine(sign)), ("chain", rest, place + 1))
-
-    def combine(self, sign):
-        right, left = self.pop(), self.pop()
-        self.push(binary(sign, left, right))
+            combined = self.price(SIGN_KEYS.get(sign, "logic"), lambda: self.push(BINARY[sign](*self.top.pop(2))))
+            self.add(("value", operand), combined, ("chain", rest, place + 1))
 
     def enter(self, name):
-        made = self.source.procedures[name]
-        operands, count = self.top.operands, len(made.parameters)
-        below = self.top.kept() - count
+        body = self.source.procedures[name]
+        below = self.top.kept() - len(body.parameters)
         if below + self.source.frames[name] > self.stack:
             raise Fault("STACK_OVERFLOW")
-        given = operands[len(operands) - count :]
-        del operands[len(operands) - count :]
-        values = dict(zip((it.text for it in made.parameters), given))
-        self.opened.append(Opened([it.text for it in made.body.local_names], values, below, made.body.statements, True))
+        self.opened.append(Opened(body, self.top.pop(len(body.parameters)), below))
 
 
 def fitting(value):
     if not limits.is_word(value):
         raise Fault("NUMERIC_ERROR")
     return value
-
-
-def unary(sign, value):
-    return fitting(-value) if sign == "-" else int(value == 0)
 
 
 def divided(left, right):
@@ -240,6 +222,8 @@ def divided(left, right):
     return quotient if (left < 0) == (right < 0) else -quotient
 
 
+SIGN_KEYS = {"+": "add", "-": "add", "*": "mul", "/": "div", "%": "div"}
+UNARY = {"-": lambda a: fitting(-a), "not": lambda a: int(a == 0)}
 BINARY = {
     "or": lambda a, b: int(a != 0 or b != 0),
     "and": lambda a, b: int(a != 0 and b != 0),
@@ -249,49 +233,23 @@ BINARY = {
     "<=": lambda a, b: int(a <= b),
     ">": lambda a, b: int(a > b),
     ">=": lambda a, b: int(a >= b),
-    "+": lambda a, b: a + b,
-    "-": lambda a, b: a - b,
-    "*": lambda a, b: a * b,
-    "/": divided,
+    "+": lambda a, b: fitting(a + b),
+    "-": lambda a, b: fitting(a - b),
+    "*": lambda a, b: fitting(a * b),
+    "/": lambda a, b: fitting(divided(a, b)),
     "%": lambda a, b: a - b * divided(a, b),
 }
 
 
-def binary(sign, left, right):
-    return fitting(BINARY[sign](left, right))
-
-
 class SourceEngine:
-    """Runs the bodies of one source. INIT is 0, a process has its number, and the handler is one more than the last of them."""
+    """What the bodies of one source share. INIT is 0, a process has its number, and the handler is one more than the last of them."""
 
     def __init__(self, program, ports, costs):
-        self.costs = costs
         self.initial, self.places = initial_data(program)
-        self.numbers = numbers_by_name(program, ports)
-        self.procedures = {it.name.text: it for it in program.of_kind("proc")}
-        self.frames = {name: frame_of(it.parameters, it.body, True) for name, it in self.procedures.items()}
-        self.runners = [program.init, *program.processes, *([program.handler] if program.handler else [])]
-        self.controls, self.data = {}, list(self.initial)
+        self.data, self.numbers, self.costs = list(self.initial), numbers_by_name(program, ports), costs
+        self.procedures = {it.name.text: it.body for it in program.of_kind("proc")}
+        self.frames = {name: frame_of(it) for name, it in self.procedures.items()}
+        self.runners = [program.init, *program.processes, program.handler]
 
-    def restore(self):
-        self.data[:] = self.initial
-
-    def begin(self, index):
-        runner = self.runners[index]
-        self.controls[index] = Control(self, runner.body, runner.stack.value)
-
-    def drop(self, index):
-        self.controls.pop(index, None)
-
-    def wait(self, index):
-        return self.controls[index].wait()
-
-    def spend(self, index, ticks):
-        self.controls[index].spent += ticks
-
-    def act(self, index):
-        return self.controls[index].act()
-
-    def answer(self, index, words):
-        if index in self.controls:
-            self.controls[index].reply = list(words)
+    def control(self, index):
+        return Control(self, self.runners[index])

@@ -83,7 +83,7 @@ class Clock:
 
     def has_moves(self, now):
         number = self.schedule.ended(now)
-        return number in self.partitions and any(it.is_source and it.messages for it in self.partitions[number].ports)
+        return number in self.partitions and self.partitions[number].has_messages()
 
     def next_waking(self, now):
         """The first tick in which something is due, where all partitions sleep."""
@@ -94,16 +94,12 @@ class Clock:
 class Module(Clock):
     """`make` makes a partition of its number, the schedule, and what takes the lines."""
 
-    def __init__(self, table, make, lines, trace):
+    def __init__(self, table, make, lines, trace, watched=None):
         super().__init__(Schedule(table.frame, table.windows), lines)
         self.table, self.trace = table, trace
+        self.watched, self.inputs = watched, []  # a partition, and what came to it
         self.partitions = {n: make(n, self.schedule, trace) for n in range(1, len(table.partitions) + 1)}
         self.channels = {it.source: it for it in table.channels if it.source != DEVICE}
-        self.watched, self.inputs = None, []
-
-    def watch(self, number):
-        """From now on, what comes to this partition is written down."""
-        self.watched = number
 
     def note(self, number, text):
         if self.watched is not None and number in (self.watched, None):
@@ -111,8 +107,7 @@ class Module(Clock):
 
     def act(self, now, what, name, words):
         if what == "MSG":
-            channel = next(it for it in self.table.channels if it.name == name)
-            for end in channel.destinations:
+            for end in next(it for it in self.table.channels if it.name == name).destinations:
                 self.arrive(now, end, words)
         elif name is not None:
             number = self.table.number_of(name)
@@ -125,8 +120,7 @@ class Module(Clock):
 
     def arrive(self, now, end, words):
         number, port = end
-        name = self.table.partitions[number - 1].ports[port - 1].name
-        self.note(number, f"{now} ARRIVE {name} {' '.join(map(str, words))}\n")
+        self.note(number, f"{now} ARRIVE {self.table.port(end).name} {' '.join(map(str, words))}\n")
         self.partitions[number].arrive(now, port, words)
 
     def send(self, now, number, port, words):
@@ -142,8 +136,7 @@ class LonePartition(Clock):
     """One partition with its replay text. Of the module it knows only its slice."""
 
     def __init__(self, table, number, make, lines, trace):
-        own = [it for it in table.windows if it.partition == number]
-        super().__init__(Schedule(table.frame, own), lines)
+        super().__init__(Schedule(table.frame, table.windows_of(number)), lines)
         self.action, self.number, self.trace = table.action, number, trace
         self.name = table.partitions[number - 1].name
         self.ports = {it.name: n for n, it in enumerate(table.partitions[number - 1].ports, 1)}

@@ -1,99 +1,105 @@
-"""The services of section 6 of PAL.md: number, arguments, outputs, and the key of the cost."""
+"""The services, as section 6 of PAL.md lists them: their numbers count from 1."""
 
+import re
 from dataclasses import dataclass
 
-# One a line: name, the kinds of its arguments, the count of its outputs. `e` is an expression, `a` an array.
 TEXT = """
-GET_PARTITION_STATUS - 6
-SET_PARTITION_MODE e 0
-GET_PROCESS_ID process 1
-GET_PROCESS_STATUS e 3
-CREATE_PROCESS process 1
-SET_PRIORITY e,e 0
-SUSPEND_SELF e 0
-SUSPEND e 0
-RESUME e 0
-STOP_SELF - -
-STOP e 0
-START e 0
-DELAYED_START e,e 0
-LOCK_PREEMPTION - 1
-UNLOCK_PREEMPTION - 1
-GET_MY_ID - 1
-TIMED_WAIT e 0
-PERIODIC_WAIT - 0
-GET_TIME - 1
-REPLENISH e 0
-CREATE_BUFFER buffer 1
-SEND_BUFFER e,a,e,e 0
-RECEIVE_BUFFER e,a,e 1
-GET_BUFFER_ID buffer 1
-GET_BUFFER_STATUS e 4
-CREATE_BLACKBOARD blackboard 1
-DISPLAY_BLACKBOARD e,a,e 0
-READ_BLACKBOARD e,a,e 1
-CLEAR_BLACKBOARD e 0
-GET_BLACKBOARD_ID blackboard 1
-GET_BLACKBOARD_STATUS e 3
-CREATE_SEMAPHORE semaphore 1
-WAIT_SEMAPHORE e,e 0
-SIGNAL_SEMAPHORE e 0
-GET_SEMAPHORE_ID semaphore 1
-GET_SEMAPHORE_STATUS e 3
-CREATE_EVENT event 1
-SET_EVENT e 0
-RESET_EVENT e 0
-WAIT_EVENT e,e 0
-GET_EVENT_ID event 1
-GET_EVENT_STATUS e 2
-CREATE_SAMPLING_PORT port 1
-WRITE_SAMPLING_MESSAGE e,a,e 0
-READ_SAMPLING_MESSAGE e,a 2
-GET_SAMPLING_PORT_ID port 1
-GET_SAMPLING_PORT_STATUS e 4
-CREATE_QUEUING_PORT port 1
-SEND_QUEUING_MESSAGE e,a,e,e 0
-RECEIVE_QUEUING_MESSAGE e,a,e 1
-GET_QUEUING_PORT_ID port 1
-GET_QUEUING_PORT_STATUS e 5
-CLEAR_QUEUING_PORT e 0
-REPORT_APPLICATION_MESSAGE a,e 0
-CREATE_ERROR_HANDLER - 0
-GET_ERROR_STATUS a 3
-RAISE_APPLICATION_ERROR e,a,e 0
+GET_PARTITION_STATUS() -> code, id, period, duration, lock_level, mode, start_condition;
+SET_PARTITION_MODE(mode) -> code;
+GET_PROCESS_ID(process) -> code, id;
+GET_PROCESS_STATUS(id) -> code, state, priority, deadline;
+CREATE_PROCESS(process) -> code, id;
+SET_PRIORITY(id, priority) -> code;
+SUSPEND_SELF(time_out) -> code;
+SUSPEND(id) -> code;
+RESUME(id) -> code;
+STOP_SELF();
+STOP(id) -> code;
+START(id) -> code;
+DELAYED_START(id, delay) -> code;
+LOCK_PREEMPTION() -> code, level;
+UNLOCK_PREEMPTION() -> code, level;
+GET_MY_ID() -> code, id;
+TIMED_WAIT(delay) -> code;
+PERIODIC_WAIT() -> code;
+GET_TIME() -> code, time;
+REPLENISH(budget) -> code;
+CREATE_BUFFER(buffer) -> code, id;
+SEND_BUFFER(id, array, length, time_out) -> code;
+RECEIVE_BUFFER(id, array, time_out) -> code, length;
+GET_BUFFER_ID(buffer) -> code, id;
+GET_BUFFER_STATUS(id) -> code, messages, depth, words, waiting;
+CREATE_BLACKBOARD(blackboard) -> code, id;
+DISPLAY_BLACKBOARD(id, array, length) -> code;
+READ_BLACKBOARD(id, array, time_out) -> code, length;
+CLEAR_BLACKBOARD(id) -> code;
+GET_BLACKBOARD_ID(blackboard) -> code, id;
+GET_BLACKBOARD_STATUS(id) -> code, indicator, words, waiting;
+CREATE_SEMAPHORE(semaphore) -> code, id;
+WAIT_SEMAPHORE(id, time_out) -> code;
+SIGNAL_SEMAPHORE(id) -> code;
+GET_SEMAPHORE_ID(semaphore) -> code, id;
+GET_SEMAPHORE_STATUS(id) -> code, value, maximum, waiting;
+CREATE_EVENT(event) -> code, id;
+SET_EVENT(id) -> code;
+RESET_EVENT(id) -> code;
+WAIT_EVENT(id, time_out) -> code;
+GET_EVENT_ID(event) -> code, id;
+GET_EVENT_STATUS(id) -> code, state, waiting;
+CREATE_SAMPLING_PORT(port) -> code, id;
+WRITE_SAMPLING_MESSAGE(id, array, length) -> code;
+READ_SAMPLING_MESSAGE(id, array) -> code, length, validity;
+GET_SAMPLING_PORT_ID(port) -> code, id;
+GET_SAMPLING_PORT_STATUS(id) -> code, words, direction, refresh, validity;
+CREATE_QUEUING_PORT(port) -> code, id;
+SEND_QUEUING_MESSAGE(id, array, length, time_out) -> code;
+RECEIVE_QUEUING_MESSAGE(id, array, time_out) -> code, length;
+GET_QUEUING_PORT_ID(port) -> code, id;
+GET_QUEUING_PORT_STATUS(id) -> code, messages, depth, words, direction, waiting;
+CLEAR_QUEUING_PORT(id) -> code;
+REPORT_APPLICATION_MESSAGE(array, length) -> code;
+CREATE_ERROR_HANDLER() -> code;
+GET_ERROR_STATUS(array) -> code, error, id, length;
+RAISE_APPLICATION_ERROR(error, array, length) -> code;
 """
+# An argument of this name is the name of one that is declared, and `array` is an array; every other one is an expression.
+DECLARED = ("process", "semaphore", "event", "buffer", "blackboard", "port")
+FORM = re.compile(r"([A-Z_]+)\((.*)\)(?: -> (.*))?;")
 
 
 @dataclass(frozen=True)
 class Service:
     number: int
     name: str
-    arguments: tuple  # "e", "a", or the kind of a declared name
-    outputs: int
-    has_answer: bool
+    arguments: tuple
+    answer_words: int  # the code and the outputs
 
     @property
-    def answer_words(self):
-        return 1 + self.outputs if self.has_answer else 0
+    def kinds(self):
+        """Of each argument: "array", the kind of a declared name, or "value"."""
+        return tuple(it if it == "array" or it in DECLARED else "value" for it in self.arguments)
+
+    @property
+    def outputs(self):
+        return self.answer_words - 1
 
     @property
     def argument_words(self):
-        return sum(2 if it == "a" else 1 for it in self.arguments)
+        return len(self.arguments) + self.arguments.count("array")
 
     @property
     def cost_key(self):
         if self.name.startswith("CREATE_"):
             return "create"
-        return "message" if "a" in self.arguments else "service"
+        return "message" if "array" in self.arguments else "service"
 
 
 def row_of(number, line):
-    name, arguments, outputs = line.split()
-    kinds = () if arguments == "-" else tuple(arguments.split(","))
-    return Service(number, name, kinds, 0 if outputs == "-" else int(outputs), outputs != "-")
+    name, arguments, targets = FORM.fullmatch(line).groups()
+    return Service(number, name, tuple(filter(None, arguments.split(", "))), len(targets.split(", ")) if targets else 0)
 
 
-SERVICES = tuple(row_of(n, line) for n, line in enumerate(TEXT.split("\n")[1:-1], 1))
+SERVICES = tuple(row_of(n, line) for n, line in enumerate(TEXT.strip().splitlines(), 1))
 BY_NAME = {it.name: it for it in SERVICES}
 
 

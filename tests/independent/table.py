@@ -9,8 +9,6 @@ from refusal import Refusal
 from toml_text import NoDocument, read
 
 NAME = re.compile(r"[a-z][a-z0-9_]{0,29}")
-PORT_KEYS = {"name": "text", "kind": "text", "direction": "text", "words": "integer"}
-KIND_KEYS = {"SAMPLING": {"refresh": "integer"}, "QUEUING": {"depth": "integer", "discipline": "text"}}
 
 
 def read_table(data):
@@ -19,60 +17,60 @@ def read_table(data):
         document = read(data)
     except NoDocument:
         raise Refusal("table 1") from None
-    for number, rule in RULES.items():
-        if not rule(document):
+    judge(document, {2: has_shape, 3: keeps_limits, 4: names_fit})
+    table = table_of(document)
+    judge(table, RULES | {10: health_fits})
+    return table
+
+
+def judge(value, rules):
+    for number, rule in rules.items():
+        if not rule(value):
             raise Refusal(f"table {number}")
-    return table_of(document)
 
 
-# ---- 2: the shape
+# ---- 2: the shape. A table has these keys and no other, and each has its type. A key with a question mark may be absent.
+
+SHAPE = {"frame": int, "fault": str, "cost?": dict, "partition": list, "window": list, "channel?": list}
+PARTITION = {"name": str, "period": int, "duration": int, "hm": dict, "port?": list}
+WINDOW = {"partition": str, "offset": int, "length": int, "release": bool}
+CHANNEL = {"name": str, "source": str, "destinations": list}
+PORT = {"name": str, "kind": str, "direction": str, "words": int}
+PORT_KINDS = {"SAMPLING": PORT | {"refresh": int}, "QUEUING": PORT | {"depth": int, "discipline": str}}
 
 
 def is_of(kind, value):
-    types = {"integer": int, "text": str, "boolean": bool, "table": dict, "array": list}
-    return isinstance(value, types[kind]) and (kind == "boolean" or not isinstance(value, bool))
+    return isinstance(value, kind) and (kind is bool or not isinstance(value, bool))
 
 
-def has_keys(value, keys, may_be_absent=()):
-    """Whether the value is a table with these keys, each of its type, and no other."""
-    if not isinstance(value, dict) or set(value) - set(keys):
+def has_keys(value, keys):
+    if not isinstance(value, dict) or set(value) - {it.rstrip("?") for it in keys}:
         return False
-    return all(is_of(kind, value[key]) if key in value else key in may_be_absent for key, kind in keys.items())
+    return all(is_of(kind, value[key.rstrip("?")]) if key.rstrip("?") in value else key.endswith("?") for key, kind in keys.items())
 
 
 def has_shape(document):
-    keys = {"frame": "integer", "fault": "text", "cost": "table", "partition": "array", "window": "array", "channel": "array"}
     return (
-        has_keys(document, keys, ("cost", "channel"))
-        and ("cost" not in document or has_keys(document["cost"], dict.fromkeys(COST_KEYS, "integer")))
+        has_keys(document, SHAPE)
+        and ("cost" not in document or has_keys(document["cost"], dict.fromkeys(COST_KEYS, int)))
         and all(map(has_partition_shape, document["partition"]))
-        and all(has_keys(it, {"partition": "text", "offset": "integer", "length": "integer", "release": "boolean"}) for it in document["window"])
-        and all(map(has_channel_shape, document.get("channel", [])))
+        and all(has_keys(it, WINDOW) for it in document["window"])
+        and all(has_keys(it, CHANNEL) and are_texts(it["destinations"]) for it in document.get("channel", []))
     )
+
+
+def are_texts(values):
+    return all(isinstance(it, str) for it in values)
 
 
 def has_partition_shape(row):
-    keys = {"name": "text", "period": "integer", "duration": "integer", "hm": "table", "port": "array"}
-    return (
-        has_keys(row, keys, ("port",))
-        and all(isinstance(it, str) for it in row["hm"].values())
-        and all(map(has_port_shape, row.get("port", [])))
-    )
+    return has_keys(row, PARTITION) and are_texts(row["hm"].values()) and all(map(has_port_shape, row.get("port", [])))
 
 
 def has_port_shape(port):
-    if not isinstance(port, dict) or port.get("kind") not in KINDS:
+    if not isinstance(port, dict) or port.get("kind") not in KINDS or not has_keys(port, PORT_KINDS[port["kind"]]):
         return False
-    return (
-        has_keys(port, PORT_KEYS | KIND_KEYS[port["kind"]])
-        and port["direction"] in DIRECTIONS
-        and port.get("discipline", "FIFO") in DISCIPLINES
-    )
-
-
-def has_channel_shape(channel):
-    keys = {"name": "text", "source": "text", "destinations": "array"}
-    return has_keys(channel, keys) and all(isinstance(it, str) for it in channel["destinations"])
+    return port["direction"] in DIRECTIONS and port.get("discipline", "FIFO") in DISCIPLINES
 
 
 # ---- 3: limits
@@ -124,138 +122,97 @@ def are_different(rows):
     return len(set(names)) == len(names)
 
 
-def ends_of(channel):
-    return [channel["source"], *channel["destinations"]]
-
-
-def end_of(document, text):
-    """The end that the text names, (partition, port) from 1 or DEVICE; None if it names none."""
-    if text == "DEVICE":
-        return DEVICE
+def ends_by_name(document):
+    """All ends of channels, (partition, port) from 1 or DEVICE, by their names."""
+    found = {"DEVICE": DEVICE}
     for number, row in enumerate(document["partition"], 1):
-        for place, port in enumerate(row.get("port", []), 1):
-            if text == f"{row['name']}.{port['name']}":
-                return number, place
-    return None
+        found |= {f"{row['name']}.{port['name']}": (number, place) for place, port in enumerate(row.get("port", []), 1)}
+    return found
 
 
 def names_fit(document):
     partitions, channels = document["partition"], document.get("channel", [])
-    names = {it["name"] for it in partitions}
+    names, ends = {it["name"] for it in partitions}, ends_by_name(document)
     return (
         are_different(partitions)
         and are_different(channels)
         and all(are_different(it.get("port", [])) for it in partitions)
         and all(it["partition"] in names for it in document["window"])
-        and all(end_of(document, end) is not None for it in channels for end in ends_of(it))
+        and all(end in ends for it in channels for end in [it["source"], *it["destinations"]])
     )
+
+
+def table_of(document):
+    """The value of a document that keeps the rules up to here."""
+    rows = [
+        PartitionRow(it["name"], it["period"], it["duration"], it["hm"], [Port(**port) for port in it.get("port", [])])
+        for it in document["partition"]
+    ]
+    table = Table(document["frame"], document["fault"], document.get("cost", WRITTEN_COSTS), rows)
+    table.windows = [Window(table.number_of(it["partition"]), it["offset"], it["length"], it["release"]) for it in document["window"]]
+    ends = ends_by_name(document)
+    table.channels = [Channel(it["name"], ends[it["source"]], [ends[end] for end in it["destinations"]]) for it in document.get("channel", [])]
+    return table
 
 
 # ---- 5 to 10
 
 
-def windows_stand_apart(document):
-    end = 0
-    for window in document["window"]:
-        if window["offset"] < end:
-            return False
-        end = window["offset"] + window["length"]
-        if end > document["frame"]:
-            return False
-    return True
+def windows_lie_apart(table):
+    begins, ends = [it.offset for it in table.windows], [it.end for it in table.windows]
+    return all(begin >= end for begin, end in zip(begins[1:], ends)) and ends[-1] <= table.frame
 
 
-def periods_fit(document):
-    return all(document["frame"] % it["period"] == 0 for it in document["partition"])
+def periods_fit(table):
+    return all(table.frame % it.period == 0 for it in table.partitions)
+
+
+def durations_fit(table):
+    return all(has_its_duration(table, n) for n in range(1, len(table.partitions) + 1))
+
+
+def has_its_duration(table, number):
+    windows, row = table.windows_of(number), table.partitions[number - 1]
+    if row.duration == 0:
+        return True
+    # A period that meets no window of its partition offers nothing; only those that meet one are counted.
+    met = {k for it in windows for k in range(it.offset // row.period, (it.end - 1) // row.period + 1)}
+    is_met = len(met) == table.frame // row.period
+    return is_met and all(ticks_within(windows, k * row.period, (k + 1) * row.period) >= row.duration for k in met)
 
 
 def ticks_within(windows, low, high):
-    return sum(max(0, min(high, it["offset"] + it["length"]) - max(low, it["offset"])) for it in windows)
+    return sum(max(0, min(high, it.end) - max(low, it.offset)) for it in windows)
 
 
-def durations_fit(document):
-    return all(has_its_duration(document, it) for it in document["partition"])
+def have_release(table):
+    return all(any(it.release for it in table.windows_of(n)) for n in range(1, len(table.partitions) + 1))
 
 
-def has_its_duration(document, row):
-    windows, period = [it for it in document["window"] if it["partition"] == row["name"]], row["period"]
-    if row["duration"] == 0:
-        return True
-    # A period without a window of its own offers nothing; only those that some window meets are counted.
-    met = {k for it in windows for k in range(it["offset"] // period, (it["offset"] + it["length"] - 1) // period + 1)}
-    if len(met) < document["frame"] // period:
-        return False
-    return all(ticks_within(windows, k * period, (k + 1) * period) >= row["duration"] for k in met)
+def channels_fit(table):
+    used = [end for it in table.channels for end in it.ends if end != DEVICE]
+    return len(set(used)) == len(used) and all(channel_fits(table, it) for it in table.channels)
 
 
-def have_release(document):
-    released = {it["partition"] for it in document["window"] if it["release"]}
-    return all(it["name"] in released for it in document["partition"])
-
-
-def channels_fit(document):
-    channels = document.get("channel", [])
-    ends = [end_of(document, end) for it in channels for end in ends_of(it)]
-    used = [it for it in ends if it != DEVICE]
-    return len(set(used)) == len(used) and all(channel_fits(document, it) for it in channels)
-
-
-def port_at(document, end):
-    return document["partition"][end[0] - 1]["port"][end[1] - 1]
-
-
-def channel_fits(document, channel):
-    source, *destinations = (end_of(document, end) for end in ends_of(channel))
-    return ends_fit(source, destinations, lambda end: port_at(document, end).get)
-
-
-def ends_fit(source, destinations, port):
-    """The rules of one channel. `port` answers what a port has under a key."""
-    inner = [it for it in destinations if it != DEVICE]
-    ports = [it for it in [source, *destinations] if it != DEVICE]
-    if [source, *destinations].count(DEVICE) > 1 or any(it[0] == source[0] for it in inner):
-        return False
-    if source != DEVICE and port(source)("direction") != "SOURCE":
-        return False
-    if any(port(it)("direction") != "DESTINATION" for it in inner):
-        return False
-    if len({(port(it)("kind"), port(it)("words")) for it in ports}) > 1:
-        return False
-    return port(ports[0])("kind") == "SAMPLING" or len(destinations) == 1
-
-
-def health_fits(document):
-    return document["fault"] in MODULE_ACTIONS and all(
-        set(it["hm"]) == set(ERRORS) and all(action in PARTITION_ACTIONS for action in it["hm"].values()) for it in document["partition"]
+def channel_fits(table, channel):
+    inner = [it for it in channel.destinations if it != DEVICE]
+    sources, destinations = [table.port(it) for it in [channel.source] if it != DEVICE], [table.port(it) for it in inner]
+    ports = sources + destinations
+    return (
+        channel.ends.count(DEVICE) <= 1
+        and all(it[0] != channel.source[0] for it in inner)
+        and all(it.direction == "SOURCE" for it in sources)
+        and all(it.direction == "DESTINATION" for it in destinations)
+        and len({(it.kind, it.words) for it in ports}) == 1
+        and (ports[0].kind == "SAMPLING" or len(channel.destinations) == 1)
     )
 
 
-RULES = {
-    2: has_shape,
-    3: keeps_limits,
-    4: names_fit,
-    5: windows_stand_apart,
-    6: periods_fit,
-    7: durations_fit,
-    8: have_release,
-    9: channels_fit,
-    10: health_fits,
-}
+def health_fits(table):
+    return table.action in MODULE_ACTIONS and all(
+        set(it.actions) == set(ERRORS) and all(action in PARTITION_ACTIONS for action in it.actions.values()) for it in table.partitions
+    )
 
 
-# ---- the value
-
-
-def table_of(document):
-    rows = [
-        PartitionRow(it["name"], it["period"], it["duration"], dict(it["hm"]), [Port(**port) for port in it.get("port", [])])
-        for it in document["partition"]
-    ]
-    numbers = {it.name: n for n, it in enumerate(rows, 1)}
-    windows = [Window(numbers[it["partition"]], it["offset"], it["length"], it["release"]) for it in document["window"]]
-    channels = [
-        Channel(it["name"], end_of(document, it["source"]), [end_of(document, end) for end in it["destinations"]])
-        for it in document.get("channel", [])
-    ]
-    costs = dict(document.get("cost", WRITTEN_COSTS))
-    return Table(document["frame"], document["fault"], costs, rows, windows, channels)
+# Those that the loader of an image judges too.
+RULES = {5: windows_lie_apart, 6: periods_fit, 7: durations_fit, 8: have_release, 9: channels_fit}

@@ -1,10 +1,10 @@
 """A partition's kernel: what is kept, a tick, and the steps that several services share (KERNEL.md)."""
 
 import limits
-from kernel.asked import ASKED
-from kernel.records import A_DELAY, A_LIST, A_RELEASE, A_RESUME, COLD_START, DORMANT, HM_PARTITION_RESTART, IDLE, NORMAL, NORMAL_START
-from kernel.records import INVALID_MODE, NOTHING, NOT_AVAILABLE, NO_ERROR, PARTITION_RESTART, READY, RUNNING, THE_START, TIMED_OUT, WAITING
-from kernel.records import BlackboardState, BufferState, EventState, PortState, Refused, Runner, SemaphoreState, Waiter, refuse
+from kernel.asked import Call
+from kernel.records import A_DELAY, A_LIST, A_RELEASE, A_RESUME, COLD_START, DORMANT, HM_PARTITION_RESTART, IDLE, INVALID_MODE, NO_ERROR, NORMAL
+from kernel.records import NORMAL_START, NOT_AVAILABLE, NOTHING, PARTITION_RESTART, READY, RUNNING, THE_START, TIMED_OUT, WAITING
+from kernel.records import Held, Refused, Runner, Waiter, refuse
 from model import ERRORS
 from services import service
 
@@ -12,22 +12,19 @@ FOREVER = float("inf")
 
 
 class Partition:
-    """The kernel of one partition over an engine that runs its bodies.
+    """The kernel of one partition over an engine.
 
-    The engine knows INIT as 0, the processes as their numbers, and the handler as one more than the last of them.
+    The engine has the data, and makes the control of a body: how many ticks its next construct has left, its last tick, and what it is answered.
     """
 
     def __init__(self, number, row, objects, processes, has_handler, engine, schedule, tell):
         self.number, self.row, self.engine, self.schedule, self.write = number, row, engine, schedule, tell
         self.init = Runner("INIT", 0)
         self.processes = [Runner(it.name, n, n, it.priority, it.period, it.capacity) for n, it in enumerate(processes, 1)]
-        self.handler = Runner("HANDLER", len(processes) + 1)
-        self.has_handler = has_handler
-        self.semaphores = [SemaphoreState(it) for it in objects.semaphores]
-        self.events = [EventState() for _ in range(objects.events)]
-        self.buffers = [BufferState(it) for it in objects.buffers]
-        self.blackboards = [BlackboardState(it) for it in objects.blackboards]
-        self.ports = [PortState(n, it) for n, it in enumerate(row.ports, 1)]
+        self.handler, self.has_handler = Runner("HANDLER", len(processes) + 1), has_handler
+        self.objects = {kind: [Held(it) for it in rows] for kind, rows in objects.items()}
+        self.ports = [Held(it, n) for n, it in enumerate(row.ports, 1)]
+        self.sources = [it for it in self.ports if it.is_source]
         self.mode, self.condition = IDLE, NORMAL_START
         self.order, self.running, self.holder, self.lock_level = [], None, None, 0
         self.errors = []  # (error, process number, words)
@@ -48,11 +45,11 @@ class Partition:
             self.spend_tick()
 
     def spend_tick(self):
-        runner, engine = self.running, self.engine
-        if engine.wait(runner.index) > 1:
-            engine.spend(runner.index, 1)
+        runner = self.running
+        if runner.control.left() > 1:
+            runner.control.spent += 1
             return
-        request = engine.act(runner.index)
+        request = runner.control.act()
         if request is not None:
             self.earliest = None
             getattr(self, request[0])(runner, *request[1:])
@@ -62,11 +59,11 @@ class Partition:
         left = self.next_due() - now
         if left <= 0 or self.handler_is_wanted() or self.choice() is not self.running:
             return 0
-        return left if self.running is None else min(left, self.engine.wait(self.running.index) - 1)
+        return left if self.running is None else min(left, self.running.control.left() - 1)
 
     def spend(self, ticks):
         if self.running is not None:
-            self.engine.spend(self.running.index, ticks)
+            self.running.control.spent += ticks
 
     def next_due(self):
         if self.earliest is None:
@@ -76,7 +73,11 @@ class Partition:
 
     def sleeps(self):
         """Whether nothing can happen before something is due or comes from outside."""
-        return not self.handler_is_wanted() and self.choice() is None and not any(it.is_source and it.messages for it in self.ports)
+        return not self.handler_is_wanted() and self.choice() is None and not self.has_messages()
+
+    def has_messages(self):
+        """Whether its source ports have some to move."""
+        return any(it.messages for it in self.sources)
 
     # ---- what is due
 
@@ -92,7 +93,7 @@ class Partition:
 
     def treat_due_time(self, runner):
         if runner.waits_for == A_RELEASE:
-            self.release(runner, runner.due, NO_ERROR)
+            self.release(runner, runner.due)
             return
         code = NO_ERROR if runner.waits_for == A_DELAY else TIMED_OUT
         if runner.waits_for == A_RESUME:
@@ -113,7 +114,7 @@ class Partition:
 
     def start_handler(self):
         if self.handler_is_wanted():
-            self.engine.begin(self.handler.index)
+            self.begin(self.handler)
             self.enter(self.handler, READY)
 
     def choice(self):
@@ -142,9 +143,9 @@ class Partition:
     def call(self, runner, number, arguments):
         row = service(number)
         try:
-            ASKED[number](self, runner, *arguments)
+            Call(self, runner, row).serve(arguments)
         except Refused as why:
-            self.returns(runner, row, why.code)
+            self.returns(runner, row, *why.args)
 
     def fault(self, runner, error):
         self.become_dormant(runner)
@@ -156,30 +157,39 @@ class Partition:
         else:
             self.become_dormant(runner)
 
-    def returns(self, runner, row, code, outputs=None):
+    def returns(self, runner, row, code, outputs=()):
         """A service ends: its line, and its answer to the caller."""
         self.tell(f"RET {runner.name} {row.name} {code}")
-        self.engine.answer(runner.index, [code, *(outputs or [0] * row.outputs)])
+        if runner.control is not None:
+            runner.control.answer([code, *(outputs or [0] * row.outputs)])
 
     # ---- states
+
+    def begin(self, runner):
+        runner.control = self.engine.control(runner.index)
 
     def enter(self, runner, state):
         runner.state = state
         self.tell(f"STATE {runner.name} {state}")
 
     def become_ready(self, runner):
-        """It goes behind all of its own or a higher priority. One that is suspended waits on."""
+        """It goes after all of its own or a higher priority. One that is suspended waits on."""
         runner.forget_wait()
-        if runner.suspended:
-            return
-        self.line_up(runner)
-        self.enter(runner, READY)
+        if not runner.suspended:
+            self.line_up(runner)
+            self.enter(runner, READY)
 
     def line_up(self, runner):
         place = len(self.order)
         while place and self.order[place - 1].priority < runner.priority:
             place -= 1
         self.order.insert(place, runner)
+
+    def go_last(self, runner):
+        """A ready or running process goes after all of its priority."""
+        if runner in self.order:
+            self.order.remove(runner)
+            self.line_up(runner)
 
     def leave_order(self, runner):
         if runner in self.order:
@@ -197,7 +207,10 @@ class Partition:
         self.begin_to_wait(runner, what, due, asked)
         self.tell(f"STATE {runner.name} WAITING")
 
-    def end_wait(self, runner, code, outputs=None):
+    def time_of(self, time_out):
+        return None if time_out == -1 else self.now + time_out
+
+    def end_wait(self, runner, code, outputs=()):
         """The service that it waits in ends, and it is ready."""
         if runner.waits_in is not None:
             self.returns(runner, runner.waits_in, code, outputs)
@@ -210,51 +223,94 @@ class Partition:
         if self.holder is runner:
             self.holder, self.lock_level = None, 0
         runner.forget_wait()
-        runner.deadline, runner.suspended = None, False
-        self.engine.drop(runner.index)
+        runner.deadline, runner.suspended, runner.control = None, False, None
         self.enter(runner, DORMANT)
 
-    def release(self, runner, tick, code=NO_ERROR):
+    def release(self, runner, tick):
         runner.last_release = tick
         runner.deadline = None if runner.capacity == -1 else tick + runner.capacity
-        self.end_wait(runner, code)
+        self.end_wait(runner, NO_ERROR)
+
+    def resume(self, runner):
+        """It is not suspended any more; what it waits for besides goes on."""
+        runner.suspended = False
+        if runner.waits_for == A_RESUME:
+            self.end_wait(runner, NO_ERROR)
+        elif runner.waits_for == NOTHING:
+            self.become_ready(runner)
+
+    def is_busy(self, runner):
+        return not runner.is_process or self.lock_level > 0
+
+    # ---- waiting lists and messages
+
+    def wait_in_list(self, runner, row, waiting, time_out, message, array):
+        """The two checks of a caller that has to wait, and the wait."""
+        refuse(time_out == 0, NOT_AVAILABLE)
+        refuse(self.is_busy(runner), INVALID_MODE)
+        self.waits(runner, A_LIST, self.time_of(time_out), row)
+        runner.waiting_list = waiting
+        waiting.join(Waiter(runner, runner.priority, message, array))
 
     def release_first(self, waiting, message=None):
         """The first in the list is released; a message goes into its array."""
         waiter = waiting.waiters.pop(0)
         self.earliest = None
-        if message is None:
-            self.end_wait(waiter.runner, NO_ERROR)
-        else:
+        if message is not None:
             self.store(waiter.array, message)
-            self.end_wait(waiter.runner, NO_ERROR, [len(message)])
-        return waiter
+        self.end_wait(waiter.runner, NO_ERROR, [] if message is None else [len(message)])
 
-    def store(self, array, words):
-        place = array[0]
+    def let_in(self, held):
+        """The message of the first sender that waits comes in, and the sender is released."""
+        held.messages.append(held.waiting.waiters[0].message)
+        self.release_first(held.waiting)
+
+    def store(self, place, words):
         self.engine.data[place : place + len(words)] = words
+
+    def arrive(self, now, number, words):
+        """A message comes to a destination."""
+        self.now = now
+        port, told = self.ports[number - 1], "ARRIVE"
+        if port.row.kind == "QUEUING" and not port.waiting and port.is_full:
+            port.has_lost, told = True, "LOST"
+        self.tell(f"{told} {port.row.name} {' '.join(map(str, words))}")
+        if port.row.kind == "SAMPLING":
+            port.messages, port.arrival = [words], now
+        elif port.waiting:
+            self.release_first(port.waiting, words)
+        elif told == "ARRIVE":
+            port.messages.append(words)
+
+    def move(self, now, send):
+        """The window has ended: the source ports move. `send` hands a message to its channel."""
+        self.now = now
+        for port in self.sources:
+            messages, port.messages = port.messages, []
+            for it in messages:
+                self.tell(f"MOVE {port.row.name} {' '.join(map(str, it))}")
+                send(port.number, it)
+            while port.waiting and not port.is_full:
+                self.let_in(port)
 
     # ---- starts
 
     def clear(self, mode, condition):
         self.earliest = None
-        for it in [self.init, *self.processes, self.handler]:
-            it.reset()
-            self.engine.drop(it.index)
-        self.order, self.running, self.holder, self.lock_level = [], None, None, 0
-        for it in [*self.semaphores, *self.events, *self.buffers, *self.blackboards, *self.ports]:
+        for it in [self.init, *self.processes, self.handler, *self.ports, *(it for rows in self.objects.values() for it in rows)]:
             it.clear()
+        self.order, self.running, self.holder, self.lock_level = [], None, None, 0
         self.errors = []
         self.mode, self.condition = mode, condition
         if mode == COLD_START:
-            self.engine.restore()
+            self.engine.data[:] = self.engine.initial
         self.tell(f"MODE {mode}")
         if mode != IDLE:
-            self.engine.begin(self.init.index)
+            self.begin(self.init)
             self.enter(self.init, READY)
 
     def start(self, runner, delay):
-        self.engine.begin(runner.index)
+        self.begin(runner)
         runner.priority, runner.delay = runner.base, delay
         if self.mode != NORMAL:
             self.waits(runner, THE_START)
@@ -272,8 +328,7 @@ class Partition:
         return False
 
     def normal_start(self):
-        self.engine.drop(self.init.index)
-        self.running = None
+        self.init.control = self.running = None
         self.enter(self.init, DORMANT)
         self.mode = NORMAL
         self.tell("MODE NORMAL")
@@ -296,74 +351,12 @@ class Partition:
         return self.take_action(action)
 
     def take_action(self, action):
-        if action == "IGNORE":
-            return False
-        self.clear(action, HM_PARTITION_RESTART)
-        return True
+        if action != "IGNORE":
+            self.clear(action, HM_PARTITION_RESTART)
+        return action != "IGNORE"
 
     def hardware_fault(self, now):
         self.now = now
         action = self.row.actions["HARDWARE_FAULT"]
         self.tell(f"HM HARDWARE_FAULT - PARTITION {action}")
         self.take_action(action)
-
-    def process(self, number):
-        """The created process of this number, or None."""
-        if 1 <= number <= len(self.processes) and self.processes[number - 1].created:
-            return self.processes[number - 1]
-        return None
-
-    def is_busy(self, runner):
-        return not runner.is_process or self.lock_level > 0
-
-    # ---- ports from outside
-
-    def arrive(self, now, number, words):
-        """A message comes to a destination."""
-        self.now = now
-        port, text = self.ports[number - 1], " ".join(map(str, words))
-        if port.row.kind == "SAMPLING":
-            port.messages, port.arrival = [list(words)], now
-        elif port.waiting:
-            self.tell(f"ARRIVE {port.row.name} {text}")
-            self.release_first(port.waiting, list(words))
-            return
-        elif len(port.messages) == port.row.depth:
-            port.has_lost = True
-            self.tell(f"LOST {port.row.name} {text}")
-            return
-        else:
-            port.messages.append(list(words))
-        self.tell(f"ARRIVE {port.row.name} {text}")
-
-    def move(self, now, send):
-        """The window has ended: the source ports move. `send` hands a message to its channel."""
-        self.now = now
-        for port in self.ports:
-            if port.is_source:
-                messages, port.messages = port.messages, []
-                for it in messages:
-                    self.tell(f"MOVE {port.row.name} {' '.join(map(str, it))}")
-                    send(port.number, it)
-                self.let_senders_in(port)
-
-    def let_senders_in(self, port):
-        while port.waiting and len(port.messages) < port.row.depth:
-            port.messages.append(port.waiting.waiters[0].message)
-            self.release_first(port.waiting)
-
-    def wait_in_list(self, runner, row, waiting, time_out, message=None, array=None):
-        """The two checks of a caller that has to wait, and the wait."""
-        refuse(time_out == 0, NOT_AVAILABLE)
-        refuse(self.is_busy(runner), INVALID_MODE)
-        self.waits(runner, A_LIST, None if time_out == -1 else self.now + time_out, row)
-        runner.waiting_list = waiting
-        waiting.join(Waiter(runner, runner.priority, message, array))
-
-    def resume(self, runner):
-        """It is not suspended any more; what it waits for besides goes on."""
-        runner.suspended = False
-        if runner.waits_for == A_RESUME:
-            self.end_wait(runner, NO_ERROR)
-        elif runner.waits_for == NOTHING:
-            self.become_ready(runner)

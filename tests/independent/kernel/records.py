@@ -3,25 +3,17 @@
 from dataclasses import dataclass, field
 from typing import Any
 
-DORMANT, READY, RUNNING, WAITING = "DORMANT", "READY", "RUNNING", "WAITING"
-STATE_NUMBERS = {DORMANT: 0, READY: 1, RUNNING: 2, WAITING: 3}
-IDLE, COLD_START, WARM_START, NORMAL = "IDLE", "COLD_START", "WARM_START", "NORMAL"
-MODES = (IDLE, COLD_START, WARM_START, NORMAL)
+DORMANT, READY, RUNNING, WAITING = STATES = ("DORMANT", "READY", "RUNNING", "WAITING")
+IDLE, COLD_START, WARM_START, NORMAL = MODES = ("IDLE", "COLD_START", "WARM_START", "NORMAL")
 NORMAL_START, PARTITION_RESTART, HM_MODULE_RESTART, HM_PARTITION_RESTART = range(4)
+NO_ERROR, NO_ACTION, NOT_AVAILABLE, INVALID_PARAM, INVALID_CONFIG, INVALID_MODE, TIMED_OUT = range(7)
 
-# What a waiting process waits for, besides an object or a port. NOTHING is left where it is only suspended.
+# What a waiting process waits for: A_LIST is an object or a port. NOTHING is left where it is only suspended.
 NOTHING, THE_START, A_RELEASE, A_DELAY, A_RESUME, A_LIST = "nothing", "start", "release", "delay", "resume", "list"
 
 
 class Refused(Exception):
     """A check of a service holds: the caller gets this code."""
-
-    def __init__(self, code):
-        super().__init__(code)
-        self.code = code
-
-
-NO_ERROR, NO_ACTION, NOT_AVAILABLE, INVALID_PARAM, INVALID_CONFIG, INVALID_MODE, TIMED_OUT = range(7)
 
 
 def refuse(condition, code):
@@ -40,17 +32,21 @@ class Runner:
     base: int = 0
     period: int = -1
     capacity: int = -1
-    created: bool = False
-    priority: int = 0
-    state: str = DORMANT
-    suspended: bool = False
-    waits_for: str = NOTHING
-    waits_in: Any = None  # the service whose answer it waits for
-    waiting_list: Any = None
-    delay: int = 0
-    due: Any = None
-    last_release: int = 0
-    deadline: Any = None
+
+    def __post_init__(self):
+        self.clear()
+
+    def clear(self):
+        """As it is after a Clear."""
+        self.created = self.suspended = False
+        self.priority, self.state, self.control = self.base, DORMANT, None
+        self.deadline, self.last_release, self.delay = None, 0, 0
+        self.forget_wait()
+
+    def forget_wait(self):
+        self.waits_for, self.due = NOTHING, None
+        self.waits_in = None  # the service whose answer it waits for
+        self.waiting_list = None
 
     @property
     def is_process(self):
@@ -59,16 +55,6 @@ class Runner:
     @property
     def is_periodic(self):
         return self.period != -1
-
-    def reset(self):
-        """As it is after a Clear."""
-        self.created = self.suspended = False
-        self.priority, self.state = self.base, DORMANT
-        self.forget_wait()
-        self.deadline, self.last_release, self.delay = None, 0, 0
-
-    def forget_wait(self):
-        self.waits_for, self.waits_in, self.waiting_list, self.due = NOTHING, None, None, None
 
 
 @dataclass
@@ -83,7 +69,7 @@ class Waiter:
 
 @dataclass
 class WaitingList:
-    discipline: str = "FIFO"
+    discipline: str
     waiters: list = field(default_factory=list)
 
     def __len__(self):
@@ -99,68 +85,20 @@ class WaitingList:
     def leave(self, runner):
         self.waiters = [it for it in self.waiters if it.runner is not runner]
 
-    def clear(self):
-        self.waiters = []
-
 
 class Held:
-    """An object or a port: it may be created, and processes may wait for it."""
+    """An object or a port, what it holds, and who waits for it. A blackboard and a sampling port hold one message at most."""
 
-    def __init__(self, discipline="FIFO"):
-        self.waiting = WaitingList(discipline)
+    def __init__(self, row, number=0):
+        self.row, self.number = row, number
+        self.is_source = getattr(row, "direction", None) == "SOURCE"
         self.clear()
 
     def clear(self):
-        self.created = False
-        self.waiting.clear()
-
-
-class SemaphoreState(Held):
-    def __init__(self, row):
-        self.row = row
-        super().__init__(row.discipline)
-
-    def clear(self):
-        super().clear()
-        self.value = self.row.first
-
-
-class EventState(Held):
-    def clear(self):
-        super().clear()
-        self.is_up = False
-
-
-class BufferState(Held):
-    def __init__(self, row):
-        self.row, self.words = row, row.words
-        super().__init__(row.discipline)
-
-    def clear(self):
-        super().clear()
-        self.messages = []
-
-
-class BlackboardState(Held):
-    def __init__(self, words):
-        self.words = words
-        super().__init__()
-
-    def clear(self):
-        super().clear()
-        self.message = None
-
-
-class PortState(Held):
-    def __init__(self, number, row):
-        self.number, self.row, self.words = number, row, row.words
-        super().__init__(row.discipline)
-
-    def clear(self):
-        super().clear()
-        self.messages, self.arrival = [], 0
+        self.created, self.waiting = False, WaitingList(self.row.discipline)
+        self.messages, self.value, self.arrival = [], getattr(self.row, "first", 0), 0
         self.was_valid = self.has_lost = False
 
     @property
-    def is_source(self):
-        return self.row.direction == "SOURCE"
+    def is_full(self):
+        return len(self.messages) == self.row.depth

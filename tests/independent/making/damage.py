@@ -201,36 +201,3 @@ def image_place(random, length):
 
 def changed_byte(random, byte):
     return random.choice((0, 1, 2, 3, 4, 16, 17, 64, 65, 128, 255, byte ^ 1, (byte + 1) % 256, (byte - 1) % 256, random.randrange(256)))
-
-
-def hostile_code(random, image):
-    """Puts random instructions in place of some, in some partitions."""
-    for section in image.sections:
-        if random.random() < 0.7:
-            for _ in range(random.choice((1, 3, 10, 30))):
-                section.code[random.randrange(len(section.code))] = instruction(random, section)
-
-
-def instruction(random, section):
-    opcode = random.choice((*range(1, 32), *range(1, 32), 30, 31, 30, 31, 25, 26, 28, 28, 28, 0, 32, 2**32 - 1))
-    return opcode, field_x(random, opcode, section), field_v(random, opcode)
-
-
-def field_x(random, opcode, section):
-    if opcode in (1, 27, 29, *range(8, 23)):
-        return 0 if random.random() < 0.95 else 1
-    if opcode in (23, 24):
-        return random.choice((0, random.randrange(len(section.code)), len(section.code), 65535, 2**32 - 1))
-    if opcode == 28:
-        return random.choice((random.randint(1, 57), random.randint(1, 57), random.randint(1, 57), 0, 58))
-    if opcode in (30, 31):
-        return random.choice((1, 1, 2, 2, 0, 3))
-    return random.choice((0, 0, 1, 2, 3, 5, 8, 20, len(section.data), 2**31, 2**32 - 1))
-
-
-def field_v(random, opcode):
-    if opcode in (1, 6, 7):
-        return random.choice((0, 1, 1, 2, 3, 5, 16, 100, -1, -2, 65536, 2**40, 2**63 - 1, -(2**63)))
-    if opcode == 27:
-        return random.choice((1, 5, 60, 0, -1, 10**6, 10**6 + 1))
-    return 0 if random.random() < 0.97 else random.choice((1, -1))

@@ -1,6 +1,7 @@
 """Random modules: a table, its sources, a device text and the ticks of a run."""
 
-from dataclasses import dataclass
+import re
+from dataclasses import dataclass, replace
 from random import Random
 
 from making.sources import SourceMaker
@@ -66,3 +67,31 @@ def message(random, document, channels):
     channel = random.choice(channels)
     count = random.randint(1, words_of(document, channel))
     return f"MSG {channel['name']} " + " ".join(str(random.choice((0, -1, 5, 77, 2**63 - 1, -(2**63)))) for _ in range(count))
+
+
+# ---- long quiet stretches
+
+TIMED = (
+    "TIMED_WAIT|SUSPEND_SELF|REPLENISH|DELAYED_START|WAIT_SEMAPHORE|WAIT_EVENT|SEND_BUFFER|RECEIVE_BUFFER|READ_BLACKBOARD"
+    "|SEND_QUEUING_MESSAGE|RECEIVE_QUEUING_MESSAGE"
+)
+
+
+def stretched(random, made):
+    """The module with other times: windows, periods, waits, work, the gaps between device lines and the run are some times as long."""
+    factor = random.choice((7, 60, 500))
+
+    def longer(found):
+        more = random.choice((0, random.randrange(factor)))
+        return f"{found[1]}{min(2**40, int(found[2]) * factor + more) if random.random() < 0.8 else found[2]}{found[3]}"
+
+    def exactly(found):
+        return f"{found[1]}{int(found[2]) * factor}"
+
+    table = re.sub(r"\b((?:frame|period|duration|offset|length) = )(\d+)", exactly, made.table.decode())
+    sources = [re.sub(r"\b(period )(\d+)", exactly, it.decode()) for it in made.sources]
+    sources = [re.sub(rf"\b((?:(?:{TIMED})\((?:[^();]*, )?|capacity ))(\d+)(\)| )", longer, it) for it in sources]
+    sources = [re.sub(r"\b(work )(\d+)(;)", lambda found: longer(found) if factor < 500 else found[0], it) for it in sources]
+    devices = re.sub(r"(?m)^()(\d+)", exactly, made.devices.decode())
+    ticks = min(made.ticks * factor, 300_000)
+    return replace(made, table=table.encode(), sources=[it.encode() for it in sources], devices=devices.encode(), ticks=ticks)

@@ -2,9 +2,11 @@
 
 import limits
 from making.tables import FIRST, HEALTH, LARGE, OBJECTS, PORTS, PREEMPTION, PROCESSES, WHOLE_PAL, WINDOWS
+from model import KINDS as PORT_KINDS
+from model import OBJECT_KINDS as KINDS
 from pal.frames import frame_of
 from pal.grammar import read_program
-from services import BY_NAME
+from services import BY_NAME, DECLARED
 
 LOCALS = ["r", "x", "y", "a0", "a1", "a2", "a3", "a4", "a5"]
 NUMBERS = (0, 0, 1, 1, 2, 3, 5, 7, 10, 100, 2**31, 2**40, 2**62, 2**63 - 1)
@@ -23,7 +25,6 @@ BY_STAGE = {
     " GET_QUEUING_PORT_ID GET_QUEUING_PORT_STATUS CLEAR_QUEUING_PORT CREATE_SAMPLING_PORT CREATE_QUEUING_PORT",
     HEALTH: "RAISE_APPLICATION_ERROR GET_ERROR_STATUS CREATE_ERROR_HANDLER SET_PARTITION_MODE",
 }
-KINDS = ("semaphore", "event", "buffer", "blackboard")
 # What processes do to each other, by the stage that has it.
 THEMES = {
     PROCESSES: (
@@ -78,10 +79,9 @@ class SourceMaker:
 
     def with_stacks(self, text):
         """The stacks are written when the frames are known: as many words as there have to be, or more."""
-        program = read_program(text)
         stacks = []
-        for it in [program.init, *([program.handler] if program.handler else []), *program.processes]:
-            frame = max(limits.LEAST_STACK, frame_of([], it.body, False))
+        for it in read_program(text).runners():
+            frame = max(limits.LEAST_STACK, frame_of(it.body))
             stacks.append(self.random.choice((frame, frame, frame + self.random.randint(0, 40), 1024, limits.GREATEST_STACK)))
         pieces = text.split("stack 0 ")
         return "".join(piece + f"stack {stack} " for piece, stack in zip(pieces, stacks)) + pieces[-1]
@@ -247,74 +247,53 @@ class SourceMaker:
         return self.service_call(self.random.choice(self.favourites if self.chance(0.6) else self.services))
 
     def service_call(self, name):
-        row = BY_NAME[name]
-        if name == "SET_PARTITION_MODE":
-            arguments = [str(self.random.choice((0, 1, 2, 2, 3, 3, 4, -1)))] if self.chance(0.2) else ["3"]
-        else:
-            array = self.random.choice(list(self.arrays)) if self.chance(0.2) else "big"
-            arguments = [self.argument(name, kind, place, array) for place, kind in enumerate(row.arguments)]
+        row, array = BY_NAME[name], self.random.choice(list(self.arrays)) if self.chance(0.2) else "big"
+        arguments = [self.argument(name, it, array) for it in row.arguments]
         if None in arguments:
             return self.make_work(0)
         targets = ["r", "a0", "a1", "a2", "a3", "a4", "a5"][: row.answer_words]
-        return f"{name}({', '.join(arguments)})" + (f" -> {', '.join(targets)};" if targets else ";")
+        return f"{name}({', '.join(map(str, arguments))})" + (f" -> {', '.join(targets)};" if targets else ";")
 
-    def argument(self, name, kind, place, array):
-        if kind == "a":
+    def argument(self, service, name, array):
+        """A declared name or a value for the argument of this name; None if nothing of the kind is declared."""
+        if name == "array":
             return array
-        if kind == "process":
-            return self.random.choice(self.processes)
-        if kind != "e":
-            names = self.port_names if kind == "port" else self.declared[kind]
+        if name in DECLARED:
+            names = {"process": self.processes, "port": self.port_names}.get(name) or self.declared.get(name)
             return self.random.choice(names) if names else None
         if self.chance(0.04):
-            return str(self.random.choice(WRONG)) if self.stage < WHOLE_PAL else self.expression(1)
-        return str(self.word(name, place, array))
+            return self.random.choice(WRONG) if self.stage < WHOLE_PAL else self.expression(1)
+        values = {
+            "mode": lambda: self.random.choice((0, 1, 2, 2, 4, -1)) if self.chance(0.15) else 3,
+            "error": lambda: 1,
+            "priority": lambda: self.random.choice((1, 5, 9, 100)),
+            "delay": lambda: self.random.choice(TIMES),
+            "length": lambda: self.random.randint(1, min(self.arrays[array], self.room(service))),
+            "id": lambda: self.number(service),
+        }
+        return values.get(name, self.time_out)()
 
-    def word(self, name, place, array):
-        """A value that the service may take there."""
-        random = self.random
-        if name in ("TIMED_WAIT", "REPLENISH", "SUSPEND_SELF"):
-            return random.choice(TIMES) if name == "TIMED_WAIT" or self.chance(0.7) else -1
-        if name == "SET_PRIORITY" and place == 1:
-            return random.choice((1, 5, 9, 100))
-        if name == "DELAYED_START" and place == 1:
-            return random.choice(TIMES)
-        if name == "RAISE_APPLICATION_ERROR" and place == 0:
-            return 1
-        if place == 0 and self.chance(0.85) and self.fitting_ports(name):
-            return random.choice(self.fitting_ports(name))
-        if place == 0:
-            return random.randint(1, self.count_for(name) + (1 if self.chance(0.1) else 0))
-        if place == 2 or (place == 3 and not name.startswith("SEND")):
-            is_length = name.startswith(("SEND", "DISPLAY", "WRITE", "RAISE"))
-            return random.randint(1, min(self.arrays[array], self.room(name))) if is_length else self.time_out()
-        return self.time_out() if name.startswith(("SEND", "WAIT")) else random.randint(1, 3)
+    def number(self, service):
+        """The number of what the service is about, or one too many."""
+        if self.fitting_ports(service) and self.chance(0.85):
+            return self.random.choice(self.fitting_ports(service))
+        kind = next((it for it in KINDS if it.upper() in service), None)
+        rows = self.declared[kind] if kind else self.table_ports if "PORT" in service or "MESSAGE" in service else self.processes
+        return self.random.randint(1, max(1, len(rows)) + self.chance(0.1))
 
-    def fitting_ports(self, name):
+    def fitting_ports(self, service):
         """The numbers of the ports that the service is for."""
-        if "PORT" not in name and "_SAMPLING" not in name and "_QUEUING" not in name:
-            return []
-        kind = "SAMPLING" if "SAMPLING" in name else "QUEUING"
-        ways = {"WRITE": ("SOURCE",), "SEND": ("SOURCE",), "READ": ("DESTINATION",), "RECEIVE": ("DESTINATION",), "CLEAR": ("DESTINATION",)}
-        way = ways.get(name.split("_")[0], ("SOURCE", "DESTINATION"))
-        return [n for n, it in enumerate(self.table_ports, 1) if it["kind"] == kind and it["direction"] in way]
+        kind, verb = next((it for it in PORT_KINDS if it in service), None), service.split("_")[0]
+        ways = {"WRITE": ("SOURCE",), "SEND": ("SOURCE",), "GET": ("SOURCE", "DESTINATION")}.get(verb, ("DESTINATION",))
+        return [n for n, it in enumerate(self.table_ports, 1) if it["kind"] == kind and it["direction"] in ways]
 
-    def room(self, name):
+    def room(self, service):
         """A length that often fits."""
-        fitting = [self.table_ports[n - 1]["words"] for n in self.fitting_ports(name)]
+        fitting = [self.table_ports[n - 1]["words"] for n in self.fitting_ports(service)]
         return self.random.choice(fitting) if fitting else self.random.randint(1, self.size.words)
 
     def time_out(self):
         return -1 if self.chance(0.3) else self.random.choice(TIMES)
-
-    def count_for(self, name):
-        """How many objects there are of the kind that the service is about."""
-        for word, found in (("BUFFER", "buffer"), ("BLACKBOARD", "blackboard"), ("SEMAPHORE", "semaphore"), ("EVENT", "event")):
-            if name.endswith(word) or word + "_" in name:
-                return max(1, len(self.declared[found]))
-        if "PORT" in name or "MESSAGE" in name:
-            return max(1, len(self.table_ports))
-        return max(1, len(self.processes))
 
     # ---- expressions
 

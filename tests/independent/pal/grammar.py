@@ -1,12 +1,13 @@
 """Reads words as a program (section 2 of PAL.md). It refuses the first word with which no program can continue."""
 
 import limits
-from pal.nodes import Assign, AssignElement, Ask, Body, Call, Chain, Declaration, Element, If, Name, Number, Parenthesis, Program, Return
-from pal.nodes import Runner, Unary, While, Work
+from pal.nodes import Assign, AssignElement, Ask, Body, Call, Chain, Declaration, Element, If, Name, Number, Program, Return, Runner, Unary, While
+from pal.nodes import Work
 from pal.words import Wrong, words_of
 
-STRENGTHS = (("or",), ("and",), ("=", "<>", "<", "<=", ">", ">="), ("+", "-"), ("*", "/", "%"))
-COMPARING = 2
+# The operators, the weakest first. Comparisons cannot be chained.
+COMPARISONS = ("=", "<>", "<", "<=", ">", ">=")
+STRENGTHS = (("or",), ("and",), COMPARISONS, ("+", "-"), ("*", "/", "%"))
 
 
 class Reader:
@@ -20,29 +21,30 @@ class Reader:
     def refuse(self):
         raise Wrong(2, self.word.line)
 
-    def take(self, kind):
+    def sees(self, *kinds):
+        return self.word.kind in kinds
+
+    def take(self, *kinds):
+        """Takes the word, which has to be of one of these kinds."""
         word = self.word
-        if word.kind != kind:
+        if word.kind not in kinds:
             self.refuse()
         self.word = next(self.words, None)
         return word
 
     def takes(self, kind):
         """Takes the word if it is of this kind."""
-        if self.word.kind != kind:
-            return False
-        self.take(kind)
-        return True
+        return self.sees(kind) and self.take(kind) is not None
 
     def need_level(self):
-        """The word will open a level, itself or by a word behind it."""
+        """The word will open a level, itself or by a word after it."""
         if self.levels == limits.LEVELS:
             self.refuse()
 
     def open(self, kind):
         self.need_level()
-        self.take(kind)
         self.levels += 1
+        return self.take(kind)
 
     def close(self, kind):
         self.take(kind)
@@ -57,101 +59,88 @@ class Reader:
         return Number(number_of(word.text), word.line)
 
     def integer(self):
-        """An int: the number with its sign, and the number before its sign."""
+        """An int, as its sign and its number."""
         sign = -1 if self.takes("-") else 1
-        number = self.number()
-        return sign, number
+        return sign, self.number()
+
+    def after(self, word, read):
+        self.take(word)
+        return read()
+
+    def many(self, first, read):
+        """All that begin with such a word."""
+        found = []
+        while self.sees(*first):
+            found.append(read())
+        return found
+
+    def separated(self, read):
+        found = [read()]
+        while self.takes(","):
+            found.append(read())
+        return found
 
     # ---- the program
 
     def program(self):
-        declarations = []
-        while self.word.kind in DECLARED:
-            declarations.append(self.declaration())
-        init = self.init()
-        handler = self.simple("handler") if self.word.kind == "handler" else None
-        processes = []
-        while self.word.kind == "process":
-            processes.append(self.process())
+        declarations = self.many(DECLARED, self.declaration)
+        init = self.runner("init")
+        handler = self.runner("handler") if self.sees("handler") else None
+        processes = self.many(("process",), lambda: self.runner("process"))
         self.take("end")
         return Program(declarations, init, handler, processes)
 
-    def init(self):
-        return self.simple("init")
-
-    def simple(self, kind):
-        line = self.take(kind).line
-        self.take("stack")
-        return Runner(kind, line, self.number(), self.body())
-
-    def process(self):
-        line, name = self.take("process").line, self.name()
-        self.take("priority")
-        priority = self.number()
-        self.take("period")
-        period = self.integer()
-        self.take("capacity")
-        capacity = self.integer()
-        self.take("stack")
-        stack = self.number()
-        return Runner("process", line, stack, self.body(), name, priority, period, capacity)
+    def runner(self, kind):
+        line, head = self.take(kind).line, [None] * 4
+        if kind == "process":
+            head = [self.name(), self.after("priority", self.number), self.after("period", self.integer), self.after("capacity", self.integer)]
+        name, *rest = head
+        return Runner(kind, name, line, self.after("stack", self.number), self.body([], False), *rest)
 
     def declaration(self):
-        word = self.word
-        self.take(word.kind)
-        made = Declaration(word.kind, self.name(), word.line)
-        DECLARED[word.kind](self, made)
+        word, name = self.take(*DECLARED), self.name()
+        made = Declaration(word.kind, name, word.line, [], [], None, None)
+        made = made._replace(**DECLARED[word.kind](self))
         if word.kind != "proc":
             self.take(";")
         return made
 
-    def rest_of_variable(self, made):
-        if self.takes("="):
-            made.values.append(self.integer())
+    def rest_of_variable(self):
+        return {"values": [self.integer()] if self.takes("=") else []}
 
-    def rest_of_array(self, made):
+    def rest_of_array(self):
         self.take("[")
-        made.numbers.append(self.number())
+        size = self.number()
         self.take("]")
-        if self.takes("="):
-            made.values.append(self.integer())
-            while self.word.kind in ("-", "nat"):
-                made.values.append(self.integer())
+        values = [self.integer(), *self.many(("-", "nat"), self.integer)] if self.takes("=") else []
+        return {"numbers": [size], "values": values}
 
-    def rest_of_pair(self, made):
-        made.numbers += [self.number(), self.number()]
-        if self.word.kind not in ("fifo", "priority"):
-            self.refuse()
-        made.discipline = self.take(self.word.kind).text
+    def rest_of_pair(self):
+        return {"numbers": [self.number(), self.number()], "discipline": self.take("fifo", "priority").text.upper()}
 
-    def rest_of_name(self, made):
-        """Nothing stands behind the name."""
+    def rest_of_name(self):
+        return {}
 
-    def rest_of_blackboard(self, made):
-        made.numbers.append(self.number())
+    def rest_of_blackboard(self):
+        return {"numbers": [self.number()]}
 
-    def rest_of_procedure(self, made):
+    def rest_of_procedure(self):
         self.take("(")
-        if self.word.kind == "name":
-            made.parameters = self.names()
+        parameters = self.separated(self.name) if self.sees("name") else []
         self.take(")")
-        made.body = self.body()
-
-    def names(self):
-        found = [self.name()]
-        while self.takes(","):
-            found.append(self.name())
-        return found
+        return {"body": self.body(parameters, True)}
 
     # ---- bodies and statements
 
-    def body(self):
-        line, local_names = self.word.line, []
-        self.open("{")
-        while self.takes("local"):
-            local_names.append(self.name())
-            self.take(";")
-        return Body(local_names, self.statements(), line)
+    def body(self, parameters, is_procedure):
+        line = self.open("{").line
+        local_names = self.many(("local",), self.local_name)
+        return Body(parameters, local_names, self.statements(), line, is_procedure)
+
+    def local_name(self):
+        name = self.after("local", self.name)
+        self.take(";")
+        return name
 
     def block(self):
         self.open("{")
@@ -159,28 +148,16 @@ class Reader:
 
     def statements(self):
         """The statements up to the brace that closes them."""
-        found = []
-        while self.word.kind != "}":
-            found.append(self.statement())
+        found = self.many(STATEMENTS, lambda: STATEMENTS[self.word.kind](self))
         self.close("}")
         return found
 
-    def statement(self):
-        if self.word.kind not in STATEMENTS:
-            self.refuse()
-        return STATEMENTS[self.word.kind](self)
-
     def assignment(self):
-        name = self.name()
-        if self.word.kind == "[":
-            index = self.index()
-            self.take(":=")
-            made = AssignElement(name, index, self.expression())
-        else:
-            self.take(":=")
-            made = Assign(name, self.expression())
+        word = self.take("name")
+        index = self.index() if self.sees("[") else None
+        value = self.after(":=", self.expression)
         self.take(";")
-        return made
+        return Assign(Name(word.text, word.line), value) if index is None else AssignElement(word, index, value)
 
     def conditional(self):
         self.need_level()
@@ -194,22 +171,19 @@ class Reader:
         return While(self.expression(), self.block())
 
     def work(self):
-        line = self.take("work").line
-        ticks = self.number()
+        line, ticks = self.take("work").line, self.number()
         self.take(";")
         return Work(ticks, line)
 
     def give_back(self):
-        line = self.take("return").line
-        value = self.expression()
+        line, value = self.take("return").line, self.expression()
         self.take(";")
         return Return(value, line)
 
     def ask(self):
         self.need_level()
-        word = self.take("SERVICE")
-        arguments = self.arguments()
-        targets = self.names() if self.takes("->") else []
+        word, arguments = self.take("SERVICE"), self.arguments()
+        targets = self.separated(self.name) if self.takes("->") else []
         self.take(";")
         return Ask(word.text, arguments, targets, word.line)
 
@@ -217,11 +191,7 @@ class Reader:
 
     def arguments(self):
         self.open("(")
-        found = []
-        if self.word.kind != ")":
-            found.append(self.expression())
-            while self.takes(","):
-                found.append(self.expression())
+        found = [] if self.sees(")") else self.separated(self.expression)
         self.close(")")
         return found
 
@@ -235,36 +205,26 @@ class Reader:
         if strength == len(STRENGTHS):
             return self.operand()
         first, rest = self.expression(strength + 1), []
-        while self.word.kind in STRENGTHS[strength]:
-            sign = self.take(self.word.kind).text
-            rest.append((sign, self.expression(strength + 1)))
-            if strength == COMPARING:
-                break
+        while self.sees(*STRENGTHS[strength]) and not (rest and STRENGTHS[strength] is COMPARISONS):
+            rest.append((self.take(*STRENGTHS[strength]).text, self.expression(strength + 1)))
         return Chain(first, rest) if rest else first
 
     def operand(self):
-        if self.word.kind in ("-", "not"):
-            sign = self.word.text
-            self.open(self.word.kind)
-            found = Unary(sign, self.operand())
+        if self.sees("-", "not"):
+            found = Unary(self.open(self.word.kind).text, self.operand())
             self.levels -= 1
             return found
-        if self.word.kind == "nat":
+        if self.sees("nat"):
             return self.number()
-        if self.word.kind == "(":
+        if self.sees("("):
             self.open("(")
-            found = Parenthesis(self.expression())
+            found = Chain(self.expression(), [])
             self.close(")")
             return found
-        return self.named()
-
-    def named(self):
-        name = self.name()
-        if self.word.kind == "[":
-            return Element(name, self.index())
-        if self.word.kind == "(":
-            return Call(name, self.arguments())
-        return name
+        word = self.take("name")
+        if self.sees("["):
+            return Element(word, self.index())
+        return Call(word, self.arguments()) if self.sees("(") else Name(word.text, word.line)
 
 
 DECLARED = {

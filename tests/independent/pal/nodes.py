@@ -1,157 +1,50 @@
-"""The tree of a Pal source."""
+"""The tree of a Pal source. A parenthesis is a chain of its one operand."""
 
-from dataclasses import dataclass, field
-from typing import Any
+from collections import namedtuple
 
+# ---- expressions. A Name is read or written as a scalar; where another name stands, there is its Word.
 
-class Node:
-    __slots__ = ()
-
-
-# ---- expressions
-
-
-@dataclass(slots=True)
-class Number(Node):
-    value: int
-    line: int
-
-
-@dataclass(slots=True)
-class Name(Node):
-    text: str
-    line: int
-
-
-@dataclass(slots=True)
-class Element(Node):
-    name: Name
-    index: Node
-
-
-@dataclass(slots=True)
-class Call(Node):
-    name: Name
-    arguments: list
-
-
-@dataclass(slots=True)
-class Parenthesis(Node):
-    inner: Node
-
-
-@dataclass(slots=True)
-class Unary(Node):
-    sign: str
-    operand: Node
-
-
-@dataclass(slots=True)
-class Chain(Node):
-    """Operators of the same strength: the first operand, then pairs of an operator and an operand."""
-
-    first: Node
-    rest: list
-
+Number = namedtuple("Number", "value line")
+Name = namedtuple("Name", "text line")
+Element = namedtuple("Element", "array index")
+Call = namedtuple("Call", "procedure arguments")
+Unary = namedtuple("Unary", "sign operand")
+Chain = namedtuple("Chain", "first rest")  # operators of the same strength: the first operand, then pairs of an operator and an operand
 
 # ---- statements
 
+Assign = namedtuple("Assign", "target value")
+AssignElement = namedtuple("AssignElement", "array index value")
+If = namedtuple("If", "test then otherwise")  # without an else, `otherwise` is None
+While = namedtuple("While", "test body")
+Work = namedtuple("Work", "ticks line")
+Return = namedtuple("Return", "value line")
+Ask = namedtuple("Ask", "service arguments targets line")
 
-@dataclass(slots=True)
-class Assign(Node):
-    name: Name
-    value: Node
+# ---- declarations. The line of a body is that of its brace. `name` is None for INIT and the handler.
 
-
-@dataclass(slots=True)
-class AssignElement(Node):
-    name: Name
-    index: Node
-    value: Node
-
-
-@dataclass(slots=True)
-class If(Node):
-    test: Node
-    then: list
-    otherwise: Any  # a list, or None
+Body = namedtuple("Body", "parameters local_names statements line is_procedure")
+Declaration = namedtuple("Declaration", "kind name line numbers values discipline body")
+Runner = namedtuple("Runner", "kind name line stack body priority period capacity")
 
 
-@dataclass(slots=True)
-class While(Node):
-    test: Node
-    body: list
-
-
-@dataclass(slots=True)
-class Work(Node):
-    ticks: Number
-    line: int
-
-
-@dataclass(slots=True)
-class Return(Node):
-    value: Node
-    line: int
-
-
-@dataclass(slots=True)
-class Ask(Node):
-    """A service with its arguments and targets."""
-
-    service: str
-    arguments: list
-    targets: list
-    line: int
-
-
-# ---- declarations
-
-
-@dataclass(slots=True)
-class Body:
-    local_names: list
-    statements: list
-    line: int  # of its brace
-
-
-@dataclass(slots=True)
-class Declaration:
-    kind: str
-    name: Name
-    line: int
-    numbers: list = field(default_factory=list)
-    values: list = field(default_factory=list)
-    discipline: str = ""
-    parameters: list = field(default_factory=list)
-    body: Any = None
-
-
-@dataclass(slots=True)
-class Runner:
-    """INIT, the handler or a process."""
-
-    kind: str
-    line: int
-    stack: Number
-    body: Body
-    name: Any = None
-    priority: Any = None
-    period: Any = None
-    capacity: Any = None
-
-
-@dataclass(slots=True)
-class Program:
-    declarations: list
-    init: Runner
-    handler: Any
-    processes: list
-
+class Program(namedtuple("Program", "declarations init handler processes")):
     def of_kind(self, kind):
         return [it for it in self.declarations if it.kind == kind]
 
+    def runners(self):
+        """INIT, the handler if there is one, and the processes."""
+        return [self.init, *([self.handler] if self.handler else []), *self.processes]
+
     def bodies(self):
-        """All bodies in the order of the instructions, each with its parameters."""
-        runners = [self.init, *([self.handler] if self.handler else []), *self.processes]
-        return [([], it.body) for it in runners] + [(it.parameters, it.body) for it in self.of_kind("proc")]
+        """All bodies in the order of the instructions."""
+        return [it.body for it in [*self.runners(), *self.of_kind("proc")]]
+
+
+def parts(node):
+    """The nodes that a node is made of, in their order."""
+    for it in node:
+        if hasattr(it, "_fields"):
+            yield it
+        elif isinstance(it, (list, tuple)):
+            yield from parts(it)

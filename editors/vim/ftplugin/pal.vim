@@ -1,0 +1,8 @@
+" How Pal sources are edited: a comment begins with # and ends with its line.
+if exists('b:did_ftplugin')
+  finish
+endif
+let b:did_ftplugin = 1
+
+setlocal comments=:# commentstring=#\ %s
+let b:undo_ftplugin = 'setlocal comments< commentstring<'
