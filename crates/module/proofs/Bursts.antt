@@ -36,7 +36,7 @@ pub from_lower : (t u : ℕ) (ls : List DeviceLine) → t ≤ u → AreFrom u ls
 from_lower t u [] h order = tt
 from_lower t u (l ∷ ls) h order = let there : u ≤ l.tick.0 = order.0 in (omega (arith, h, there), order.1)
 
-no_lines : (t u : ℕ) (ls : List DeviceLine) → AreFrom u ls → HaveNoLines t u ls
+pub no_lines : (t u : ℕ) (ls : List DeviceLine) → AreFrom u ls → HaveNoLines t u ls
 no_lines t u ls order = λ v from below. none_before v u ls below order
 
 -- ---- no tick at all

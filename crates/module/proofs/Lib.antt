@@ -22,6 +22,7 @@ pub mod Replayed
 pub mod Runs
 pub mod Shutdown
 pub mod Standing
+pub mod Unbrought
 pub mod Unseen
 pub mod Written
 pub mod Passed

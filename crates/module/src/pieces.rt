@@ -6,6 +6,7 @@ ghost use Rattle.apex_types.specs.declared.device.DeviceLine.{DeviceLine};
 ghost use Rattle.kernel_meaning.specs.Windows.{tick_from, owner, ended};
 ghost use Rattle.kernel_laws.specs.Quiet.{AreStill};
 ghost use Rattle.lone_partition.specs.Outputs.{sent_of};
+ghost use Rattle.module.specs.Collecting.{BringsNothing};
 ghost use Rattle.module.specs.Pieces.{HasMovedWritten, HasPassedSome, HasSkippedSome};
 ghost use Rattle.module.specs.Standing.{ticks_in};
 ghost use Rattle.module.specs.Views.{members_in, plan_of, standing_of};
@@ -68,7 +69,7 @@ impl<E: Executor<Mem = PartitionMem>> Members<E> {
 
 /// How many of `most` ticks, from `now` on, come before the first of these lines. The lines are of
 /// the tick `now` or later.
-fn until_line(lines: &[DeviceLine], now: Ticks, most: u32) -> u32
+pub fn until_line(lines: &[DeviceLine], now: Ticks, most: u32) -> u32
     requires order { AreFrom now.0 lines.now }
     ensures within { result ≤ most }
     ensures from { AreFrom (now.0 + result) lines.now }
@@ -80,7 +81,7 @@ fn until_line(lines: &[DeviceLine], now: Ticks, most: u32) -> u32
 }
 
 /// `ticks`, or `most` if there are more.
-fn at_most(ticks: u64, most: u32) -> u32
+pub fn at_most(ticks: u64, most: u32) -> u32
     ensures within { result ≤ most }
     ensures ticks { result ≤ ticks }
 {
@@ -224,6 +225,9 @@ impl<E: Executor<Mem = PartitionMem>> Module<E> {
         ensures skipped { (lines : List DeviceLine) → AreFrom self.new.now.0 lines
             → HasSkippedSome (plan_of self.old.image) lines most (standing_of E.Executor self.old)
             (standing_of E.Executor self.new) result }
+        ensures unbrought { (p : ℕ) (lines : List DeviceLine) → AreFrom self.new.now.0 lines
+            → BringsNothing (plan_of self.old.image) p lines result
+            (standing_of E.Executor self.old) (standing_of E.Executor self.new) }
     {
         let Some(moment) = self.moment() else {
             return 0;
