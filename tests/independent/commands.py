@@ -21,8 +21,9 @@ from table import read_table
 sys.setrecursionlimit(20_000)
 
 
-def accept(table, sources):
-    """The table and the programs, judged in their order."""
+@functools.lru_cache(maxsize=1)
+def accept(table, *sources):
+    """The table and the programs, judged in their order. The last ones are kept, since most are asked for more than once."""
     table = read_table(table)
     if len(sources) != len(table.partitions):
         raise Refusal("sources")
@@ -30,14 +31,14 @@ def accept(table, sources):
 
 
 def build_image(table, sources):
-    return write_image(build(*accept(table, sources)))
+    return write_image(build(*accept(table, *sources)))
 
 
 class MeaningRoad:
     """Runs a module by the meaning of its sources."""
 
     def __init__(self, table, *sources):
-        self.table, self.programs = accept(table, sources)
+        self.table, self.programs = accept(table, *sources)
         build(self.table, self.programs)  # only for its refusal
 
     def make(self, number, schedule, trace):
@@ -61,7 +62,7 @@ class MachineRoad:
 
 @functools.lru_cache(maxsize=2)
 def road_of(*files):
-    """That of an image, or that of a table and its sources. The last ones are kept, since most are run more than once."""
+    """That of an image, or that of a table and its sources."""
     return MachineRoad(*files) if len(files) == 1 else MeaningRoad(*files)
 
 
@@ -142,7 +143,7 @@ class Folder:
         return "".join(lines).encode("ascii")
 
     def cost(self, table, *sources):
-        table, programs = accept(self.read(table), [self.read(it) for it in sources])
+        table, programs = accept(*map(self.read, [table, *sources]))
         lines = [line for row, program in zip(table.partitions, programs) for line in cost_lines(row, program, table.costs)]
         return "".join(lines).encode("ascii")
 

@@ -20,36 +20,43 @@ class Trace:
 
 
 class Clock:
-    """What a module and a lone partition share: the loop over the ticks. Quiet ticks are made at once."""
+    """What a module and a lone partition share: the loop over the ticks."""
 
     def __init__(self, schedule, lines):
         self.schedule, self.lines, self.place = schedule, lines, 0
         self.is_shut = False
 
     def run(self, ticks):
-        if ticks == 0:
-            return
-        self.start(0, NORMAL_START)
+        if ticks > 0:
+            self.start(0, NORMAL_START)
         now = 0
         while now < ticks and not self.is_shut:
-            self.tick(now)
-            now = self.next_tick(now + 1, ticks)
+            now = self.go_on(now, ticks)
 
     def start(self, now, condition):
         for it in self.partitions.values():
             it.now = now
             it.clear(COLD_START, condition)
 
-    def tick(self, now):
-        while not self.is_shut and self.place < len(self.lines) and self.lines[self.place][0] == now:
+    def next_line(self, limit):
+        """The tick of the next line that comes from outside, if it comes before the limit."""
+        return min(self.lines[self.place][0], limit) if self.place < len(self.lines) else limit
+
+    def go_on(self, now, limit):
+        """Makes this tick, and those after it in which only its owner does something; returns the next one."""
+        while self.next_line(limit) == now and not self.is_shut:
             self.place += 1
             self.act(now, *self.lines[self.place - 1][1:])
         if self.is_shut:
-            return
+            return limit
         self.move(now)
+        stop = min(self.next_line(limit), self.schedule.next_edge(now))
         owner = self.partitions.get(self.schedule.owner(now))
         if owner is not None:
-            owner.tick(now)
+            owner.run(now, stop)
+        if all(it.sleeps() for it in self.partitions.values()):
+            return min(self.next_line(limit), self.next_waking(stop))
+        return stop
 
     def move(self, now):
         number = self.schedule.ended(now)
@@ -62,28 +69,6 @@ class Clock:
         elif action == "RESET":
             self.schedule.origin = now
             self.start(now, HM_MODULE_RESTART)
-
-    def next_tick(self, now, limit):
-        """The first tick from this one on in which something may happen. Those before it are only counted."""
-        while now < limit:
-            line = self.lines[self.place][0] if self.place < len(self.lines) else limit
-            if line == now or self.has_moves(now):
-                return now
-            if all(it.sleeps() for it in self.partitions.values()):
-                return min(limit, line, self.next_waking(now))
-            stop = min(limit, line, self.schedule.next_edge(now))
-            owner = self.partitions.get(self.schedule.owner(now))
-            if owner is not None:
-                quiet = min(stop - now, owner.quiet_ticks(now))
-                owner.spend(quiet)
-                if now + quiet < stop:
-                    return now + quiet
-            now = stop
-        return limit
-
-    def has_moves(self, now):
-        number = self.schedule.ended(now)
-        return number in self.partitions and self.partitions[number].has_messages()
 
     def next_waking(self, now):
         """The first tick in which something is due, where all partitions sleep."""

@@ -4,3 +4,4 @@ pub mod Naming
 pub mod UnderWay
 pub mod Pieces
 pub mod Waits
+pub mod UsedNames

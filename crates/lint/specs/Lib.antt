@@ -12,3 +12,4 @@ pub mod Findings
 pub mod Listed
 pub mod Sentences
 pub mod Pieces
+pub mod UsedNames

@@ -15,6 +15,7 @@ mod sentence;
 mod services;
 mod slow;
 mod unused;
+mod used;
 mod uses;
 mod wanted;
 mod writing;

@@ -4,10 +4,13 @@ ghost use Rattle.std.specs.Prelude.{◌≡◌, ◌++◌, ◌∷◌, [], map, fla
 ghost use Rattle.pal_base.specs.View.{texts, id_text, name_of, expr_of, exprs_of, links_of, kind_of, block_of, body_of, stack_body_of, process_of, declaration_of, declared_of};
 ghost use Rattle.pal_base.specs.WrittenView.{program_of};
 ghost use Rattle.lint.specs.Unused as meant;
-ghost use Rattle.lint.specs.Views.{found_all, names_seen};
+ghost use Rattle.lint.specs.Lives.{found};
+ghost use Rattle.lint.specs.UsedNames.{used_names};
+ghost use Rattle.lint.specs.Views.{found_all, names_seen, unless};
 
 use crate::finding::{Finding, FindingKind, add_unless};
 use crate::names::{is_same_name, text_of};
+use crate::used::Used;
 use indexmap::IndexSet;
 use pal_base::syntax::{
     Body, Declaration, DeclarationKind, Expr, Identifier, Link, NameId, Process, Program,
@@ -295,6 +298,27 @@ fn is_used(names: &IndexSet<String>, used: &[NameId], name: NameId) -> bool
     false
 }
 
+/// Adds a finding, unless a name is used.
+fn expect_name<'a>(
+    names: &'a IndexSet<String>,
+    is_used: bool,
+    kind: FindingKind,
+    name: Identifier,
+    findings: &mut Vec<Finding<'a>>,
+) -> Result<(), AllocError>
+    ensures { OnOk result
+        (found_all findings.new.items
+        ≡ found_all findings.old.items
+        ++ unless is_used (found kind (name_of (texts names.now.keys) name))) }
+{
+    let finding = Finding {
+        line: name.line,
+        kind,
+        subject: text_of(names, name.name),
+    };
+    add_unless(is_used, finding, findings)
+}
+
 /// Adds a finding if a name is not used.
 fn expect_use<'a>(
     names: &'a IndexSet<String>,
@@ -309,46 +333,32 @@ fn expect_use<'a>(
         ++ meant.unused (names_seen (texts names.now.keys) used.now) kind
         (name_of (texts names.now.keys) name)) }
 {
-    let finding = Finding {
-        line: name.line,
-        kind,
-        subject: text_of(names, name.name),
-    };
-    add_unless(is_used(names, used, name.name), finding, findings)
+    let is_used = is_used(names, used, name.name);
+    expect_name(names, is_used, kind, name, findings)
 }
 
 /// Adds a variable, an array or a procedure that is not used.
 fn add_declaration<'a>(
     names: &'a IndexSet<String>,
-    used: &[NameId],
+    used: &Used<'_>,
     declaration: &Declaration,
     findings: &mut Vec<Finding<'a>>,
 ) -> Result<(), AllocError>
     ensures { OnOk result
         (found_all findings.new.items
         ≡ found_all findings.old.items
-        ++ meant.unused_declaration (names_seen (texts names.now.keys) used.now)
+        ++ meant.unused_declaration (used_names used.now)
         (declared_of (texts names.now.keys) declaration.now.kind)
         (name_of (texts names.now.keys) declaration.now.name)) }
 {
+    let name = declaration.name;
+    let is_used = used.has(text_of(names, name.name));
     match &declaration.kind {
         DeclarationKind::Variable(_) | DeclarationKind::Array { .. } => {
-            expect_use(
-                names,
-                used,
-                FindingKind::UnusedVariable,
-                declaration.name,
-                findings,
-            )
+            expect_name(names, is_used, FindingKind::UnusedVariable, name, findings)
         }
         DeclarationKind::Procedure { .. } => {
-            expect_use(
-                names,
-                used,
-                FindingKind::UnusedProcedure,
-                declaration.name,
-                findings,
-            )
+            expect_name(names, is_used, FindingKind::UnusedProcedure, name, findings)
         }
         DeclarationKind::Semaphore { .. } => Ok(()),
         DeclarationKind::Event => Ok(()),
@@ -362,20 +372,38 @@ fn add_declaration<'a>(
 #[tactic(auto, using(std::proofs::lemmas::List::drop_more))]
 fn add_declarations<'a>(
     names: &'a IndexSet<String>,
-    used: &[NameId],
+    used: &Used<'_>,
     declarations: &[Declaration],
     findings: &mut Vec<Finding<'a>>,
 ) -> Result<(), AllocError>
     ensures { OnOk result
         (found_all findings.new.items
         ≡ found_all findings.old.items
-        ++ meant.unused_declarations (names_seen (texts names.now.keys) used.now)
+        ++ meant.unused_declarations (used_names used.now)
         (map (declaration_of (texts names.now.keys)) declarations.now)) }
 {
     for declaration in declarations {
         add_declaration(names, used, declaration, findings)?;
     }
     Ok(())
+}
+
+/// Adds the variables, arrays and procedures of a program that no statement of it names.
+fn add_unused_declarations<'a>(
+    alloc: Global,
+    program: &'a Program,
+    findings: &mut Vec<Finding<'a>>,
+) -> Result<(), AllocError>
+    ensures { OnOk result
+        (found_all findings.new.items
+        ≡ found_all findings.old.items
+        ++ meant.unused_declarations (meant.all_names (program_of program.now))
+        (program_of program.now).declarations) }
+{
+    let names = &program.names;
+    let all = all_names(alloc, program)?;
+    let used = Used::of(alloc, names, &all)?;
+    add_declarations(names, &used, &program.declarations, findings)
 }
 
 /// Adds those of some parameters or locals that are not used.
@@ -526,8 +554,7 @@ pub fn add_unused<'a>(
         ≡ found_all findings.old.items ++ meant.unused_names (program_of program.now)) }
 {
     let names = &program.names;
-    let used = all_names(alloc, program)?;
-    add_declarations(names, &used, &program.declarations, findings)?;
+    add_unused_declarations(alloc, program, findings)?;
     add_in_body(alloc, names, &[], &program.init.body, findings)?;
     add_in_handler(alloc, names, &program.handler, findings)?;
     add_in_processes(alloc, names, &program.processes, findings)?;

@@ -5,6 +5,8 @@ pub mod Collecting
 pub mod Costed
 pub mod DeviceLines
 pub mod Devices
+pub mod Edges
+pub mod Sources
 pub mod Headline
 pub mod Isolated
 pub mod Loaded
@@ -22,6 +24,7 @@ pub mod Replayed
 pub mod Runs
 pub mod Shutdown
 pub mod Standing
+pub mod Unbrought
 pub mod Unseen
 pub mod Written
 pub mod Passed

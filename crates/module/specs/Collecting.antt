@@ -66,3 +66,7 @@ brought_of plan p lines zero s = []
 brought_of plan p lines (suc n) s =
     let own = of_tick s.now lines in
     map (line_in s.now) (brought_next plan p own s) ++ brought_of plan p lines n (after s (ticks plan own s))
+
+-- n ticks bring partition p nothing, whatever ticks follow
+abbrev pub BringsNothing : {C : Type 0} → Plan → ℕ → List DeviceLine → ℕ → Standing C → Standing C → Type 0
+BringsNothing plan p lines n s next = (m : ℕ) → brought_of plan p lines (n + m) s ≡ brought_of plan p lines m next

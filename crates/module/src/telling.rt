@@ -17,6 +17,7 @@ use crate::collected::Collected;
 use crate::inputs_fault::InputsFault;
 use crate::member::Module;
 use crate::naming::numbered;
+use crate::pieces::{at_most, until_line};
 use crate::ticks::split_tick;
 use crate::watching::Forgetful;
 use apex_types::limits::MOST_TICKS;
@@ -123,6 +124,12 @@ pub fn collect(
     let mut left = ticks;
     let mut lines = devices;
     while left > 0 && running.origin.is_some() {
+        let quiet = until_line(lines, running.now, at_most(left, u32::MAX));
+        let count = running.skip_still(quiet);
+        if count > 0 {
+            left -= u64::from(count);
+            continue;
+        }
         let (now, later) = split_tick(lines, running.now.0);
         running.tick_watched(now, watched, &mut inputs, &mut output)?;
         lines = later;

@@ -1,7 +1,7 @@
 -- Records that stay bounded.
-use Rattle.std.proofs.Common.{◌≡◌, ◌≤◌, ℕ, zero, suc, List, [], ◌∷◌, map, length, refl, ap, arith}
+use Rattle.std.proofs.Common.{◌≡◌, ◌≤◌, ℕ, zero, suc, List, [], ◌∷◌, map, length, refl, sym, ap, subst, arith}
 use Rattle.std.proofs.lemmas.List.{length-map}
-use Rattle.std.specs.Prelude.{slice_set, slice_get, Option, Some, None, IfSome}
+use Rattle.std.specs.Prelude.{slice_set, slice_get, option_map, Option, Some, None, IfSome}
 use Rattle.apex_types.specs.declared.limits.TheConstants.{LATEST_RELEASE_POINT, MOST_PROCESSES, MOST_RUNNERS, MOST_TICKS}
 use Rattle.apex_types.specs.declared.codes.Mode.{Mode}
 use Rattle.apex_types.specs.declared.codes.Mode.TheVariants as mode
@@ -26,6 +26,11 @@ pub bounded_at : (rows : List ProcessStatus) (place : ℕ) → AreAllBounded row
 bounded_at [] place all = tt
 bounded_at (r ∷ rows) zero all = all.0
 bounded_at (r ∷ rows) (suc place) all = bounded_at rows place all.1
+
+-- what holds of the record that a reference reads
+pub held_at : {R : Type 0} (read : R → ProcessStatus) (o : Option R) (rows : List ProcessStatus) (place : ℕ) → option_map read o ≡ slice_get rows place → AreAllBounded rows → IfSome o (λ r. IsBounded (read r))
+held_at read None rows place is all = tt
+held_at read (Some r) rows place is all = subst (λ (o : Option ProcessStatus). IfSome o IsBounded) (sym is) (bounded_at rows place all)
 
 pub forgotten_bounded : (rows : List ProcessStatus) → AreAllBounded rows → AreAllBounded (map forgotten rows)
 forgotten_bounded [] all = tt

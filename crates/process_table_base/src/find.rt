@@ -44,7 +44,11 @@ impl ProcessTable {
         ensures found { pair_of result
             ≡ meaning.numbered process (meaning.row_of self.now (Runner.Process process)) }
     {
-        self.found(Runner::Process(process))
+        let runner = Runner::Process(process);
+        match self.look(runner) {
+            Some(row) => Some(Found { runner, row: *row }),
+            None => None,
+        }
     }
 
     /// Whether the caller may not wait: it is INIT or the handler, or preemption is locked.

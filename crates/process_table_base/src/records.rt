@@ -8,13 +8,11 @@ ghost use Rattle.machine_meaning.specs.MachineMeaning.{machine_row};
 ghost use Rattle.kernel_meaning.specs.Times.{ticks};
 ghost use Rattle.links.specs.Timers.{IsDueMask, IsNextDue, number_of};
 ghost use Rattle.apex_types.specs.declared.limits.TheConstants.{MOST_PROCESSES};
-ghost use Rattle.process_table_base.specs.Bounds.{AreAllBounded, AreShort, IsBounded};
-ghost use Rattle.process_table_base.specs.FoundView.{record_of};
+ghost use Rattle.process_table_base.specs.Bounds.{AreShort, IsBounded};
 ghost use Rattle.process_table_base.specs.ShortFact.{shorts_prop};
 ghost use Rattle.process_table_base.specs.States.{put_state};
 ghost use Rattle.process_table_base.specs.Timed.{AreTimed, deadlines, due_times};
 
-use crate::found::Found;
 use crate::timers::Timers;
 use apex_types::{
     MOST_PROCESSES, MOST_RUNNERS, Mode, Priority, ProcessRow, ProcessState, ProcessStatus, Runner,
@@ -139,13 +137,15 @@ impl Records {
         record_at(&self.rows, runner.place())
     }
 
-    /// INIT, the handler or a process with its record; `None` if the process does not exist.
+    /// The record of INIT, of the handler or of a process, where it is; `None` if the process does
+    /// not exist.
     #[tactic(auto, using(crate::proofs::Bounds::bounds))]
-    pub(crate) fn find(&self, runner: Runner) -> Option<Found>
-        ensures found { record_of result ≡ slice_get self.now (place_of runner) }
-        ensures own { IfSome result (λ found. found.runner ≡ runner) }
+    pub(crate) fn look(&self, runner: Runner) -> Option<&ProcessStatus>
+        ensures row { option_map (λ row. row.now) result ≡ slice_get self.now (place_of runner) }
+        ensures within { IfSome result (λ row. place_of runner < MOST_RUNNERS) }
+        ensures bounded { IfSome result (λ row. IsBounded row.now) }
     {
-        found_at(&self.rows, runner)
+        look_at(&self.rows, runner.place())
     }
 
     /// The name of a runner; `None` if there is no such runner.
@@ -263,18 +263,10 @@ fn record_at(rows: &[ProcessStatus], place: usize) -> Option<ProcessStatus>
     rows.get(place).copied()
 }
 
-/// The runner with its record; `None` if it has none.
-#[tactic(auto, using(crate::proofs::Bounds::bounded_at))]
-fn found_at(rows: &[ProcessStatus], runner: Runner) -> Option<Found>
-    requires few { length rows.now ≤ MOST_RUNNERS }
-    requires bounded { AreAllBounded rows.now }
-    ensures found { record_of result ≡ slice_get rows.now (place_of runner) }
-    ensures own { IfSome result (λ found. found.runner ≡ runner) }
+fn look_at(rows: &[ProcessStatus], place: usize) -> Option<&ProcessStatus>
+    ensures { option_map (λ row. row.now) result ≡ slice_get rows.now place }
 {
-    match rows.get(runner.place()) {
-        Some(row) => Some(Found { runner, row: *row }),
-        None => None,
-    }
+    rows.get(place)
 }
 
 /// Changes the state in the record at `place`, if there is such a record.

@@ -92,7 +92,20 @@ impl ProcessTable {
         ensures found { record_of result ≡ meaning.row_of self.now runner }
         ensures own { IfSome result (λ found. found.runner ≡ runner) }
     {
-        self.records.find(runner)
+        match self.look(runner) {
+            Some(row) => Some(Found { runner, row: *row }),
+            None => None,
+        }
+    }
+
+    /// The record of INIT, of the handler or of a process, where it is, so that those who look a
+    /// record up copy it once.
+    pub(crate) fn look(&self, runner: Runner) -> Option<&ProcessStatus>
+        ensures row { option_map (λ row. row.now) result ≡ meaning.row_of self.now runner }
+        ensures within { IfSome result (λ row. place_of runner < MOST_RUNNERS) }
+        ensures bounded { IfSome result (λ row. IsBounded row.now) }
+    {
+        self.records.look(runner)
     }
 
     /// The same; counts the read in `reads`.

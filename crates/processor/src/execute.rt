@@ -121,33 +121,33 @@ impl Registers {
     }
 
     /// The effect of an instruction in its last tick.
-    pub(crate) fn execute(&mut self, reach: &mut Reach, code: &Code, instruction: Instr) -> Turn
+    pub(crate) fn execute(&mut self, reach: &mut Reach, code: &Code, instruction: &Instr) -> Turn
         requires next { self.old.pc + 1 < 2 ^ 32 }
         ensures effect { after result self.new reach.new
-            ≡ does (executes code.now.routines.items instruction) self.old reach.old }
+            ≡ does (executes code.now.routines.items instruction.now) self.old reach.old }
         ensures same { is_done result ≡ false
             → control_in self.new reach.new ≡ control_in self.old reach.old }
     {
         match instruction {
-            Instr::Push(v) => self.push(reach, v),
-            Instr::LoadData(x) => self.load_data(reach, x),
-            Instr::StoreData(x) => self.store_data(reach, x),
-            Instr::LoadLocal(x) => self.load_local(reach, x),
-            Instr::StoreLocal(x) => self.store_local(reach, x),
-            Instr::LoadElement(x, v) => self.load_element(reach, x, v),
-            Instr::StoreElement(x, v) => self.store_element(reach, x, v),
-            Instr::Binary(operator) => self.binary(reach, operator),
-            Instr::Unary(operator) => self.unary(reach, operator),
-            Instr::Jump(x) => self.go_on(x, self.sp),
-            Instr::JumpIfZero(x) => self.jump_if_zero(reach, x),
-            Instr::Call(x) => self.enter(reach, code, x),
-            Instr::Return(x) => self.give_back(reach, x),
-            Instr::Work(v) if is_work(v) => self.go_on(self.pc + 1, self.sp),
+            Instr::Push(v) => self.push(reach, *v),
+            Instr::LoadData(x) => self.load_data(reach, *x),
+            Instr::StoreData(x) => self.store_data(reach, *x),
+            Instr::LoadLocal(x) => self.load_local(reach, *x),
+            Instr::StoreLocal(x) => self.store_local(reach, *x),
+            Instr::LoadElement(x, v) => self.load_element(reach, *x, *v),
+            Instr::StoreElement(x, v) => self.store_element(reach, *x, *v),
+            Instr::Binary(operator) => self.binary(reach, *operator),
+            Instr::Unary(operator) => self.unary(reach, *operator),
+            Instr::Jump(x) => self.go_on(*x, self.sp),
+            Instr::JumpIfZero(x) => self.jump_if_zero(reach, *x),
+            Instr::Call(x) => self.enter(reach, code, *x),
+            Instr::Return(x) => self.give_back(reach, *x),
+            Instr::Work(v) if is_work(*v) => self.go_on(self.pc + 1, self.sp),
             Instr::Work(_) => Turn::Fault(ErrorKind::IllegalRequest),
-            Instr::Service(x) => Turn::Service(x),
+            Instr::Service(x) => Turn::Service(*x),
             Instr::End => Turn::End,
-            Instr::LoadRegion(x) => self.load_region(reach, x),
-            Instr::StoreRegion(x) => self.store_region(reach, x),
+            Instr::LoadRegion(x) => self.load_region(reach, *x),
+            Instr::StoreRegion(x) => self.store_region(reach, *x),
         }
     }
 }

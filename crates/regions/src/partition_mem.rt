@@ -183,7 +183,7 @@ impl PartitionMem {
 
     /// Selects the stack at a place as the own one. Returns false, and changes nothing, if there is
     /// no such stack.
-    #[tactic(auto, using(crate::proofs::Lists::stacks))]
+    #[tactic(auto, using(crate::proofs::Lists::stacks, crate::proofs::Lists::selected_again))]
     pub fn select(&mut self, place: usize) -> bool
         ensures there { result ≡ nat_lt place (length self.old.rest) }
         ensures selected { result ≡ true
@@ -192,6 +192,10 @@ impl PartitionMem {
     {
         if place >= self.rest.len() {
             return false;
+        }
+        // Most who run go on where they were.
+        if place == self.own {
+            return true;
         }
         mem::swap(&mut self.reach.stack, &mut self.rest[self.own]);
         mem::swap(&mut self.reach.stack, &mut self.rest[place]);

@@ -34,7 +34,16 @@ class Partition:
     def tell(self, words):
         self.write(self.now, self.row.name, words)
 
-    # ---- a tick
+    # ---- ticks
+
+    def run(self, now, stop):
+        """Its ticks from this one up to another. Those in which the running one only counts are made at once."""
+        while now < stop:
+            self.tick(now)
+            quiet = min(stop - now - 1, self.quiet_ticks(now + 1))
+            if self.running is not None:
+                self.running.control.spent += quiet
+            now += 1 + quiet
 
     def tick(self, now):
         self.now = now
@@ -55,15 +64,11 @@ class Partition:
             getattr(self, request[0])(runner, *request[1:])
 
     def quiet_ticks(self, now):
-        """How many ticks from this one on would only be counted, if the partition had them all."""
+        """How many ticks from this one on are only counted, if the partition has them all."""
         left = self.next_due() - now
         if left <= 0 or self.handler_is_wanted() or self.choice() is not self.running:
             return 0
         return left if self.running is None else min(left, self.running.control.left() - 1)
-
-    def spend(self, ticks):
-        if self.running is not None:
-            self.running.control.spent += ticks
 
     def next_due(self):
         if self.earliest is None:
@@ -73,11 +78,7 @@ class Partition:
 
     def sleeps(self):
         """Whether nothing can happen before something is due or comes from outside."""
-        return not self.handler_is_wanted() and self.choice() is None and not self.has_messages()
-
-    def has_messages(self):
-        """Whether its source ports have some to move."""
-        return any(it.messages for it in self.sources)
+        return not self.handler_is_wanted() and self.choice() is None and not any(it.messages for it in self.sources)
 
     # ---- what is due
 

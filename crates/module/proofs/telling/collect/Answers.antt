@@ -1,4 +1,4 @@
-use Rattle.std.proofs.Common.{rules, ◌≡◌, ◌+◌, ◌-◌, ◌++◌, ℕ, suc, List, [], length, map, Result, Err, IfErr, refl, sym, ap, subst, ◌∙◌, arith}
+use Rattle.std.proofs.Common.{rules, ◌≡◌, ◌≤◌, ◌+◌, ◌-◌, ◌++◌, ℕ, suc, List, [], length, map, Result, Err, IfErr, refl, sym, ap, subst, ◌∙◌, arith}
 use Rattle.module_meaning.specs.Module.{Plan}
 use Rattle.machine_meaning.specs.MachineMeaning.{machine_module}
 use Rattle.image.specs.Views.{image_of}
@@ -8,13 +8,14 @@ use Rattle.isolation.specs.declared.input.InputLine.{InputLine}
 use Rattle.machine_meaning.specs.MachineControl.{MachineControl}
 use Rattle.image.specs.declared.value.Image as code
 use Rattle.partition_base.specs.contracts.machine.PartitionProcessorExecutor.TheImpl.{ghosts as machine}
-use Rattle.module.specs.Collecting.{HasNoRoom, brought_next, brought_of}
+use Rattle.module.specs.Collecting.{BringsNothing, HasNoRoom, brought_next, brought_of}
 use Rattle.module.specs.Standing.{Standing, after, ticks}
 use Rattle.module.specs.Views.{members_in, plan_of, standing_of}
 use Rattle.module.specs.Written.{AreFrom}
 use Rattle.module.specs.declared.collected.Collected.{Collected}
 use Rattle.module.specs.declared.inputs_fault.InputsFault.{InputsFault}
 use Rattle.module.proofs.Brought.{all_came, comes_further, is_brought, no_room_for_all, none_brought, tick_brings}
+use Rattle.module.proofs.Unbrought.{brought_after, lines_ahead}
 use Rattle.module.proofs.telling.collect.Goals as goal
 use Rattle.module.proofs.telling.collect.Goals.{then-loop-left-test+else-is_some, else-loop-left-test}
 
@@ -37,30 +38,67 @@ loop-left-init c =
 pub loop-left-preserved : goal.loop-left-preserved
 loop-left-preserved c =
     let i = c.loop-left.invariant in
-    let m = c.loop-left.running in
+    let m0 = c.loop-left.running in
+    let m = c.skip_still-count.new.self in
     let s = standing_of machine m in
     let next = c.tick_watched.new.self in
     let plan = plan_of c.args.running.now.image in
-    let same : plan_of m.image ≡ plan = ap (λ (image : code.Image). plan_of image) i.image in
+    let before : plan_of m0.image ≡ plan = ap (λ (image : code.Image). plan_of image) i.image in
+    let same : plan_of m.image ≡ plan = ap (λ (image : code.Image). plan_of image) (c.skip_still-count.ensures.image ∙ i.image) in
     let watched = c.args.watched.0 in
+    let lines = c.loop-left.lines.now in
     let now = c.split_tick.result.0.now in
     let later = c.split_tick.result.1.now in
     let left = c.loop-left.left in
+    let so_far = c.loop-left.inputs.lines.items in
+    let n = c.skip_still-count.result in
+    let none : n ≡ 0 = omega (arith, c.if-count-gt0.false) in
+    let skipped = c.skip_still-count.ensures.skipped [] tt in
+    let here : m.now.0 ≡ m0.now.0 + n = skipped.1 in
+    let order = lines_ahead (plan_of m0.image) lines c.until_line-quiet.result m0.now.0 n (standing_of machine m0) s refl c.until_line-quiet.ensures.from skipped in
+    let quiet = subst (λ (p : Plan). BringsNothing p watched lines n (standing_of machine m0) s) before (c.skip_still-count.ensures.unbrought watched lines order) in
+    let way = brought_after plan watched lines _ so_far left n left (standing_of machine m0) s (omega (arith, none)) i.so_far quiet in
     let one : left ≡ suc (left - 1) = omega (arith, c.loop-left-test.true) in
     let own = c.split_tick.ensures in
     let ticked = c.in_ok-tick_watched.ensures in
-    let so_far = c.loop-left.inputs.lines.items in
     let gone : standing_of machine next ≡ after s (ticks plan now s) = ticked.standing ∙ ap (λ (p : Plan). after s (ticks p now s)) same in
     let more = map (line_in m.now.0) (brought_next plan watched now s) in
     let came : c.tick_watched.new.inputs.lines.items ≡ so_far ++ more = ticked.inputs ∙ ap (λ (p : Plan). so_far ++ map (line_in m.now.0) (brought_next p watched now s)) same in
     let after_it : next.now.0 ≡ m.now.0 + 1 = ap (λ (x : Standing MachineControl). x.now) gone in
     let rest = brought_of plan watched later (left - 1) (standing_of machine next) in
-    let split = tick_brings plan watched c.loop-left.lines.now now later left (left - 1) s (standing_of machine next) one (own.of_tick ∙ own.own) own.rest gone in
+    let split = tick_brings plan watched lines now later left (left - 1) s (standing_of machine next) one (own.of_tick ∙ own.own) own.rest gone in
     record {
-      image = ticked.image ∙ i.image;
+      image = ticked.image ∙ c.skip_still-count.ensures.image ∙ i.image;
       order = subst (λ u. AreFrom u later) (sym after_it) own.later;
-      limit = omega (arith, after_it, i.limit, c.loop-left-test.true);
-      so_far = comes_further _ so_far more _ rest i.so_far split ∙ ap (λ (ls : List InputLine). ls ++ rest) (sym came);
+      limit = omega (arith, after_it, here, none, i.limit, c.loop-left-test.true);
+      so_far = comes_further _ so_far more _ rest way split ∙ ap (λ (ls : List InputLine). ls ++ rest) (sym came);
+    }
+
+pub loop-left-preserved-then-count-gt0 : goal.loop-left-preserved-then-count-gt0
+loop-left-preserved-then-count-gt0 c =
+    let i = c.loop-left.invariant in
+    let m0 = c.loop-left.running in
+    let m = c.skip_still-count.new.self in
+    let s = standing_of machine m in
+    let plan = plan_of c.args.running.now.image in
+    let before : plan_of m0.image ≡ plan = ap (λ (image : code.Image). plan_of image) i.image in
+    let watched = c.args.watched.0 in
+    let lines = c.loop-left.lines.now in
+    let left = c.loop-left.left in
+    let so_far = c.loop-left.inputs.lines.items in
+    let n = c.skip_still-count.result in
+    let skipped = c.skip_still-count.ensures.skipped [] tt in
+    let within : n ≤ c.until_line-quiet.result = skipped.0 in
+    let here : m.now.0 ≡ m0.now.0 + n = skipped.1 in
+    let rest = left - c.from-left.result in
+    let same : left ≡ n + rest = omega (arith, within, c.until_line-quiet.ensures.within, c.at_most.ensures.ticks, c.from-left.ensures) in
+    let order = lines_ahead (plan_of m0.image) lines c.until_line-quiet.result m0.now.0 n (standing_of machine m0) s refl c.until_line-quiet.ensures.from skipped in
+    let quiet = subst (λ (p : Plan). BringsNothing p watched lines n (standing_of machine m0) s) before (c.skip_still-count.ensures.unbrought watched lines order) in
+    record {
+      image = c.skip_still-count.ensures.image ∙ i.image;
+      order = order;
+      limit = omega (arith, i.limit, here, same);
+      so_far = brought_after plan watched lines _ so_far left n rest (standing_of machine m0) s same i.so_far quiet;
     }
 
 pub returns-clause-inputs : goal.returns-clause-inputs
@@ -78,11 +116,19 @@ returns-clause-inputs c =
 pub returns-in_err-tick_watched-clause-refused : goal.returns-in_err-tick_watched-clause-refused
 returns-in_err-tick_watched-clause-refused c =
     let i = c.loop-left.invariant in
-    let m = c.loop-left.running in
+    let m0 = c.loop-left.running in
+    let m = c.skip_still-count.new.self in
     let s = standing_of machine m in
     let plan = plan_of c.args.running.now.image in
-    let same : plan_of m.image ≡ plan = ap (λ (image : code.Image). plan_of image) i.image in
+    let before : plan_of m0.image ≡ plan = ap (λ (image : code.Image). plan_of image) i.image in
+    let same : plan_of m.image ≡ plan = ap (λ (image : code.Image). plan_of image) (c.skip_still-count.ensures.image ∙ i.image) in
     let watched = c.args.watched.0 in
+    let lines = c.loop-left.lines.now in
+    let n = c.skip_still-count.result in
+    let none : n ≡ 0 = omega (arith, c.if-count-gt0.false) in
+    let skipped = c.skip_still-count.ensures.skipped [] tt in
+    let order = lines_ahead (plan_of m0.image) lines c.until_line-quiet.result m0.now.0 n (standing_of machine m0) s refl c.until_line-quiet.ensures.from skipped in
+    let quiet = subst (λ (p : Plan). BringsNothing p watched lines n (standing_of machine m0) s) before (c.skip_still-count.ensures.unbrought watched lines order) in
     let now = c.split_tick.result.0.now in
     let later = c.split_tick.result.1.now in
     let left = c.loop-left.left in
@@ -90,8 +136,28 @@ returns-in_err-tick_watched-clause-refused c =
     let own = c.split_tick.ensures in
     let fault = c.in_err-tick_watched.field-0.0 in
     let so_far = c.loop-left.inputs.lines.items in
-    let split = tick_brings plan watched c.loop-left.lines.now now later left (left - 1) s (after s (ticks plan now s)) one (own.of_tick ∙ own.own) own.rest refl in
+    let way = brought_after plan watched lines _ so_far left n left (standing_of machine m0) s (omega (arith, none)) i.so_far quiet in
+    let split = tick_brings plan watched lines now later left (left - 1) s (after s (ticks plan now s)) one (own.of_tick ∙ own.own) own.rest refl in
     let here = subst (λ (p : Plan). HasNoRoom (length so_far + length (brought_next p watched now s)) fault) same c.in_err-tick_watched.ensures.inputs in
-    let all = no_room_for_all m.now.0 _ so_far _ _ (brought_next plan watched now s) fault i.so_far split here in
+    let all = no_room_for_all m.now.0 _ so_far _ _ (brought_next plan watched now s) fault way split here in
     let answer : c.from_residual-in_err-tick_watched.result ≡ Err fault = search rules in
     subst (λ (r : Result Collected InputsFault). IfErr r (HasNoRoom (length (machine_inputs (image_of c.args.running.now.image) watched c.args.devices.now c.args.ticks)))) (sym answer) all
+
+pub overflow_sub-left : goal.overflow_sub-left
+overflow_sub-left c =
+    let within : c.skip_still-count.result ≤ c.until_line-quiet.result = (c.skip_still-count.ensures.skipped [] tt).0 in
+    omega (arith, within, c.until_line-quiet.ensures.within, c.at_most.ensures.ticks, c.from-left.ensures)
+
+pub split_tick-requires : goal.split_tick-requires
+split_tick-requires c =
+    let m0 = c.loop-left.running in
+    let skipped = c.skip_still-count.ensures.skipped [] tt in
+    record {
+      order = lines_ahead (plan_of m0.image) c.loop-left.lines.now c.until_line-quiet.result m0.now.0 c.skip_still-count.result (standing_of machine m0) (standing_of machine c.skip_still-count.new.self) refl c.until_line-quiet.ensures.from skipped;
+    }
+
+pub tick_watched-requires-clause-now : goal.tick_watched-requires-clause-now
+tick_watched-requires-clause-now c =
+    let none : c.skip_still-count.result ≡ 0 = omega (arith, c.if-count-gt0.false) in
+    let here : c.skip_still-count.new.self.now.0 ≡ c.loop-left.running.now.0 + c.skip_still-count.result = (c.skip_still-count.ensures.skipped [] tt).1 in
+    omega (arith, here, none, c.loop-left.invariant.limit, c.loop-left-test.true)

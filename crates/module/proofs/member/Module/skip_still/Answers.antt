@@ -1,12 +1,14 @@
 use Rattle.std.proofs.Common.{◌≡◌, ◌≤◌, ◌<◌, ◌+◌, Some, ap, sym, subst, ◌∙◌, arith, rules}
 use Rattle.apex_types.specs.declared.identity.Ticks.{Ticks}
 use Rattle.lone_partition.specs.Outputs.{next_at}
+use Rattle.module.specs.Collecting.{BringsNothing}
 use Rattle.module.specs.Pieces.{HasSkippedSome}
 use Rattle.module.specs.Standing.{Standing, moment_of, ticks_in}
 use Rattle.module.specs.Views.{plan_of, standing_of}
 use Rattle.module.specs.Written.{AreFrom}
 use Rattle.module.proofs.Bursts.{skip_ticks}
 use Rattle.module.proofs.Standing.{moment_now, moment_origin}
+use Rattle.module.proofs.Unbrought.{skipped_bring_nothing}
 use Rattle.module.proofs.member.Module.skip_still.Goals as goal
 
 pub returns-then-idle-gt0-clause-skipped : goal.returns-then-idle-gt0-clause-skipped
@@ -25,3 +27,19 @@ returns-then-idle-gt0-clause-skipped g c = λ lines order.
     let later : (standing_of e c.skip.new.self).now ≡ at.now.0 + n = ap (λ (x : Standing e.Control). x.now) c.skip.ensures.standing ∙ ap (λ t. t + n) (sym here) in
     subst (λ (next : Standing e.Control). HasSkippedSome plan lines c.args.most s next n) (sym c.skip.ensures.standing)
     (skip_ticks plan lines c.args.most n at.now.0 at.origin.0 s here from few (omega (arith, here)) (subst (λ u. AreFrom u lines) later order) (c.still_ticks-idle.ensures.still ahead))
+
+pub returns-then-idle-gt0-clause-unbrought : goal.returns-then-idle-gt0-clause-unbrought
+returns-then-idle-gt0-clause-unbrought g c = λ p lines order.
+    let e = g.E.Executor in
+    let s = standing_of e c.args.self.now in
+    let plan = plan_of c.args.self.now.image in
+    let at = c.in-Some.moment.at in
+    let n = c.still_ticks-idle.result in
+    let ahead : 0 < n = omega (arith, c.if-idle-gt0.true) in
+    let some : c.moment.result ≡ Some c.in-Some.moment = search rules in
+    let is : Some at ≡ moment_of c.args.self.now.now c.args.self.now.origin = ap next_at (sym some) ∙ c.moment.ensures in
+    let here : at.now.0 ≡ s.now = ap (λ (t : Ticks). t.0) (moment_now c.args.self.now.now c.args.self.now.origin at is) in
+    let from : s.origin ≡ Some at.origin.0 = ap ticks_in (moment_origin c.args.self.now.now c.args.self.now.origin at is) in
+    let later : (standing_of e c.skip.new.self).now ≡ at.now.0 + n = ap (λ (x : Standing e.Control). x.now) c.skip.ensures.standing ∙ ap (λ t. t + n) (sym here) in
+    subst (λ (next : Standing e.Control). BringsNothing plan p lines n s next) (sym c.skip.ensures.standing)
+    (skipped_bring_nothing plan p lines n at.now.0 at.origin.0 s here from (omega (arith, here)) (subst (λ u. AreFrom u lines) later order) (c.still_ticks-idle.ensures.still ahead))

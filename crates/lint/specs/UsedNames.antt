@@ -1,0 +1,6 @@
+-- The names that stand in some statements, as a table of them holds them.
+use Rattle.std.specs.Prelude.{ℕ, List, map}
+use Rattle.lint.specs.declared.used.Used.{Used}
+
+abbrev pub used_names : Used → List (List ℕ)
+used_names u = map (λ text. text.now) u.texts.keys
