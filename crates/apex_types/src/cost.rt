@@ -141,7 +141,7 @@ impl Costs {
         ]
     }
 
-    /// The costs that stand in the order of the keys of a module table.
+    /// The costs in the order of the keys of a module table.
     pub fn from_order(costs: &[TickCost]) -> Self
         ensures { result ≡ from_order costs.now }
     {

@@ -73,7 +73,7 @@ pub fn copied(message: &Words) -> Words
     copy
 }
 
-/// Replaces the words of a message. Just so many words are written as the message gets.
+/// Replaces the words of a message. Writes exactly the words that the message gets.
 pub fn refill(message: &mut Words, words: &Words)
     ensures { message.new ≡ words.now }
 {

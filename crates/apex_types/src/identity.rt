@@ -1,4 +1,4 @@
-//! Numbers with a meaning of their own.
+//! Numbers, each with a meaning.
 
 ghost use Rattle.std.specs.Prelude.{◌≡◌, ◌≤◌};
 ghost use Rattle.apex_types.specs.declared.limits.TheConstants.{MOST_TICKS};

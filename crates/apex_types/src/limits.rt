@@ -50,7 +50,7 @@ pub const MOST_DESTINATIONS: u8 = 16;
 /// The most ports of a partition.
 pub const MOST_PORTS: u8 = 16;
 
-/// The most processes of a partition, besides INIT and the error handler.
+/// The most processes of a partition, without INIT and the error handler.
 pub const MOST_PROCESSES: u8 = 63;
 
 /// The most runners of a partition: INIT, the error handler and the processes.
@@ -119,7 +119,8 @@ pub const MOST_COST: u32 = 1_000;
 /// The most bytes of a source.
 pub const MOST_SOURCE_BYTES: u32 = 1_048_576;
 
-/// The most levels of expressions, statements and argument lists that are open at once in a source.
+/// The most levels of expressions, statements and argument lists that are open together in a
+/// source.
 pub const MOST_LEVELS: u32 = 64;
 
 /// The most lines of a device text or of a replay text.
@@ -146,10 +147,10 @@ pub const INSTRUCTION_BYTES: usize = 16;
 /// The most bytes of a word in a line: its digits, its sign and the space before it.
 pub const MOST_WORD_BYTES: usize = 21;
 
-/// The most bytes of an event besides the words of its message.
+/// The most bytes of an event, without the words of its message.
 pub const MOST_KIND_BYTES: usize = 64;
 
-/// The most bytes that a line has besides the words of a message: a tick, two names, and the event.
+/// The most bytes of a line, without the words of a message: a tick, two names, and the event.
 pub const MOST_HEAD_BYTES: usize = 176;
 
 /// The most bytes of a line of a trace.

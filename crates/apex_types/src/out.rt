@@ -1,4 +1,4 @@
-//! The output of a step of the kernel, besides its new state.
+//! The output of a step of the kernel, without its new state.
 
 ghost use Rattle.std.specs.Prelude.{◌≡◌, ◌≤◌, ◌<◌, ◌+◌, ◌++◌, [], ◌∷◌, length, option_map, slice_get, vec_capacity, true, IfOk, IfSome};
 ghost use Rattle.apex_types.specs.OutView.{part_of};
@@ -13,7 +13,7 @@ use crate::process::ActionKind;
 use std::alloc::{AllocError, Global};
 use std::marker::Model;
 
-/// Where the words of a line or an action stand among the words of the output.
+/// The place of the words of a line or an action among the words of the output.
 #[derive(Clone, Copy)]
 struct Part {
     from: u32,
@@ -35,7 +35,7 @@ struct Act {
 }
 
 /// The lines of a step, and its actions. A contract sees the events and the actions with their
-/// words; they stand one after another in one list, so that a line and an action are small.
+/// words. The words are in one list, so that a line and an action are small.
 #[derive(Drop)]
 pub struct Out {
     lines: Vec<Line>,
@@ -54,7 +54,7 @@ impl Model for Out {
     ghost invariant = { HasWords };
 }
 
-/// Adds words behind the others, and returns where they stand.
+/// Adds words after the others, and returns their place.
 fn add(words: &mut Vec<i64>, message: &[i64]) -> Part
     requires room { length words.old.items + length message.now ≤ MOST_OUT_WORDS }
     requires memory { MOST_OUT_WORDS ≤ vec_capacity words.old }

@@ -14,7 +14,7 @@ pub enum Wait {
     NormalStart(Ticks),
     /// It is started, and its due time is its first release.
     FirstRelease,
-    /// A service on time or a suspension of its own, which answers at its due time or earlier.
+    /// A service on time or a suspension, which answers at its due time or earlier.
     Service(Service),
     /// A service on an object or a port: it is in the waiting list of that object, and a receiver has
     /// this array.
@@ -76,7 +76,7 @@ pub struct Entry {
 /// The preemption lock of a partition.
 #[derive(Clone, Copy, PartialEq, Eq)]
 pub enum Lock {
-    /// Its level is 0, and nobody holds it.
+    /// Its level is 0, and no process holds it.
     Free,
     /// Its level is above 0.
     Held { level: u8, holder: ProcessIndex },

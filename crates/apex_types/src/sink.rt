@@ -75,8 +75,8 @@ impl<W: Write> Sink for WriterSink<W> {
     }
 }
 
-/// Writes all of the bytes, in as many calls as the sink needs. Fails only if the sink fails; then
-/// a prefix of the bytes is out.
+/// Writes all of the bytes, in several calls if the sink takes fewer. Fails only if the sink fails;
+/// then a prefix of the bytes is out.
 pub fn put_all<S: Sink>(sink: &mut S, bytes: &[u8]) -> Result<(), SinkFault>
     requires { S.failures sink.old < 2 ^ 64 - 1 }
     ensures ok { OnOk result (Appends (S.taken sink.old) (S.taken sink.new) bytes.now) }

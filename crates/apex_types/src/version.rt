@@ -18,9 +18,9 @@ pub const SECOND_VERSION: u16 = 2;
 /// The number of the third version.
 pub const THIRD_VERSION: u16 = 3;
 
-/// The version of an image, with what images of this version alone have. An image of the first version
-/// has no costs of its own: its constructs cost what is written of Pal. One of the third has larger
-/// limits.
+/// The version of an image, with what only images of this version have. An image of the first
+/// version has no costs: its constructs cost what is written of Pal. An image of the third has
+/// larger limits.
 #[derive(Clone, Copy)]
 pub enum ImageVersion {
     First,

@@ -37,8 +37,8 @@ use std::convert::AsStr;
 use streams::{Files, Stream, write_line};
 
 /// Does what the words say. Sets `asked` to true if they ask for an explanation of a refusal;
-/// `note` then gets the explanation of a refused source. A run is told to `watch`, if they ask for
-/// that.
+/// `note` then gets the explanation of a refused source. If the words ask for reports, a run
+/// reports to `watch`.
 pub fn perform<S: AsStr, F: Files, O: Stream, W: Watch>(
     alloc: Global,
     words: &[S],
@@ -137,7 +137,7 @@ fn style_of(matches: &ArgMatches<'_>) -> Style
     }
 }
 
-/// Does the command that was found in the words, if no word is `-` alone.
+/// Does the command that was found in the words, if no word is `-`.
 fn obey<F: Files, O: Stream, W: Watch>(
     alloc: Global,
     matches: &ArgMatches<'_>,
@@ -168,7 +168,7 @@ fn obey<F: Files, O: Stream, W: Watch>(
     obey_order(alloc, order_by_name(matches), files, out, watch, note)
 }
 
-/// Does what the words ask for, if none of them is `-` alone.
+/// Does what the words ask for, if none of them is `-`.
 fn obey_order<F: Files, O: Stream, W: Watch>(
     alloc: Global,
     order: Order<'_>,

@@ -1,4 +1,4 @@
-//! Words of a command that are `-` alone.
+//! Words of a command that are `-`.
 
 ghost use Rattle.std.specs.Prelude.{◌≡◌, is_some, map};
 ghost use Rattle.std.specs.List.{list_any};
@@ -23,7 +23,7 @@ static NAMED: [&str; 9] = [
     "NEW",
 ];
 
-/// The name of the command that was found, if one of its words is `-` alone.
+/// The name of the command that was found, if one of its words is `-`.
 pub fn dashed_command<'a>(matches: &ArgMatches<'a>) -> Option<&'a str>
     ensures { is_some result ≡ is_dashed (subcommand_rows_of matches.now) }
 {
@@ -52,7 +52,7 @@ fn has_dash_among(found: &ArgMatches<'_>, names: &[&str]) -> bool
     false
 }
 
-/// Returns true if a word that was found for the argument `name` is `-` alone.
+/// Returns true if a word that was found for the argument `name` is `-`.
 fn has_dash_at(found: &ArgMatches<'_>, name: &str) -> bool
     ensures { result ≡ has_dash_at (rows_of (found_of found.now)) name.now }
 {

@@ -35,7 +35,7 @@ pub enum Style {
 }
 
 impl Style {
-    /// How findings on a file by that rule are told.
+    /// How findings on a file by that rule are reported.
     fn report<'a>(self, rule: &'a str, file: &'a str) -> Report<'a>
         ensures { report_of result ≡ report_in self rule.now file.now }
     {
@@ -54,10 +54,10 @@ impl Style {
     }
 }
 
-/// The explanation of a refused file, for the lines behind that of its refusal.
+/// The explanation of a refused file, for the lines after that of its refusal.
 #[derive(Drop)]
 pub enum Note {
-    /// Nobody asked for an explanation.
+    /// No explanation is wanted.
     Unwanted,
     /// No file is refused so far.
     Wanted(Style),
@@ -361,7 +361,7 @@ fn explained_with(
     explain_source(alloc, report, source.period, source.text, fault.refusal)
 }
 
-/// How findings in the source in that file are told.
+/// How findings in the source in that file are reported.
 fn report_on<'a>(form: Form<'a>, file: &'a str) -> Report<'a>
     ensures { report_of result ≡ report_on (form_of form.entry) file.now }
 {
@@ -376,7 +376,7 @@ pub struct SourceFile<'a> {
     pub period: u32,
 }
 
-/// The source of the partition of that name, one source standing for each partition.
+/// The source of the partition of that name, where each partition has one source.
 fn source_of<'a>(
     partitions: &[PartitionRow],
     files: &'a [&'a str],
@@ -458,7 +458,7 @@ pub struct CostedFile<'a> {
     pub bodies: &'a [BodyCost],
 }
 
-/// The source of the partition of that name, one source standing for the costs of each partition.
+/// The source of the partition of that name, where the costs of each partition have one source.
 fn costed_of<'a>(
     costs: &'a [PartitionCosts],
     files: &'a [&'a str],
@@ -554,7 +554,7 @@ fn object_of(alloc: Global, refusal: &Refusal) -> Result<String, AllocError>
     rule_line(alloc, rule.as_str(), rule.as_str(), sentence_of(refusal))
 }
 
-/// The report of a refusal: its line, and an explanation behind it if the words asked for one.
+/// The report of a refusal: its line, and an explanation after it if the words ask for one.
 #[derive(Drop)]
 pub struct Told {
     pub refusal: Refusal,

@@ -211,7 +211,7 @@ pub fn bad_ticks(alloc: Global, name: &str, word: &str) -> Result<Error, AllocEr
     PROGRAM.usage_error(alloc, name, message.as_str())
 }
 
-/// The usage error of a word that is `-` alone, of the command of that name.
+/// The usage error of a word that is `-`, of the command of that name.
 pub fn lone_dash(alloc: Global, name: &str) -> Result<Error, AllocError>
     ensures { IfOk result (λ error. kind_of error ≡ ValueValidation) }
 {

@@ -49,14 +49,14 @@ use streams::{Files, Stream};
 use telling::tell;
 
 /// Does what the words of a command line say, the program's name first, and returns the exit
-/// status: 0; 1 for a refused command, with its line on `err`, and an explanation behind it if the
-/// words ask for one; 2 for words that are no command, with the usage on `err`; 3 for a command that
-/// is done and has found something. Help goes to `out`, with status 0, and so do the
-/// program's own manual page and its completion for a shell.
+/// status: 0; 1 for a refused command, with its line on `err`, and an explanation after it if the
+/// words ask for one; 2 for words that are no command, with the usage on `err`; 3 for a command
+/// that is done and has found something. Help goes to `out`, with status 0, and so do the program's
+/// own manual page and its completion for a shell.
 ///
 /// Faults are met in this order: the words, the files read in the order of the words, the build,
 /// the run or what is listed, the file written, the lines printed. An image is written only if it
-/// was built. A run is told to `watch`, if the words ask for that.
+/// was built. If the words ask for reports, a run reports to `watch`.
 pub fn command<S: AsStr, F: Files, O: Stream, E: Stream, W: Watch>(
     alloc: Global,
     words: &[S],

@@ -169,8 +169,8 @@ fn add_trees(alloc: Global, sources: &[Vec<u8>], trees: &mut Vec<Program>) -> Re
     add_trees(alloc, sources, trees)
 }
 
-/// Adds what is found for the partitions of these rows, with their sources as they are written and
-/// as they were accepted. `all` are the rows of the table.
+/// Adds what is found for the partitions of these rows, with their sources as written and as
+/// accepted. `all` are the rows of the table.
 #[tactic(auto, using(crate::proofs::Linted::no_rows, crate::proofs::Linted::no_trees, crate::proofs::Linted::no_sources))]
 fn add_found<'a>(
     alloc: Global,

@@ -67,7 +67,7 @@ pub enum Order<'a> {
     },
 }
 
-/// What the words ask for, if none of them is `-` alone.
+/// What the words ask for, if none of them is `-`.
 pub fn order_by_name<'a, 'w: 'a>(matches: &'a ArgMatches<'w>) -> Order<'a>
     ensures { meant result ≡ spec.order_by_name (subcommand_rows_of matches.now) }
 {

@@ -46,8 +46,8 @@ pub fn read_as<F: Files>(
     }
 }
 
-/// The bytes of the table of that name: all of them, or those up to the first that stands in no TOML
-/// document. So what is said of it does not hang on how much was read at once.
+/// The bytes of the table of that name: all of them, or those up to the first that is in no TOML
+/// document. So what is said of it does not depend on how much one call reads.
 pub fn read_table<F: Files>(alloc: Global, name: &str, files: &mut F) -> Result<Vec<u8>, Refusal>
     ensures held { IfOk result
         (λ bytes. HoldsFrom settles_table (F.contents files.old) name.now bytes.items) }

@@ -18,7 +18,7 @@ use streams::{NameFault, Reason};
 pub enum Refusal {
     Build(BuildFault),
     Run(RunFault),
-    /// A replay is refused. Its text has rules of its own.
+    /// A replay is refused. Its text has other rules.
     Replay(RunFault),
     Inputs(InputsFault),
     /// The file of that name was not read or not written, for that reason.
@@ -40,7 +40,7 @@ impl Refusal {
     }
 }
 
-/// What the line of a refusal says behind the program's name.
+/// What the line of a refusal says after the program's name.
 #[derive(Clone, Copy)]
 pub struct Rule<'a> {
     pub refusal: &'a Refusal,

@@ -97,7 +97,7 @@ fn replay_named<F: Files, O: Stream>(
     }
 }
 
-/// Writes the trace of a partition alone. A refusal of the image or of the replay text is explained in
+/// Writes the trace of one partition. A refusal of the image or of the replay text is explained in
 /// `note`.
 fn trace_alone<O: Stream>(
     alloc: Global,

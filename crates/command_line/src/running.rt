@@ -22,8 +22,9 @@ use std::alloc::Global;
 use streams::{Files, Stream};
 use text_beginnings::TextKind;
 
-/// Runs an image for the ticks of a word, and tells a watcher how far it is. With words in `until`
-/// the run ends with the first tick that has a line with them; it is remarkable if none comes.
+/// Runs an image for the ticks of a word, and reports to a watcher how far it is. With words in
+/// `until` the run ends with the first tick that has a line with them; it is remarkable if none
+/// comes.
 pub fn run<F: Files, O: Stream, W: Watch>(
     alloc: Global,
     image: &str,

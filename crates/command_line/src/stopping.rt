@@ -1,4 +1,4 @@
-//! Runs that end behind a line: with the first tick that has a line with the words that are asked
+//! Runs that end with a line: with the first tick that has a line with the words that are asked
 //! for.
 
 mod running;

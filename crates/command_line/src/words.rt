@@ -6,8 +6,8 @@ ghost use Rattle.command_line.specs.Spelled as spec;
 use std::alloc::{AllocError, Global};
 use std::convert::AsStr;
 
-/// The words, with each `--explain=json` as the flag that it stands for. Behind a word `--` all words
-/// are as they are.
+/// The words, with each `--explain=json` as the flag that it means. After a word `--` all words are
+/// unchanged.
 #[tactic(auto, using(std::proofs::lemmas::List::drop_more, std::proofs::lemmas::List::append_assoc, crate::proofs::Spelled::append_nil))]
 pub fn spelled<'a, S: AsStr>(alloc: Global, words: &'a [S]) -> Result<Vec<&'a str>, AllocError>
     ensures { IfOk result

@@ -54,7 +54,7 @@ fn command_lines(
     format!(in alloc; ".SS {program} {name}{words}\n{about}.\n{arguments}")
 }
 
-/// The words of a command, each behind a space.
+/// The words of a command, each after a space.
 fn words(alloc: Global, arguments: &[Arg<'_>]) -> Result<String, AllocError> {
     let mut text = String::new(alloc);
     for argument in arguments {
@@ -63,7 +63,7 @@ fn words(alloc: Global, arguments: &[Arg<'_>]) -> Result<String, AllocError> {
     Ok(text)
 }
 
-/// A word of a command behind a space; nothing for an option.
+/// A word of a command after a space; nothing for an option.
 fn word(alloc: Global, argument: &Arg<'_>) -> Result<String, AllocError> {
     if argument.is_positional() {
         escaped(alloc, &format!(in alloc; " {argument}")?)

@@ -1,6 +1,6 @@
 //! The parts that the command lines of the programs share: the table of their words, the arguments
-//! found in words, the numbers in them, the report on words that are no command or that ask for help,
-//! and the pages that a program writes of its own words.
+//! found in words, the numbers in them, the report on words that are no command or that ask for
+//! help, and the manual page and completion of a program.
 #![tactic(auto)]
 
 mod completing;

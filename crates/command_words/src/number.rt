@@ -5,7 +5,7 @@ ghost use Rattle.std.specs.Str.Parse.{AllDigits, IsNumeral};
 ghost use Rattle.command_words.specs.Numbers.{ReadsNumber};
 
 /// The number in a word of one or more digits. A number beyond 64 bits becomes the greatest number
-/// of 64 bits, which is far above every limit and far behind every trace.
+/// of 64 bits, which is far above every limit and every tick of a trace.
 pub fn number_of(word: &str) -> Option<u64>
     ensures { ReadsNumber word.now result }
 {

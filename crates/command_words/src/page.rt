@@ -10,7 +10,7 @@ use clap::Command;
 use std::alloc::{AllocError, Global};
 use std::convert::AsStr;
 
-/// A page that a program writes of its own words.
+/// A page that a program writes of its words.
 #[derive(Clone, Copy, PartialEq, Eq)]
 pub enum Page {
     /// The manual page.

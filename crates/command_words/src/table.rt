@@ -26,7 +26,7 @@ pub enum Argument {
         name: &'static str,
         help: &'static str,
     },
-    /// As many words as are given, at the end.
+    /// All words that follow, at the end.
     AnyWords {
         name: &'static str,
         help: &'static str,

@@ -100,7 +100,7 @@ fn emit_targets(code: &mut Vec<Instr>, targets: &[Place]) -> Result<(), AllocErr
     Ok(())
 }
 
-/// A test, and the place of the branch behind it.
+/// A test, and the place of the branch after it.
 fn emit_test(code: &mut Vec<Instr>, test: &Expr) -> Result<u32, AllocError>
     requires { length code.old.items + size_of_expr (expr_of test.now) ≤ MOST_INSTRUCTIONS }
     ensures code { OnOk result

@@ -21,8 +21,8 @@ use pal_base::program::Program;
 use processor::encode;
 use std::alloc::{AllocError, Global};
 
-/// The section of a program. Its code has one instruction for each construct, and the processor over
-/// it cannot be told apart from the program's source.
+/// The section of a program. Its code has one instruction for each construct, and the processor
+/// over it behaves as the program's source.
 ///
 /// # Errors
 ///

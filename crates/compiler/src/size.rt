@@ -1,4 +1,4 @@
-//! The number of instructions of a program's parts. For parts alone, a number that does not fit 32
+//! The number of instructions of a program's parts. For single parts, a number that does not fit 32
 //! bits is the greatest number that does; an accepted program fits.
 
 ghost use Rattle.std.specs.Prelude.{◌≡◌, ◌+◌, min, map};

@@ -25,7 +25,8 @@ pub fn accepted_program_fits()
 {}
 
 /// An accepted program has at most twice as many constructs as its text has bytes. If that text may
-/// be a source, the sizes, costs and frames of its bodies have 64 bits, whatever constructs cost.
+/// be a source, the sizes, costs and frames of its bodies have 64 bits, for all costs of
+/// constructs.
 pub fn accepted_program_is_short()
     ensures size { (ports : List PortRow) (period : ℕ) (text : List ℕ) (p : written.Program)
         (r : program.Program)

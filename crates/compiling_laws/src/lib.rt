@@ -1,4 +1,4 @@
-//! The compiled code of a program, and the laws over it: it cannot be told apart from the program's source.
+//! The compiled code of a program, and the laws over it: it behaves as the program's source.
 #![tactic(auto)]
 
 pub mod checking;

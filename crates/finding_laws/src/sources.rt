@@ -95,7 +95,7 @@ pub fn places_are_words()
         → ArePlaced text (wrongs rule period text p) }
 {}
 
-/// A word that is suggested where a text leaves the grammar may stand there.
+/// A word that is suggested where a text leaves the grammar fits there.
 pub fn suggestions_fit()
     ensures { (text : List ℕ) (place : LookedFor) (near : List ℕ)
         → IsLookedFor text (Some place)

@@ -8,16 +8,16 @@ ghost use Rattle.finding_laws.specs.Rules.{refusal_of, rule_in};
 ghost use Rattle.image_findings.specs.First.{first_wrong};
 ghost use Rattle.image_findings.specs.Named.{device_names_of, input_names};
 
-/// The rule by which a device text is refused is the one that what is found in it breaks, and nothing
-/// is found in an accepted text.
+/// What is found in a refused device text breaks the rule by which it is refused. Nothing is found
+/// in an accepted text.
 pub fn device_refusals_are_found()
     ensures { (rows : List Partition) (channels : List Channel) (text : List ℕ)
         → refusal_of (verdict rows channels text)
         ≡ rule_in (first_wrong (device_names_of rows channels) 0 0 (pieces 10 text)) }
 {}
 
-/// The rule by which a replay text is refused is the one that what is found in it breaks, and nothing
-/// is found in an accepted text.
+/// What is found in a refused replay text breaks the rule by which it is refused. Nothing is found
+/// in an accepted text.
 pub fn replay_refusals_are_found()
     ensures { (row : Partition) (text : List ℕ)
         → refusal_of (replay_verdict row text)

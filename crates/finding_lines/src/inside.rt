@@ -12,7 +12,7 @@ use std::alloc::Global;
 use toml_parser::text::{first, skip, skip_blank};
 
 /// Appends the entries of the value at the front of the text, with arrays and inline tables at most
-/// `depth` deep, and answers what follows the value.
+/// `depth` deep, and returns what follows the value.
 #[cycle(inside)]
 pub fn inside<'a>(
     alloc: Global,

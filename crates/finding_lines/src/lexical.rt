@@ -21,7 +21,7 @@ pub fn skip_bom(text: &str) -> &str
     }
 }
 
-/// Behind a string or a scalar, if there is memory to read it.
+/// After a string or a scalar, if there is memory to read it.
 pub fn behind_atom(alloc: Global, text: &str) -> Option<&str>
     ensures value { IfSome result (λ rest. behind_atom text.now ≡ Some rest.now) }
     ensures shorter { IfSome result (λ rest. length rest.now < length text.now) }
@@ -35,7 +35,7 @@ pub fn behind_atom(alloc: Global, text: &str) -> Option<&str>
     }
 }
 
-/// Behind the comma after an element, or at the closing bracket.
+/// After the comma that follows an element, or at the closing bracket.
 pub fn after_element(text: &str, closing: u8) -> Option<&str>
     ensures value { IfSome result (λ rest. after_element closing text.now ≡ Some rest.now) }
     ensures within { IfSome result (λ rest. length rest.now ≤ length text.now) }
@@ -50,7 +50,7 @@ pub fn after_element(text: &str, closing: u8) -> Option<&str>
     }
 }
 
-/// A key, and what follows its `=` and the white space behind that.
+/// A key, and what follows its `=` and the white space after it.
 pub fn key_equals(alloc: Global, text: &str) -> Option<(Key, &str)>
     ensures value { IfSome result
         (λ found. key_equals text.now ≡ Some (key_view found.0, found.1.now)) }

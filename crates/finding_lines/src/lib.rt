@@ -1,4 +1,4 @@
-//! Where something was found, and the lines that tell it.
+//! Where something was found, and the lines that report it.
 //!
 //! Of a text there are its lines and columns, of a TOML text the places of its key paths too, and the
 //! nearest name to one that is not known. The lines have the place, what is said of it, the text there

@@ -1,4 +1,4 @@
-//! The JSON objects of findings, each on a line of its own.
+//! The JSON objects of findings, one a line.
 
 ghost use Rattle.std.specs.Prelude.{◌≡◌, false, IfOk, OnOk, string_bytes};
 ghost use Rattle.finding_lines.specs.Objects as spec;
@@ -115,7 +115,7 @@ pub fn of_rule(alloc: Global, rule: &str, said: &str, advice: &str) -> Result<Va
     Ok(Value::Object(members(alloc, rule, said, advice)?))
 }
 
-/// An object on a line of its own.
+/// An object on one line.
 pub fn object_line(alloc: Global, object: &Value) -> Result<String, AllocError>
     requires { has_float (view object.now) ≡ false }
     ensures { IfOk result (λ line. string_bytes line ≡ spec.object_line (view object.now)) }

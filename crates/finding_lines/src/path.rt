@@ -66,7 +66,7 @@ fn is_one_element(path: &[OwnedStep]) -> bool
     }
 }
 
-/// Returns true if a step is this one.
+/// Returns true if both steps are the same.
 fn is_step(step: Step<'_>, other: &OwnedStep) -> bool
     ensures { result ≡ is_same_step (step_of step.entry) (owned_step other.now) }
 {

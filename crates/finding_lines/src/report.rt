@@ -1,6 +1,6 @@
-//! How findings are told.
+//! How findings are reported.
 
-/// In which form findings are told.
+/// In which form findings are reported.
 #[derive(Clone, Copy)]
 pub enum Form<'a> {
     /// Lines for people.
@@ -9,7 +9,7 @@ pub enum Form<'a> {
     Json(&'a str),
 }
 
-/// The file whose findings are told, by its name, and the form.
+/// The file whose findings are reported, by its name, and the form.
 #[derive(Clone, Copy)]
 pub struct Report<'a> {
     pub file: &'a str,

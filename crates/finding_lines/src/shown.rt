@@ -111,7 +111,7 @@ fn spaces_below(alloc: Global, bytes: &[u8]) -> Result<String, AllocError>
     Ok(text)
 }
 
-/// What stands below a byte.
+/// What is shown below a byte.
 fn space(_byte: u8) -> u8
     ensures { result ≡ 32 }
 {

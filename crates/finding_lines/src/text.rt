@@ -11,7 +11,7 @@ pub struct Place {
     pub column: usize,
 }
 
-/// The place at an offset of a text. An offset behind the end is the end.
+/// The place at an offset of a text. An offset after the end is the end.
 pub fn place_of(text: &[u8], offset: usize) -> Place
     ensures line { result.line ≡ line_of (take offset text.now) }
     ensures column { result.column ≡ column_of (take offset text.now) }
@@ -48,7 +48,7 @@ fn characters(text: &[u8]) -> usize
         .count()
 }
 
-/// The text behind the last line feed.
+/// The text after the last line feed.
 pub fn last_line(text: &[u8]) -> &[u8]
     ensures { result.now ≡ last_line text.now }
 {
@@ -56,7 +56,7 @@ pub fn last_line(text: &[u8]) -> &[u8]
     line
 }
 
-/// How many bytes are behind the last line feed.
+/// How many bytes are after the last line feed.
 fn behind_feed(text: &[u8]) -> usize
     ensures { result ≡ behind_feed text.now }
 {

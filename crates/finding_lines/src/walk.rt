@@ -60,8 +60,8 @@ fn entries(alloc: Global, text: &str) -> Option<Vec<Entry>>
     }
 }
 
-/// Appends the entries of a line: a header in double brackets, one in single brackets, or a pair.
-/// Behind a header `section` is its path. Answers what follows.
+/// Appends the entries of a line: a header in double brackets, a header in single brackets, or a
+/// pair. After a header `section` is its path. Returns what follows.
 fn line<'a>(
     alloc: Global,
     section: &mut Vec<OwnedStep>,

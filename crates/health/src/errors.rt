@@ -47,7 +47,7 @@ impl Errors {
         })
     }
 
-    /// Queues an error of a process, with the words of its message, behind the others. If 64 wait,
+    /// Queues an error of a process, with the words of its message, after the others. If 64 wait,
     /// it is lost.
     pub fn queue(&mut self, kind: ErrorKind, process: ProcessIndex, words: &[i64])
         requires { length words.now ≤ MOST_WORDS }

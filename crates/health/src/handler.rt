@@ -68,7 +68,8 @@ fn number_of_error(error: ErrorKind) -> i64
     error as i64
 }
 
-/// What a program is told of an error: its number, that of its process, and the length of its message.
+/// What a program learns of an error: its number, that of its process, and the length of its
+/// message.
 fn status_of(error: &WaitingError) -> [i64; 3]
     ensures { result ≡ meaning.error_status error.now }
 {

@@ -86,9 +86,9 @@ fn raise_message(
 }
 
 /// RAISE_APPLICATION_ERROR (ARINC 653 Part 1, health monitoring): raises the caller's error
-/// APPLICATION_ERROR with a message, the first `handed.length` words handed in. At partition level,
-/// returns the partition's action for it, which remains to be done. INVALID_PARAM: the error is not
-/// 1, or a length below 1, above 16, or above the array's size.
+/// APPLICATION_ERROR with a message, the first `handed.length` words of the call. At partition
+/// level, returns the partition's action for it, which remains to be done. INVALID_PARAM: the error
+/// is not 1, or a length below 1, above 16, or above the array's size.
 pub fn raise_application_error(
     health: HealthTable,
     table: &ProcessTable,

@@ -9,7 +9,7 @@ use apex_types::limits::MOST_REPORT_WORDS;
 use apex_types::{LineKind, Out, ReturnCode, Service, Words};
 use process_table_base::{Handed, ProcessTable, Request, answer, first_words, name_of, refuse};
 
-/// Whether a message of `length` words may be handed in from an array of `size` words.
+/// Whether a message of `length` words is allowed from an array of `size` words.
 pub fn is_message_length(size: i64, length: i64) -> bool
     ensures { result ≡ meaning.is_message_length size length }
 {
@@ -17,7 +17,7 @@ pub fn is_message_length(size: i64, length: i64) -> bool
 }
 
 /// REPORT_APPLICATION_MESSAGE (ARINC 653 Part 1, health monitoring): writes a message, the first
-/// `handed.length` words handed in, to the trace. INVALID_PARAM: a length below 1, above 16, or
+/// `handed.length` words of the call, to the trace. INVALID_PARAM: a length below 1, above 16, or
 /// above the array's size.
 pub fn report_application_message(
     table: &ProcessTable,

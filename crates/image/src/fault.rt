@@ -22,7 +22,7 @@ pub enum ImageFault {
     /// A name was used before among its kind, or a window begins before the end of the one before.
     #[error("a name stands twice, or windows are out of order")]
     Order,
-    /// Bytes stand after the last field.
+    /// Bytes follow the last field.
     #[error("bytes stand after the last field")]
     Trailing,
     /// There is no memory.

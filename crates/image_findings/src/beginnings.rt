@@ -65,7 +65,7 @@ pub fn has_all_fields(alloc: Global, bytes: &[u8]) -> Result<bool, AllocError>
     has_trailing_byte(alloc, longer.as_slice())
 }
 
-/// Returns true if bytes stand behind an image.
+/// Returns true if bytes follow an image.
 #[tactic(auto, using(crate::proofs::Judged::by_fault))]
 fn has_trailing_byte(alloc: Global, bytes: &[u8]) -> Result<bool, AllocError>
     ensures { IfOk result (λ answer. answer ≡ spec.is_trailing (image_at bytes.now)) }

@@ -25,7 +25,7 @@ pub fn explain_image(alloc: Global, report: Report<'_>, bytes: &[u8]) -> Option<
     }
 }
 
-/// The lines that tell a fault of these bytes.
+/// The lines that report a fault of these bytes.
 #[tactic(auto, using(crate::proofs::Told::of_fault))]
 fn fault_lines(alloc: Global, report: Report<'_>, bytes: &[u8], fault: ImageFault) -> Option<String>
     requires { IfSome (named fault) (λ f. image_at bytes.now ≡ Err f) }

@@ -15,9 +15,9 @@ pub enum What<'a> {
     NoPart,
     /// The text is no tick.
     NoTick(&'a [u8]),
-    /// Nothing stands behind the tick.
+    /// Nothing follows the tick.
     NoEvent,
-    /// The text is none of the two words behind a tick.
+    /// The text is none of the two words that may follow a tick.
     NoKind(&'a [u8]),
     /// No channel or port is named.
     NoReceiver,
@@ -27,7 +27,7 @@ pub enum What<'a> {
     NoWords,
     /// The text is no word.
     NoWord(&'a [u8]),
-    /// The text stands behind the partition of a fault.
+    /// The text follows the partition of a fault.
     More(&'a [u8]),
     /// The tick is below that of the line before.
     Early { tick: u64, before: u64 },
@@ -37,7 +37,7 @@ pub enum What<'a> {
     Closed(&'a [u8]),
     /// The text names no partition.
     UnknownPartition(&'a [u8]),
-    /// So many lines stand before this one that no more may follow.
+    /// The lines before this line are the most that are allowed.
     TooManyLines,
     /// The message has more words than it may have.
     TooManyWords { words: usize, most: u8 },

@@ -78,7 +78,7 @@ fn line_tick(line: &[u8]) -> u64
     tick_of(tick)
 }
 
-/// What is wrong with a line behind `count` others of which the last has the tick `before`: with its
+/// What is wrong with a line after `count` others of which the last has the tick `before`: with its
 /// form, or else with what it means.
 fn line_wrong<'a>(
     alloc: Global,

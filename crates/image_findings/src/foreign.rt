@@ -8,7 +8,7 @@ use apex_types::MAGIC;
 use finding_lines::{Report, byte_lines};
 use std::alloc::{AllocError, Global};
 
-/// The place of the version, behind the magic.
+/// The place of the version, after the magic.
 const VERSION_PLACE: usize = 8;
 
 /// The first byte that is not that of an image, or the version.
@@ -45,7 +45,7 @@ fn first_other(place: usize, bytes: &[u8], wanted: &[u8]) -> Option<usize>
 }
 
 #[tactic(auto, using(std::proofs::lemmas::List::drop_min))]
-/// The bytes behind the magic.
+/// The bytes after the magic.
 fn behind_magic(bytes: &[u8]) -> &[u8]
     ensures { result.now ≡ drop 8 bytes.now }
 {

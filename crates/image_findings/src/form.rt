@@ -79,7 +79,7 @@ fn parts_wrong<'a>(kind: TextKind, parts: &[Part<'a>]) -> Option<Wrong<'a>>
     }
 }
 
-/// What is wrong with the parts behind the tick.
+/// What is wrong with the parts after the tick.
 fn event_wrong<'a>(kind: TextKind, parts: &[Part<'a>]) -> Option<Wrong<'a>>
     ensures { option_map wrong_of result ≡ spec.event_wrong kind (parts_of parts.now) }
 {
@@ -128,7 +128,7 @@ fn words_wrong<'a>(words: &[Part<'a>]) -> Option<Wrong<'a>>
     }
 }
 
-/// What is wrong with the parts behind `FAULT`.
+/// What is wrong with the parts after `FAULT`.
 fn fault_wrong<'a>(parts: &[Part<'a>]) -> Option<Wrong<'a>>
     ensures { option_map wrong_of result ≡ spec.fault_wrong (parts_of parts.now) }
 {

@@ -23,7 +23,7 @@ pub fn tick_of(text: &[u8]) -> u64
     plain_number(LAST_TICK, text).unwrap_or(0)
 }
 
-/// What is wrong with a line of one of the forms, behind `count` others of which the last has the
+/// What is wrong with a line of one of the forms, after `count` others of which the last has the
 /// tick `before`.
 pub fn meaning_wrong<'a>(
     names: &Names<'_>,

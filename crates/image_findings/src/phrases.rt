@@ -32,7 +32,7 @@ pub fn said(alloc: Global, kind: TextKind, what: What<'_>) -> Result<String, All
     }
 }
 
-/// What is said of a line without a text or a number of its own.
+/// What is said of a line without a text or a number.
 fn plain(kind: TextKind, what: What<'_>) -> &'static str
     ensures { result.now ≡ spec.plain kind (what_of what.entry) }
 {
@@ -219,7 +219,7 @@ fn write_partition(kind: TextKind) -> &'static str
     }
 }
 
-/// Advice without a text or a number of its own.
+/// Advice without a text or a number.
 fn plain_advice(kind: TextKind, what: What<'_>) -> &'static str
     ensures { result.now ≡ spec.plain_advice kind (what_of what.entry) }
 {

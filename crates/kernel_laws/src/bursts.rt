@@ -1,4 +1,4 @@
-//! Laws on many ticks at once.
+//! Laws on many ticks together.
 //!
 //! A burst is a number of ticks, or those up to the first that reports something: a request to the
 //! kernel by a process, a line by a partition.

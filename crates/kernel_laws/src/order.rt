@@ -37,8 +37,8 @@ pub fn tick_goes_on()
         → IsOrdered disciplines names n w.kernel → TickGoes disciplines names n e at w }
 {}
 
-/// So does each step that a module makes of a partition: besides its ticks, its starts, a fault of
-/// its hardware, and the messages that arrive at its ports and leave them.
+/// So does each step that a module makes of a partition: its ticks, its starts, a fault of its
+/// hardware, and the messages that arrive at its ports and leave them.
 pub fn steps_go_on()
     ensures machine { (disciplines : ListKey → Discipline) (names : ℕ → List ℕ) (n : Numbers)
         (step : Move) (x : Member MachineControl) → IsOrdered disciplines names n x.world.kernel

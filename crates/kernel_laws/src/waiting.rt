@@ -31,7 +31,7 @@ pub fn head_is_released_first()
         ↔ IsReleasedFirst (disciplines k) number (list_at queues k) e) }
 {}
 
-/// If nobody waits, any numbers will do.
+/// If no process waits, any numbers will do.
 pub fn nobody_waits()
     ensures { (disciplines : ListKey → Discipline) (number : ℕ → ℕ) (next : ℕ) (queues : Queues)
         → AreQueues disciplines number next (emptied queues) }

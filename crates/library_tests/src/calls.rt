@@ -1,5 +1,5 @@
-//! The calls that take memory, each with a line when it begins and one with its answer. A refused
-//! call is made again, so that a single refusal is followed by the right answer.
+//! The calls that take memory, each with a line when it begins and a line with its result. A
+//! refused call is made again, so that a single refusal is followed by the right result.
 
 use crate::row::Row;
 use crate::sinks::Narrow;
@@ -133,8 +133,8 @@ fn upgraded(rt: &HostRuntime, image: &[u8]) -> Option<Vec<u8>> {
     None
 }
 
-/// Runs the image, one tick after another or by one call, or replays its partition, and prints the
-/// answer. Returns true if the call was not refused.
+/// Runs the image, tick by tick or by one call, or replays its partition, and prints the result.
+/// Returns true if the call was not refused.
 fn writes(rt: &HostRuntime, row: &Row, image: &[u8], call: &str) -> bool {
     let mut sink = Narrow::wide(row.trace.as_slice());
     let (devices, inputs) = (row.devices.as_slice(), row.inputs.as_slice());

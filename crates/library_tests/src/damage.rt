@@ -6,7 +6,7 @@ use std::alloc::{AllocError, Global};
 use std::io;
 use std::str::SplitWhitespace;
 
-/// Prints the answer to a damaged copy of the image: `runs`, or the refusal. The words are its
+/// Prints the result for a damaged copy of the image: `runs`, or the refusal. The words are its
 /// length, the ticks of its run, and which bytes are changed.
 pub fn tell(rt: &HostRuntime, base: &[u8], mut words: SplitWhitespace<'_>) -> io::Result<()> {
     let length = words.next().unwrap_or("").parse::<usize>();
@@ -27,7 +27,7 @@ pub fn tell(rt: &HostRuntime, base: &[u8], mut words: SplitWhitespace<'_>) -> io
     }
 }
 
-/// The first `length` bytes of the image; 0 behind its end.
+/// The first `length` bytes of the image; 0 after its end.
 fn copy(alloc: Global, base: &[u8], length: usize) -> Result<Vec<u8>, AllocError> {
     let mut image = Vec::from_slice(alloc, base.get(..length).unwrap_or(base))?;
     for _ in image.len()..length {

@@ -1,5 +1,5 @@
-//! A program of one's own that drives a module: it builds it, reads the text of its devices, and
-//! hands each tick the lines of that tick. It writes the trace that `mb run` writes.
+//! A program that drives a module: it builds it, reads the text of its devices, and gives each tick
+//! the lines of that tick. It writes the trace that `mb run` writes.
 
 use crate::row::Row;
 use crate::sinks::Narrow;

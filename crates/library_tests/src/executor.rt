@@ -1,5 +1,5 @@
-//! An executor that plays scripts: the outcomes of the ticks of each runner are written down. It stands
-//! in for the processor, to define what the processes of a partition do.
+//! An executor that plays scripts, which list the outcomes of the ticks of each runner. It takes
+//! the place of the processor, to define what the processes of a partition do.
 
 ghost use Rattle.std.specs.Prelude.{◌≡◌, map};
 ghost use Rattle.kernel_meaning.specs.Partition.{no_control};
@@ -35,7 +35,7 @@ impl Scripted {
         }
     }
 
-    /// The number of calls for ticks, for one or for many at once.
+    /// The number of calls for ticks, for one or for many together.
     pub fn calls(&self) -> u64
         ensures { result ≡ self.now.calls }
     {

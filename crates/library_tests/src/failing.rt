@@ -67,7 +67,7 @@ struct Counts {
 }
 
 /// Runs the module into sinks that fail, and prints for each way how many runs and machines had a
-/// beginning and answered Write, and how many ticks after that were Failed and put nothing.
+/// beginning and returned Write, and how many ticks after that were Failed and put nothing.
 pub fn tell(rt: &HostRuntime, row: &Row) -> io::Result<()> {
     let built = build(rt.alloc(), row.table.as_slice(), &[row.source.as_slice()]);
     let Ok(image) = built else {
@@ -79,7 +79,8 @@ pub fn tell(rt: &HostRuntime, row: &Row) -> io::Result<()> {
     Ok(())
 }
 
-/// Runs the image into sinks that fail in this way, behind each byte, and into one that takes all.
+/// Runs the image into sinks that fail in this way, after each byte, and into a sink that takes
+/// all.
 fn tell_way(rt: &HostRuntime, row: &Row, image: &[u8], way: &Way) -> io::Result<()> {
     let Counts {
         runs,
@@ -91,7 +92,7 @@ fn tell_way(rt: &HostRuntime, row: &Row, image: &[u8], way: &Way) -> io::Result<
     println!(rt; "{name}: {runs} runs, {machines} machines, {failed} ticks failed, whole {whole}")
 }
 
-/// Runs the image into sinks that fail in this way, behind each byte.
+/// Runs the image into sinks that fail in this way, after each byte.
 fn count_all(alloc: Global, row: &Row, image: &[u8], way: &Way) -> Result<Counts, AllocError> {
     let mut counts = Counts {
         runs: 0,
@@ -110,7 +111,7 @@ fn count_all(alloc: Global, row: &Row, image: &[u8], way: &Way) -> Result<Counts
     Ok(counts)
 }
 
-/// Returns true if a run into a sink with this room has its first bytes, and answers Write.
+/// Returns true if a run into a sink with this room has its first bytes, and returns Write.
 fn breaks_off(alloc: Global, row: &Row, image: &[u8], room: usize, way: &Way) -> bool {
     let mut sink = Narrow::new(row.trace.as_slice(), room, way);
     let answer = run(alloc, image, row.devices.as_slice(), row.ticks, &mut sink);
@@ -125,8 +126,8 @@ fn takes_all(alloc: Global, row: &Row, image: &[u8], way: &Way) -> bool {
     answer.is_ok() && sink.failures == 0 && sink.has_all()
 }
 
-/// The number of ticks of a machine, without device lines, that answer Failed after the tick that
-/// answers Write; `None` if a tick answers anything else, or more is put.
+/// The number of ticks of a machine, without device lines, that return Failed after the tick that
+/// returns Write; `None` if a tick returns anything else, or more is put.
 fn failed_ticks(
     alloc: Global,
     row: &Row,

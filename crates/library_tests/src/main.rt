@@ -1,13 +1,13 @@
-//! Calls the library as no command of the programs does, and prints the answers. `rt` compares them with
-//! the file `stdout`; `tests/refusals` runs the program where the library has to give up: with memory
-//! that is refused, with sinks that fail, and with damaged images.
+//! Calls the library as no command of the programs does, and prints the results. `rt` compares them
+//! with the file `stdout`; `tests/refusals` runs the program where the library has to give up: with
+//! memory that is refused, with sinks that fail, and with damaged images.
 //!
-//! It answers lines of the standard input:
+//! It obeys lines of the standard input:
 //!
-//! - `calls FOLDER TICKS` makes the calls that take memory, one after another, on the module in
-//!   that folder, and runs it for `TICKS` ticks. Each call has a line when it begins and one with
-//!   its answer. A refused call is made again.
-//! - `drive FOLDER TICKS` builds the module, makes one tick a call, and tells the tick and whether
+//! - `calls FOLDER TICKS` makes the calls that take memory, in turn, on the module in that folder,
+//!   and runs it for `TICKS` ticks. Each call has a line when it begins and a line with its result.
+//!   A refused call is made again.
+//! - `drive FOLDER TICKS` builds the module, makes one tick a call, and prints the tick and whether
 //!   the module is shut down.
 //! - `sinks FOLDER TICKS` runs the module into sinks that fail, each after another number of bytes.
 //! - `base FILE` reads an image.
@@ -47,7 +47,7 @@ fn main(rt: HostRuntime) -> io::Result<()> {
     Ok(())
 }
 
-/// Answers a line. The image that was read last is `base`.
+/// Obeys a line. The image that was read last is `base`.
 fn answer(rt: &HostRuntime, base: &mut Vec<u8>, line: &str) -> io::Result<()> {
     let mut words = line.split_whitespace();
     match words.next() {

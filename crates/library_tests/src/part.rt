@@ -30,7 +30,7 @@ impl Part {
         }
     }
 
-    /// The script begins anew.
+    /// The script begins again.
     pub(crate) fn begin(&mut self)
         ensures control { control_of self.new ≡ Some (script_of self.old) }
         ensures script { script_of self.new ≡ script_of self.old }

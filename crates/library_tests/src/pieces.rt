@@ -47,8 +47,8 @@ const TRACE: &str = "0000000000000 a MODE COLD_START
 0000000000006 a LOST q 4
 ";
 
-/// Prints whether streams give what the text has, however few bytes a read gives, and what they answer
-/// to a text that has no lines and never ends.
+/// Prints whether streams give what the text has, however few bytes a read gives, and what they
+/// return for a text that has no lines and never ends.
 pub fn tell(rt: &HostRuntime) -> Option<()> {
     for most in [1, 2, 7, 64, 10_000] {
         tell_slow(rt, most)?;

@@ -69,7 +69,7 @@ fn tell_script(rt: &HostRuntime, script: Vec<Outcome>, has_fault: bool) -> Resul
     Ok(())
 }
 
-/// While the process has a fault to come, no tick is still; behind it, all are.
+/// While the process has a fault to come, no tick is still; after it, all are.
 fn tell_fault(rt: &HostRuntime, partition: &mut Partition<Scripted>, mem: &mut PartitionMem)
     requires { laid_of mem.old ≡ layout_of partition.old.executor }
 {
@@ -80,7 +80,7 @@ fn tell_fault(rt: &HostRuntime, partition: &mut Partition<Scripted>, mem: &mut P
     tell_still(rt, partition, 7);
 }
 
-/// While nothing happens, the partition asks its executor for many ticks at once.
+/// While nothing happens, the partition asks its executor for many ticks in one call.
 fn tell_busy(rt: &HostRuntime, partition: &mut Partition<Scripted>, mem: &mut PartitionMem)
     requires { laid_of mem.old ≡ layout_of partition.old.executor }
 {

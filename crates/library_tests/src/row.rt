@@ -16,8 +16,8 @@ pub struct Row {
 }
 
 impl Row {
-    /// The module in a folder, which the words name, and the ticks behind it. A file that cannot be read
-    /// is empty, and the answers show it.
+    /// The module in a folder, which the words name, and the ticks after it. A file that cannot be
+    /// read is empty, and the results show it.
     pub fn read(rt: &HostRuntime, mut words: SplitWhitespace<'_>) -> Self {
         let folder = words.next().unwrap_or("");
         let ticks = words.next().unwrap_or("");

@@ -1,4 +1,5 @@
-//! The steps from an image to its ticks, each with a line when it begins and one with its answer.
+//! The steps from an image to its ticks, each with a line when it begins and a line with its
+//! result.
 
 ghost use Rattle.std.specs.Prelude.{◌≡◌, IfOk};
 ghost use Rattle.image.specs.Views.{image_of};
@@ -16,7 +17,7 @@ pub fn begin(rt: &HostRuntime, call: &str) {
     let _ = println!(rt; "begin {call}");
 }
 
-/// Prints the answer of a call.
+/// Prints the result of a call.
 pub fn end<D: Display + Drop>(rt: &HostRuntime, answer: D) {
     let _ = println!(rt; "end {answer}");
 }
@@ -75,7 +76,7 @@ fn device_lines(
 }
 
 /// Loads the image, and runs it for `ticks` ticks, one by one, with the lines of the device text.
-/// Returns the machine behind them.
+/// Returns the machine after them.
 pub fn drive<S: Sink>(
     rt: &HostRuntime,
     image: &[u8],

@@ -1,5 +1,5 @@
-//! What no command of `mbview` reaches: ticks that end where they begin, and texts that are escaped; and
-//! what the calls on whole traces answer.
+//! What no command of `mbview` reaches: ticks that end where they begin, texts that are escaped,
+//! and what the calls on whole traces return.
 
 use apex_types::{Event, Ticks};
 use std::alloc::Global;
@@ -18,7 +18,7 @@ const TRACE: &str = "0000000000000 a MODE NORMAL
 0000000000009 a OUT c 1
 ";
 
-/// Texts, and how they stand in XML.
+/// Texts, and their form in XML.
 static ESCAPED: [(&str, &str); 8] = [
     ("", ""),
     ("plain_7", "plain_7"),
@@ -39,7 +39,7 @@ static ESCAPED: [(&str, &str); 8] = [
 /// Ticks that end where they begin, or before.
 static NO_TICKS: [(u64, u64); 2] = [(7, 7), (9, 3)];
 
-/// Prints what is shown of no ticks, what the calls on a whole trace answer, and whether texts are
+/// Prints what is shown of no ticks, what the calls on a whole trace return, and whether texts are
 /// escaped.
 pub fn tell(rt: &HostRuntime) -> Option<()> {
     let events = events(rt.alloc())?;
@@ -104,7 +104,7 @@ fn tell_summary(rt: &HostRuntime, events: &[Event], from: u64, to: u64) -> Optio
     println!(rt; "summary from {from}: {lines} lines, {ticks} ticks").ok()
 }
 
-/// A dump has the tick where it begins and no other, and nothing changes behind the first values.
+/// A dump has the tick where it begins and no other, and nothing changes after the first values.
 fn tell_dump(rt: &HostRuntime, events: &[Event], from: u64, to: u64) -> Option<()> {
     let to = Some(Ticks(to));
     let mut dump = dump_of(rt.alloc(), Ticks(from), to, events).ok()?;
@@ -151,7 +151,8 @@ fn tell_page(rt: &HostRuntime, events: &[Event]) -> Option<()> {
     println!(rt; "page: begins {begins}, line {is_there}").ok()
 }
 
-/// Each line of a trace is read by itself too; the text of all is a trace, and without its end none.
+/// Each line of a trace is read separately too; the text of all is a trace, and without its end
+/// none.
 fn tell_lines(rt: &HostRuntime) -> Option<()> {
     let read = read_line(b"0000000000008 a STATE p RUNNING\n").ok()?;
     let tick = read.tick.0;

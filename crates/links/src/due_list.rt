@@ -59,7 +59,7 @@ impl DueList {
         dues::leave(&mut self.dues, process);
     }
 
-    /// Moves a process behind all entries whose tick is not later than `tick`.
+    /// Moves a process after all entries whose tick is not later than `tick`.
     pub fn insert_by_due(&mut self, process: ProcessIndex, tick: Ticks)
         requires { process.0 < MOST_PROCESSES }
         ensures { self.new ≡ behind_earlier (due_at process tick) (without process.0 self.old) }

@@ -43,7 +43,7 @@ pub(crate) fn leave(dues: &mut Dues, process: ProcessIndex)
     }
 }
 
-/// Inserts an entry behind all entries whose tick is not later.
+/// Inserts an entry after all entries whose tick is not later.
 pub(crate) fn enter(dues: &mut Dues, entry: DueEntry)
     requires { length dues.old.items < MOST_PROCESSES }
     ensures { dues.new.items ≡ behind_earlier entry dues.old.items }

@@ -11,7 +11,7 @@ use arrayvec::ArrayVec;
 /// The processes that wait for one object, in the order of their release.
 pub type Entries = ArrayVec<Entry, MOST_WAITING>;
 
-/// The most processes that wait at once.
+/// The most processes that wait together.
 pub(crate) const MOST_WAITING: usize = MOST_PROCESSES as usize;
 
 /// The entry that is released next.
@@ -35,7 +35,7 @@ pub(crate) fn leave(entries: &mut Entries, process: ProcessIndex)
     }
 }
 
-/// Inserts an entry behind all entries of its priority or a higher one.
+/// Inserts an entry after all entries of its priority or a higher one.
 fn enter(entries: &mut Entries, entry: Entry)
     requires { length entries.old.items < MOST_PROCESSES }
     ensures { entries.new.items ≡ behind_equals entry entries.old.items }

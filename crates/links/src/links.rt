@@ -109,7 +109,7 @@ impl Links {
         self.join(list, Discipline::Fifo, entry);
     }
 
-    /// Moves a process from its list to `list`, behind all entries of its priority or a higher one.
+    /// Moves a process from its list to `list`, after all entries of its priority or a higher one.
     pub fn insert_by_priority(&mut self, list: ListId, entry: Entry)
         requires below { entry.process.0 < MOST_PROCESSES }
         ensures { self.new ≡ joins_in list.0 discipline.Priority entry self.old }

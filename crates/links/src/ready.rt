@@ -11,8 +11,8 @@ use apex_types::{Entry, MOST_PROCESSES, ProcessIndex};
 use std::alloc::{AllocError, Global};
 use std::marker::Model;
 
-/// The ready processes, a list for each priority. A contract sees the lists one behind another, the
-/// highest priority first.
+/// The ready processes, a list for each priority. A contract sees the lists as one, the highest
+/// priority first.
 #[derive(Drop)]
 pub struct ReadyLists {
     lists: Links,
@@ -33,7 +33,7 @@ impl Model for ReadyLists {
 }
 
 impl ReadyLists {
-    /// Makes the lists, with nobody ready. `AllocError`: out of memory.
+    /// Makes the lists, with no process ready. `AllocError`: out of memory.
     pub fn new(alloc: Global) -> Result<ReadyLists, AllocError>
         ensures { IfOk result (λ ready. ready ≡ []) }
     {
@@ -67,7 +67,7 @@ impl ReadyLists {
         }
     }
 
-    /// Adds a ready process behind its equals.
+    /// Adds a ready process after its equals.
     pub fn push_back(&mut self, entry: Entry)
         requires { entry.process.0 < MOST_PROCESSES }
         ensures { self.new ≡ behind_equals entry (without entry.process.0 self.old) }

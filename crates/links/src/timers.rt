@@ -30,7 +30,7 @@ fn least(dues: &DueList) -> Option<Ticks>
     }
 }
 
-/// The earlier of two ticks; if only one is given, that one.
+/// The earlier of two ticks; if only one is given, that tick.
 fn earlier(one: Option<Ticks>, other: Option<Ticks>) -> Option<Ticks>
     ensures { number_of result ≡ earlier_of (number_of one) (number_of other) }
 {

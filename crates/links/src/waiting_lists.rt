@@ -63,7 +63,7 @@ fn number_of(key: ListKey) -> ListId
 }
 
 impl WaitingLists {
-    /// Makes the lists, with nobody waiting. `AllocError`: out of memory.
+    /// Makes the lists, with no process waiting. `AllocError`: out of memory.
     pub fn new(alloc: Global) -> Result<WaitingLists, AllocError>
         ensures { IfOk result (λ lists. lists ≡ fresh_queues) }
     {

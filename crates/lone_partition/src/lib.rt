@@ -5,7 +5,7 @@
 //! of the ticks, and writes what the trace of the whole module shows of the partition when it gets
 //! the same inputs there.
 //!
-//! Its parts serve a whole module too: loading a partition, a step of it and many ticks at once,
+//! Its parts serve a whole module too: loading a partition, a step of it and many ticks together,
 //! whose lines go to a sink, and the lines of a tick.
 #![tactic(auto)]
 

@@ -41,7 +41,7 @@ pub fn fixed(
 }
 
 /// Loads a partition whose instructions have these costs, idle, with nothing created; its memory is
-/// to be the one that its section asks for. `AllocError`: out of memory.
+/// to be what its section asks for. `AllocError`: out of memory.
 pub fn load_partition(
     alloc: Global,
     costs: &Costs,
@@ -66,8 +66,7 @@ pub fn load_partition(
     Ok(partition)
 }
 
-/// The memory of one partition alone: its initial data, and stacks of zeros. `AllocError`: out of
-/// memory.
+/// The memory of one partition: its initial data, and stacks of zeros. `AllocError`: out of memory.
 pub fn load_memory(alloc: Global, item: &PartitionItem) -> Result<Memory, AllocError>
     ensures { IfOk result (λ memory. memory ≡ fresh_item item.now ∷ []) }
 {

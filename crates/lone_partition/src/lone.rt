@@ -16,7 +16,7 @@ use std::alloc::{AllocError, Global};
 pub struct LonePartition {
     pub(crate) surroundings: Surroundings,
     pub(crate) partition: Partition<PartitionProcessor>,
-    /// The memory of this partition alone.
+    /// The memory of this partition.
     pub(crate) memory: Memory,
     /// The lines of a step on their way to a sink.
     pub(crate) trace: TraceBuffer,

@@ -7,8 +7,9 @@ use apex_types::{Sink, TraceBuffer, put_all};
 /// The buffer for the lines of a step, and the sink that takes them. Once the sink has failed, it
 /// gets nothing more.
 ///
-/// So no step fails: it completes its work on the partitions, and whoever made the output asks at
-/// the end whether the sink has failed. The buffer is large: it stays where it is, and is borrowed.
+/// So no step fails: it completes its work on the partitions. The caller that made the output asks
+/// at the end whether the sink has failed. The buffer is large: it stays in its place, and is
+/// borrowed.
 #[derive(Drop)]
 pub struct Output<'a, S: Sink> {
     pub trace: &'a mut TraceBuffer,

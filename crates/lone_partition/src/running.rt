@@ -38,7 +38,7 @@ fn first() -> Moment
     }
 }
 
-/// The most ticks that are made at once.
+/// The most ticks that one call makes.
 const MOST_AT_ONCE: u32 = 4_000_000_000;
 
 /// The memory of a lone partition has one part, whose number is 1.
@@ -182,7 +182,7 @@ fn run_ticks<E: Executor, S: Sink>(
     }
 }
 
-/// `ticks`, or the most that are executed at once.
+/// `ticks`, or the most that one call makes.
 fn at_once(ticks: u64) -> u32
     ensures { result ≤ ticks }
 {

@@ -86,7 +86,7 @@ fn send_and_tick<E: Executor, S: Sink>(
 }
 
 /// A tick of the partition alone, with its inputs of this tick. Returns the tick with the origin
-/// valid from here on, or `None` if everything has ended.
+/// valid from now on, or `None` if everything has ended.
 pub fn tick<E: Executor, S: Sink>(
     surroundings: &Surroundings,
     lines: &[InputLine],

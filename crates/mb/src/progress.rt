@@ -4,10 +4,10 @@ use command_line::Watch;
 use std::io::Write;
 use std::time::{Duration, Instant};
 
-/// So many seconds lie between two lines.
+/// The seconds between two lines.
 const APART: u64 = 1;
 
-/// Tells how far a run is, if that is wanted.
+/// Reports how far a run is, if that is wanted.
 #[derive(Drop)]
 pub struct Progress<'a> {
     runtime: &'a HostRuntime,

@@ -42,7 +42,7 @@ fn one_process()
         [])) }
 {}
 
-/// INIT alone: it sets the mode, or it ends without.
+/// INIT without processes: it sets the mode, or it ends without.
 fn init_alone()
     ensures sets_the_mode { text_of_sources (single_table (codes "a") 128) (codes "init stack 16 { local r; SET_PARTITION_MODE(3) -> r; }" ∷ []) 128 ≡ Some (lines (
         codes "0000000000000 a MODE COLD_START" ∷

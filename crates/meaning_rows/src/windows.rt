@@ -12,7 +12,8 @@ fn split()
     ensures releases_of_second { map (next_release split_schedule 2) (at_ticks 0 33) ≡ 4 ∷ 4 ∷ 4 ∷ 4 ∷ 20 ∷ 20 ∷ 20 ∷ 20 ∷ 20 ∷ 20 ∷ 20 ∷ 20 ∷ 20 ∷ 20 ∷ 20 ∷ 20 ∷ 20 ∷ 20 ∷ 20 ∷ 20 ∷ 36 ∷ 36 ∷ 36 ∷ 36 ∷ 36 ∷ 36 ∷ 36 ∷ 36 ∷ 36 ∷ 36 ∷ 36 ∷ 36 ∷ 36 ∷ [] }
 {}
 
-/// Ticks of nobody, a window that is no release, and a frame of 10 ticks that starts again at tick 23.
+/// Ticks of no partition, a window that is no release, and a frame of 10 ticks that starts again at
+/// tick 23.
 fn sparse()
     ensures owners { map (owner sparse_schedule) (at_ticks 23 21) ≡ None ∷ Some 1 ∷ Some 1 ∷ Some 1 ∷ Some 2 ∷ Some 2 ∷ None ∷ Some 1 ∷ Some 1 ∷ None ∷ None ∷ Some 1 ∷ Some 1 ∷ Some 1 ∷ Some 2 ∷ Some 2 ∷ None ∷ Some 1 ∷ Some 1 ∷ None ∷ None ∷ [] }
     ensures ends { map (ended sparse_schedule) (at_ticks 23 21) ≡ None ∷ None ∷ None ∷ None ∷ Some 1 ∷ None ∷ Some 2 ∷ None ∷ None ∷ Some 1 ∷ None ∷ None ∷ None ∷ None ∷ Some 1 ∷ None ∷ Some 2 ∷ None ∷ None ∷ Some 1 ∷ None ∷ [] }

@@ -1,8 +1,8 @@
 //! Building modules into images, and running images.
 //!
 //! [`build_and_run`] has the main promise: the trace is, byte for byte, the trace that the table
-//! and the sources mean. [`run`] makes the ticks of an image, many at once if it can; a [`Machine`]
-//! makes them one by one, and writes the same.
+//! and the sources mean. [`run`] makes the ticks of an image, many together if it can; a
+//! [`Machine`] makes them one by one, and writes the same.
 #![tactic(auto)]
 
 mod accepting;

@@ -29,7 +29,7 @@ use std::alloc::Global;
 /// An image that runs tick by tick.
 ///
 /// A program that embeds it loads an image, reads the text of its devices, and gives each tick the
-/// lines of that tick. The ticks write what [`run`](crate::run) writes for as many ticks.
+/// lines of that tick. The ticks write what [`run`](crate::run) writes for this number of ticks.
 #[derive(Drop)]
 pub struct Machine {
     module: Module<PartitionProcessor>,
@@ -91,9 +91,9 @@ impl Machine {
         self.module.origin.is_none()
     }
 
-    /// Executes some of `most` ticks at once, all of them before the first of these device lines,
+    /// Executes some of `most` ticks together, all of them before the first of these device lines,
     /// which are of the next tick or later; returns how many. If it returns 0, the next tick has to
-    /// be made alone.
+    /// be made separately.
     ///
     /// # Errors
     ///
@@ -124,8 +124,8 @@ impl Machine {
     }
 
     /// Skips some of `most` ticks in which nothing happens, unless a device line is of one of them;
-    /// returns how many. So whoever has device lines asks for no tick of theirs. If it returns 0, the
-    /// next tick has to be made.
+    /// returns how many. So a caller with device lines asks for no tick of theirs. If it returns 0,
+    /// the next tick has to be made.
     pub fn skip(&mut self, most: u32) -> u32
         ensures { (lines : List DeviceLine) → AreFrom (machine_of self.new).standing.now lines
             → HasSkipped lines most (machine_of self.old) (machine_of self.new) result }
@@ -165,9 +165,9 @@ impl Machine {
     }
 }
 
-/// `n` calls of [`Machine::tick`] for an image, one after another, each with the device lines of
-/// its own tick, write what [`run`](crate::run) writes: the text of the trace of n ticks, or a
-/// prefix of it if the sink fails. No call is refused for another reason.
+/// `n` calls of [`Machine::tick`] for an image, in a row, each with the device lines of its own
+/// tick, write what [`run`](crate::run) writes: the text of the trace of n ticks, or a prefix of it
+/// if the sink fails. No call is refused for another reason.
 #[tactic(auto, using(crate::proofs::Machines::calls_write_the_trace, crate::proofs::Machines::ticks_are_the_trace))]
 pub fn ticks_make_the_trace()
     ensures written { (image : meant.Image) (lines : List DeviceLine) (n : ℕ)

@@ -18,7 +18,7 @@ use lone_partition::LonePartition;
 use module_base::read_inputs;
 use std::alloc::Global;
 
-/// Runs one partition of the image alone for `ticks` ticks, with the inputs of the replay text, and
+/// Runs only one partition of the image for `ticks` ticks, with the inputs of the replay text, and
 /// writes the text of its trace into the sink. Nothing of the other partitions is loaded or run.
 /// After [`RunFault::Write`] the sink has failed once and has taken a prefix of that text; every
 /// other refusal comes before the sink is asked to take anything.

@@ -56,8 +56,8 @@ pub fn run<S: Sink>(
     run_watched(alloc, image, devices, ticks, sink, &mut Unwatched)
 }
 
-/// Runs the image as [`run`] does, and tells a watcher how far the run is: behind at most 2^20 ticks
-/// that are made, each time.
+/// Runs the image as [`run`] does, and reports to a watcher how far the run is: after at most 2^20
+/// ticks, each time.
 ///
 /// # Errors
 ///

@@ -1,11 +1,11 @@
 //! Watchers of a run.
 
-/// Is told at times how far a run is. Nothing of the run depends on it.
+/// Gets reports on how far a run is. Nothing of the run depends on it.
 pub trait Watch {
-    /// What is told is wanted from here on.
+    /// From now on reports are wanted.
     fn begin(&mut self);
 
-    /// So many ticks of the run are made: at least once in 2^20 ticks that are made.
+    /// `made` ticks of the run have run: called at least once in 2^20 ticks that run.
     fn reached(&mut self, made: u64, ticks: u64);
 }
 

@@ -1,5 +1,4 @@
-//! The inputs of a module: the text of its devices, and the text of the inputs of one partition
-//! alone.
+//! The inputs of a module: the text of its devices, and the text of the inputs of one partition.
 //!
 //! Both texts have the same forms and the same refusal numbers; they differ in the word of a
 //! message and in what a name may be.

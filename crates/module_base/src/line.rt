@@ -1,4 +1,4 @@
-//! The lines of a text by themselves, before their names are known.
+//! The lines of a text before their names are known.
 
 ghost use Rattle.std.specs.Prelude.{◌≡◌, option_map, option_copied};
 ghost use Rattle.apex_types.specs.Line.{space};

@@ -122,7 +122,7 @@ fn name_of_port(ports: &[PortRow], port: PortId) -> &[u8]
     }
 }
 
-/// The words of a message, each behind a space.
+/// The words of a message, each after a space.
 fn push_words(line: &mut Line, words: &[i64])
     requires { array_vec_len line.old + MOST_WORD_BYTES * length words.now ≤ MOST_LINE_BYTES }
     ensures items { line.new.items ≡ line.old.items ++ words_text words.now }

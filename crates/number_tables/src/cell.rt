@@ -6,7 +6,7 @@ ghost use Rattle.number_tables.specs.Cells.{cell_text, number_cell, share_cells}
 use crate::share::Share;
 use std::alloc::{AllocError, Global};
 
-/// The contents of a cell beside names.
+/// The contents of a cell that is no name.
 #[derive(Clone, Copy)]
 pub enum Cell {
     Number(u64),

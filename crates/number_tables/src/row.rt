@@ -78,7 +78,7 @@ impl Row {
         Ok(())
     }
 
-    /// Adds so many empty texts.
+    /// Adds `count` empty texts.
     ///
     /// # Errors
     ///

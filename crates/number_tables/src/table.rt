@@ -145,8 +145,8 @@ fn length_in(row: &Row, column: usize) -> usize
     }
 }
 
-/// Appends texts, each aligned in its column; so many of them are names. A gap stands in front of the
-/// first, and two blanks in front of each other.
+/// Appends texts, each aligned in its column; the first `names` of them are names. A gap comes
+/// before the first, and two blanks before each other.
 fn push_texts(
     gap: &str,
     names: usize,
@@ -169,7 +169,7 @@ fn push_texts(
     push_texts("  ", names.saturating_sub(1), texts, widths, out)
 }
 
-/// Appends a text and the blanks beside it.
+/// Appends a text and the blanks that align it.
 fn push_aligned(is_name: bool, text: &str, wide: usize, out: &mut Vec<u8>) -> Result<(), AllocError>
     ensures { OnOk result (out.new.items ≡ out.old.items ++ aligned is_name text.now wide) }
 {
@@ -183,7 +183,7 @@ fn push_aligned(is_name: bool, text: &str, wide: usize, out: &mut Vec<u8>) -> Re
     }
 }
 
-/// Appends so many blanks.
+/// Appends `count` blanks.
 #[tactic(auto, using(std::proofs::lemmas::List::replicate_more))]
 fn push_blanks(count: usize, out: &mut Vec<u8>) -> Result<(), AllocError>
     ensures { OnOk result (out.new.items ≡ out.old.items ++ replicate count blank) }

@@ -1,4 +1,4 @@
-//! The answer of a check of a rule: nothing, or the line that breaks the rule.
+//! The result of a check of a rule: nothing, or the line that breaks the rule.
 
 ghost use Rattle.std.specs.Prelude.{◌≡◌, ◌&&◌, is_ok};
 
@@ -6,10 +6,10 @@ ghost use Rattle.std.specs.Prelude.{◌≡◌, ◌&&◌, is_ok};
 #[derive(Clone, Copy)]
 pub struct Line(pub u32);
 
-/// The answer of a check: nothing if the rule holds, else the first line that breaks it.
+/// The result of a check: nothing if the rule holds, else the first line that breaks it.
 ///
 /// A check that goes through the text in its order stops at the first error with `?`. If a later
-/// test may be about an earlier line, [`earliest`] takes both answers.
+/// test may be about an earlier line, [`earliest`] takes both results.
 pub type Check = Result<(), Line>;
 
 /// Both checks; if both fail, the earlier of the two lines.
@@ -23,7 +23,7 @@ pub fn earliest(one: Check, other: Check) -> Check
     }
 }
 
-/// The answer of a test at a line.
+/// The result of a test at a line.
 pub fn check_that(holds: bool, line: u32) -> Check
     ensures { is_ok result ≡ holds }
 {

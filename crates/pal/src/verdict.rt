@@ -23,8 +23,8 @@ use std::alloc::Global;
 use window_table::PartitionRow;
 
 /// The program with its names resolved, if it is well formed for a partition. Otherwise the refusal
-/// with the lowest number, and the first line that breaks this rule. The procedures stand in the order
-/// of their declarations, and keep their names.
+/// with the lowest number, and the first line that breaks this rule. The procedures are in the
+/// order of their declarations, and keep their names.
 pub fn check(alloc: Global, program: Program, row: &PartitionRow) -> Result<Checked, PalFault>
     ensures verdict { Answers result
         (well_formed.verdict row.now.ports.items row.now.period (program_of program)) }
@@ -76,7 +76,7 @@ fn well_formed(
     Ok(resolve(alloc, declared, program)?)
 }
 
-/// The answer of a check, and for which rule it refuses.
+/// The result of a check, and for which rule it refuses.
 fn refused_by(refusal: Refusal, checked: Check) -> Result<(), PalFault>
     ensures holds { is_ok result ≡ is_ok checked }
     ensures refusal { IfErr result (λ fault. fault.refusal ≡ refusal) }

@@ -30,7 +30,7 @@ impl Cost {
         }
     }
 
-    /// The cost of these constructs and of `others` behind them.
+    /// The cost of these constructs and of `others` after them.
     fn plus(self, others: Cost) -> Self
         ensures { (xs ys : List ℕ) → self ≡ comes_to xs → others ≡ comes_to ys
             → result ≡ comes_to (xs ++ ys) }
@@ -40,7 +40,7 @@ impl Cost {
         }
     }
 
-    /// The cost of these constructs, of one of `ticks` ticks, and of `others` behind it.
+    /// The cost of these constructs, of a construct of `ticks` ticks, and of `others` after it.
     fn joined_by(self, ticks: u32, others: Cost) -> Self
         ensures { (xs ys : List ℕ) → self ≡ comes_to xs → others ≡ comes_to ys
             → result ≡ comes_to (xs ++ ticks ∷ ys) }
@@ -48,7 +48,7 @@ impl Cost {
         self.plus(Cost::one(ticks).plus(others))
     }
 
-    /// The cost of these constructs and of one of `ticks` ticks behind them.
+    /// The cost of these constructs and of a construct of `ticks` ticks after them.
     fn and(self, ticks: u32) -> Self
         ensures { (xs : List ℕ) → self ≡ comes_to xs → result ≡ comes_to (xs ++ ticks ∷ []) }
     {

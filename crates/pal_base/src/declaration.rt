@@ -65,7 +65,7 @@ impl Source {
     }
 
     #[tactic(auto, unfolding(pal_laws::specs::GrammarReading::variable_at))]
-    /// Reads the declaration behind the word `var` of that line.
+    /// Reads the declaration after the word `var` of that line.
     fn variable<'a>(&self, line: u32, tokens: &'a [Token]) -> Read<'a, Declaration>
         ensures shorter { IfOk result (λ x. length x.1.now < length tokens.now) }
         ensures exact { Gives (λ x. (declaration_of (names_of self.now) x.0, seen self.now x.1.now))
@@ -95,7 +95,7 @@ impl Source {
     }
 
     #[tactic(auto, unfolding(pal_laws::specs::GrammarReading::array_at))]
-    /// Reads the declaration behind the word `array` of that line.
+    /// Reads the declaration after the word `array` of that line.
     fn array<'a>(&self, alloc: Global, line: u32, tokens: &'a [Token]) -> Read<'a, Declaration>
         ensures shorter { IfOk result (λ x. length x.1.now < length tokens.now) }
         ensures exact { Gives (λ x. (declaration_of (names_of self.now) x.0, seen self.now x.1.now))
@@ -163,7 +163,7 @@ impl Source {
     }
 
     #[tactic(auto, unfolding(pal_laws::specs::GrammarReading::semaphore_at))]
-    /// Reads the declaration behind the word `semaphore` of that line.
+    /// Reads the declaration after the word `semaphore` of that line.
     fn semaphore<'a>(&self, line: u32, tokens: &'a [Token]) -> Read<'a, Declaration>
         ensures shorter { IfOk result (λ x. length x.1.now < length tokens.now) }
         ensures exact { Gives (λ x. (declaration_of (names_of self.now) x.0, seen self.now x.1.now))
@@ -183,7 +183,7 @@ impl Source {
     }
 
     #[tactic(auto, unfolding(pal_laws::specs::GrammarReading::event_at))]
-    /// Reads the declaration behind the word `event` of that line.
+    /// Reads the declaration after the word `event` of that line.
     fn event<'a>(&self, line: u32, tokens: &'a [Token]) -> Read<'a, Declaration>
         ensures shorter { IfOk result (λ x. length x.1.now < length tokens.now) }
         ensures exact { Gives (λ x. (declaration_of (names_of self.now) x.0, seen self.now x.1.now))
@@ -196,7 +196,7 @@ impl Source {
     }
 
     #[tactic(auto, unfolding(pal_laws::specs::GrammarReading::buffer_at))]
-    /// Reads the declaration behind the word `buffer` of that line.
+    /// Reads the declaration after the word `buffer` of that line.
     fn buffer<'a>(&self, line: u32, tokens: &'a [Token]) -> Read<'a, Declaration>
         ensures shorter { IfOk result (λ x. length x.1.now < length tokens.now) }
         ensures exact { Gives (λ x. (declaration_of (names_of self.now) x.0, seen self.now x.1.now))
@@ -216,7 +216,7 @@ impl Source {
     }
 
     #[tactic(auto, unfolding(pal_laws::specs::GrammarReading::blackboard_at))]
-    /// Reads the declaration behind the word `blackboard` of that line.
+    /// Reads the declaration after the word `blackboard` of that line.
     fn blackboard<'a>(&self, line: u32, tokens: &'a [Token]) -> Read<'a, Declaration>
         ensures shorter { IfOk result (λ x. length x.1.now < length tokens.now) }
         ensures exact { Gives (λ x. (declaration_of (names_of self.now) x.0, seen self.now x.1.now))
@@ -230,7 +230,7 @@ impl Source {
     }
 
     #[tactic(auto, unfolding(pal_laws::specs::GrammarReading::port_at))]
-    /// Reads the declaration behind the word `port` of that line.
+    /// Reads the declaration after the word `port` of that line.
     fn port<'a>(&self, line: u32, tokens: &'a [Token]) -> Read<'a, Declaration>
         ensures shorter { IfOk result (λ x. length x.1.now < length tokens.now) }
         ensures exact { Gives (λ x. (declaration_of (names_of self.now) x.0, seen self.now x.1.now))
@@ -243,7 +243,7 @@ impl Source {
     }
 
     #[tactic(auto, unfolding(pal_laws::specs::GrammarReading::procedure_at))]
-    /// Reads the declaration behind the word `proc` of that line.
+    /// Reads the declaration after the word `proc` of that line.
     fn procedure<'a>(&self, alloc: Global, line: u32, tokens: &'a [Token]) -> Read<'a, Declaration>
         ensures shorter { IfOk result (λ x. length x.1.now < length tokens.now) }
         ensures exact { Gives (λ x. (declaration_of (names_of self.now) x.0, seen self.now x.1.now))

@@ -187,7 +187,7 @@ impl Source {
         Ok((Expr::Unary(operator, Box::new(alloc, operand)?), rest))
     }
 
-    /// An expression one level further in, behind the word that opens the level.
+    /// An expression one level further in, after the word that opens the level.
     #[tactic(auto, unfolding(pal_laws::specs::GrammarReading::nested_at, pal_laws::specs::GrammarReading::expr_at))]
     #[cycle(expression)]
     pub fn nested<'a>(&self, alloc: Global, levels: u32, tokens: &'a [Token]) -> Read<'a, Expr>
@@ -201,7 +201,7 @@ impl Source {
         self.chain(alloc, Rank::Disjunction, levels - 1, tokens)
     }
 
-    /// Reads the expression that begins with this name: an element, a call or the name alone.
+    /// Reads the expression that begins with this name: an element, a call or only the name.
     #[tactic(auto, unfolding(pal_laws::specs::GrammarReading::named_with))]
     #[cycle(expression)]
     fn named<'a>(
@@ -228,7 +228,7 @@ impl Source {
         Ok((Expr::Name(name), tokens))
     }
 
-    /// Reads the arguments behind the opening parenthesis of their list, up to the closing one.
+    /// Reads the arguments after the opening parenthesis of their list, up to the closing one.
     #[tactic(auto, unfolding(crate::specs::Reads::arguments_read, crate::specs::Reads::arguments_within, pal_laws::specs::GrammarReading::expr_at))]
     #[cycle(expression)]
     pub fn arguments<'a>(

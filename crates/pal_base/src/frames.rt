@@ -9,7 +9,7 @@ use crate::operands::operands_of_block;
 use crate::program::{Body, Stmt};
 
 /// The frame of the body of INIT, of the handler or of a process: its locals, the most operands
-/// that wait at once, and two words for the place and the frame of a caller.
+/// that wait together, and two words for the place and the frame of a caller.
 pub fn frame_of_body(body: &Body) -> u64
     ensures { result ≡ min (cost.frame_of_body (body_of body.now)) u64.MAX }
 {

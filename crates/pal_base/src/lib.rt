@@ -1,8 +1,8 @@
 //! Pal's trees: the program as it is written, and the program with its names resolved.
 //!
-//! It also says which words may stand where a text leaves the grammar, how many constructs a body
-//! has, what they cost, and the frame that it needs. The counts are of any tree. A count that does
-//! not fit 64 bits is the greatest number that does; an accepted program never reaches it.
+//! It also says which words fit where a text leaves the grammar, how many constructs a body has,
+//! what they cost, and the frame that it needs. The counts are of any tree. A count that does not
+//! fit 64 bits is the greatest number that does; an accepted program never reaches it.
 #![tactic(auto)]
 
 pub mod checked;

@@ -87,13 +87,13 @@ pub struct LookedFor {
     pub line: u32,
     /// That word opens one level too many.
     pub is_too_deep: bool,
-    /// The words that can stand there.
+    /// The words that fit there.
     pub words: Vec<WordKind>,
-    /// The words that could stand there if one more level could be opened.
+    /// The words that would fit there at one level more.
     pub deeper: Vec<WordKind>,
 }
 
-/// How a word fits behind others.
+/// How a word fits after others.
 #[derive(Clone, Copy)]
 enum Fit {
     /// Some program continues with it.
@@ -141,7 +141,7 @@ impl Source {
         }
     }
 
-    /// Returns the words that may stand between `before` and `behind`.
+    /// Returns the words that fit between `before` and `behind`.
     fn looked_for(
         &self,
         alloc: Global,
@@ -172,7 +172,7 @@ impl Source {
         })
     }
 
-    /// How a word of this kind fits behind those, or the end.
+    /// How a word of this kind fits after those, or the end.
     fn fit(&self, alloc: Global, before: &[Token], kind: WordKind) -> Result<Fit, AllocError>
         ensures { IfOk result
             (λ fit. IsFit (first_name (names_of self.now)) (seen self.now before.now) kind fit) }
@@ -193,8 +193,7 @@ impl Source {
         }
     }
 
-    /// How this word fits behind those. It does not if the words leave the grammar before their
-    /// end.
+    /// How this word fits after those. It does not if the words leave the grammar before their end.
     fn fit_of_word(&self, alloc: Global, before: &[Token], word: Word) -> Result<Fit, AllocError>
         ensures { IfOk result
             (λ fit.
@@ -209,7 +208,7 @@ impl Source {
     }
 }
 
-/// Puts a kind of word behind those that fit, or behind those that would at one level more.
+/// Adds a kind of word to those that fit, or to those that would at one level more.
 fn note(
     kind: WordKind,
     fit: Fit,

@@ -80,7 +80,7 @@ pub static GRAMMAR_WORDS: [Mark; 25] = [
     Mark::Not,
 ];
 
-/// The marks that are signs. A sign stands before those that begin it.
+/// The marks that are signs. A sign comes before those that begin it.
 pub static SIGNS: [Mark; 21] = [
     Mark::Becomes,
     Mark::Arrow,

@@ -1,4 +1,4 @@
-//! The most operands that wait at once in each part of a program. A number that does not fit 64
+//! The most operands that wait together in each part of a program. A number that does not fit 64
 //! bits is the greatest number of 64 bits.
 
 ghost use Rattle.std.specs.Prelude.{◌≡◌, ◌+◌, min, max};
@@ -21,7 +21,7 @@ fn operands_of_expr(expr: &Expr) -> u64
     }
 }
 
-/// An operand of a chain is evaluated while what stands before it waits.
+/// An operand of a chain is evaluated while those before it wait.
 #[cycle(operands_of_expr)]
 fn operands_of_links(links: &[Link]) -> u64
     ensures { result ≡ min (cost.operands_of_links (links_of links.now)) u64.MAX }
@@ -33,7 +33,7 @@ fn operands_of_links(links: &[Link]) -> u64
     most
 }
 
-/// An argument waits while those behind it are evaluated.
+/// An argument waits while the later ones are evaluated.
 #[cycle(operands_of_expr)]
 fn operands_of_exprs(exprs: &[Expr]) -> u64
     ensures { result ≡ min (cost.operands_of_exprs (exprs_of exprs.now)) u64.MAX }

@@ -89,7 +89,7 @@ fn line_beyond_ascii(text: &[u8]) -> Option<u32>
     None
 }
 
-/// The line in which the text behind `text` begins.
+/// The line in which the text after `text` begins.
 fn line_behind(text: &[u8]) -> u32 {
     let mut line = 1u32;
     for byte in text {
@@ -100,7 +100,7 @@ fn line_behind(text: &[u8]) -> u32 {
     line
 }
 
-/// The parts of a program that stand in its words.
+/// The parts of a program that are in its words.
 #[derive(Drop)]
 pub struct Parts {
     declarations: Vec<Declaration>,
@@ -132,7 +132,7 @@ impl Source {
     }
 
     #[tactic(auto, unfolding(pal_laws::specs::GrammarReading::stack_body_at))]
-    /// The body of INIT or of the handler, behind its word.
+    /// The body of INIT or of the handler, after its word.
     fn stack_body<'a>(&self, alloc: Global, mark: Mark, tokens: &'a [Token]) -> Read<'a, StackBody>
         ensures shorter { IfOk result (λ x. length x.1.now < length tokens.now) }
         ensures exact { Gives (λ x. (stack_body_of (names_of self.now) x.0, seen self.now x.1.now))
@@ -180,7 +180,7 @@ impl Source {
     }
 
     #[tactic(auto, unfolding(pal_laws::specs::GrammarReading::process_at))]
-    /// Reads the process behind the word `process` of that line.
+    /// Reads the process after the word `process` of that line.
     fn process<'a>(&self, alloc: Global, line: u32, tokens: &'a [Token]) -> Read<'a, Process>
         ensures shorter { IfOk result (λ x. length x.1.now < length tokens.now) }
         ensures exact { Gives (λ x. (process_of (names_of self.now) x.0, seen self.now x.1.now))

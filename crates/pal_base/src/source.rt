@@ -19,7 +19,7 @@ use std::alloc::{AllocError, AllocFailed};
 /// The place where the words of a text leave the grammar.
 #[derive(Clone, Copy)]
 pub struct Misfit {
-    /// The number of words there and behind.
+    /// The number of words from there on.
     pub left: usize,
     /// The word there would open one level too many.
     pub is_too_deep: bool,
@@ -61,7 +61,7 @@ pub struct Source {
     pub last_line: u32,
 }
 
-/// The result of a reader at the front of the words, and the words behind it.
+/// The result of a reader at the front of the words, and the words after it.
 pub type Read<'a, T> = Result<(T, &'a [Token]), ReadError>;
 
 /// The ranks of the operators of chains, the weakest first.
@@ -180,7 +180,7 @@ impl Source {
     }
 
     #[tactic(auto, unfolding(pal_laws::specs::GrammarReading::expect))]
-    /// The words behind this mark, if it stands at the front.
+    /// The words after this mark, if it is at the front.
     pub fn behind<'a>(&self, tokens: &'a [Token], mark: Mark) -> Option<&'a [Token]>
         ensures shorter { IfSome result (λ r. length r.now < length tokens.now) }
         ensures exact { Finds (λ r. seen self.now r.now) (seen self.now tokens.now) result
@@ -199,7 +199,7 @@ impl Source {
         }
     }
 
-    /// Returns true if this mark stands at the front.
+    /// Returns true if this mark is at the front.
     pub fn stands(&self, tokens: &[Token], mark: Mark) -> bool
         ensures { result ≡ is_ok (reading.expect (mark_text mark) (seen self.now tokens.now)) }
     {
@@ -209,7 +209,7 @@ impl Source {
         }
     }
 
-    /// The words behind this mark, which has to stand at the front.
+    /// The words after this mark, which has to be at the front.
     pub fn expect<'a>(&self, tokens: &'a [Token], mark: Mark) -> Result<&'a [Token], ReadError>
         ensures shorter { IfOk result (λ r. length r.now < length tokens.now) }
         ensures exact { Gives (λ r. seen self.now r.now) result
@@ -241,7 +241,7 @@ impl Source {
         }
     }
 
-    /// The name that has to stand at the front.
+    /// The name that has to be at the front.
     pub fn name<'a>(&self, tokens: &'a [Token]) -> Read<'a, Identifier>
         ensures shorter { IfOk result (λ x. length x.1.now < length tokens.now) }
         ensures exact { Gives (λ x. (name_of (names_of self.now) x.0, seen self.now x.1.now)) result
@@ -275,7 +275,7 @@ impl Source {
         }
     }
 
-    /// The number that has to stand at the front.
+    /// The number that has to be at the front.
     pub fn number<'a>(&self, tokens: &'a [Token]) -> Read<'a, Numeral>
         ensures shorter { IfOk result (λ x. length x.1.now < length tokens.now) }
         ensures plain { IfOk result (λ x. x.0.negative ≡ false) }
@@ -289,7 +289,7 @@ impl Source {
     }
 
     #[tactic(auto, unfolding(pal_laws::specs::GrammarReading::integer_at))]
-    /// The number that has to stand at the front, with or without a minus sign.
+    /// The number that has to be at the front, with or without a minus sign.
     pub fn integer<'a>(&self, tokens: &'a [Token]) -> Read<'a, Numeral>
         ensures shorter { IfOk result (λ x. length x.1.now < length tokens.now) }
         ensures exact { Gives (λ x. (integer_of x.0, seen self.now x.1.now)) result
@@ -312,7 +312,7 @@ impl Source {
     }
 
     #[tactic(auto, unfolding(pal_laws::specs::GrammarReading::discipline_at))]
-    /// The discipline that has to stand at the front.
+    /// The discipline that has to be at the front.
     pub fn discipline<'a>(&self, tokens: &'a [Token]) -> Read<'a, Discipline>
         ensures shorter { IfOk result (λ x. length x.1.now < length tokens.now) }
         ensures exact { Gives (λ x. (x.0, seen self.now x.1.now)) result

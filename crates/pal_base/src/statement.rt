@@ -157,7 +157,7 @@ impl Source {
         })
     }
 
-    /// Reads the loop behind the word `while`.
+    /// Reads the loop after the word `while`.
     #[tactic(auto, unfolding(pal_laws::specs::GrammarReading::while_with))]
     #[cycle(statement)]
     fn repetition<'a>(&self, alloc: Global, levels: u32, tokens: &'a [Token]) -> Read<'a, StmtKind>
@@ -171,7 +171,7 @@ impl Source {
     }
 
     #[tactic(auto, unfolding(pal_laws::specs::GrammarReading::branch_with))]
-    /// Reads the branches behind the word `if`.
+    /// Reads the branches after the word `if`.
     #[cycle(statement)]
     fn branch<'a>(&self, alloc: Global, levels: u32, tokens: &'a [Token]) -> Read<'a, StmtKind>
         ensures shorter { IfOk result (λ x. length x.1.now < length tokens.now) }
@@ -190,7 +190,7 @@ impl Source {
     }
 
     #[tactic(auto, unfolding(pal_laws::specs::GrammarReading::work_at))]
-    /// Reads the statement behind the word `work`.
+    /// Reads the statement after the word `work`.
     fn work<'a>(&self, tokens: &'a [Token]) -> Read<'a, StmtKind>
         ensures shorter { IfOk result (λ x. length x.1.now < length tokens.now) }
         ensures exact { Gives (λ x. (kind_of (names_of self.now) x.0, seen self.now x.1.now)) result
@@ -202,7 +202,7 @@ impl Source {
     }
 
     #[tactic(auto, unfolding(pal_laws::specs::GrammarReading::return_at))]
-    /// Reads the statement behind the word `return`.
+    /// Reads the statement after the word `return`.
     fn returned<'a>(&self, alloc: Global, levels: u32, tokens: &'a [Token]) -> Read<'a, StmtKind>
         ensures shorter { IfOk result (λ x. length x.1.now < length tokens.now) }
         ensures exact { Gives (λ x. (kind_of (names_of self.now) x.0, seen self.now x.1.now)) result
@@ -214,7 +214,7 @@ impl Source {
     }
 
     #[tactic(auto, unfolding(pal_laws::specs::GrammarReading::assignment_at))]
-    /// Reads the assignment behind the name at its front.
+    /// Reads the assignment after the name at its front.
     fn assignment<'a>(
         &self,
         alloc: Global,
@@ -242,7 +242,7 @@ impl Source {
     }
 
     #[tactic(auto, unfolding(crate::specs::Reads::service_call_read))]
-    /// Reads the request behind the name of a service.
+    /// Reads the request after the name of a service.
     fn service_call<'a>(
         &self,
         alloc: Global,
@@ -265,7 +265,7 @@ impl Source {
     }
 
     #[tactic(auto, unfolding(pal_laws::specs::GrammarReading::targets_at))]
-    /// An arrow and the names behind it, or nothing.
+    /// An arrow and the names after it, or nothing.
     fn targets<'a>(&self, alloc: Global, tokens: &'a [Token]) -> Read<'a, Vec<Identifier>>
         ensures shorter { IfOk result (λ x. length x.1.now ≤ length tokens.now) }
         ensures exact { Gives

@@ -1,4 +1,4 @@
-//! A program as it is written: names stand as names, each with the line of its word.
+//! A program as it is written: names are texts, each with the line of its word.
 
 ghost use Rattle.pal_base.specs.Answers.{HasText};
 ghost use Rattle.pal_base.specs.View.{program_from};
@@ -10,7 +10,7 @@ use indexmap::IndexSet;
 #[derive(Clone, Copy)]
 pub struct NameId(pub usize);
 
-/// A name where it stands in the text.
+/// A name with its place in the text.
 #[derive(Clone, Copy)]
 pub struct Identifier {
     pub name: NameId,
@@ -24,7 +24,7 @@ pub enum Natural {
     TooLarge,
 }
 
-/// A number where it stands in the text; `negative` is true if a minus sign stands before it.
+/// A number with its place in the text; `negative` is true if a minus sign comes before it.
 #[derive(Clone, Copy)]
 pub struct Numeral {
     pub magnitude: Natural,

@@ -35,7 +35,7 @@ pub enum Word {
     Stray,
 }
 
-/// A word where it stands in the text.
+/// A word with its place in the text.
 #[derive(Clone, Copy)]
 pub struct Token {
     pub word: Word,
@@ -51,7 +51,7 @@ pub struct Words {
     pub last_line: u32,
 }
 
-/// The words of a source text, in their order: each is the longest that begins where it stands.
+/// The words of a source text, in their order: each is the longest that begins at its place.
 pub fn words_of(alloc: Global, text: &[u8]) -> Result<Words, PalFault>
     ensures words { IfOk result
         (λ w. map (token_of (texts w.names.keys)) w.tokens.items ≡ grammar.words_of text.now) }
@@ -77,7 +77,7 @@ pub fn words_of(alloc: Global, text: &[u8]) -> Result<Words, PalFault>
 }
 
 #[tactic(auto, unfolding(pal_meaning::specs::Grammar::behind_blanks))]
-/// The text behind the blanks and the comments at the front, and the line in which it begins.
+/// The text after the blanks and the comments at the front, and the line in which it begins.
 fn behind_blanks(text: &[u8], line: u32) -> (&[u8], u32)
     ensures text { result.0.now ≡ behind_blanks false text.now }
     ensures few { result.1 + length result.0.now ≤ line + length text.now }
@@ -125,7 +125,7 @@ fn is_upper(byte: u8) -> bool
     b'A' <= byte && byte <= b'Z'
 }
 
-/// The kinds of runs of bytes: lower-case letters, digits and underscores; digits alone; upper-case
+/// The kinds of runs of bytes: lower-case letters, digits and underscores; only digits; upper-case
 /// letters and underscores.
 #[derive(Clone, Copy, PartialEq, Eq)]
 enum Run {
@@ -144,7 +144,7 @@ fn belongs(byte: u8, run: Run) -> bool
     }
 }
 
-/// The word at the front, and the text behind it.
+/// The word at the front, and the text after it.
 #[tactic(auto, unfolding(pal_meaning::specs::Grammar::word_at, pal_meaning::specs::Grammar::lower_word, pal_meaning::specs::Grammar::upper_word, pal_meaning::specs::Grammar::sign_word))]
 fn word_at<'a>(
     alloc: Global,
@@ -216,7 +216,7 @@ fn grammar_word(run: &[u8]) -> Option<Mark>
     None
 }
 
-/// The name with this text. A new name goes behind the others.
+/// The name with this text. A new name goes after the others.
 fn name_of(alloc: Global, names: &mut IndexSet<String>, run: &[u8]) -> Result<Word, PalFault>
     requires { IsAscii run.now }
     ensures word { IfOk result (λ w. word_of (texts names.new.keys) w ≡ grammar.Name run.now) }
@@ -246,7 +246,7 @@ fn service_of(run: &[u8]) -> Option<Service>
     None
 }
 
-/// The longest sign at the front, and the text behind it.
+/// The longest sign at the front, and the text after it.
 fn sign_at(text: &[u8]) -> Option<(Mark, &[u8])>
     ensures sign { option_map (λ x. mark_text x.0) result
         ≡ find (λ sign. starts_with nat_eq text.now sign) grammar.signs }

@@ -8,7 +8,7 @@ ghost use Rattle.pal_laws.specs.GrammarReading.{program_at};
 ghost use Rattle.pal_meaning.specs.Grammar.{Word, Name, Number, ServiceWord};
 ghost use Rattle.pal_meaning.specs.Syntax.{Program};
 
-/// A program that is read is written so: the words are those of the program, its operators stand in
+/// A program that is read is written so: the words are those of the program, its operators are in
 /// the order of their ranks, and it opens at most 64 levels.
 pub fn program_is_written_so()
     ensures { (words : List Word) (program : Program) → program_at words ≡ Ok program
@@ -34,7 +34,7 @@ pub fn refused_words_leave_the_grammar()
         → (left ≤ length words) × LeavesAt words (length words - left) }
 {}
 
-/// The grammar never asks which name, which number or which service stands at a place.
+/// The grammar never asks which name, which number or which service is at a place.
 pub fn words_of_a_kind_are_alike()
     ensures names { (before : List Word) (x y : List ℕ) → IsBeginning (before ++ Name x ∷ [])
         → IsBeginning (before ++ Name y ∷ []) }

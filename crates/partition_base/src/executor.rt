@@ -15,10 +15,10 @@ use processor::{Burst, Outcome};
 /// Runs INIT, the error handler and the processes of one partition. A runner without a control has
 /// nothing left to do; a process that does not exist never has a control. No call allocates memory.
 ///
-/// Each call borrows the partition's memory. Its layout, the number of words of each part, is the
-/// one that the executor was made for, and never changes.
+/// Each call borrows the partition's memory. Its layout, the number of words of each part, is that
+/// of the executor, and never changes.
 pub trait Executor {
-    /// The partition's memory: its data, and what its runners need besides them.
+    /// The partition's memory: its data, and what else its runners need.
     type Mem;
 
     ghost Control: { Type 0 };
@@ -107,7 +107,7 @@ pub trait Executor {
             answer.now) }
         ensures words { words mem.new ≡ words mem.old };
 
-    /// At most so many words of the data, from `place` on.
+    /// At most `count` words of the data, from `place` on.
     fn read<'a>(&self, mem: &'a Self::Mem, place: i64, count: u8) -> &'a [i64]
         ensures { result.now ≡ message_from place count (words mem.now) };
 

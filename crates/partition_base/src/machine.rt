@@ -92,7 +92,7 @@ pub fn memory_plan(alloc: Global, section: &Section) -> Result<MemoryPlan, Alloc
     })
 }
 
-/// At most so many words, from `place` on.
+/// At most `count` words, from `place` on.
 pub fn message(words: &[i64], place: i64, count: u8) -> &[i64]
     ensures { result.now ≡ message_from place count words.now }
 {

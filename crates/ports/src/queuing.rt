@@ -100,7 +100,7 @@ fn send(
 }
 
 /// SEND_QUEUING_MESSAGE (ARINC 653 Part 1, interpartition communication): appends a message, the
-/// first `handed.length` words handed in, to the port, until the end of the partition's window
+/// first `handed.length` words of the call, to the port, until the end of the partition's window
 /// moves it. If the port is full, blocks the caller for at most `limit` ticks; -1 is no limit.
 /// INVALID_PARAM: no queuing port of this number was created, or a limit below -1 or above 2^40
 /// ticks; INVALID_MODE: it is a destination; INVALID_PARAM: a length below 1, above the port's or
@@ -231,8 +231,8 @@ pub fn receive_queuing_message(
     receive(table, ports, request, array, limit, place, discipline, out);
 }
 
-/// Answers with the status of a port: the number of its messages, the number it has room for, the
-/// most words of a message, the direction, and the number of waiting processes.
+/// Returns the status of a port: the number of its messages, the number it has room for, the most
+/// words of a message, the direction, and the number of waiting processes.
 fn tell_status(
     table: &ProcessTable,
     ports: &Ports,

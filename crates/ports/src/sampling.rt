@@ -60,9 +60,9 @@ pub fn get_sampling_port_id(
 }
 
 /// WRITE_SAMPLING_MESSAGE (ARINC 653 Part 1, interpartition communication): replaces the port's
-/// message with the first `handed.length` words handed in, until the end of the partition's window
-/// moves it. INVALID_PARAM: no sampling port of this number was created; INVALID_MODE: it is a
-/// destination; INVALID_PARAM: a length below 1, above the port's or above the array's.
+/// message with the first `handed.length` words of the call, until the end of the partition's
+/// window moves it. INVALID_PARAM: no sampling port of this number was created; INVALID_MODE: it is
+/// a destination; INVALID_PARAM: a length below 1, above the port's or above the array's.
 pub fn write_sampling_message(
     table: &ProcessTable,
     ports: &mut Ports,

@@ -52,7 +52,7 @@ pub fn refuse(runner: Runner, who: Subject, service: Service, code: ReturnCode, 
     answer(runner, who, service, code, zeros(service), out);
 }
 
-/// The outputs of a service that has nothing to answer.
+/// The outputs of a service that returns nothing.
 pub(crate) fn zeros(service: Service) -> &'static [i64]
     ensures zeros { result.now ≡ step.zeros service }
     ensures few { length result.now ≤ 6 }
@@ -179,7 +179,7 @@ impl ProcessTable {
         out.act(ActionKind::Stop(runner), &[]);
     }
 
-    /// Answers the service in which a process waits, if it waits in one.
+    /// Ends the service in which a process waits, if it waits in one.
     fn answer_wait(
         &self,
         runner: Runner,
@@ -203,8 +203,8 @@ impl ProcessTable {
         }
     }
 
-    /// Answers the service in which a process waits with these outputs, if it waits in one; then
-    /// the process is ready.
+    /// Ends the service in which a process waits with these outputs, if it waits in one; then the
+    /// process is ready.
     pub(crate) fn release_with(
         &mut self,
         runner: Runner,
@@ -226,8 +226,8 @@ impl ProcessTable {
         self.wake_as(runner, row, out);
     }
 
-    /// With this record, answers the service in which a process waits with outputs of 0, if it
-    /// waits in one; then the process is ready.
+    /// With this record, ends the service in which a process waits with outputs of 0, if it waits
+    /// in one; then the process is ready.
     pub(crate) fn release_as(
         &mut self,
         runner: Runner,

@@ -77,8 +77,8 @@ impl ProcessTable {
         }
     }
 
-    /// Whether a choice would change nothing: the chosen runner runs already, or nobody is chosen
-    /// and nobody runs.
+    /// Whether a choice would change nothing: the chosen runner runs already, or no process is
+    /// chosen and none runs.
     pub fn choice_stays(&self, mode: Mode) -> bool
         ensures { result ≡ true → meaning.chooses mode self.now ≡ nothing self.now }
     {

@@ -20,7 +20,7 @@ use apex_types::{
     ProcessStatus, Response, ReturnCode, Runner, Service, Ticks, Wait,
 };
 
-/// The result of treating the processes, besides its lines: how many more errors may wait for the
+/// The result of treating the processes, without its lines: how many more errors may wait for the
 /// error handler, and the mode of the Clear that ended it, if one did.
 #[derive(Clone, Copy)]
 pub struct Treated {

@@ -27,8 +27,8 @@ impl ProcessTable {
         self.wait_as(found.runner, &found.row, Wait::Service(service), due, out);
     }
 
-    /// The service in which the process waits, if any, answers with outputs of 0; then the process
-    /// is ready. The processes that continue to wait keep their order.
+    /// The service in which the process waits, if any, ends with outputs of 0; then the process is
+    /// ready. The processes that continue to wait keep their order.
     pub fn release(&mut self, found: &Found, code: ReturnCode, out: &mut Out)
         requires { HasRoom 2 1 out.old }
         ensures order { (disciplines : Key → Discipline) (number : ℕ → ℕ) (next : ℕ)
@@ -63,7 +63,7 @@ impl ProcessTable {
         self.rest_as(found.runner, &found.row, out);
     }
 
-    /// Gives a message to a receiver: the words go into its array, its call answers how many they
+    /// Gives a message to a receiver: the words go into its array, its call returns how many they
     /// are, and it is ready.
     pub fn give(&mut self, found: &Found, message: &Words, out: &mut Out)
         requires { HasRoom 2 2 out.old }
@@ -74,7 +74,7 @@ impl ProcessTable {
         self.give_as(found.runner, &found.row, message, out);
     }
 
-    /// A ready process goes behind the others of its priority. Its record stays as it is.
+    /// A ready process goes after the others of its priority. Its record stays unchanged.
     #[tactic(auto, using(crate::proofs::Yielding::yielded))]
     pub fn go_last(&mut self, runner: Runner)
         ensures { self.new ≡ yields_in self.old runner }

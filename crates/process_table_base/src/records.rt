@@ -181,7 +181,7 @@ impl Records {
         set_state_at(&mut self.rows, runner.place(), state);
     }
 
-    /// Resets the records: nobody is created; unless the mode is idle, INIT is ready.
+    /// Resets the records: no process is created; unless the mode is idle, INIT is ready.
     pub(crate) fn restart(&mut self, mode: Mode)
         ensures { self.new ≡ started_rows mode (map forgotten self.old) }
     {
@@ -279,7 +279,7 @@ fn set_state_at(rows: &mut Vec<ProcessStatus>, place: usize, state: ProcessState
     }
 }
 
-/// Resets the records: nobody is created; unless the mode is idle, INIT is ready.
+/// Resets the records: no process is created; unless the mode is idle, INIT is ready.
 fn restart_all(rows: &mut Vec<ProcessStatus>, mode: Mode)
     ensures { rows.new.items ≡ started_rows mode (map forgotten rows.old.items) }
 {

@@ -1,4 +1,4 @@
-//! The context of a service call, besides its own arguments.
+//! The context of a service call, without its arguments.
 
 use apex_types::{ArrayPlace, Mode, Moment, Runner};
 
@@ -10,9 +10,8 @@ pub struct Request {
     pub mode: Mode,
 }
 
-/// What a call hands in: its array, and how many words of it are the message. The words themselves
-/// are passed separately, since a value with a reference to them would cost each call a copy of
-/// them.
+/// What a call passes: its array, and how many words of it are the message. The words go
+/// separately, since a value with a reference to them would cost each call a copy of them.
 #[derive(Clone, Copy)]
 pub struct Handed {
     pub array: ArrayPlace,

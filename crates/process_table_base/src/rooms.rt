@@ -2,19 +2,19 @@
 
 use apex_types::MOST_PROCESSES;
 
-/// Each process that waits at an object answers and becomes ready.
+/// The service of each process that waits at an object ends, and the process becomes ready.
 pub const LINES_TO_RELEASE_ALL: u16 = 2 * MOST_PROCESSES as u16;
 
 /// Each process that waits at an object has its answer.
 pub const ACTIONS_TO_RELEASE_ALL: u16 = MOST_PROCESSES as u16;
 
-/// Each process that waits at an object has a message: it answers and becomes ready.
+/// Each process that waits at an object has a message: its service ends and it becomes ready.
 pub const LINES_TO_GIVE_ALL: u16 = 2 * MOST_PROCESSES as u16;
 
 /// Each process that waits at an object has the message's words and its answer.
 pub const ACTIONS_TO_GIVE_ALL: u16 = 2 * MOST_PROCESSES as u16;
 
-/// Each process may answer and become ready, and may miss its deadline.
+/// The service of each process may end, the process may become ready, and may miss its deadline.
 pub const LINES_TO_TREAT_DUE: u16 = 3 * MOST_PROCESSES as u16;
 
 /// Each process may have an answer, and an error that waits for the handler.

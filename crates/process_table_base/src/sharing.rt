@@ -1,5 +1,5 @@
-//! What the services answer that all kinds of objects and ports have. Both functions are inlined,
-//! so that the compiler knows the service, and with it the outputs of a refusal.
+//! What services do that all kinds of objects and ports have. Both functions are inlined, so that
+//! the compiler knows the service, and with it the outputs of a refusal.
 
 ghost use Rattle.std.specs.Prelude.{◌≡◌};
 ghost use Rattle.apex_types.specs.Room.{HasRoom, Grows};
@@ -11,10 +11,10 @@ use crate::table::ProcessTable;
 use apex_types::{Mode, Out, ReturnCode, Runner, Service};
 
 impl ProcessTable {
-    /// Answers a `service` that creates an object or a port. Its output is `name`, the number;
-    /// `found` has the place of the one of that number, and whether it is created. INVALID_MODE: in
-    /// normal mode; INVALID_CONFIG: none is declared; NO_ACTION: it is created. Otherwise the result
-    /// is the place of the one that is to be created now.
+    /// Ends a `service` that creates an object or a port. Its output is `name`, the number; `found`
+    /// has the place of the object of that number, and whether it is created. INVALID_MODE: in
+    /// normal mode; INVALID_CONFIG: none is declared; NO_ACTION: it is created. Otherwise the
+    /// result is the place of the object to create now.
     #[inline(always)]
     pub fn answer_create(
         &self,
@@ -51,7 +51,7 @@ impl ProcessTable {
         }
     }
 
-    /// Answers a `service` that looks up an object or a port. Its output is `name`, the number.
+    /// Ends a `service` that looks up an object or a port. Its output is `name`, the number.
     /// INVALID_CONFIG: none of that number is `created`.
     #[inline(always)]
     pub fn answer_id(

@@ -26,7 +26,7 @@ use std::marker::Model;
 
 /// The processes of a partition: the records of INIT, of the error handler and of each process; the
 /// ready processes; the current runner; the preemption lock; and the processes that wait for
-/// objects and ports, with what they hand in. A contract sees it as the processes of the
+/// objects and ports, with the messages of their calls. A contract sees it as the processes of the
 /// definitions.
 #[derive(Drop)]
 pub struct ProcessTable {
@@ -164,8 +164,8 @@ impl ProcessTable {
         self.lock = lock;
     }
 
-    /// Resets the table: no process is created, and nobody runs, waits or holds the lock. Unless
-    /// the mode is idle, INIT is ready.
+    /// Resets the table: no process is created, and none runs, waits or holds the lock. Unless the
+    /// mode is idle, INIT is ready.
     pub fn clear(&mut self, mode: Mode)
         ensures { self.new ≡ cleared_processes mode self.old }
     {
@@ -230,7 +230,7 @@ impl ProcessTable {
         self.records.priority(runner)
     }
 
-    /// A ready process goes behind the others of this priority.
+    /// A ready process goes after the others of this priority.
     pub(crate) fn go_behind(&mut self, runner: Runner, priority: Priority)
         requires { place_of runner < MOST_RUNNERS }
         ensures { self.new

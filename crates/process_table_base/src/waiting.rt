@@ -109,7 +109,7 @@ impl ProcessTable {
         }
     }
 
-    /// Adds a process to the list of its object, with the message that its call hands in.
+    /// Adds a process to the list of its object, with the message of its call.
     fn enter(&mut self, runner: Runner, waiting: Waiting, message: &Words, row: &ProcessStatus)
         requires { place_of runner < MOST_RUNNERS }
         ensures { self.new ≡ meaning.enters self.old runner waiting message.now row.now }
@@ -198,7 +198,7 @@ impl ProcessTable {
     }
 
     /// Gives a message to a receiver with this record: the words go into its array, its call
-    /// answers how many they are, and it is ready.
+    /// returns how many they are, and it is ready.
     pub(crate) fn give_as(
         &mut self,
         runner: Runner,

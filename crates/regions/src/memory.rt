@@ -29,8 +29,8 @@ impl Memory {
     ghost use Rattle.regions.specs.contracts.memory.Memory.{the_row};
     ghost use Rattle.regions.specs.contracts.partition_mem.PartitionMem.{the_row as part_row};
 
-    /// The memory of all partitions at once: of each its initial data, and stacks of zeros. Fails
-    /// only if memory runs out.
+    /// The memory of all partitions: of each its initial data, and stacks of zeros. Fails only if
+    /// memory runs out.
     pub fn new(alloc: Global, plan: &[MemoryPlan]) -> Result<Memory, AllocError>
         ensures { IfOk result (λ memory. memory ≡ map planned plan.now) }
     {
@@ -41,8 +41,8 @@ impl Memory {
         Ok(Memory { parts })
     }
 
-    /// The words of a partition, one of those of the plan, which are numbered from 1. After the loan these
-    /// are as the borrower left them, and all others are as they were.
+    /// The words of a partition, one of those of the plan, which are numbered from 1. After the
+    /// loan these are as the borrower left them, and all others are unchanged.
     pub fn lend(&mut self, partition: PartitionId) -> &mut PartitionMem
         requires { HasPart self.old partition }
         ensures* back { sem 𝓛 (Lends the_row part_row self.entry result (λ w. slice_set self.entry.now (place_of partition) w)) }

@@ -134,7 +134,7 @@ impl PartitionMem {
     }
 
     /// Lends the words that the current runner may touch. After the loan they are as the borrower
-    /// left them, and the other stacks are as they were.
+    /// left them, and the other stacks are unchanged.
     pub fn reach(&mut self) -> &mut Reach
         ensures* back { sem 𝓛 (Lends the_row reach_row self.entry result (λ r. put self.entry.now r.stack.items r.words.items)) }
         ensures words { result.now.words.items ≡ self.old.words }
@@ -165,7 +165,7 @@ impl PartitionMem {
         self.reach.stack.len()
     }
 
-    /// Replaces the data by these words, which are as many.
+    /// Replaces the data by these words, whose number is the same.
     pub fn restore(&mut self, words: &[i64])
         requires { length words.now ≡ length self.old.words }
         ensures { self.new ≡ put self.old self.old.stack words.now }

@@ -1,4 +1,4 @@
-//! The costs of the bodies of a source beside their time capacities.
+//! The costs of the bodies of a source, with their time capacities.
 
 ghost use Rattle.std.specs.Prelude.{◌≡◌, ◌++◌, map, IfOk, OnOk};
 ghost use Rattle.schedule_load.specs.Bodies.{capacity_share, handler_load, loads_of, plain_load, procedure_load, process_load, ticks_of_body};
@@ -12,7 +12,7 @@ use std::alloc::{AllocError, Global};
 
 /// What a body costs in ticks, each of its constructs counted once and its end included; and of a
 /// process its period and its time capacity, and the share of the cost in the capacity if it has
-/// both. A cost above 2^64 - 1 stands as 2^64 - 1.
+/// both. A cost above 2^64 - 1 is shown as 2^64 - 1.
 #[derive(Clone, Copy)]
 pub struct BodyLoad {
     pub name: BodyName,

@@ -43,8 +43,7 @@ fn share_or_none(share: Option<Share>) -> Cell
     }
 }
 
-/// The ticks of the frame; those that partitions own, and their share; those that nobody owns, and
-/// their share.
+/// The ticks of the frame; the owned ticks, and their share; the unowned ticks, and their share.
 #[tactic(auto, unfolding(crate::specs::Cells::frame_cells))]
 pub fn frame_cells(load: &FrameLoad) -> [Cell; 5]
     ensures { result ≡ frame_cells load.now }
@@ -77,7 +76,7 @@ pub fn partition_cells(report: &LoadReport<'_>, number_of: usize, load: &Partiti
     ]
 }
 
-/// The first tick, the first tick behind, and how many ticks.
+/// The first tick, the tick after the end, and the number of ticks.
 fn stretch_cells(from: u32, ticks: u32) -> [Cell; 3]
     ensures { result ≡ stretch_cells from ticks }
 {

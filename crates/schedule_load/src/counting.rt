@@ -7,7 +7,7 @@ ghost use Rattle.schedule_load.specs.Ownership.{is_of, owner_at, ticks_of};
 use apex_types::{At, Moment, PartitionId, Ticks};
 use window_table::Schedule;
 
-/// The owner of a tick of the frame, and for how many ticks from there on it stays.
+/// The owner of a tick of the frame, and for how many ticks from then on it stays.
 #[derive(Clone, Copy)]
 pub struct Stretch {
     pub owner: Option<PartitionId>,
@@ -37,7 +37,7 @@ pub fn stretch_from(schedule: &Schedule, tick: u32, high: u32) -> Stretch
     }
 }
 
-/// Returns true if the owner is this one; no owner is that of the ticks that nobody owns.
+/// Returns true if both owners are the same; no owner is that of unowned ticks.
 fn is_of(who: Option<PartitionId>, owner: Option<PartitionId>) -> bool
     ensures { result ≡ is_of (option_map (λ p. p.0) who) (option_map (λ p. p.0) owner) }
 {
@@ -48,7 +48,7 @@ fn is_of(who: Option<PartitionId>, owner: Option<PartitionId>) -> bool
     }
 }
 
-/// The ticks of a stretch if its owner is this one, else 0.
+/// The ticks of a stretch if this is its owner, else 0.
 pub fn counted(who: Option<PartitionId>, stretch: Stretch) -> u32
     ensures ticks { result
         ≡ (if is_of (option_map (λ p. p.0) who) (option_map (λ p. p.0) stretch.owner) then stretch.ticks
@@ -63,7 +63,7 @@ pub fn counted(who: Option<PartitionId>, stretch: Stretch) -> u32
 }
 
 /// How many of the ticks from `low` up to `high` of the frame this partition owns; without one, how
-/// many nobody owns.
+/// many are unowned.
 pub fn ticks_of(schedule: &Schedule, who: Option<PartitionId>, low: u32, high: u32) -> u32
     ensures { result
         ≡ ticks_of (schedule_of schedule.now) (option_map (λ p. p.0) who) low high }

@@ -6,7 +6,7 @@ ghost use Rattle.module_meaning.specs.ImageRules.{has_wrong_window};
 ghost use Rattle.schedule_load.specs.Load.{owned_ticks, partition_loads};
 ghost use Rattle.schedule_load.specs.Ownership.{ticks_of};
 
-/// The ticks of all partitions and those that nobody owns are the ticks of the frame, in every table
+/// The ticks of all partitions and the unowned ticks are the ticks of the frame, in every table
 /// whose windows are of its partitions, as those of an accepted table are.
 pub fn ticks_add_up()
     ensures { (t : Table) → has_wrong_window t.schedule (length t.partitions) ≡ false

@@ -27,8 +27,8 @@ pub struct PartitionLoad {
     pub most: u32,
 }
 
-/// The load of a frame: its ticks, those that nobody owns, the partitions in the order of the table,
-/// and the gaps in the order of the frame.
+/// The load of a frame: its ticks, the unowned ticks, the partitions in the order of the table, and
+/// the gaps in the order of the frame.
 #[derive(Drop)]
 pub struct FrameLoad {
     pub frame: u32,

@@ -23,7 +23,7 @@ const NAMES: Length = Length(160);
 /// The place of the line of a text in its lane.
 const LINE: Length = Length(160);
 
-/// The place of the line on which the bars of a lane stand.
+/// The place of the line at the foot of the bars of a lane.
 const FOOT: Length = Length(190);
 
 /// The least width of a bar.
@@ -39,7 +39,7 @@ const WINDOW: Bar = Bar {
     high: Length(160),
 };
 
-/// The end of so many lanes.
+/// The end of `lanes` lanes.
 fn lanes_end(lanes: usize) -> Length
     ensures { result ≡ text.lanes_end lanes }
 {

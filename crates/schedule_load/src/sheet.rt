@@ -15,7 +15,7 @@ use apex_types::{Name, WindowRow};
 use number_tables::{Row, named, push_record};
 use std::alloc::{AllocError, Global};
 
-/// The columns. Each row has the first three, and those of its own group.
+/// The columns. Each row has the first three, and those of its group.
 pub const HEADINGS: [&str; 23] = [
     "kind",
     "partition",

@@ -8,7 +8,7 @@ use crate::counting::{Stretch, stretch_from};
 use std::alloc::{AllocError, Global};
 use window_table::Schedule;
 
-/// A run of ticks of the frame that nobody owns, as long as it can be.
+/// A run of unowned ticks of the frame, of the greatest length.
 #[derive(Clone, Copy)]
 pub struct Gap {
     pub from: u32,
@@ -30,7 +30,8 @@ fn close(gaps: &mut Vec<Gap>, begun: u32, tick: u32) -> Result<(), AllocError>
     Ok(())
 }
 
-/// Adds the gap that ends where a stretch begins. Returns how many ticks of a gap have begun behind the stretch.
+/// Adds the gap that ends where a stretch begins. Returns how many ticks of a gap have begun after
+/// the stretch.
 fn follow(gaps: &mut Vec<Gap>, begun: u32, tick: u32, next: Stretch) -> Result<u32, AllocError>
     requires past { begun ≤ tick }
     requires within { tick + next.ticks < 2 ^ 32 }

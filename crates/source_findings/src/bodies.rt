@@ -15,7 +15,7 @@ use apex_types::limits::{LEAST_STACK_WORDS, MOST_LOCALS, MOST_STACK_WORDS};
 use pal_base::syntax::{Body, Identifier, Numeral, StackBody};
 use std::alloc::{AllocError, Global};
 
-/// Goes behind a name that is a parameter or a local, behind those before.
+/// Passes a name that is a parameter or a local, after earlier ones.
 pub fn own_name<'a>(
     judge: &Judge<'_, 'a>,
     walk: &mut Walk<'a>,
@@ -34,7 +34,7 @@ pub fn own_name<'a>(
     walk.judge(new_wrong(&within, text_of(judge.names, name)))
 }
 
-/// Goes behind the locals of a body, and adds them to those before.
+/// Passes the locals of a body, and adds them to earlier names.
 fn locals<'a>(
     judge: &Judge<'_, 'a>,
     walk: &mut Walk<'a>,
@@ -58,8 +58,8 @@ fn locals<'a>(
     Ok(())
 }
 
-/// Goes behind a body, at whose brace its frame and the number of its locals are judged. `own` are
-/// the parameters.
+/// Passes a body, at whose brace its frame and the number of its locals are judged. `own` are the
+/// parameters.
 pub fn body<'a>(
     alloc: Global,
     judge: &Judge<'_, 'a>,
@@ -80,7 +80,7 @@ pub fn body<'a>(
     inside(alloc, judge, walk, returns, own, body)
 }
 
-/// Goes behind a body behind its brace.
+/// Passes the rest of a body after its brace.
 fn inside<'a>(
     alloc: Global,
     judge: &Judge<'_, 'a>,
@@ -105,7 +105,7 @@ fn inside<'a>(
     Ok(())
 }
 
-/// Goes behind a stack, and the body for which it is.
+/// Passes a stack, and the body for which it is.
 pub fn stack_and_body<'a>(
     alloc: Global,
     judge: &Judge<'_, 'a>,
@@ -126,7 +126,7 @@ pub fn stack_and_body<'a>(
     body(alloc, judge, walk, false, Vec::new(alloc), frame, of)
 }
 
-/// Goes behind INIT or the handler.
+/// Passes INIT or the handler.
 pub fn stack_body<'a>(
     alloc: Global,
     judge: &Judge<'_, 'a>,
@@ -142,7 +142,7 @@ pub fn stack_body<'a>(
     stack_and_body(alloc, judge, walk, &body.stack, &body.body)
 }
 
-/// Goes behind the handler, if there is one.
+/// Passes the handler, if there is one.
 pub fn handler<'a>(
     alloc: Global,
     judge: &Judge<'_, 'a>,

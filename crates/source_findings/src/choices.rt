@@ -151,8 +151,7 @@ fn choices() -> &'static [Choice]
     &CHOICES
 }
 
-/// What is said of the first of these choices that fits, or else of the first word that may stand
-/// there.
+/// What is said of the first of these choices that fits, or else of the first word that fits there.
 #[tactic(auto, using(std::proofs::lemmas::List::drop_more))]
 fn first_said(place: &LookedFor, choices: &[Choice]) -> &'static str
     ensures { result.now ≡ spec.first_said place.now (map choice_of choices.now) }
@@ -171,7 +170,7 @@ fn all_could_stand(place: &LookedFor, words: &[WordKind]) -> bool
     words.iter().all(|kind| could_stand(place, *kind))
 }
 
-/// Returns true if a word of this kind could stand there, with one more level if necessary.
+/// Returns true if a word of this kind fits there, with one more level if necessary.
 fn could_stand(place: &LookedFor, kind: WordKind) -> bool
     ensures { result ≡ spec.could_stand place.now kind }
 {

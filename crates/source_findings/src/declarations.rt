@@ -28,7 +28,7 @@ use pal_base::fault::Refusal;
 use pal_base::syntax::{Body, Declaration, DeclarationKind, Identifier, Numeral, Process, Program};
 use std::alloc::{AllocError, Global};
 
-/// Goes behind a number, with or without a minus sign, at which something may be wrong.
+/// Passes a number, with or without a minus sign, at which something may be wrong.
 fn signed<'a>(
     walk: &mut Walk<'a>,
     what: Option<What<'a>>,
@@ -45,7 +45,7 @@ fn signed<'a>(
     Ok(())
 }
 
-/// Goes behind a first value.
+/// Passes a first value.
 fn word<'a>(judge: &Judge<'_, 'a>, walk: &mut Walk<'a>, number: &Numeral) -> Result<(), AllocError>
     ensures { OnOk result
         (state_of walk.new
@@ -69,7 +69,7 @@ fn words<'a>(
     Ok(())
 }
 
-/// Goes behind the first value of a variable, if there is one.
+/// Passes the first value of a variable, if there is one.
 fn first_value<'a>(
     judge: &Judge<'_, 'a>,
     walk: &mut Walk<'a>,
@@ -88,7 +88,7 @@ fn first_value<'a>(
     }
 }
 
-/// Goes behind the first values of an array, if there are any.
+/// Passes the first values of an array, if there are any.
 fn first_values<'a>(
     judge: &Judge<'_, 'a>,
     walk: &mut Walk<'a>,
@@ -105,7 +105,7 @@ fn first_values<'a>(
     words(judge, walk, values)
 }
 
-/// What is wrong with the size of an array that has so many first values.
+/// What is wrong with the size of an array that has `values` first values.
 fn size_wrong(values: usize, size: Option<u64>) -> Option<What<'static>>
     ensures { option_map what_of result ≡ spec.size_wrong values size }
 {
@@ -141,7 +141,7 @@ fn first_wrong(first: Option<u64>, maximum: Option<u64>) -> Option<What<'static>
     }
 }
 
-/// Goes behind the parameters of a procedure, and adds them to those before.
+/// Passes the parameters of a procedure, and adds them to earlier names.
 fn parameters<'a>(
     judge: &Judge<'_, 'a>,
     walk: &mut Walk<'a>,
@@ -166,7 +166,7 @@ fn parameters<'a>(
     Ok(())
 }
 
-/// Goes behind a procedure behind its name.
+/// Passes the rest of a procedure after its name.
 fn procedure<'a>(
     alloc: Global,
     judge: &Judge<'_, 'a>,
@@ -189,7 +189,7 @@ fn procedure<'a>(
     body(alloc, judge, walk, true, own, frame, of)
 }
 
-/// Goes behind two numbers that a buffer has.
+/// Passes two numbers that a buffer has.
 fn buffer<'a>(
     rule: Refusal,
     walk: &mut Walk<'a>,
@@ -205,7 +205,7 @@ fn buffer<'a>(
     walk.judge(outside_wrong(rule, Thing::Messages, 1, u64::from(MOST_DEPTH), messages))
 }
 
-/// Goes behind the words of a message.
+/// Passes the words of a message.
 fn blackboard<'a>(rule: Refusal, walk: &mut Walk<'a>, size: &Numeral) -> Result<(), AllocError>
     ensures { OnOk result
         (state_of walk.new ≡ spec.blackboard rule (number_of size.now) (state_of walk.old)) }
@@ -214,7 +214,7 @@ fn blackboard<'a>(rule: Refusal, walk: &mut Walk<'a>, size: &Numeral) -> Result<
     walk.judge(outside_wrong(rule, Thing::Words, 1, MOST_WORDS as u64, words))
 }
 
-/// Goes behind the two numbers of a semaphore.
+/// Passes the two numbers of a semaphore.
 fn semaphore<'a>(
     rule: Refusal,
     walk: &mut Walk<'a>,
@@ -231,7 +231,7 @@ fn semaphore<'a>(
     walk.judge(outside_wrong(rule, Thing::Maximum, 1, most, maximum))
 }
 
-/// Goes behind the size of an array, its brackets, and its first values.
+/// Passes the size of an array, its brackets, and its first values.
 fn array<'a>(
     judge: &Judge<'_, 'a>,
     walk: &mut Walk<'a>,
@@ -249,7 +249,7 @@ fn array<'a>(
     first_values(judge, walk, values)
 }
 
-/// Goes behind what stands behind the name of a declaration.
+/// Passes what follows the name of a declaration.
 fn kind<'a>(
     alloc: Global,
     judge: &Judge<'_, 'a>,
@@ -273,8 +273,7 @@ fn kind<'a>(
     }
 }
 
-/// Goes behind what stands behind the name of a declaration that is no procedure, but for the
-/// semicolon.
+/// Passes what follows the name of a declaration that is no procedure, except the semicolon.
 fn row<'a>(
     judge: &Judge<'_, 'a>,
     walk: &mut Walk<'a>,
@@ -309,7 +308,7 @@ fn row<'a>(
     }
 }
 
-/// Goes behind a name that is declared, behind those before.
+/// Passes a name that is declared, after earlier ones.
 fn declared_name<'a>(
     judge: &Judge<'_, 'a>,
     walk: &mut Walk<'a>,
@@ -328,7 +327,7 @@ fn declared_name<'a>(
     walk.judge(new_wrong(&among, text_of(judge.names, name)))
 }
 
-/// Goes behind a declaration behind those before; `tally` counts it, too.
+/// Passes a declaration after earlier ones; `tally` counts it, too.
 fn declaration<'a>(
     alloc: Global,
     judge: &Judge<'_, 'a>,
@@ -347,7 +346,7 @@ fn declaration<'a>(
     kind(alloc, judge, walk, &declaration.kind)
 }
 
-/// Goes behind the declarations, and adds them to those before.
+/// Passes the declarations, and adds them to earlier ones.
 fn declarations<'a>(
     alloc: Global,
     judge: &Judge<'_, 'a>,
@@ -373,7 +372,7 @@ fn declarations<'a>(
     Ok(())
 }
 
-/// Goes behind the words of a process before those of its stack.
+/// Passes the words of a process before those of its stack.
 fn process_row<'a>(
     judge: &Judge<'_, 'a>,
     walk: &mut Walk<'a>,
@@ -403,7 +402,7 @@ fn process_row<'a>(
     )
 }
 
-/// Goes behind a process behind those before, of which it is the one of that number.
+/// Passes a process after earlier ones; its number is given.
 fn whole_process<'a>(
     alloc: Global,
     judge: &Judge<'_, 'a>,
@@ -421,7 +420,7 @@ fn whole_process<'a>(
     stack_and_body(alloc, judge, walk, &process.stack, &process.body)
 }
 
-/// Goes behind the processes.
+/// Passes the processes.
 fn processes<'a>(
     alloc: Global,
     judge: &Judge<'_, 'a>,
@@ -443,7 +442,7 @@ fn processes<'a>(
     Ok(())
 }
 
-/// Goes behind a program.
+/// Passes a program.
 fn whole<'a>(
     alloc: Global,
     judge: &Judge<'_, 'a>,

@@ -45,9 +45,9 @@ pub fn explain_source(
     }
 }
 
-/// The body with which a program of this text is too long, by the costs of its bodies: its first
-/// word, how many instructions all bodies and this one have, the line with a mark, and what to do.
-/// There is none if memory runs out.
+/// The body that makes a program of this text too long, by the costs of its bodies: its first word,
+/// how many instructions all bodies and this body have, the line with a mark, and what to do. There
+/// is none if memory runs out.
 pub fn explain_length(
     alloc: Global,
     report: Report<'_>,

@@ -10,7 +10,7 @@ pub enum Thing {
     Priority,
     Period,
     Capacity,
-    /// The ticks behind `work`.
+    /// The ticks after `work`.
     Work,
     /// The first value of a semaphore.
     First,
@@ -62,14 +62,14 @@ pub enum What<'a> {
         found: Role,
         wanted: Role,
     },
-    /// An expression stands where the name of this is wanted.
+    /// There is an expression where the name of this is wanted.
     NoName(Role),
-    /// The service is given so many arguments.
+    /// The number of arguments that the service is given.
     Arguments {
         service: Service,
         given: usize,
     },
-    /// The service is given so many targets.
+    /// The number of targets that the service is given.
     Targets {
         service: Service,
         given: usize,
@@ -93,7 +93,7 @@ pub enum What<'a> {
         negative: bool,
         number: u64,
     },
-    /// There are so many, and more than there may be.
+    /// The number of them, which is more than there may be.
     TooMany {
         thing: Many,
         number: u64,
@@ -109,7 +109,7 @@ pub enum What<'a> {
         period: u64,
         partition: u32,
     },
-    /// The program has so many instructions, and so many of them in this body.
+    /// The instructions of the program, and those of this body.
     Instructions {
         number: u64,
         here: u64,

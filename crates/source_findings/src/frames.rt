@@ -27,7 +27,7 @@ fn expr_operands(expr: &Expr) -> u64
     }
 }
 
-/// An operand of a chain is evaluated while what stands before it waits.
+/// An operand of a chain is evaluated while those before it wait.
 #[cycle(expr_operands)]
 fn links_operands(links: &[Link]) -> u64
     ensures { (names : List (List ℕ))
@@ -40,7 +40,7 @@ fn links_operands(links: &[Link]) -> u64
     most
 }
 
-/// An argument waits while those behind it are evaluated.
+/// An argument waits while the later ones are evaluated.
 #[cycle(expr_operands)]
 fn exprs_operands(exprs: &[Expr]) -> u64
     ensures { (names : List (List ℕ))
@@ -55,7 +55,7 @@ fn exprs_operands(exprs: &[Expr]) -> u64
     most.max(waiting)
 }
 
-/// An argument of a service before others that need so many operands: an array is two operands, its
+/// An argument of a service before others that need `rest` operands: an array is two operands, its
 /// place and its size.
 fn argument_operands(kind: ArgumentKind, expr: &Expr, rest: u64) -> u64
     ensures { (names : List (List ℕ)) (behind : ℕ)

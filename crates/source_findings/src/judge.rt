@@ -328,7 +328,7 @@ pub fn many_wrong(rule: Refusal, thing: Many, number: u64, most: u64) -> Option<
     )
 }
 
-/// What is wrong with the frame of a body beside its stack.
+/// What is wrong with the frame of a body, by its stack.
 pub fn frame_wrong(rule: Refusal, words: u64, stack: Option<u64>) -> Option<What<'static>>
     ensures { option_map what_of result ≡ spec.frame_wrong rule words stack }
 {

@@ -13,8 +13,7 @@ use pal_base::mark::Mark;
 use std::alloc::{AllocError, Global};
 
 /// The body with which a program of this text is too long, if it is: the first that has more
-/// instructions than those before it leave. The bodies stand in the order in which `mb cost` lists
-/// them.
+/// instructions than those before it leave. The bodies are in the order of `mb cost`.
 ///
 /// # Errors
 ///
@@ -40,7 +39,7 @@ pub fn length_wrongs(
     Ok(found)
 }
 
-/// The first body that has more instructions than those before it leave of so many.
+/// The first body that has more instructions than those before it leave of `most`.
 fn passing(most: u64, bodies: &[BodyCost]) -> Option<&BodyCost>
     ensures { option_map (λ body. body.now) result ≡ spec.passing most bodies.now }
 {
@@ -91,7 +90,7 @@ fn begins(text: &[u8], name: &BodyName) -> bool
     }
 }
 
-/// Whether a text begins with this word, and the name stands behind it.
+/// Whether a text begins with this word, and the name follows it.
 fn is_named(text: &[u8], word: &[u8], name: &[u8]) -> bool
     ensures { result ≡ spec.is_named word.now name.now text.now }
 {

@@ -1,7 +1,7 @@
 //! What is wrong with a refused source, rule by rule: each place where the rule is broken, what was
 //! found there, and what to do.
 //!
-//! A program is walked through word by word, beside its tree, which says what each word is.
+//! A program is walked through word by word, along its tree, which says what each word is.
 #![tactic(auto)]
 
 mod bodies;

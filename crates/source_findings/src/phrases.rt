@@ -109,7 +109,7 @@ fn noun_text(many: Many) -> &'static str
     }
 }
 
-/// So many of something.
+/// A number of something, as a text.
 fn counted_text(
     alloc: Global,
     number: usize,
@@ -221,7 +221,7 @@ fn sign_text(negative: bool) -> &'static str
     if negative { "-" } else { "" }
 }
 
-/// How many somebody has of something.
+/// The text that something has this number of things.
 fn has_text(alloc: Global, many: Many, number: u64) -> Result<String, AllocError>
     ensures { IfOk result (λ text. string_bytes text ≡ spec.has_text many number) }
 {
@@ -259,7 +259,7 @@ fn instructions_text(alloc: Global, number: u64, here: u64) -> Result<String, Al
     )
 }
 
-/// What is said without a name or a number of its own.
+/// What is said without a name or a number.
 fn plain(what: What<'_>) -> &'static str
     ensures { result.now ≡ spec.plain (what_of what.entry) }
 {
@@ -402,7 +402,7 @@ fn kind_text(kind: ArgumentKind) -> &'static str
     }
 }
 
-/// The arguments of a service, each behind a comma.
+/// The arguments of a service, each after a comma.
 #[tactic(auto, using(std::proofs::lemmas::List::drop_more, std::proofs::lemmas::List::append_assoc, crate::proofs::Lists::append_nil))]
 fn more_kinds(alloc: Global, kinds: &[ArgumentKind]) -> Result<String, AllocError>
     ensures { IfOk result (λ text. string_bytes text ≡ spec.more_kinds kinds.now) }
@@ -483,7 +483,7 @@ fn number_advice(alloc: Global, what: What<'_>) -> Result<String, AllocError>
     }
 }
 
-/// Advice without a name or a number of its own.
+/// Advice without a name or a number.
 fn plain_advice(what: What<'_>) -> &'static str
     ensures { result.now ≡ spec.plain_advice (what_of what.entry) }
 {

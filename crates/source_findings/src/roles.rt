@@ -21,7 +21,7 @@ pub enum Role {
     /// A variable, a parameter or a local.
     Variable,
     Array,
-    /// A procedure with so many parameters.
+    /// A procedure with this number of parameters.
     Procedure(usize),
     /// An object, a port or a process.
     Object(ObjectKind),
@@ -76,7 +76,7 @@ pub fn is_nothing(role: Role) -> bool
     }
 }
 
-/// Returns true if what stands for one thing may stand where another is wanted.
+/// Returns true if what a name means fits where something is wanted.
 pub fn fits(found: Role, wanted: Role) -> bool
     ensures { result ≡ spec.fits found wanted }
 {

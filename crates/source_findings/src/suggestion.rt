@@ -40,8 +40,7 @@ static SMALL_WORDS: [&str; 25] = [
     "not",
 ];
 
-/// The word that may stand at a place of a text and is nearest to that which stands there, if one is
-/// near.
+/// The word that fits at a place of a text and is nearest to the word there, if one is near.
 ///
 /// # Errors
 ///
@@ -57,7 +56,7 @@ pub fn suggested(
     Ok(nearest(first_word(from_word(text, place.place)), words.as_slice()))
 }
 
-/// The words in letters that may stand where these kinds fit.
+/// The words in letters that these kinds allow.
 fn candidates(alloc: Global, kinds: &[WordKind]) -> Result<Vec<&'static str>, AllocError>
     ensures { IfOk result
         (λ words. map (λ word. word.now) words.items ≡ spec.candidates kinds.now) }
@@ -82,7 +81,7 @@ fn services() -> &'static [Service]
     &SERVICES
 }
 
-/// Adds the names of the services, if one may stand where these kinds fit.
+/// Adds the names of the services, if these kinds allow one.
 fn add_service_names<'a>(words: &mut Vec<&'a str>, kinds: &[WordKind]) -> Result<(), AllocError>
     ensures { OnOk result
         (map (λ word. word.now) words.new.items
@@ -94,7 +93,7 @@ fn add_service_names<'a>(words: &mut Vec<&'a str>, kinds: &[WordKind]) -> Result
     Ok(())
 }
 
-/// Adds those of the words in letters that may stand where these kinds fit.
+/// Adds those of the words in letters that these kinds allow.
 #[tactic(auto, using(std::proofs::lemmas::List::drop_more, std::proofs::lemmas::List::append_assoc, crate::proofs::Lists::append_nil))]
 fn add_words<'a>(
     words: &mut Vec<&'a str>,
@@ -127,7 +126,7 @@ fn add_services<'a>(words: &mut Vec<&'a str>, services: &[Service]) -> Result<()
     Ok(())
 }
 
-/// Returns true if the word that is written so may stand where these kinds fit.
+/// Returns true if these kinds allow the word that is written so.
 fn may_stand(kinds: &[WordKind], text: &str) -> bool
     ensures { result ≡ spec.may_stand kinds.now text.now }
 {

@@ -34,7 +34,7 @@ pub fn one_more(count: u64) -> u64
     count.saturating_add(1)
 }
 
-/// So many words more as an array has.
+/// The number of words that an array adds.
 fn with_array(words: u64, size: &Numeral) -> u64
     ensures { result ≡ held (words + value_or_zero (number_of size.now)) }
 {

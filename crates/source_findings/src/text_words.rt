@@ -1,4 +1,4 @@
-//! Where the words of a Pal source stand.
+//! The places of the words of a Pal source.
 
 ghost use Rattle.std.specs.Prelude.{◌≡◌, ◌≤◌, drop, false, find, length, nat_eq, option_map};
 ghost use Rattle.std.specs.List.{prefix_len, starts_with};
@@ -11,7 +11,7 @@ ghost use Rattle.source_findings.specs.Words as spec;
 
 use pal_base::mark::{Mark, SIGNS};
 
-/// The text from the word on that has so many words before it; nothing if there are no more words.
+/// The text from the word on that has `count` words before it; nothing if there are no more words.
 #[tactic(auto, unfolding(pal_meaning::specs::Lines::from_word))]
 pub fn from_word(text: &[u8], count: usize) -> &[u8]
     ensures { result.now ≡ from_word count text.now }
@@ -42,7 +42,7 @@ pub fn first_word(text: &[u8]) -> &[u8]
     word
 }
 
-/// The text behind the blanks and the comments at the front.
+/// The text after the blanks and the comments at the front.
 #[tactic(auto, unfolding(pal_meaning::specs::Grammar::behind_blanks))]
 fn behind_blanks(text: &[u8]) -> &[u8]
     ensures { result.now ≡ behind_blanks false text.now }
@@ -68,7 +68,7 @@ fn is_blank(byte: u8) -> bool
     byte == b' ' || byte == b'\t' || byte == b'\n'
 }
 
-/// The text behind the word at the front.
+/// The text after the word at the front.
 #[tactic(auto, unfolding(pal_meaning::specs::Grammar::word_at, pal_meaning::specs::Grammar::sign_word))]
 fn behind_word(text: &[u8]) -> &[u8]
     ensures { result.now ≡ (word_at text.now).1 }
@@ -90,7 +90,7 @@ fn behind_word(text: &[u8]) -> &[u8]
     }
 }
 
-/// The text behind so many bytes.
+/// The text after its first `count` bytes.
 #[tactic(auto, using(std::proofs::lemmas::List::drop_min))]
 fn behind(text: &[u8], count: usize) -> &[u8]
     ensures { result.now ≡ drop count text.now }

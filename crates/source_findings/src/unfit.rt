@@ -37,7 +37,7 @@ pub fn unfit_lines(
     lines_at(alloc, report, text, offset, said.as_str(), advice.as_str())
 }
 
-/// What stands where the grammar is left.
+/// What is there where the grammar is left.
 fn unfit_said(
     alloc: Global,
     rest: &[u8],
@@ -128,7 +128,7 @@ fn close_text(alloc: Global, text: &[u8], left: usize) -> Result<String, AllocEr
     format!(in alloc; "Write `}}` for the `{{` in line {line}.")
 }
 
-/// The innermost brace that is open behind so many words, by the bytes that are left from it on.
+/// The innermost brace that is open after `place` words, by the bytes that are left from it on.
 fn open_brace(alloc: Global, text: &[u8], place: usize) -> Result<Option<usize>, AllocError>
     ensures { IfOk result (λ brace. brace ≡ spec.open_brace text.now place) }
 {
@@ -136,7 +136,7 @@ fn open_brace(alloc: Global, text: &[u8], place: usize) -> Result<Option<usize>,
     Ok(unclosed.last().copied())
 }
 
-/// The braces that are open behind so many words of a text that begins with a word.
+/// The braces that are open after `place` words of a text that begins with a word.
 #[tactic(auto, unfolding(crate::specs::Unfit::open_braces))]
 fn open_braces(alloc: Global, text: &[u8], place: usize) -> Result<Vec<usize>, AllocError>
     ensures { IfOk result (λ opened. opened.items ≡ spec.open_braces place text.now []) }

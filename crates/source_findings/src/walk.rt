@@ -1,4 +1,4 @@
-//! The walk through the words of expressions and statements, beside their tree.
+//! The walk through the words of expressions and statements, along their tree.
 
 ghost use Rattle.std.specs.Prelude.{◌≡◌, List, ℕ, map, true, OnOk, option_map};
 ghost use Rattle.pal_base.specs.View as view;
@@ -32,7 +32,7 @@ pub struct Walk<'a> {
 }
 
 impl<'a> Walk<'a> {
-    /// Goes behind the next word.
+    /// Passes the next word.
     pub fn step(&mut self)
         ensures { state_of self.new ≡ state.step (state_of self.old) }
     {
@@ -63,7 +63,7 @@ impl<'a> Walk<'a> {
         Ok(())
     }
 
-    /// Notes what is wrong at the next word, and goes behind it.
+    /// Notes what is wrong at the next word, and passes it.
     pub fn judge(&mut self, what: Option<What<'a>>) -> Result<(), AllocError>
         ensures { OnOk result
             (state_of self.new ≡ state.judged (option_map what_of what.entry) (state_of self.old)) }
@@ -73,7 +73,7 @@ impl<'a> Walk<'a> {
         Ok(())
     }
 
-    /// Goes behind a comma, but there is none before the first.
+    /// Passes a comma, but there is none before the first.
     pub fn comma(&mut self, is_first: bool)
         ensures { state_of self.new ≡ spec.comma is_first (state_of self.old) }
     {
@@ -103,7 +103,7 @@ fn note_name<'a>(
     walk.note(wrong)
 }
 
-/// Goes behind a name that is used, and says what is wanted there.
+/// Passes a name that is used, and says what is wanted there.
 fn used<'a>(
     alloc: Global,
     judge: &Judge<'_, 'a>,
@@ -121,7 +121,7 @@ fn used<'a>(
     Ok(())
 }
 
-/// Goes behind an expression.
+/// Passes an expression.
 #[cycle(walk_expression)]
 pub fn expression<'a>(
     alloc: Global,
@@ -159,7 +159,7 @@ pub fn expression<'a>(
     }
 }
 
-/// Goes behind a name, and an expression in brackets.
+/// Passes a name, and an expression in brackets.
 #[cycle(walk_expression)]
 fn element<'a>(
     alloc: Global,
@@ -180,7 +180,7 @@ fn element<'a>(
     Ok(())
 }
 
-/// Goes behind the name of a procedure, and its arguments.
+/// Passes the name of a procedure, and its arguments.
 #[tactic(auto, using(pal::proofs::Counted::counted))]
 #[cycle(walk_expression)]
 fn apply<'a>(
@@ -203,7 +203,7 @@ fn apply<'a>(
     Ok(())
 }
 
-/// Goes behind operators and their right operands.
+/// Passes operators and their right operands.
 #[cycle(walk_expression)]
 fn links<'a>(
     alloc: Global,
@@ -222,7 +222,7 @@ fn links<'a>(
     Ok(())
 }
 
-/// Goes behind expressions with commas between them.
+/// Passes expressions with commas between them.
 #[cycle(walk_expression)]
 fn expressions<'a>(
     alloc: Global,
@@ -244,7 +244,7 @@ fn expressions<'a>(
     Ok(())
 }
 
-/// Goes behind an argument where the name of something is wanted.
+/// Passes an argument where the name of something is wanted.
 fn named<'a>(
     alloc: Global,
     judge: &Judge<'_, 'a>,
@@ -266,7 +266,7 @@ fn named<'a>(
     }
 }
 
-/// Goes behind an argument of a service.
+/// Passes an argument of a service.
 fn given<'a>(
     alloc: Global,
     judge: &Judge<'_, 'a>,
@@ -286,7 +286,7 @@ fn given<'a>(
     }
 }
 
-/// Goes behind the arguments of a service, which takes those of these kinds.
+/// Passes the arguments of a service, which takes those of these kinds.
 fn all_given<'a>(
     alloc: Global,
     judge: &Judge<'_, 'a>,
@@ -314,7 +314,7 @@ fn all_given<'a>(
     Ok(())
 }
 
-/// Goes behind the targets of a service, each behind an arrow or a comma.
+/// Passes the targets of a service, each after an arrow or a comma.
 fn targets<'a>(
     alloc: Global,
     judge: &Judge<'_, 'a>,
@@ -333,7 +333,7 @@ fn targets<'a>(
     Ok(())
 }
 
-/// Goes behind a service, its arguments and its targets, but for the semicolon.
+/// Passes a service, its arguments and its targets, except the semicolon.
 fn service_call<'a>(
     alloc: Global,
     judge: &Judge<'_, 'a>,
@@ -355,7 +355,7 @@ fn service_call<'a>(
     Ok(())
 }
 
-/// Goes behind the name of a service, at which the numbers of its arguments and targets are judged.
+/// Passes the name of a service, at which the numbers of its arguments and targets are judged.
 #[tactic(auto, using(pal::proofs::Counted::counted, crate::proofs::Lists::mapped_length))]
 fn asked(
     rule: Refusal,
@@ -374,7 +374,7 @@ fn asked(
     walk.judge(targets_wrong(rule, service, names.len()))
 }
 
-/// Goes behind statements.
+/// Passes statements.
 #[cycle(walk_statement)]
 pub fn block<'a>(
     alloc: Global,
@@ -395,8 +395,8 @@ pub fn block<'a>(
     Ok(())
 }
 
-/// Goes behind a statement, but for the semicolon or the brace that ends it. Whether a body may
-/// return is whether it is a procedure's.
+/// Passes a statement, except the semicolon or the brace that ends it. A body may return if it is a
+/// procedure's.
 #[cycle(walk_statement)]
 fn statement<'a>(
     alloc: Global,
@@ -448,7 +448,7 @@ fn statement<'a>(
     }
 }
 
-/// Goes behind `if` or `while`, a test and an opening brace.
+/// Passes `if` or `while`, a test and an opening brace.
 fn tested<'a>(
     alloc: Global,
     judge: &Judge<'_, 'a>,
@@ -466,8 +466,8 @@ fn tested<'a>(
     Ok(())
 }
 
-/// Goes behind the brace that closes a branch, `else`, and the statements in braces behind it, but
-/// for the closing brace.
+/// Passes the brace that closes a branch, `else`, and the statements in braces after it, except the
+/// closing brace.
 #[cycle(walk_statement)]
 fn otherwise<'a>(
     alloc: Global,
@@ -487,7 +487,7 @@ fn otherwise<'a>(
     block(alloc, judge, walk, returns, inside)
 }
 
-/// Goes behind `work` and its ticks.
+/// Passes `work` and its ticks.
 fn work(rule: Refusal, walk: &mut Walk<'_>, ticks: &Numeral) -> Result<(), AllocError>
     ensures { OnOk result
         (state_of walk.new ≡ spec.work rule (number_of ticks.now) (state_of walk.old)) }

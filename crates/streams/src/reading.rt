@@ -8,7 +8,7 @@ ghost use Rattle.streams.specs.Beginnings.{IsBeginning, IsPiece};
 use std::alloc::Global;
 use std::io::{Error, ErrorKind, Read, Result};
 
-/// The most bytes that are read at once.
+/// The most bytes that one call reads.
 const PIECE_BYTES: usize = 16384;
 
 /// How far texts of a kind are read.
@@ -50,7 +50,7 @@ pub fn read_beginning<R: Read, T: Reading>(
     Err(Error::from(ErrorKind::TimedOut))
 }
 
-/// Reads once, and puts what came behind `bytes`.
+/// Reads once, and puts what came after `bytes`.
 fn read_piece<R: Read>(reader: &mut R, buffer: &mut [u8], bytes: &mut Vec<u8>) -> Result<usize>
     ensures read { IfOk result
         (λ n. IsPiece (R.remaining reader.old) (R.remaining reader.new) bytes.old.items

@@ -19,7 +19,7 @@ pub trait Stream: Sink {
         ensures quiet { OnOk result (Self.failures self.new ≡ Self.failures self.old) }
         ensures failed { OnErr result (Self.failures self.new ≡ Self.failures self.old + 1) };
 
-    /// Hands on all bytes that were kept back.
+    /// Passes on all bytes that were kept back.
     fn flush(&mut self) -> Result<(), SinkFault>
         requires { Self.failures self.old < 2 ^ 64 - 1 }
         ensures kept { Keeps (Self.taken self.old) (Self.taken self.new) }

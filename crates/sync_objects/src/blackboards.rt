@@ -68,8 +68,8 @@ pub fn get_blackboard_id(
     table.answer_id(request.caller, service, name, created, out);
 }
 
-/// Answers the caller. The blackboard displays the message, and all waiting processes take it in
-/// order of arrival.
+/// Ends the call. The blackboard displays the message, and all waiting processes take it in order
+/// of arrival.
 fn display(
     table: &mut ProcessTable,
     objects: &mut Objects,
@@ -94,7 +94,7 @@ fn display(
 }
 
 /// DISPLAY_BLACKBOARD (ARINC 653 Part 1, intrapartition communication): displays a message, the
-/// first `handed.length` words handed in; all waiting processes take it in order of arrival.
+/// first `handed.length` words of the call; all waiting processes take it in order of arrival.
 /// INVALID_PARAM: no blackboard of this number was created, or a length below 1, above the
 /// blackboard's or above the array's.
 pub fn display_blackboard(

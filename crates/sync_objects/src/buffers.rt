@@ -106,7 +106,7 @@ fn send(
 }
 
 /// SEND_BUFFER (ARINC 653 Part 1, intrapartition communication): gives a message, the first
-/// `handed.length` words handed in, to the first waiting receiver; without one, appends it to the
+/// `handed.length` words of the call, to the first waiting receiver; without one, appends it to the
 /// buffer. If the buffer is full, blocks the caller for at most `limit` ticks; -1 is no limit.
 /// INVALID_PARAM: no buffer of this number was created, a length below 1, above the buffer's or
 /// above the array's, or a limit below -1 or above 2^40 ticks; NOT_AVAILABLE: it is full and the

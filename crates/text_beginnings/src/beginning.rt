@@ -7,7 +7,7 @@ ghost use Rattle.text_beginnings.specs.Settled.{has_other_magic, has_other_versi
 use apex_types::limits::MOST_SOURCE_BYTES;
 use apex_types::{FIRST_VERSION, MAGIC, SECOND_VERSION, THIRD_VERSION};
 
-/// Returns true if one of the bytes stands in no TOML document.
+/// Returns true if one of the bytes is in no TOML document.
 #[tactic(auto, using(std::proofs::lemmas::List::drop_more))]
 pub fn has_stray(bytes: &[u8]) -> bool
     ensures { result ≡ settles_table bytes.now }
@@ -20,7 +20,7 @@ pub fn has_stray(bytes: &[u8]) -> bool
     false
 }
 
-/// How many bytes of a table there are up to the first that stands in no TOML document, with it.
+/// How many bytes of a table there are up to the first that is in no TOML document, with it.
 #[tactic(auto, using(std::proofs::lemmas::List::drop_more))]
 pub fn table_end(bytes: &[u8]) -> usize
     ensures { result ≡ table_end bytes.now }
@@ -60,14 +60,14 @@ fn has_other_magic(bytes: &[u8]) -> bool
     bytes.len() >= 8 && &bytes[..8] != MAGIC.as_slice()
 }
 
-/// Returns true if the two bytes behind the magic are the number of no version.
+/// Returns true if the two bytes after the magic are the number of no version.
 fn has_other_version(bytes: &[u8]) -> bool
     ensures { result ≡ has_other_version bytes.now }
 {
     bytes.len() >= 10 && !is_version(version_at(bytes))
 }
 
-/// The number of the version, behind the magic.
+/// The number of the version, after the magic.
 fn version_at(bytes: &[u8]) -> u16
     requires { 10 ≤ length bytes.now }
     ensures { result ≡ from_le_bytes w16 (take 2 (drop 8 bytes.now)) }
@@ -81,7 +81,7 @@ fn is_version(number: u16) -> bool
     number == FIRST_VERSION || number == SECOND_VERSION || number == THIRD_VERSION
 }
 
-/// Returns true if one of the bytes stands in no line of a device or replay text.
+/// Returns true if one of the bytes is in no line of a device or replay text.
 #[tactic(auto, using(std::proofs::lemmas::List::drop_more))]
 pub fn has_control(bytes: &[u8]) -> bool
     ensures { result ≡ settles_inputs bytes.now }

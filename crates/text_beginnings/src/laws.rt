@@ -1,4 +1,4 @@
-//! The laws: what a beginning settles stands, whatever follows.
+//! The laws: what a beginning settles holds, whatever follows.
 
 ghost use Rattle.std.specs.Prelude.{◌≡◌, ◌++◌, ℕ, false, true, List, take};
 ghost use Rattle.isolation.specs.ReplayText.{replay_verdict};

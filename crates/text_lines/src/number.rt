@@ -21,7 +21,7 @@ pub fn are_digits(bytes: &[u8]) -> bool
     bytes.iter().all(|byte| is_digit(*byte))
 }
 
-/// Returns true if a number is written with digits alone, and without a leading 0.
+/// Returns true if a number is written only with digits, and without a leading 0.
 fn is_plain(digits: &[u8]) -> bool
     ensures { result ≡ is_plain digits.now }
 {

@@ -4,7 +4,7 @@ ghost use Rattle.std.specs.Prelude.{◌≡◌, ◌<◌, length, option_copied, I
 ghost use Rattle.module_meaning.specs.DeviceText.{piece, pieces_behind_marks};
 ghost use Rattle.text_lines.specs.Pieces.{pieces_of};
 
-/// The text before the first byte `mark`, and the text behind it; the whole text if it has no such
+/// The text before the first byte `mark`, and the text after it; the whole text if it has no such
 /// byte.
 #[tactic(auto, unfolding(module_meaning::specs::DeviceText::pieces_behind_marks))]
 pub fn split_at(mark: u8, text: &[u8]) -> (&[u8], Option<&[u8]>)

@@ -11,8 +11,8 @@ use apex_types::{Event, Name};
 use std::alloc::Global;
 use trace_stays::{MemoryFull, is_same_partition};
 
-/// The lines of two traces as far as they were read, each partition for itself, in the order of their
-/// first lines.
+/// The lines of two traces as far as they were read, each partition separately, in the order of
+/// their first lines.
 #[derive(Drop)]
 pub struct Comparison {
     alloc: Global,

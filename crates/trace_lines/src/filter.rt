@@ -15,9 +15,9 @@ pub struct Filter {
     pub from: Ticks,
     /// The tick before which it ends.
     pub to: Option<Ticks>,
-    /// What it tells.
+    /// What it says.
     pub kinds: Option<Kinds>,
-    /// The partition, as it stands in the line; `-` for the module itself.
+    /// The partition, as written in the line; `-` for the module.
     pub partition: Option<String>,
     /// The process, `INIT` or `HANDLER`.
     pub process: Option<String>,
@@ -55,8 +55,8 @@ fn is_mode(kind: &EventKind) -> bool
     matches!(kind, EventKind::Mode(_))
 }
 
-/// Returns true if the partition is the one that is asked for, if one is. The text `-` asks for the
-/// module itself.
+/// Returns true if the partition is that which is asked for, if one is. The text `-` asks for the
+/// module.
 pub fn is_of_partition(asked: &Option<String>, partition: &Option<Name>) -> bool
     ensures { result ≡ meant.is_word asked.now (partition_text partition.now) }
 {
@@ -81,7 +81,7 @@ fn is_of_kind(kinds: &Option<Kinds>, kind: &EventKind) -> bool
     }
 }
 
-/// Returns true if the word is the one that is asked for, if one is.
+/// Returns true if the word is that which is asked for, if one is.
 fn is_word(asked: &Option<String>, word: &str) -> bool
     ensures { result ≡ meant.is_word asked.now word.now }
 {
@@ -115,7 +115,7 @@ fn names_route(asked: &Option<String>, route: Option<Name>) -> bool
     }
 }
 
-/// The partition as it stands in a line.
+/// The partition as written in a line.
 fn partition_name(partition: &Option<Name>) -> &str
     ensures { result.now ≡ partition_text partition.now }
 {

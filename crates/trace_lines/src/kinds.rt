@@ -8,7 +8,7 @@ use apex_types::EventKind;
 use text_lines::split_at;
 use trace_text::{Keyword, keyword_of};
 
-/// A set of kinds of lines, by the words that say what a line tells.
+/// A set of kinds of lines, by the words that say what a line is about.
 #[derive(Clone, Copy)]
 pub struct Kinds {
     state: bool,
@@ -40,7 +40,7 @@ impl Kinds {
         }
     }
 
-    /// These kinds and this one.
+    /// These kinds and one more.
     pub fn with(self, kind: Keyword) -> Kinds
         ensures { result ≡ with_kind kind self }
     {

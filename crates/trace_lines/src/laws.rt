@@ -14,7 +14,7 @@ pub fn lines_are_those_chosen()
         → flat_map (chosen_text f) events ≡ text_of_chosen f events }
 {}
 
-/// So many lines more may come as the limit was, less those that count.
+/// The lines that may still come are those of the limit, less those that count.
 pub fn lines_are_counted()
     ensures { (l : Limit) (events : List Event)
         → left_after l events ≡ l.left - count_of l.what events }

@@ -1,8 +1,8 @@
 //! Which lines of a trace are chosen, how many of some kinds it may have, and where two traces differ.
 //!
 //! A `Filter` says of each event whether its line is chosen. A `Listing` keeps the text of the
-//! chosen lines. A `Limit` allows so many lines, and a `Check` keeps the first chosen line that is
-//! one too many.
+//! chosen lines. A `Limit` allows a number of lines, and a `Check` keeps the first chosen line that
+//! is one too many.
 //!
 //! A `Comparison` takes the lines of two traces in the order of their ticks, each partition for
 //! itself. It keeps for each what both have so far, and stops at the first line that only one of them

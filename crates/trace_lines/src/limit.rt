@@ -23,7 +23,7 @@ pub struct Limit {
 }
 
 impl Limit {
-    /// At most so many lines.
+    /// At most `most` lines.
     pub fn new(what: Counted, most: u64) -> Limit
         ensures what { result.what ≡ what }
         ensures left { result.left ≡ most }

@@ -12,7 +12,7 @@ use std::alloc::Global;
 use std::collections::VecDeque;
 use trace_stays::MemoryFull;
 
-/// So many lines that both have are shown before a difference.
+/// The number of lines in both traces that are shown before a difference.
 const SHOWN: usize = 3;
 
 /// What each of two traces has from the first difference on.
@@ -33,7 +33,7 @@ pub struct Difference {
     pub second: Rest,
 }
 
-/// The lines of a partition in two traces, as far as they were read.
+/// The lines of a partition in two traces, up to the last that was read.
 #[derive(Drop)]
 pub struct Part {
     pub(crate) partition: Option<Name>,
@@ -123,7 +123,7 @@ impl Part {
     }
 
     /// The trace that is ahead gets one line more. If it is of a later tick than the first that
-    /// waits, the other trace has no line for that one.
+    /// waits, the other trace has no line for the waiting one.
     #[tactic(auto, using(crate::proofs::Parts::gone_ahead))]
     fn go_ahead(&mut self, event: Event) -> Result<(), MemoryFull>
         ensures lines { OnOk result
@@ -201,7 +201,7 @@ impl Part {
         Ok(())
     }
 
-    /// No line follows: those that wait are in one trace alone.
+    /// No line follows: those that wait are in only one trace.
     #[tactic(auto, using(crate::proofs::Parts::level_is_same, crate::proofs::Parts::ended))]
     fn end(&mut self)
         ensures lines { (a b : List Event) → IsPart self.old a b

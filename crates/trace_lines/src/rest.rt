@@ -6,7 +6,7 @@ ghost use Rattle.trace_lines.specs.Parts.{IsRest};
 
 use apex_types::Event;
 
-/// The first line from there on, if there is one, and how many there are. The count stops at
+/// The first line from then on, if there is one, and how many there are. The count stops at
 /// `u64::MAX`.
 #[derive(Drop)]
 pub struct Rest {

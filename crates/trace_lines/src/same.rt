@@ -18,7 +18,7 @@ pub fn is_same(one: &Event, other: &Event) -> bool
         && is_same_kind(&one.kind, &other.kind)
 }
 
-/// Returns true if both tell the same.
+/// Returns true if both say the same.
 fn is_same_kind(one: &EventKind, other: &EventKind) -> bool
     ensures { IsTrue result ↔ (one.now ≡ other.now) }
 {

@@ -1,7 +1,7 @@
 //! A page for a browser that holds the text of a trace, and a script that shows it.
 //!
-//! The text stands in a string of the script. It is escaped, so that no text of a trace can leave
-//! this string.
+//! The text is in a string of the script. It is escaped, so that no text of a trace can leave this
+//! string.
 #![tactic(auto)]
 
 mod escaping;

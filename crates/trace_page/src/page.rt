@@ -12,19 +12,19 @@ use std::alloc::Global;
 use trace_lines::line_of;
 use trace_stays::MemoryFull;
 
-/// The page of a trace, without what stands around the trace's text.
+/// The page of a trace, without what surrounds the trace's text.
 #[derive(Drop)]
 pub struct Page {
     alloc: Global,
-    /// The lines so far, as they stand in the string of the script.
+    /// The lines so far, as they are in the string of the script.
     lines: Vec<u8>,
     /// For how many ticks the module ran, if that is known.
     ran: Option<Ticks>,
 }
 
 impl Page {
-    /// A page without lines, of a run of so many ticks, if that is known. Without them it ends behind
-    /// its last line.
+    /// A page without lines, of a run of `ran` ticks, if that is known. Otherwise it ends after its
+    /// last line.
     pub fn new(alloc: Global, ran: Option<Ticks>) -> Page
         ensures lines { result.lines.items ≡ [] }
         ensures ran { result.ran ≡ ran }

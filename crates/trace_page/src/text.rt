@@ -1,7 +1,7 @@
 //! The text of the page around that of a trace. `page/write` makes it of `page/page.html` and
 //! `page/page.js`.
 
-/// What stands in front of the text of a trace.
+/// What comes before the text of a trace.
 pub const FRONT: &str = "<!doctype html>
 <html lang=\"en\">
 <head>
@@ -79,15 +79,15 @@ label { display: block; }
 <script>
 const TRACE = \"";
 
-/// What stands between it and the windows of the module table.
+/// What comes between it and the windows of the module table.
 pub const BETWEEN: &str = "\";
 const WINDOWS = ";
 
-/// What stands between these and the ticks of the run.
+/// What comes between these and the ticks of the run.
 pub const BEHIND_WINDOWS: &str = ";
 const TICKS = ";
 
-/// What stands behind all.
+/// What comes after all.
 pub const BACK: &str = ";
 </script>
 <script>

@@ -11,7 +11,7 @@ use trace_stays::Span;
 /// The place where the axis begins, in tenths of a pixel from the left.
 pub const LEFT: u64 = 1_500;
 
-/// The room behind the axis, in tenths of a pixel.
+/// The room after the axis, in tenths of a pixel.
 const RIGHT: u64 = 300;
 
 /// The length of the axis of a picture of the usual width, in tenths of a pixel.
@@ -52,8 +52,8 @@ pub struct Axis {
 }
 
 impl Axis {
-    /// The place where a tick begins. A tick before the first stands at the left end, and one
-    /// behind the last at the right end.
+    /// The place where a tick begins. A tick before the first is at the left end, and a tick after
+    /// the last at the right end.
     pub fn place(self, tick: Ticks) -> Length
         ensures { result.0 ≡ place self tick.0 }
     {

@@ -210,7 +210,7 @@ pub fn bar_attributes(bar: Bar, left: Length, top: Length, wide: Length) -> [Att
     ]
 }
 
-/// Draws a text, whose line stands at this height.
+/// Draws a text, whose line is at this height.
 pub fn draw_text(
     page: &mut Page,
     class: &str,

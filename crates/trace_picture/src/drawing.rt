@@ -96,7 +96,7 @@ impl Drawing {
         page.finish()
     }
 
-    /// The page with this title, and with what stands below and around the shapes.
+    /// The page with this title, and with what is below and around the shapes.
     fn frame(&self, heading: &str) -> Result<Page, AllocError> {
         let wide = self.axis.wide();
         let high = self.rows.bottom + self.legend();
@@ -133,8 +133,8 @@ impl Drawing {
         }
     }
 
-    /// Draws the shapes: first the windows and the bars, then what stands on them, and the words
-    /// beside messages and flags.
+    /// Draws the shapes: first the windows and the bars, then what is on them, and the words next
+    /// to messages and flags.
     fn draw_shapes(&self, page: &mut Page) -> Result<(), AllocError>
         ensures { OnOk result
             (string_bytes page.new.text

@@ -1,4 +1,4 @@
-//! The words beside flags, where there is room.
+//! The words next to flags, where there is room.
 
 ghost use Rattle.std.specs.Prelude.{◌≡◌, ◌++◌, OnOk, string_bytes};
 ghost use Rattle.trace_picture.specs.FlagWords as spec;
@@ -47,7 +47,7 @@ fn is_same_owner(one: Owner, other: Owner) -> bool
     }
 }
 
-/// Returns true if a shape is another flag of the row, and stands where the word would stand.
+/// Returns true if a shape is another flag of the row, in the place of the word.
 fn is_in_way(axis: Axis, flag: &Flag, shape: &Shape) -> bool
     ensures { result ≡ spec.is_in_way axis flag.now shape.now }
 {
@@ -73,7 +73,7 @@ fn is_one_in_way(axis: Axis, flag: &Flag, later: &[Shape]) -> bool
     false
 }
 
-/// Draws the word of an error beside its flag, if there is room up to the next flag of its row and
+/// Draws the word of an error next to its flag, if there is room up to the next flag of its row and
 /// the end of the axis.
 fn draw_flag_word(
     page: &mut Page,
@@ -92,7 +92,7 @@ fn draw_flag_word(
     draw_word_beside(page, axis, rows, flag)
 }
 
-/// Draws the word of an error beside its flag.
+/// Draws the word of an error next to its flag.
 fn draw_word_beside(page: &mut Page, axis: Axis, rows: &Rows, flag: &Flag) -> Result<(), AllocError>
     ensures { OnOk result
         (string_bytes page.new.text
@@ -106,7 +106,7 @@ fn draw_word_beside(page: &mut Page, axis: Axis, rows: &Rows, flag: &Flag) -> Re
     draw_text(page, "mode", left, line, flag.error.word())
 }
 
-/// Draws the word beside a shape, if it is a flag and there is room.
+/// Draws the word next to a shape, if it is a flag and there is room.
 fn draw_word_of(
     page: &mut Page,
     axis: Axis,
@@ -124,7 +124,7 @@ fn draw_word_of(
     }
 }
 
-/// Draws the words beside the flags where there is room.
+/// Draws the words next to the flags where there is room.
 pub fn draw_flag_words(
     page: &mut Page,
     axis: Axis,

@@ -12,8 +12,8 @@ pub fn escaped_is_plain()
     ensures { (text : List ℕ) → is_plain (escaped text) ≡ true }
 {}
 
-/// All ticks stand on the axis, in their order: the first at its left end, and the tick behind the last
-/// one at its right end.
+/// All ticks are on the axis, in their order: the first at its left end, and the tick after the
+/// last one at its right end.
 pub fn ticks_stand_on_the_axis()
     ensures within { (a : Axis) (t : ℕ) → (1500 ≤ place a t) × (place a t ≤ 1500 + a.long) }
     ensures in_order { (a : Axis) (t u : ℕ) → t ≤ u → place a t ≤ place a u }

@@ -17,7 +17,7 @@ use trace_stays::Lanes;
 /// The distance between the ends of arrows of one tick.
 const FAN: Length = Length(30);
 
-/// The number of places where these ends stand.
+/// The number of places of these ends.
 const FAN_PLACES: u64 = 4;
 
 /// The length of an arrow within the row where it ends, and within the row where it begins.
@@ -33,7 +33,7 @@ const FLAG_ON_BAR: Length = Length(50);
 /// The distance of the middle of a report's mark from the top of its row.
 pub const REPORT_DOWN: Length = Length(110);
 
-/// The outline of a flag, whose foot stands at 0, 0.
+/// The outline of a flag, whose foot is at 0, 0.
 pub const FLAG: &str = "M0 0V-19L10 -14.5L0 -10";
 
 /// The outline of a report's mark, around 0, 0.

@@ -1,4 +1,4 @@
-//! The words beside messages, where there is room.
+//! The words next to messages, where there is room.
 
 ghost use Rattle.std.specs.Prelude.{◌≡◌, ◌++◌, IfOk, OnOk, string_bytes};
 ghost use Rattle.trace_picture.specs.MessageWords as spec;
@@ -19,7 +19,7 @@ use std::alloc::{AllocError, Global};
 /// The distance of the words from the arrow.
 const BESIDE: Length = Length(60);
 
-/// The distance of the words from the top of the row below them, and from the end of their own row.
+/// The distance of the words from the top of the row below them, and from the end of their row.
 const ABOVE: Length = Length(20);
 
 const FOOT: Length = Length(5);
@@ -124,14 +124,14 @@ fn is_row(top: Length, row: Option<Length>) -> bool
     }
 }
 
-/// Returns true if a flag, or its word, stands between the ends of the room.
+/// Returns true if a flag, or its word, is between the ends of the room.
 fn is_flag_within(axis: Axis, room: Room, flag: &Flag) -> bool
     ensures { result ≡ spec.is_flag_within axis room flag.now }
 {
     axis.place(flag.tick).0 < room.right.0 && room.left.0 < word_end(axis, flag).0
 }
 
-/// Returns true if a shape stands in the room.
+/// Returns true if a shape is in the room.
 fn takes_room(axis: Axis, rows: &Rows, room: Room, shape: &Shape) -> bool
     ensures { result ≡ spec.takes_room axis rows.now room shape.now }
 {
@@ -147,7 +147,7 @@ fn takes_room(axis: Axis, rows: &Rows, room: Room, shape: &Shape) -> bool
     }
 }
 
-/// Returns true if one of these shapes stands in the room.
+/// Returns true if one of these shapes is in the room.
 #[tactic(auto, using(std::proofs::lemmas::List::drop_more))]
 fn is_taken(axis: Axis, rows: &Rows, room: Room, others: &[Shape]) -> bool
     ensures { result ≡ spec.is_taken axis rows.now room others.now }
@@ -160,7 +160,7 @@ fn is_taken(axis: Axis, rows: &Rows, room: Room, others: &[Shape]) -> bool
     false
 }
 
-/// Returns true if the room ends on the axis, and no other shape stands in it. What follows is tried
+/// Returns true if the room ends on the axis, and no other shape is in it. What follows is tried
 /// first, since the next message is near where there are many.
 fn is_free(axis: Axis, rows: &Rows, room: Room, earlier: &[Shape], later: &[Shape]) -> bool
     ensures { result ≡ spec.is_free axis rows.now room earlier.now later.now }
@@ -170,7 +170,7 @@ fn is_free(axis: Axis, rows: &Rows, room: Room, earlier: &[Shape], later: &[Shap
         || is_taken(axis, rows, room, earlier))
 }
 
-/// Draws the words of a message beside its arrow, if there is room.
+/// Draws the words of a message next to its arrow, if there is room.
 fn draw_words_beside(
     page: &mut Page,
     alloc: Global,
@@ -206,8 +206,8 @@ fn draw_words_beside(
     )
 }
 
-/// Draws this text of a message beside its arrow from the row with one top to the row with the other,
-/// if there is room.
+/// Draws this text of a message next to its arrow from the row with one top to the row with the
+/// other, if there is room.
 fn draw_if_free(
     page: &mut Page,
     axis: Axis,
@@ -232,7 +232,7 @@ fn draw_if_free(
     draw_text(page, "mode", left, words_line(from, to), text)
 }
 
-/// Draws the words beside a shape, if it is a message and there is room.
+/// Draws the words next to a shape, if it is a message and there is room.
 fn draw_words_of(
     page: &mut Page,
     alloc: Global,
@@ -255,7 +255,7 @@ fn draw_words_of(
     }
 }
 
-/// Draws the words beside the messages where there is room.
+/// Draws the words next to the messages where there is room.
 #[tactic(auto, using(std::proofs::lemmas::List::drop_more, std::proofs::lemmas::List::take_more))]
 pub fn draw_message_words(
     page: &mut Page,

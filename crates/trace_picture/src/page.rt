@@ -46,7 +46,7 @@ impl Page {
     ///
     /// # Errors
     ///
-    /// Memory ran out. Then the page is as it was.
+    /// Memory ran out. Then the page is unchanged.
     pub fn open(&mut self, tag: Tag, attributes: &[Attribute<'_>]) -> Result<(), AllocError>
         ensures text { OnOk result
             (string_bytes self.new.text
@@ -68,7 +68,7 @@ impl Page {
     ///
     /// # Errors
     ///
-    /// Memory ran out. Then the page is as it was.
+    /// Memory ran out. Then the page is unchanged.
     pub fn empty(&mut self, tag: Tag, attributes: &[Attribute<'_>]) -> Result<(), AllocError>
         ensures text { OnOk result
             (string_bytes self.new.text
@@ -86,7 +86,7 @@ impl Page {
     ///
     /// # Errors
     ///
-    /// Memory ran out. Then the page is as it was.
+    /// Memory ran out. Then the page is unchanged.
     pub fn titled(
         &mut self,
         tag: Tag,
@@ -124,7 +124,7 @@ impl Page {
     ///
     /// # Errors
     ///
-    /// Memory ran out. Then the page is as it was.
+    /// Memory ran out. Then the page is unchanged.
     pub fn text(&mut self, text: &str) -> Result<(), AllocError>
         ensures text { OnOk result
             (string_bytes self.new.text ≡ string_bytes self.old.text ++ escaped text.now) }
@@ -141,7 +141,7 @@ impl Page {
     ///
     /// # Errors
     ///
-    /// Memory ran out. Then the page is as it was.
+    /// Memory ran out. Then the page is unchanged.
     pub fn number(&mut self, number: u64) -> Result<(), AllocError>
         ensures text { OnOk result
             (string_bytes self.new.text ≡ string_bytes self.old.text ++ escaped (decimal number)) }
@@ -156,7 +156,7 @@ impl Page {
     ///
     /// # Errors
     ///
-    /// Memory ran out. Then the page is as it was.
+    /// Memory ran out. Then the page is unchanged.
     pub fn close(&mut self) -> Result<(), AllocError>
         ensures text { OnOk result
             ((outer : List Tag) (tag : Tag) → self.old.unended.items ≡ outer ++ tag ∷ []

@@ -19,8 +19,8 @@ use std::alloc::Global;
 use trace_stays::{Ended, Lanes, MemoryFull, ModeStay, ShownTicks, Span, Stay};
 use trace_windows::Windows;
 
-/// A picture of some ticks of a trace. It keeps what these ticks show, and nothing else. Once it has
-/// too many shapes it keeps no more of them, and counts them alone.
+/// A picture of some ticks of a trace. It keeps what these ticks show, and nothing else. Once it
+/// has too many shapes it keeps no more of them, and only counts them.
 #[derive(Drop)]
 pub struct Picture {
     alloc: Global,
@@ -80,7 +80,7 @@ impl Picture {
         Ok(())
     }
 
-    /// Keeps all shapes of an event whose tick stands before the end of the ticks.
+    /// Keeps all shapes of an event whose tick is before the end of the ticks.
     fn take(&mut self, event: &Event) -> Result<(), MemoryFull>
         ensures taken { OnOk result (IsTaken event.now self.old self.new) }
         ensures others { IsSteady self.old self.new }
@@ -95,7 +95,7 @@ impl Picture {
         Ok(())
     }
 
-    /// Counts the shapes behind the first ones, and lets go of them if the picture is full.
+    /// Counts the shapes after the first ones, and lets go of them if the picture is full.
     fn gather(&mut self, before: usize) -> Result<(), MemoryFull>
         ensures gathered { OnOk result (IsGathered before self.old self.new) }
         ensures shown { self.new.shown ≡ self.old.shown }
@@ -107,8 +107,8 @@ impl Picture {
         self.settle(before)
     }
 
-    /// Lets go of the shapes behind the first ones if the picture is full already. Otherwise it is full
-    /// if it has too many now.
+    /// Lets go of the shapes after the first ones if the picture is full already. Otherwise it is
+    /// full if it has too many now.
     fn settle(&mut self, before: usize) -> Result<(), MemoryFull>
         ensures settled { OnOk result (AreKeptFrom self.old.full before self.old self.new) }
         ensures shown { self.new.shown ≡ self.old.shown }
@@ -210,7 +210,7 @@ impl Picture {
         Ok(self.count.saturating_add(more as u64))
     }
 
-    /// Lets go of the shapes behind the first ones if the picture is full.
+    /// Lets go of the shapes after the first ones if the picture is full.
     fn leave(&mut self, before: usize)
         ensures shapes { self.new.shapes.items
             ≡ first_if self.old.full before self.old.shapes.items }
@@ -282,7 +282,7 @@ impl Picture {
         self.keep(shape)
     }
 
-    /// Keeps what an event of these ticks shows beside states and modes.
+    /// Keeps what an event of these ticks shows, without states and modes.
     fn mark(&mut self, event: &Event) -> Result<(), MemoryFull>
         ensures others { IsSteady self.old self.new }
         ensures marked { OnOk result (IsMarked event.now self.old self.new) }
@@ -443,7 +443,7 @@ impl Picture {
     }
 }
 
-/// The place of the next message of this tick beside the others.
+/// The place of the next message of this tick among the others.
 fn beside(tick: Ticks, way: &Option<Way>) -> u64
     ensures { result ≡ beside tick.0 way.now }
 {
@@ -490,8 +490,8 @@ fn is_under_way(tick: Ticks, way: &Option<Way>) -> bool
     }
 }
 
-/// The way of a message that arrives in this tick: of the one that left a port last in it or, without
-/// one, from outside.
+/// The way of a message that arrives in this tick: of the last message that left a port in it or,
+/// without one, from outside.
 fn way_to(tick: Ticks, way: &Option<Way>) -> Way
     ensures { result ≡ way_to tick.0 way.now }
 {

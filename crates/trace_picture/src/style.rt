@@ -130,7 +130,7 @@ fn begin_pattern(page: &mut Page, id: &str, size: Length, turn: &str) -> Result<
     )
 }
 
-/// Draws what stands at the end of arrows.
+/// Draws the ends of arrows.
 fn draw_marker(page: &mut Page, id: &str, class: &str, path: &str) -> Result<(), AllocError>
     ensures text { OnOk result
         (string_bytes page.new.text

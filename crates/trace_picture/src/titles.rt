@@ -1,4 +1,4 @@
-//! What a browser tells where the pointer rests.
+//! What a browser shows where the pointer rests.
 
 ghost use Rattle.std.specs.Prelude.{◌≡◌, ◌++◌, IfOk, OnOk, string_bytes};
 ghost use Rattle.apex_types.specs.Line.{culprit_text, words_text};

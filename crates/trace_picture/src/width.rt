@@ -8,7 +8,7 @@ pub const LEAST_WIDE: u32 = 1_200;
 /// The greatest width, in pixels.
 pub const MOST_WIDE: u32 = 30_000;
 
-/// The tenths of a pixel beside the axis.
+/// The tenths of a pixel outside the axis.
 const BESIDE: u32 = 1_800;
 
 /// The width of a picture, in pixels.
@@ -27,7 +27,7 @@ impl Width {
         Width { pixels: LEAST_WIDE }
     }
 
-    /// So many pixels; `None` if a picture is not so wide.
+    /// A width in pixels; `None` if a picture has no such width.
     pub fn new(pixels: u64) -> Option<Width>
         ensures pixels { IfSome result (λ width. width.pixels ≡ pixels) }
         ensures some { is_some result ≡ nat_le 1200 pixels && nat_le pixels 30000 }

@@ -17,7 +17,7 @@ use std::alloc::{AllocError, Global};
 use trace_stays::{Lanes, Span, Stay};
 use trace_windows::{Stretch, Windows};
 
-/// The outline of the mark of a release point, whose tip stands at 0, 3.
+/// The outline of the mark of a release point, whose tip is at 0, 3.
 pub const RELEASE: &str = "M-4 -4H4L0 3Z";
 
 /// The distance of this mark from the top of the lane of windows.

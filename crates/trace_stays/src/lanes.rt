@@ -41,7 +41,7 @@ pub struct Lanes {
 }
 
 impl Lanes {
-    /// Nobody has a line yet.
+    /// No process has a line yet.
     pub fn new(alloc: Global) -> Lanes
         ensures partitions { result.partitions.items ≡ [] }
         ensures processes { result.processes.items ≡ [] }

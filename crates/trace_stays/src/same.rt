@@ -8,7 +8,7 @@ ghost use Rattle.trace_stays.specs.Same.{is_same_partition};
 use crate::words::subject_word;
 use apex_types::{Name, Subject};
 
-/// Returns true if both stand in a line with the same word.
+/// Returns true if a line writes both with the same word.
 pub fn is_same_subject(one: &Subject, other: &Subject) -> bool
     ensures { result ≡ same (subject_text one.now) (subject_text other.now) }
 {

@@ -10,9 +10,9 @@ use apex_types::Ticks;
 #[derive(Clone, Copy)]
 pub struct ShownTicks {
     from: Ticks,
-    /// The tick before which they end; without it they end behind the last line.
+    /// The tick before which they end; without it they end after the last line.
     to: Option<Ticks>,
-    /// The tick behind the last line's, and `from` at the least.
+    /// The tick after the last line's, and `from` at the least.
     behind: Ticks,
 }
 
@@ -28,8 +28,8 @@ impl ShownTicks {
         }
     }
 
-    /// A line of this tick is read. Returns true if it stands before the end of the ticks;
-    /// otherwise nothing changes.
+    /// A line of this tick is read. Returns true if it is before the end of the ticks; otherwise
+    /// nothing changes.
     pub fn read(&mut self, tick: Ticks) -> bool
         ensures before { result ≡ is_before_end self.old.to tick.0 }
         ensures read { self.new ≡ with_read tick.0 self.old }

@@ -5,7 +5,7 @@ ghost use Rattle.apex_types.specs.Line.{subject_text};
 
 use apex_types::Subject;
 
-/// A process as it stands in a line: its name, `INIT` or `HANDLER`.
+/// A process as written in a line: its name, `INIT` or `HANDLER`.
 pub fn subject_word(who: &Subject) -> &str
     ensures { result.now ≡ subject_text who.now }
 {

@@ -1,4 +1,4 @@
-//! The fields of a line: each is a word of its own, a name or a number.
+//! The fields of a line: each is a word, a name or a number.
 
 ghost use Rattle.std.specs.Prelude.{◌≡◌};
 ghost use Rattle.trace_text.specs.Reading as meant;

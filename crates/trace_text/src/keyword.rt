@@ -3,7 +3,7 @@
 ghost use Rattle.std.specs.Prelude.{◌≡◌};
 ghost use Rattle.trace_text.specs.Reading as meant;
 
-/// The word that stands before the fields of an event.
+/// The word before the fields of an event.
 #[derive(Clone, Copy, PartialEq, Eq)]
 pub enum Keyword {
     State,

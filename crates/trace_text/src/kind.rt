@@ -12,7 +12,7 @@ use crate::keyword::{Keyword, keyword_of};
 use apex_types::{EventKind, Name, Words};
 use text_lines::{split_at, word};
 
-/// The kind of an event, from the text behind the partition.
+/// The kind of an event, from the text after the partition.
 pub fn kind_of(text: Option<&[u8]>) -> Option<EventKind>
     ensures { result ≡ meant.kind_of (pieces_of space (option_copied text.entry)) }
 {

@@ -5,8 +5,8 @@ ghost use Rattle.apex_types.specs.Line.{line_of, text_of};
 ghost use Rattle.apex_types.specs.declared.event.Event.{Event};
 ghost use Rattle.trace_text.specs.Trace.{CanBeWritten, IsReadAs, IsTrace};
 
-/// A line is of one event: where the lines of two stand at the front of one text, the events are one,
-/// and the same follows.
+/// A line is of one event: if the lines of two events are at the front of one text, the events are
+/// one, and the same follows.
 pub fn line_is_of_one_event()
     ensures { (one other : Event) (rest more : List ℕ) → CanBeWritten one → CanBeWritten other
         → line_of one ++ rest ≡ line_of other ++ more → (one ≡ other) × (rest ≡ more) }

@@ -5,9 +5,9 @@
 //! bytes of a reader, however many they are.
 //!
 //! An event can be written if its tick is below 10^13, its names have the form of names, its
-//! message has 1 to 64 words, and it can happen where it stands: a fault of the module belongs to
-//! no partition and no process, all else to a partition, and STOP_SELF never ends. A trace is a
-//! list of such events in the order of their ticks.
+//! message has 1 to 64 words, and it can happen at its place: a fault of the module belongs to no
+//! partition and no process, all else to a partition, and STOP_SELF never ends. A trace is a list
+//! of such events in the order of their ticks.
 #![tactic(auto)]
 
 mod ahead;

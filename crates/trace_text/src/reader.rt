@@ -37,7 +37,7 @@ impl<'a> TraceReader<'a> {
         Self::behind(text, Ticks(0))
     }
 
-    /// A reader of what stands behind a line of that tick.
+    /// A reader of what follows a line of that tick.
     pub(crate) fn behind(text: &'a [u8], before: Ticks) -> Self
         ensures rest { result.rest.now ≡ text.now }
         ensures before { result.before ≡ before }

@@ -134,7 +134,7 @@ impl<R: Read> TraceStream<R> {
         }
     }
 
-    /// Reads until a line feed is there, or as many bytes as the longest line has, or no more come.
+    /// Reads until a line feed is there, or the bytes of the longest line, or no more come.
     fn look_ahead(&mut self) -> io::Result<()>
         ensures kept { Keeps (left R.remaining self.old) (left R.remaining self.new) }
         ensures before { self.new.before ≡ self.old.before }

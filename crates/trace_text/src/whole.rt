@@ -1,4 +1,4 @@
-//! A whole text at once.
+//! A whole text.
 
 ghost use Rattle.std.specs.Prelude.{◌≡◌, List, length, IfOk, IfErr};
 ghost use Rattle.apex_types.specs.declared.event.Event.{Event};
@@ -10,7 +10,7 @@ use crate::reader::{TraceFault, TraceReader};
 ///
 /// # Errors
 ///
-/// The text is no trace: the first line that is no line of a trace where it stands.
+/// The text is no trace: the first line that is no line of a trace at its place.
 pub fn check_trace(text: &[u8]) -> Result<u64, TraceFault>
     ensures trace { IfOk result
         (λ count. (events : List Event) × IsReadAs text.now events × (length events ≡ count)) }

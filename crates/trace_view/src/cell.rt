@@ -58,7 +58,7 @@ pub fn extent_cells(extent: &Extent) -> [Cell; 6]
     ]
 }
 
-/// The ticks in each state, and behind each its share of all.
+/// The ticks in each state, and after each its share of all.
 #[tactic(auto, unfolding(crate::specs::Cells::state_cells))]
 pub fn state_cells(ticks: StateTicks, all: u64) -> [Cell; 8]
     ensures { result ≡ state_cells ticks all }
@@ -141,7 +141,7 @@ pub fn condition_cells(conditions: Conditions) -> [Cell; 4]
     ]
 }
 
-/// Two numbers, and behind each its share of all.
+/// Two numbers, and after each its share of all.
 #[tactic(auto, unfolding(crate::specs::Cells::paired_cells))]
 pub fn paired_cells(one: u64, other: u64, all: u64) -> [Cell; 4]
     ensures { result ≡ paired_cells one other all }

@@ -34,7 +34,7 @@ impl Conditions {
         }
     }
 
-    /// Counts a start with this condition. One that no line tells counts in none.
+    /// Counts a start with this condition. A start that no line explains counts in none.
     pub fn count(&mut self, told: Option<StartCondition>)
         ensures { self.new ≡ with_condition told self.old }
     {

@@ -47,7 +47,7 @@ impl Counts {
         }
     }
 
-    /// Counts the next event; a start in it has the condition that was told. An event before the window
+    /// Counts the next event; `told` is the condition of a start in it. An event before the window
     /// only determines how the window begins.
     ///
     /// # Errors

@@ -8,7 +8,7 @@ use apex_types::{ErrorKind, Name, Response};
 use std::alloc::Global;
 use trace_stays::{MemoryFull, is_same_partition};
 
-/// The errors of one kind that were answered alike, of one partition or of the module.
+/// The errors of one kind with one action, of one partition or of the module.
 #[derive(Clone, Copy)]
 pub struct ErrorTotal {
     /// The partition; `None` for a fault of the module.
@@ -43,21 +43,21 @@ impl ErrorTotal {
         }
     }
 
-    /// The kind of error, as it stands in a trace.
+    /// The kind of error, as written in a trace.
     pub fn error_word(&self) -> &str
         ensures { result.now ≡ error_word self.now.error }
     {
         self.error.word()
     }
 
-    /// The level of the error, as it stands in a trace.
+    /// The level of the error, as written in a trace.
     pub fn level_word(&self) -> &str
         ensures { result.now ≡ level_word (level_of_response self.now.response) }
     {
         self.response.level().word()
     }
 
-    /// What was done on the error, as it stands in a trace.
+    /// What was done on the error, as written in a trace.
     pub fn action_word(&self) -> &str
         ensures { result.now ≡ action_word self.now.response }
     {

@@ -51,7 +51,7 @@ impl Extent {
         }
     }
 
-    /// All lines are counted. A window without an end ends behind the last line, or where it begins
+    /// All lines are counted. A window without an end ends after the last line, or where it begins
     /// if no line is counted.
     pub fn close(&mut self, to: Option<Ticks>)
         ensures { self.new ≡ closed to self.old }

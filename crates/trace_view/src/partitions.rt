@@ -101,7 +101,7 @@ impl Partitions {
         }
     }
 
-    /// Reads the next line. What was told is the condition of a start in it.
+    /// Reads the next line. `told` is the condition of a start in it.
     ///
     /// # Errors
     ///

@@ -108,7 +108,7 @@ impl ProcessRow {
         }
     }
 
-    /// Counts an answer, a missed deadline or an application message.
+    /// Counts a return code, a missed deadline or an application message.
     fn count(&mut self, kind: &EventKind)
         ensures { self.new ≡ record self.old { tally = with_one kind.now self.old.tally } }
     {
@@ -257,7 +257,7 @@ fn starts_again(mode: Mode) -> bool
     }
 }
 
-/// Who has an answer, a missed deadline or an application message in such a line.
+/// The process with a return code, a missed deadline or an application message in such a line.
 fn counted_for(kind: &EventKind) -> Option<Subject>
     ensures { result ≡ counted_for kind.now }
 {

@@ -4,7 +4,7 @@ ghost use Rattle.std.specs.Prelude.{◌≡◌};
 
 use apex_types::ReturnCode;
 
-/// The number of services that answered each code except `NO_ERROR`.
+/// The number of services that returned each code except `NO_ERROR`.
 #[derive(Clone, Copy)]
 pub struct Refusals {
     pub no_action: u64,

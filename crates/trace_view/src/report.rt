@@ -38,8 +38,8 @@ pub struct RouteTotal {
     pub messages: Messages,
 }
 
-/// The summary of a trace. Partitions stand in the order of their first lines; the processes, ports
-/// and channels of each stand together, in the order of their first lines.
+/// The summary of a trace. Partitions are in the order of their first lines; the processes, ports
+/// and channels of each are together, in the order of their first lines.
 #[derive(Drop)]
 pub struct Report {
     pub extent: Extent,

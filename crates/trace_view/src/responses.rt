@@ -42,7 +42,7 @@ impl Responses {
     ///
     /// # Errors
     ///
-    /// Memory ran out, or there are as many times as 64 bits can count.
+    /// Memory ran out, or 64 bits cannot count one time more.
     pub fn take(&mut self, measured: Measured) -> Result<(), MemoryFull>
         ensures to_running { OnOk result
             ((times : List ℕ) → AreTimes times self.old.to_running.counts.entries

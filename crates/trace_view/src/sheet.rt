@@ -14,7 +14,7 @@ use number_tables::{Cell, Row, named, push_record};
 use std::alloc::{AllocError, Global};
 use trace_stays::subject_word;
 
-/// The columns. Each row has the first three, and those of its own group.
+/// The columns. Each row has the first three, and those of its group.
 pub const HEADINGS: [&str; 51] = [
     "kind",
     "partition",
@@ -157,7 +157,7 @@ fn partition(alloc: Global, total: &PartitionTotal) -> Result<Row, AllocError>
     Ok(row)
 }
 
-/// The row of a process, among so many ticks.
+/// The row of a process, among `all` ticks.
 #[tactic(auto, unfolding(crate::specs::Records::process_record))]
 fn process(alloc: Global, total: &ProcessTotal, all: u64) -> Result<Row, AllocError>
     ensures { IfOk result (λ row. texts_of row ≡ process_record all total.now) }

@@ -38,8 +38,8 @@ impl Starts {
         }
     }
 
-    /// Counts a line that says that the partition enters this mode, with the condition that the lines
-    /// before it tell. NORMAL and IDLE are no starts.
+    /// Counts a line that says that the partition enters this mode, with the condition that the
+    /// lines before it show. NORMAL and IDLE are no starts.
     pub fn count(&mut self, mode: Mode, told: Option<StartCondition>)
         ensures { self.new ≡ with_start told mode self.old }
     {

@@ -18,7 +18,7 @@ pub struct Summary {
     /// The lines so far. Until all are counted, a window without an end stays open.
     extent: Extent,
     counts: Counts,
-    /// What the lines so far tell of a start in the next one.
+    /// What the lines so far say of a start in the next one.
     told: Told,
     /// What the processor did, if the windows are known.
     shares: Option<Shares>,

@@ -7,7 +7,7 @@ use std::alloc::Global;
 use std::collections::BTreeMap;
 use trace_stays::MemoryFull;
 
-/// The least time such that so many of all times are at most as long.
+/// The least time such that this part of all times are at most as long.
 #[derive(Clone, Copy, PartialEq, Eq)]
 pub enum Percentile {
     /// Half of them.
@@ -51,7 +51,7 @@ impl Times {
     ///
     /// # Errors
     ///
-    /// Memory ran out, or there are as many times as 64 bits can count. Then it is not taken.
+    /// Memory ran out, or 64 bits cannot count one time more. Then it is not taken.
     pub fn take(&mut self, time: u64) -> Result<(), MemoryFull>
         ensures taken { OnOk result
             ((times : List ℕ) → AreTimes times self.old.counts.entries
@@ -110,7 +110,7 @@ impl Times {
         }
     }
 
-    /// The first time with which so many times are taken, in hundredths.
+    /// The first time with which `wanted` times are taken, in hundredths.
     fn reached(&self, wanted: u128) -> Option<u64>
         ensures { result ≡ reached wanted 0 self.now.counts.entries }
     {

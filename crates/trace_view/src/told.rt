@@ -1,4 +1,4 @@
-//! Why partitions start, as the lines of a trace tell it.
+//! Why partitions start, by the lines of a trace.
 
 ghost use Rattle.std.specs.Prelude.{◌≡◌};
 ghost use Rattle.trace_view.specs.Starts.{told_by, told_by_error, told_by_service, told_by_state};
@@ -8,7 +8,7 @@ use apex_types::{
 };
 use trace_stays::is_same_partition;
 
-/// What the lines so far tell of a start in the next one.
+/// What the lines so far say of a start in the next one.
 #[derive(Clone, Copy)]
 pub struct Told {
     condition: Option<StartCondition>,
@@ -52,7 +52,7 @@ impl Told {
         }
     }
 
-    /// The condition of a start of this partition in the next line, if the lines tell it.
+    /// The condition of a start of this partition in the next line, if the lines say it.
     pub fn condition_for(&self, partition: &Name) -> Option<StartCondition>
         ensures { result ≡ condition_for partition.now self.now }
     {
@@ -73,7 +73,7 @@ fn told_by(condition: Option<StartCondition>) -> Told
     }
 }
 
-/// What the line of a service tells.
+/// What the line of a service says.
 fn told_by_service(service: Service) -> Option<StartCondition>
     ensures { result ≡ told_by_service service }
 {
@@ -83,7 +83,7 @@ fn told_by_service(service: Service) -> Option<StartCondition>
     }
 }
 
-/// What the line of an error tells.
+/// What the line of an error says.
 fn told_by_error(response: Response) -> Option<StartCondition>
     ensures { result ≡ told_by_error response }
 {

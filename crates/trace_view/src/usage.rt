@@ -10,7 +10,7 @@ use std::alloc::{AllocError, Global};
 use trace_stays::subject_word;
 use trace_windows::{Counted, Owner, Row, Shares, Use};
 
-/// Appends the tables of what the processor did in so many ticks.
+/// Appends the tables of what the processor did in `all` ticks.
 #[tactic(auto, unfolding(crate::specs::Tables::usage_tables))]
 pub fn write_usage(
     alloc: Global,

@@ -18,7 +18,7 @@ impl Row {
     ghost use Rattle.trace_windows.specs.Counts.{capped};
     ghost use Rattle.std.specs.Prelude.{◌+◌};
 
-    /// So many ticks more.
+    /// `ticks` ticks more.
     fn add(&mut self, ticks: u64)
         ensures { self.new ≡ record self.old { ticks = capped (self.old.ticks + ticks) } }
     {
@@ -122,7 +122,7 @@ impl Counted {
         }
     }
 
-    /// Adds a row behind the others.
+    /// Adds a row after the others.
     fn add_row(&mut self, used: &Use, ticks: u64) -> Result<(), SharesFault>
         ensures { OnOk result
             (self.new.rows.items

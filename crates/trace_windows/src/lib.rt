@@ -1,11 +1,12 @@
 //! The windows of a module table in the ticks of a trace, and what the processor did in each of them.
 //!
-//! Frames follow one another from tick 0 on, and anew from the tick of each reset of the module.
-//! `Windows` reads the lines of a trace, and has for the ticks that are shown whose window each is in.
+//! Frames follow each other from tick 0 on, and again from the tick of each reset of the module.
+//! `Windows` reads the lines of a trace, and has for the ticks that are shown whose window each is
+//! in.
 //!
 //! `Shares` counts each tick once: for a process of the partition that owns it, as idle in a window
-//! of that partition, as a tick in no window, or as one behind a shutdown. It counts while the lines
-//! are read. A run of any length is counted by its frames, not tick by tick.
+//! of that partition, as a tick in no window, or as a tick after a shutdown. It counts while the
+//! lines are read. A run of any length is counted by its frames, not tick by tick.
 #![tactic(auto)]
 
 mod counted;

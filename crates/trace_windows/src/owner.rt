@@ -2,7 +2,7 @@
 
 use apex_types::{Name, Subject};
 
-/// A partition of the module table, and its process that is RUNNING behind the lines so far.
+/// A partition of the module table, and its process that is RUNNING after the lines so far.
 #[derive(Clone, Copy)]
 pub struct Owner {
     pub name: Name,

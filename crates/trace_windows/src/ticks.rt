@@ -15,7 +15,7 @@ use apex_types::limits::MOST_TICKS;
 use apex_types::{At, Moment, PartitionId, Subject, Ticks};
 
 impl Shares {
-    /// Counts the ticks before this one.
+    /// Counts the ticks before this tick.
     ///
     /// # Errors
     ///
@@ -67,7 +67,7 @@ impl Shares {
         self.count(from + frames * frame, until, 1)
     }
 
-    /// Counts the ticks from one on and before the other, each so many times.
+    /// Counts the ticks from `from` on and before `until`.
     #[tactic(auto, using(crate::proofs::Totals::total_begin, crate::proofs::Totals::total_end))]
     fn count(&mut self, from: u64, until: u64, times: u64) -> Result<(), SharesFault>
         requires past { self.old.origin.0 ≤ from }
@@ -87,8 +87,8 @@ impl Shares {
         Ok(())
     }
 
-    /// Counts the ticks from one on in which the processor does the same, all of them before the
-    /// other, each so many times. Returns the tick behind them.
+    /// Counts the ticks from `now` on in which the processor does the same, all of them before
+    /// `until`, each `times` times. Returns the tick after them.
     fn count_stretch(&mut self, now: u64, until: u64, times: u64) -> Result<u64, SharesFault>
         requires past { self.old.origin.0 ≤ now }
         requires ahead { now < until }

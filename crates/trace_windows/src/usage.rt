@@ -22,7 +22,7 @@ impl Use {
     ghost use Rattle.trace_windows.specs.Uses.{is_idle_at, is_same, place_of_use};
 
     /// The place in the module table of the partition in whose window the tick was; `None` for a
-    /// tick in no window, or behind a shutdown.
+    /// tick in no window, or after a shutdown.
     pub fn place(&self) -> Option<usize>
         ensures { result ≡ place_of_use self.now }
     {

@@ -41,8 +41,8 @@ impl Windows {
     ghost use Rattle.trace_windows.specs.Names.{place_in};
     ghost use Rattle.trace_windows.specs.Read.{HasPassed, frames_of, next_behind};
 
-    /// The windows of a schedule with these partitions, in the ticks from the first on and before the
-    /// second; without it, as far as a run can go. There may be so many stretches.
+    /// The windows of a schedule with these partitions, in the ticks from the first on and before
+    /// the second; without it, as far as a run can go. There may be `most` stretches.
     pub fn new(
         alloc: Global,
         schedule: Schedule,
@@ -93,7 +93,7 @@ impl Windows {
         }
     }
 
-    /// Adds the stretches of the ticks before this one.
+    /// Adds the stretches of the ticks before this tick.
     ///
     /// # Errors
     ///

@@ -24,8 +24,8 @@ pub fn report(alloc: Global, differences: &[Difference]) -> Result<Vec<u8>, Memo
     Ok(report)
 }
 
-/// Adds the first difference of a partition: the lines before it, the first line that only one trace
-/// has there, or only the other, and how many there are from there on.
+/// Adds the first difference of a partition: the lines before it, the first line that only one
+/// trace has there, or only the other, and how many there are from then on.
 fn push_difference(
     alloc: Global,
     difference: &Difference,
@@ -97,7 +97,7 @@ fn push_rest(alloc: Global, front: &str, rest: &Rest, out: &mut Vec<u8>) -> Resu
     }
 }
 
-/// Adds how many lines each trace has from there on.
+/// Adds how many lines each trace has from then on.
 fn push_numbers(alloc: Global, first: u64, second: u64, out: &mut Vec<u8>) -> Result<(), MemoryFull>
     ensures { OnOk result (out.new.items ≡ out.old.items ++ text.numbers first second) }
 {

@@ -88,7 +88,7 @@ fn run_ticks(
     Ok(ticks)
 }
 
-/// Returns true if for so many ticks no module runs.
+/// Returns true if no module runs for `ticks` ticks.
 fn is_beyond(ticks: Option<u64>) -> bool
     ensures { IsTrue result ↔ IsBeyond ticks }
 {
@@ -297,7 +297,7 @@ fn limit_in(alloc: Global, command: &str, words: &[&str]) -> Result<Option<Limit
     }
 }
 
-/// At most so many lines of these kinds.
+/// At most this number of lines of these kinds.
 fn limit_of(
     alloc: Global,
     command: &str,

@@ -1,4 +1,4 @@
-//! The pages that the program writes of its own words.
+//! The manual page and the completion of the program.
 
 ghost use Rattle.std.specs.Prelude.{◌-◌, ◌^◌, ◌<◌, IfErr, IfOk, OnOk, string_bytes};
 ghost use Rattle.view_command.specs.Pages.{IsPageRefused, IsPageTold, IsPageWritten, IsTextOf};

@@ -30,8 +30,8 @@ pub enum Refusal {
     },
     /// The picture or the dump would have too many windows.
     TooMany,
-    /// The picture would have so many bars, arrows, flags and marks. From a tick on it has so many
-    /// elements before another tick, and with that too many.
+    /// The picture would have `shapes` bars, arrows, flags and marks. From tick `from` on it has
+    /// `elements` elements before tick `until`, and too many with it.
     Crowded {
         shapes: u64,
         from: u64,

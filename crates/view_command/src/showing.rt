@@ -68,7 +68,7 @@ pub fn show<F: Sources, O: Stream>(
     Ok(outcome)
 }
 
-/// Reads every line of the trace `name`. None may be behind the end of the run, if it is known.
+/// Reads every line of the trace `name`. None may be after the end of the run, if it is known.
 fn read_all<R: Read + Drop>(
     alloc: Global,
     name: String,

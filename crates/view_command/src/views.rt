@@ -20,7 +20,7 @@ use window_table::ModuleTable;
 /// The most windows, and ticks between them, of a dump.
 const MOST_WINDOWS: usize = 100_000;
 
-/// The most windows, and ticks between them, of a picture, which counts its elements by itself.
+/// The most windows, and ticks between them, of a picture, which also counts its elements.
 const MOST_OF_PICTURE: usize = 20_000;
 
 /// How a trace is shown.
@@ -35,13 +35,13 @@ pub enum View {
     Waves,
     /// A page for a browser.
     Page,
-    /// The chosen lines as they stand.
+    /// The chosen lines, unchanged.
     Lines(Filter),
     /// The first of the chosen lines that is one too many.
     Check(Filter, Limits),
 }
 
-/// What is told of a trace by the exit status.
+/// What the exit status says of a trace.
 #[derive(Clone, Copy, PartialEq, Eq)]
 pub enum Outcome {
     /// It is shown.
@@ -161,7 +161,7 @@ impl Shown {
         Ok(())
     }
 
-    /// What is told by the exit status.
+    /// What the exit status says.
     pub fn outcome(&self) -> Outcome
         ensures { result ≡ outcome_of self.now }
     {

@@ -113,7 +113,7 @@ pub fn shares_of(
 }
 
 /// The windows of a table in the ticks from the first on and before the second, if there is one.
-/// There may be so many windows, and ticks between them.
+/// There may be `most` windows, and times between them.
 pub fn windows_of(
     alloc: Global,
     table: Option<ModuleTable>,

@@ -7,8 +7,8 @@ ghost use Rattle.finding_lines.specs.Reports.{form_of};
 use finding_lines::Form;
 use std::alloc::Global;
 
-/// A sentence on a line of its own, and the lines behind it. The objects of findings stand alone.
-/// There is none if memory runs out.
+/// A sentence on a line, and the lines after it. Objects of findings have no sentence. There is
+/// none if memory runs out.
 pub fn explanation(alloc: Global, form: Form<'_>, sentence: &str, lines: &str) -> Option<String>
     ensures { IfSome result
         (λ text. string_bytes text

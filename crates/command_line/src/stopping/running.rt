@@ -15,9 +15,9 @@ use image::load_image;
 use module::{Machine, RunFault, Watch};
 use std::alloc::Global;
 
-/// Runs the image with the device text, up to the end of the first tick with a line that has the
-/// words `asked` behind its tick and no others; `_` stands for any one word. Answers whether such a
-/// line came in `ticks` ticks. Writes the text of the ticks that are run into the sink, and tells a
+/// Runs the image with the device text, up to the end of the first tick with a line that has
+/// exactly the words `asked` after its tick; `_` matches any word. Returns whether such a line came
+/// in `ticks` ticks. Writes the text of the ticks that are run into the sink, and reports to a
 /// watcher how far the run is.
 ///
 /// # Errors

@@ -35,7 +35,7 @@ fn at_most(ticks: u64, most: u32) -> u32
 /// The text of a tick.
 pub type Held = WriterSink<Vec<u8>>;
 
-/// Makes the next tick, with its device lines, and holds the text of its lines. Answers the device
+/// Makes the next tick, with its device lines, and holds the text of its lines. Returns the device
 /// lines of later ticks.
 ///
 /// # Errors
@@ -87,9 +87,9 @@ pub fn hand_on<S: Sink>(text: &[u8], sink: &mut S) -> Result<(), RunFault>
 /// The most ticks that are made between two offers of nothing, but for those that are skipped.
 pub const MOST_UNTOLD: u64 = 1 << 20;
 
-/// Offers nothing to a sink, which may use the time for what it has kept back, and tells a watcher
-/// how far the run is, if many ticks were made since that was done. Answers behind how many ticks
-/// it was done last.
+/// Offers nothing to a sink, which may use the time for what it has kept back, and reports to a
+/// watcher how far the run is, if many ticks were made since the last report. Returns after how
+/// many ticks the last report was.
 ///
 /// # Errors
 ///

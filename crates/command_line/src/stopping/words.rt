@@ -7,7 +7,7 @@ ghost use Rattle.text_lines.specs.Pieces.{pieces_of};
 
 use text_lines::split_at;
 
-/// Whether a word of a line is the one that is asked for; `_` asks for any one.
+/// Whether a word of a line matches the word that is asked for; `_` matches any word.
 fn stands_for(asked: &str, word: &[u8]) -> bool
     ensures { result ≡ meant.stands_for asked.now word.now }
 {
@@ -29,7 +29,7 @@ fn stand_for(asked: &[&str], text: Option<&[u8]>) -> bool
     }
 }
 
-/// Whether a line, without its line feed, has these words behind its tick, and no others.
+/// Whether a line, without its line feed, has exactly these words after its tick.
 fn has_words(asked: &[&str], line: &[u8]) -> bool
     ensures { result ≡ meant.has_words (map (λ a. a.now) asked.now) line.now }
 {
@@ -37,8 +37,7 @@ fn has_words(asked: &[&str], line: &[u8]) -> bool
     stand_for(asked, behind)
 }
 
-/// Whether a line of the text has these words behind its tick, and no others; `_` stands for any
-/// one word.
+/// Whether a line of the text has exactly these words after its tick; `_` matches any word.
 pub fn has_line(asked: &[&str], text: &[u8]) -> bool
     ensures { result ≡ meant.has_line (map (λ a. a.now) asked.now) text.now }
 {

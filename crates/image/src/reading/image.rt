@@ -53,7 +53,7 @@ fn version_at(bytes: &[u8]) -> Result<(u16, &[u8]), ImageFault>
     Ok((number, rest))
 }
 
-/// The fields of an image, and the bytes behind them.
+/// The fields of an image, and the bytes after them.
 #[tactic(auto, unfolding(machine_meaning::specs::ImageReading::fields_at))]
 pub fn fields_at(alloc: Global, bytes: &[u8]) -> Result<(Fields, &[u8]), ImageFault>
     ensures { Gives (λ x. (fields_of x.0, x.1.now)) result (fields_at bytes.now) }

@@ -11,14 +11,14 @@ use crate::reading::numbers::u32_within;
 use apex_types::limits::Limits;
 use std::alloc::Global;
 
-/// A row of fixed form that stands in lists.
+/// A row of fixed form that is in lists.
 pub trait Row: Copy + Drop {
     ghost use Rattle.apex_types.specs.declared.limits.Limits.{Limits as Bounds};
 
-    /// How a row is read, within these limits, beside those before it.
+    /// How a row is read, within these limits, after those before it.
     ghost reads: { Bounds → List Self → List ℕ → Read Self };
 
-    /// The next row, judged beside those before it.
+    /// The next row, judged together with those before it.
     fn read<'a>(
         limits: Limits,
         before: &[Self],

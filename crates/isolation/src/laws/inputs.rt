@@ -20,9 +20,9 @@ pub fn written_inputs_are_read()
 {}
 
 /// The inputs that a run of at most 2^40 ticks brings a partition are allowed: they are in the
-/// order of their ticks, and each message arrives at one of the partition's destination ports, with
-/// at least 1 word and at most as many words as the port takes. That all words are words of 64 bits
-/// is a premise.
+/// order of their ticks. Each message arrives at one of the partition's destination ports, with at
+/// least 1 word and at most the words that the port takes. That all words are words of 64 bits is a
+/// premise.
 pub fn inputs_are_allowed()
     ensures { (image : Image) (text : List ℕ) (lines : List DeviceLine) (p : ℕ) (s : Slice) (n : ℕ)
         → IsLawful image → verdict_for image text ≡ Ok lines → slice image p ≡ Some s

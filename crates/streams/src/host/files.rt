@@ -10,7 +10,7 @@ use std::alloc::{AllocGlobal, Global};
 use std::os::unix::fs::MetadataExt;
 use std::{fs, io, rt};
 
-/// The device and the number of a file, which tell it from all others.
+/// The device and the number of a file, which identify it.
 #[derive(Clone, Copy, PartialEq, Eq)]
 struct FileId {
     device: u64,
@@ -37,7 +37,7 @@ impl<'a, R: rt::Files + AllocGlobal> HostFiles<'a, R> {
         }
     }
 
-    /// The identity of a file, if it is a regular file and the host tells.
+    /// The identity of a file, if it is a regular file and the host shows it.
     fn id_of(&self, name: &str) -> Option<FileId> {
         let data = fs::metadata(self.runtime, name).ok()?;
         if !data.is_file() {

@@ -13,7 +13,7 @@ use std::rt::Env;
 
 /// A program, as far as its words and its streams are known.
 pub trait Program {
-    /// The greatest exit status that it answers.
+    /// The greatest exit status that it returns.
     ghost greatest: { ℕ };
 
     /// Does what the words say, the program's name first, and returns the exit status.

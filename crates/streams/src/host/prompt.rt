@@ -8,12 +8,12 @@ use apex_types::{Sink, SinkFault};
 use std::fmt::Display;
 use std::time::{Clock, Duration, Instant};
 
-/// So many milliseconds at least lie between two flushes that nobody asks for.
+/// The milliseconds, at the least, between two flushes that no caller asks for.
 const LEAST_APART: u64 = 50;
 
-/// A stream that is flushed without being asked. An offer of no bytes looks at the clock, and if the
-/// last flush of this kind is 0.05 seconds ago, what is kept back goes out. Offers of bytes do not
-/// look: many of them fill what keeps them back, which then goes out by itself.
+/// A stream that is flushed without being asked. An offer of no bytes looks at the clock, and if
+/// the last flush of this kind is 0.05 seconds ago, what is kept back goes out. Offers of bytes do
+/// not look: many of them fill what keeps them back, which then goes out.
 #[derive(Drop)]
 pub struct PromptStream<'a, S: Stream, C: Clock> {
     stream: S,
@@ -33,8 +33,8 @@ impl<'a, S: Stream, C: Clock> PromptStream<'a, S, C> {
         }
     }
 
-    /// Looks at the clock, and flushes what has been kept back for long. A clock that cannot be
-    /// read tells nothing, so then all is flushed.
+    /// Looks at the clock, and flushes what has been kept back for long. If the clock cannot be
+    /// read, all is flushed.
     fn look(&mut self) -> Result<(), SinkFault>
         requires { S.failures self.old.stream < 2 ^ 64 - 1 }
         ensures kept { Keeps (S.taken self.old.stream) (S.taken self.new.stream) }
@@ -52,7 +52,7 @@ impl<'a, S: Stream, C: Clock> PromptStream<'a, S, C> {
     }
 }
 
-/// Whether both times are known, and one comes soon behind the other.
+/// Whether both times are known, and the second comes soon after the first.
 fn is_soon(flushed: Option<Instant>, now: Option<Instant>) -> bool {
     match (flushed, now) {
         (Some(flushed), Some(now)) => {
