@@ -65,7 +65,7 @@ pub struct Shape {
     pub word: &'static str,
     /// The kinds of its arguments, in order.
     pub arguments: &'static [ArgumentKind],
-    /// The number of its outputs besides the code.
+    /// The number of its outputs, without the code.
     pub outputs: u8,
     /// Whether it creates an object, a port, a process or the handler.
     pub creates: bool,

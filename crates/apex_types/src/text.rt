@@ -27,7 +27,7 @@ use std::marker::Model;
 /// The bytes of the lines of a step, in memory that is taken once. A contract sees the bytes.
 #[derive(Drop)]
 pub struct StepText {
-    /// As many as the lines of a step may have. Those behind the first `len` say nothing.
+    /// The bytes that the lines of a step may have. Those after the first `len` mean nothing.
     bytes: Vec<u8>,
     len: usize,
 }
@@ -163,8 +163,8 @@ pub fn write_event<S: Sink>(event: &Event, sink: &mut S) -> Result<(), SinkFault
     put_all(sink, &line[..end])
 }
 
-/// The lines of a step until they are written. An event becomes its line at once; the digits of the
-/// last tick are kept for the next lines.
+/// The lines of a step until they are written. An event becomes its line directly; the digits of
+/// the last tick are kept for the next lines.
 #[derive(Drop)]
 pub struct TraceBuffer {
     pub text: StepText,

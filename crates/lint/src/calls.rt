@@ -173,7 +173,7 @@ fn unless_written(
     }
 }
 
-/// What was created last behind a statement.
+/// What was created last after a statement.
 fn left_by(
     names: &IndexSet<String>,
     created: Option<Created>,

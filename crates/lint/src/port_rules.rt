@@ -259,8 +259,8 @@ fn port_of_name<'a>(
     }
 }
 
-/// The port that a call is about: the one that its first argument names where a service takes a
-/// name, else the one that it stands for.
+/// The port that a call is about: that which its first argument names where a service takes a name,
+/// else that which the argument means.
 fn port_of_call<'a>(
     names: &IndexSet<String>,
     ports: &'a [PortRow],

@@ -24,8 +24,8 @@ pub struct PartitionFindings<'a> {
     pub findings: Vec<Finding<'a>>,
 }
 
-/// What is found for the partition of a row, in its source as it is written and in its processes as
-/// they were checked. Fails only if memory runs out.
+/// What is found for the partition of a row, in its source as written and in its checked processes.
+/// Fails only if memory runs out.
 pub fn partition_findings<'a>(
     alloc: Global,
     rows: &'a [PartitionRow],

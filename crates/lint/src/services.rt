@@ -1,4 +1,4 @@
-//! What services do, as far as it can be seen from their names alone.
+//! What services do, as far as their names show it.
 
 ghost use Rattle.std.specs.Prelude.{◌≡◌};
 ghost use Rattle.lint.specs.Services as meant;
@@ -21,7 +21,7 @@ pub fn created_kind(service: Service) -> Option<ObjectKind>
     }
 }
 
-/// The kind of what a service answers the number of: it creates it, or finds it by its name.
+/// The kind of the thing whose number a service returns: it creates it, or finds it by its name.
 pub fn numbered_kind(service: Service) -> Option<ObjectKind>
     ensures { result ≡ meant.numbered_kind service }
 {
@@ -77,7 +77,7 @@ pub fn is_handler_creation(service: Service) -> bool
     matches!(service, Service::CreateErrorHandler)
 }
 
-/// Returns true if whoever asks for a service waits, whatever its arguments are.
+/// Returns true if the caller of a service waits, whatever its arguments are.
 pub fn always_waits(service: Service) -> bool
     ensures { result ≡ meant.always_waits service }
 {

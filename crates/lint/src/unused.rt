@@ -51,7 +51,7 @@ fn add_targets(
     Ok(())
 }
 
-/// Adds the names that stand in an expression.
+/// Adds the names in an expression.
 #[cycle(expression_names)]
 fn add_expression(
     names: &IndexSet<String>,
@@ -83,7 +83,7 @@ fn add_expression(
     }
 }
 
-/// Adds the names that stand in expressions.
+/// Adds the names in expressions.
 #[cycle(expression_names)]
 fn add_expressions(
     names: &IndexSet<String>,
@@ -101,7 +101,7 @@ fn add_expressions(
     Ok(())
 }
 
-/// Adds the names that stand in the operands of operators.
+/// Adds the names in the operands of operators.
 #[cycle(expression_names)]
 fn add_links(
     names: &IndexSet<String>,
@@ -119,7 +119,7 @@ fn add_links(
     Ok(())
 }
 
-/// Adds the names that stand in a statement.
+/// Adds the names in a statement.
 #[cycle(statement_names)]
 fn add_statement(
     names: &IndexSet<String>,
@@ -163,7 +163,7 @@ fn add_statement(
     }
 }
 
-/// Adds the names that stand in a block.
+/// Adds the names in a block.
 #[cycle(statement_names)]
 fn add_block(
     names: &IndexSet<String>,
@@ -181,7 +181,7 @@ fn add_block(
     Ok(())
 }
 
-/// Adds the names that stand in the statements of a body.
+/// Adds the names in the statements of a body.
 fn add_body(names: &IndexSet<String>, used: &mut Vec<NameId>, body: &Body) -> Result<(), AllocError>
     ensures { OnOk result
         (names_seen (texts names.now.keys) used.new.items
@@ -191,7 +191,7 @@ fn add_body(names: &IndexSet<String>, used: &mut Vec<NameId>, body: &Body) -> Re
     add_block(names, used, &body.statements)
 }
 
-/// Adds the names that stand in the handler, if there is one.
+/// Adds the names in the handler, if there is one.
 fn add_handler(
     names: &IndexSet<String>,
     used: &mut Vec<NameId>,
@@ -208,7 +208,7 @@ fn add_handler(
     }
 }
 
-/// Adds the names that stand in processes.
+/// Adds the names in processes.
 #[tactic(auto, using(std::proofs::lemmas::List::drop_more))]
 fn add_processes(
     names: &IndexSet<String>,
@@ -226,7 +226,7 @@ fn add_processes(
     Ok(())
 }
 
-/// Adds the names that stand in a procedure, if the declaration is one.
+/// Adds the names in a procedure, if the declaration is one.
 fn add_procedure(
     names: &IndexSet<String>,
     used: &mut Vec<NameId>,
@@ -249,7 +249,7 @@ fn add_procedure(
     }
 }
 
-/// Adds the names that stand in the procedures among declarations.
+/// Adds the names in the procedures among declarations.
 #[tactic(auto, using(std::proofs::lemmas::List::drop_more))]
 fn add_procedures(
     names: &IndexSet<String>,
@@ -268,7 +268,7 @@ fn add_procedures(
     Ok(())
 }
 
-/// The names that stand in the bodies of a program.
+/// The names in the bodies of a program.
 fn all_names(alloc: Global, program: &Program) -> Result<Vec<NameId>, AllocError>
     ensures { IfOk result
         (λ used. names_seen (texts program.now.names.keys) used.items

@@ -33,7 +33,7 @@ pub enum Wanted<'a> {
     PeriodicWait,
 }
 
-/// Returns true if the kind of what is created is this one.
+/// Returns true if both kinds are the same.
 fn is_kind(kind: ObjectKind, created: Option<ObjectKind>) -> bool
     ensures { result ≡ is_kind kind created }
 {

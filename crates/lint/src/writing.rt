@@ -77,7 +77,7 @@ fn write_finding<'x, S: Sink>(
     write_pieces(&pieces, sink)
 }
 
-/// Writes the pieces of a line, one behind the other.
+/// Writes the pieces of a line, in their order.
 fn write_pieces<S: Sink>(pieces: &[Piece<'_>], sink: &mut S) -> Result<(), SinkFault>
     requires { S.failures sink.old < 2 ^ 64 - 1 }
     ensures { IsListed (flat_map piece_text pieces.now) (S.taken sink.old) (S.taken sink.new)

@@ -1,4 +1,4 @@
-//! Many ticks of a partition alone at once: pieces of its windows, and ticks in which nothing happens.
+//! Many ticks of one partition together: pieces of its windows, and ticks in which nothing happens.
 
 ghost use Rattle.std.specs.Prelude.{◌≡◌, ◌≤◌, ◌<◌, ◌+◌, ◌^◌, ℕ, List, Some};
 ghost use Rattle.apex_types.specs.declared.limits.TheConstants.{MOST_TICKS};
@@ -125,9 +125,9 @@ fn advance_window<E: Executor, S: Sink>(
     }
 }
 
-/// Executes some of `most` ticks at once, all of them before the first of these inputs; returns how
-/// many. 0 if the next tick has to be executed alone: one with an input, or one at which a window
-/// of the partition ends.
+/// Executes some of `most` ticks together, all of them before the first of these inputs; returns
+/// how many. 0 if the next tick has to be executed separately: one with an input, or one at which a
+/// window of the partition ends.
 pub fn advance<E: Executor, S: Sink>(
     surroundings: &Surroundings,
     lines: &[InputLine],

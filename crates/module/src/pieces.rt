@@ -1,4 +1,4 @@
-//! Many ticks of a module at once: pieces of windows, and ticks in which nothing happens.
+//! Many ticks of a module together: pieces of windows, and ticks in which nothing happens.
 
 ghost use Rattle.std.specs.Prelude.{◌≡◌, ◌≢◌, ◌≤◌, ◌<◌, ◌+◌, ◌^◌, ℕ, suc, true, false, List, Some, None, length, option_map, slice_get};
 ghost use Rattle.apex_types.specs.declared.limits.TheConstants.{MOST_TICKS};

@@ -1,4 +1,4 @@
-//! Many ticks of a partition at once.
+//! Many ticks of a partition together.
 
 ghost use Rattle.std.specs.Prelude.{◌≡◌, ◌≤◌, ◌<◌, ◌+◌, ℕ, [], length, Some, None};
 ghost use Rattle.apex_types.specs.declared.limits.TheConstants.{MOST_TICKS};
@@ -71,7 +71,7 @@ impl<E: Executor> Partition<E> {
     }
 
     /// Executes ticks of the current runner, while nothing is due and the choice stays; returns how
-    /// many. Only the last tick makes a request, so only that one is treated.
+    /// many. Only the last tick makes a request, so only its outcome is treated.
     fn burst<L: EventLog>(
         &mut self,
         mem: &mut E::Mem,
@@ -112,7 +112,7 @@ impl<E: Executor> Partition<E> {
 impl<E: Executor> Partition<E> {
     /// Executes at least one tick of the partition; returns how many. If something is due or the
     /// choice may change, it is one whole tick; otherwise the current runner continues until it
-    /// makes a request. While nobody runs, nothing happens.
+    /// makes a request. While no process runs, nothing happens.
     fn phase<L: EventLog>(&mut self, mem: &mut E::Mem, moment: Moment, k: u32, log: &mut L) -> u32
         requires some { 0 < k }
         requires soon { moment.at.now.0 + k ≤ MOST_TICKS }

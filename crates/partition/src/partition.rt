@@ -27,7 +27,7 @@ pub struct Partition<E: Executor> {
     pub(crate) executor: E,
     /// The lines and the actions of a phase, before they are done.
     pub(crate) out: Out,
-    /// The words that a call hands in, while it is served.
+    /// The words that a call passes, while it is served.
     pub(crate) handed: Words,
 }
 

@@ -27,11 +27,11 @@ pub const LINES_TO_SET_MODE: u16 = 1 + LINES_TO_START_NORMALLY;
 /// A service that sets the mode: its answer, and the Clear.
 pub const ACTIONS_TO_SET_MODE: u16 = 1 + ACTIONS_TO_CLEAR;
 
-/// A call: no call writes more lines than one that hands a message to all waiting processes, and
+/// A call: no call writes more lines than one that gives a message to all waiting processes, and
 /// its answer.
 pub const LINES_TO_SERVE: u16 = 1 + LINES_TO_GIVE_ALL;
 
-/// A call: no call has more actions than one that hands a message to all waiting processes, and its
+/// A call: no call has more actions than one that gives a message to all waiting processes, and its
 /// answer.
 pub const ACTIONS_TO_SERVE: u16 = 1 + ACTIONS_TO_GIVE_ALL;
 

@@ -33,7 +33,7 @@ impl Kernel {
         }
     }
 
-    /// Treats the outcome of a tick of `runner`; `words` are those that a call hands in.
+    /// Treats the outcome of a tick of `runner`; `words` are those that a call passes.
     pub(crate) fn treat(
         &mut self,
         moment: Moment,
@@ -56,8 +56,8 @@ impl Kernel {
         }
     }
 
-    /// Serves a call; `words` are those that it hands in. Calls on objects and on ports have a
-    /// dispatch of their own; all others are here.
+    /// Serves a call; `words` are those that it passes. Calls on objects and on ports have a
+    /// separate dispatch; all others are here.
     fn serve(&mut self, moment: Moment, caller: Runner, call: Call, words: &Words, out: &mut Out)
         requires room { HasRoom LINES_TO_SERVE ACTIONS_TO_SERVE out.old }
         ensures step { IsMade (meaning.serves moment.at self.old caller call words.now.items)

@@ -46,8 +46,8 @@ impl Kernel {
         true
     }
 
-    /// How many of `k` ticks, from `moment` on, pass in which nothing happens in the partition:
-    /// nobody runs or is chosen, nothing is due, no message can leave a port, and no process that
+    /// How many of `k` ticks, from `moment` on, pass in which nothing happens in the partition: no
+    /// process runs or is chosen, nothing is due, no message can leave a port, and no process that
     /// waits at a port can enter it. 0 if something may happen at this tick.
     pub fn still_ticks(&self, moment: Moment, k: u32) -> u32
         ensures within { result ≤ k }

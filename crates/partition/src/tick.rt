@@ -243,8 +243,8 @@ impl<E: Executor> Partition<E> {
     }
 }
 
-/// Takes the words that a call hands in: those of its array, at most those of a message. They are
-/// copied into memory that is there, since most calls hand in none.
+/// Takes the words that a call passes: those of its array, at most those of a message. They are
+/// copied into memory that is there, since most calls pass none.
 #[tactic(auto, using(kernel_laws::proofs::Numbers::handed_words))]
 pub(crate) fn hand<E: Executor>(handed: &mut Words, executor: &E, mem: &E::Mem, outcome: &Outcome)
     ensures { handed.new.items ≡ meaning.given (asks_of outcome.now) (E.words mem.now) }
@@ -258,7 +258,7 @@ pub(crate) fn hand<E: Executor>(handed: &mut Words, executor: &E, mem: &E::Mem, 
     }
 }
 
-/// How many words of an array of `size` words a call hands in, at most those of a message.
+/// How many words of an array of `size` words a call passes, at most those of a message.
 fn most_words(size: i64) -> u8
     ensures words { result ≡ meaning.most_words size }
     ensures most { result ≤ MOST_WORDS }

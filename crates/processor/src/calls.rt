@@ -39,7 +39,7 @@ fn clear(stack: &mut [i64], from: u32, to: u32)
     }
 }
 
-/// Clears the locals of a routine whose frame begins at a place, and saves behind its slots the
+/// Clears the locals of a routine whose frame begins at a place, and saves after its slots the
 /// instruction after the call and the caller's frame.
 fn save(stack: &mut [i64], frame: u32, routine: &RoutineRow, next: u32, caller: u32)
     requires fits { IsFittingRoutine routine.now }
@@ -55,7 +55,7 @@ fn save(stack: &mut [i64], frame: u32, routine: &RoutineRow, next: u32, caller: 
     set(stack, slots + 1, i64::from(caller));
 }
 
-/// The words of the own stack from `from` up to `to`, as many as a service may take.
+/// The words of the own stack from `from` up to `to`, at most those that a service may take.
 fn popped(memory: &PartitionMem, from: u32, to: u32) -> Arguments
     requires order { from ≤ to }
     requires few { to ≤ from + MOST_ARGUMENT_WORDS }
@@ -130,7 +130,7 @@ impl Registers {
         }
     }
 
-    /// RET: returns the top operand to the frame and the instruction that were saved behind `x`
+    /// RET: returns the top operand to the frame and the instruction that were saved after `x`
     /// words.
     pub(crate) fn give_back(&mut self, reach: &mut Reach, x: u32) -> Turn
         ensures effect { after result self.new reach.new
@@ -166,7 +166,7 @@ impl Context {
     ghost use Rattle.apex_types.specs.ServiceShape.{argument_words};
     ghost use Rattle.apex_types.specs.ServiceCalls.{call_of};
 
-    /// The call whose arguments are the operands on top, so many words.
+    /// The call whose arguments are this number of operands on top.
     #[tactic(auto, using(crate::proofs::Arguments::few))]
     fn called(&self, memory: &PartitionMem, service: Service, words: u32) -> Call
         requires words { words ≡ argument_words service }
@@ -177,7 +177,7 @@ impl Context {
         call_of(service, &arguments)
     }
 
-    /// Calls a service whose arguments, so many words, are on the stack.
+    /// Calls a service whose arguments, this number of words, are on the stack.
     fn call_service(&mut self, memory: &PartitionMem, service: Service, words: u32) -> Outcome
         requires next { self.old.pc + 1 < 2 ^ 32 }
         requires words { words ≡ argument_words service }

@@ -1,7 +1,7 @@
 //! The modelled processor: its instructions as bytes, and what one tick of it does.
 //!
 //! A process has a [`Context`]; [`step`] spends one tick on its next instruction, and [`advance`]
-//! many. An instruction takes as many ticks as the table says, and has its effect, or its fault, in
+//! many. An instruction takes the ticks that the table says, and has its effect, or its fault, in
 //! the last of them.
 #![tactic(auto)]
 

@@ -80,7 +80,7 @@ pub enum What<'a> {
     DeviceTwice,
     /// A channel of queuing ports has this number of destinations.
     SplitQueue(usize),
-    /// The text stands at another end before.
+    /// The text is at an earlier end, too.
     PortTwice(&'a str),
     /// A window begins before the end of the one before it, which is this many ticks from the
     /// beginning of the frame.
@@ -98,7 +98,7 @@ pub enum What<'a> {
         period: u64,
         frame: u64,
     },
-    /// In the period of a partition that begins `from` ticks behind the beginning of the frame its
+    /// In the period of a partition that begins `from` ticks after the beginning of the frame its
     /// windows offer less ticks than are wanted.
     Short {
         from: u128,

@@ -17,7 +17,7 @@ use window_table::{
     WrittenChannel, WrittenKind, WrittenPartition, WrittenPort, WrittenTable, is_port_name,
 };
 
-/// An end as it stands in the table: what it is, the key there if it is a source, and its text.
+/// An end as written in the table: what it is, the key there if it is a source, and its text.
 #[derive(Clone, Copy)]
 pub struct End<'a> {
     subject: Subject<'a>,
@@ -150,7 +150,7 @@ fn destinations<'a>(
     Ok(())
 }
 
-/// Adds what is wrong with a destination; `before` says whether `DEVICE` stands before it.
+/// Adds what is wrong with a destination; `before` says whether `DEVICE` comes before it.
 fn destination<'a>(
     found: &mut Vec<Finding<'a>>,
     partitions: &[WrittenPartition<'a>],
@@ -331,7 +331,7 @@ fn channels_twice<'a>(
     Ok(())
 }
 
-/// Adds the ends of destinations that stand before, and remembers all of them.
+/// Adds the ends of destinations that come before, and remembers all of them.
 #[tactic(auto, using(std::proofs::lemmas::List::drop_more, std::proofs::lemmas::List::append_assoc, crate::proofs::Steps::append_nil))]
 fn destinations_twice<'a>(
     found: &mut Vec<Finding<'a>>,
@@ -354,7 +354,7 @@ fn destinations_twice<'a>(
     Ok(())
 }
 
-/// Adds an end that stands before and is not `DEVICE`, and remembers it.
+/// Adds an end that comes before and is not `DEVICE`, and remembers it.
 #[tactic(auto, using(std::proofs::lemmas::List::map_push))]
 fn twice<'a>(
     found: &mut Vec<Finding<'a>>,
@@ -449,7 +449,7 @@ fn first_port_of<'a>(
     }
 }
 
-/// The first port that one of the texts names, and this text.
+/// The first port that one of the texts names, and its text.
 #[tactic(auto, using(std::proofs::lemmas::List::drop_more))]
 fn first_port<'a>(partitions: &[WrittenPartition<'a>], texts: &[&'a str]) -> Option<FirstPort<'a>>
     ensures { option_map first_of result

@@ -481,7 +481,7 @@ fn listed(alloc: Global, words: &[&'static str]) -> Result<String, AllocError>
     }
 }
 
-/// Adds words, each behind a comma.
+/// Adds words, each after a comma.
 fn push_others(alloc: Global, text: &mut String, words: &[&'static str]) -> Result<(), AllocError>
     ensures { OnOk result
         (string_bytes text.new

@@ -1,4 +1,4 @@
-//! Names of a table that stand twice.
+//! Names that a table has twice.
 
 ghost use Rattle.std.specs.Prelude.{◌≡◌, ◌++◌, IfOk, map, OnOk};
 ghost use Rattle.table_findings.specs.Names as spec;

@@ -9,8 +9,8 @@ ghost use Rattle.table_findings.specs.Views.{subject_of};
 use finding_lines::Step;
 use std::alloc::{AllocError, Global};
 
-/// A partition, a port, a window or a channel: its place in the list that it stands in, counted from
-/// 0, and its name, if it has one. A window has the name of its partition.
+/// A partition, a port, a window or a channel: its place in its list, counted from 0, and its name,
+/// if it has one. A window has the name of its partition.
 #[derive(Clone, Copy)]
 pub struct Row<'a> {
     pub index: usize,

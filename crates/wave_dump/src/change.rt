@@ -21,8 +21,8 @@ pub enum Value {
     Word(i64),
 }
 
-/// Displays as it stands in a dump before the code of its variable: a digit, a word that viewers show
-/// by its name, or the 64 bits of a number without those in front of the first 1.
+/// Displays as written in a dump before the code of its variable: a digit, a word that viewers show
+/// by its name, or the 64 bits of a number without those before the first 1.
 impl Display for Value {
     ghost use Rattle.std.specs.Prelude.{Some};
     ghost use Rattle.wave_dump.specs.Names.{value_text};

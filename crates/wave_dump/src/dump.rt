@@ -134,7 +134,7 @@ fn push_windows(changes: &mut Vec<Change>, stretches: &[Stretch]) -> Result<(), 
 }
 
 /// A value change dump of some ticks of a trace. It takes the events in their order, is finished
-/// behind the last one, and can be written then.
+/// after the last one, and can be written then.
 #[derive(Drop)]
 pub struct Dump {
     /// The ticks that the dump has.
@@ -172,7 +172,7 @@ impl Dump {
         }
     }
 
-    /// Takes the next event; one behind the ticks of the dump changes nothing.
+    /// Takes the next event; an event after the ticks of the dump changes nothing.
     ///
     /// # Errors
     ///

@@ -198,7 +198,7 @@ fn has_device(ends: &[ChannelEnd]) -> bool
     ends.iter().any(|end| is_device(end))
 }
 
-/// Returns true if the device stands at two of the ends.
+/// Returns true if two of the ends are the device.
 #[tactic(auto, using(std::proofs::lemmas::List::drop_more), unfolding(module_meaning::specs::Table::has_two_devices))]
 fn has_two_devices(ends: &[ChannelEnd]) -> bool
     ensures { result ≡ has_two_devices ends.now }
@@ -248,7 +248,7 @@ fn has_same_port(ends: &[ChannelEnd]) -> bool
     false
 }
 
-/// Returns true if a port stands at two ends, or a channel breaks a rule on channels.
+/// Returns true if a port is at two ends, or a channel breaks a rule on channels.
 ///
 /// # Errors
 ///

@@ -182,7 +182,7 @@ fn judge(alloc: Global, written: &WrittenTable<'_>) -> Result<ModuleTable, Table
 ///
 /// # Errors
 ///
-/// The refusals stand in the order of their checks; `Memory` is possible at any time.
+/// The refusals are in the order of their checks; `Memory` is possible at any time.
 #[tactic(auto, unfolding(module_meaning::specs::TableRules::verdict))]
 pub fn read_table(alloc: Global, text: &[u8]) -> Result<ModuleTable, TableFault>
     ensures { AnswersText text.now result }

@@ -1,4 +1,4 @@
-//! Rows of partitions, wherever they stand.
+//! Rows of partitions, of tables and of images.
 
 ghost use Rattle.std.specs.Prelude.{◌≡◌};
 ghost use Rattle.module_meaning.specs.Table.{Partition};

@@ -107,7 +107,7 @@ impl Schedule {
         })
     }
 
-    /// The same frame with the windows of one partition alone. Fails only if memory runs out.
+    /// The same frame with only the windows of one partition. Fails only if memory runs out.
     pub fn of_partition(
         &self,
         alloc: Global,

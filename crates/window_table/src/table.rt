@@ -25,7 +25,7 @@ pub struct ChannelRow {
     pub destinations: Vec<ChannelEnd>,
 }
 
-/// A module table. Partitions, ports and windows stand in the order of the text. There are no more
+/// A module table. Partitions, ports and windows are in the order of the text. There are no more
 /// partitions than a module has.
 #[derive(Drop)]
 pub struct ModuleTable {
