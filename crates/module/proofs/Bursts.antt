@@ -8,22 +8,24 @@ use Rattle.apex_types.proofs.Writing.{IsUnderWay, under_way_more, under_way_fail
 use Rattle.apex_types.specs.declared.device.DeviceLine.{DeviceLine}
 use Rattle.apex_types.specs.declared.event.Event.{Event}
 use Rattle.apex_types.specs.declared.identity.At.{At}
+use Rattle.apex_types.specs.declared.limits.TheConstants.{MOST_EVENTS}
 use Rattle.kernel_meaning.specs.Kernel.{Kernel}
 use Rattle.module_meaning.specs.Module.{Plan, trace_from}
 use Rattle.kernel_meaning.specs.Partition.{Member, World, with_world}
 use Rattle.kernel_meaning.specs.Windows.{Schedule, at_tick, tick_from, owner, ended}
 use Rattle.kernel_laws.specs.Bursts.{Burst}
+use Rattle.partition.specs.Gathering.{ticks_within}
 use Rattle.partition.specs.Members.{HasAdvanced}
 use Rattle.kernel_laws.specs.Quiet.{IsStill, AreStill, HaveNoLines}
-use Rattle.kernel_laws.specs.Running.{advances_by}
 use Rattle.kernel_laws.proofs.Quiet.{jump}
-use Rattle.kernel_laws.proofs.Pieces.{IsAlone, piece, HasNobody, empty_piece}
+use Rattle.kernel_laws.proofs.Pieces.{IsAlone, HasNobody, empty_piece}
 use Rattle.lone_partition.proofs.Outputs.{nothing_sent}
 use Rattle.lone_partition.specs.Sent.{Sent}
 use Rattle.module.specs.Pieces.{LeadsTo, HasPassedSome, HasSkippedSome, HasRun, IsBrokenOff, HasMoved, HasMovedWritten}
 use Rattle.module.specs.Standing.{Standing, lines_of}
 use Rattle.module.specs.Written.{AreFrom}
 use Rattle.module.proofs.DeviceLines.{none_before}
+use Rattle.module.proofs.Gathered.{piece}
 use Rattle.module.proofs.Standing.{later_is}
 use Rattle.module.proofs.Texts.{text_append}
 
@@ -76,14 +78,14 @@ moved_leads plan lines k n now origin place ms next told None e begun lone h m =
     ∙ ap (λ u. lines_of plan lines m (standing_at next u origin)) here
     ∙ ap (λ (es : List Event). es ++ lines_of plan lines m (standing_at next (now + n) origin)) (sym h.1)
 moved_leads plan lines k n now origin place ms next told (Some x) e begun lone h m =
-    let b = advances_by x.engine origin k x.world now in
+    let b = ticks_within x.engine origin MOST_EVENTS k x.world now in
     let after = slice_set ms place (with_world x b.control) in
     let count : b.ticks ≡ n = ap (λ (b : Burst (World _) ℕ (List Event)). b.ticks) h.1 in
     let until : b.words ≡ now + n = ap (λ (b : Burst (World _) ℕ (List Event)). b.words) h.1 in
     let tells : b.told ≡ told = ap (λ (b : Burst (World _) ℕ (List Event)). b.told) h.1 in
     later_is plan lines (n + m) now ms (Some origin) begun
     ∙ ap (λ j. trace_from plan lines (j + m) (Some (tick_from origin now)) ms) (sym count)
-    ∙ piece plan lines origin place k m now ms x lone e
+    ∙ piece plan lines origin place MOST_EVENTS k m now ms x lone e
     ∙ ap (λ (es : List Event). es ++ trace_from plan lines m (Some (tick_from origin b.words)) after) tells
     ∙ ap (λ u. told ++ trace_from plan lines m (Some (tick_from origin u)) after) until
     ∙ ap (λ ls. told ++ trace_from plan lines m (Some (tick_from origin (now + n))) ls) (sym h.0)
@@ -102,7 +104,7 @@ leads_moved plan lines k n now origin place ms next told begun order owned over 
 pub has_moved : {C : Type 0} (at : At) (k place n : ℕ) (ms : List (Member C)) (x y : Member C) (next : List (Member C)) (told : List Event) → next ≡ slice_set ms place y
     → HasAdvanced at k x y told n → HasMoved at k place ms (Some x) next told n
 has_moved at k place n ms x y next told same h =
-    let control : (advances_by x.engine at.origin.0 k x.world at.now.0).control ≡ y.world = ap (λ (b : Burst (World _) ℕ (List Event)). b.control) h.1 in (
+    let control : (ticks_within x.engine at.origin.0 MOST_EVENTS k x.world at.now.0).control ≡ y.world = ap (λ (b : Burst (World _) ℕ (List Event)). b.control) h.1 in (
       same ∙ ap (λ (z : Member _). slice_set ms place z) (h.0 ∙ ap (λ (w : World _). with_world x w) (sym control)),
       h.1 ∙ ap (λ (w : World _). record { control = w; words = at.now.0 + n; told = told; ticks = n }) (sym control),
     )

@@ -5,6 +5,7 @@ pub mod Collecting
 pub mod Costed
 pub mod DeviceLines
 pub mod Devices
+pub mod Gathered
 pub mod Headline
 pub mod Isolated
 pub mod Loaded

@@ -6,9 +6,10 @@ use Rattle.apex_types.specs.Line.{TakesBeginning}
 use Rattle.apex_types.specs.declared.device.DeviceLine.{DeviceLine}
 use Rattle.apex_types.specs.declared.event.Event.{Event}
 use Rattle.apex_types.specs.declared.identity.At.{At}
+use Rattle.apex_types.specs.declared.limits.TheConstants.{MOST_EVENTS}
 use Rattle.module_meaning.specs.Module.{Plan}
 use Rattle.kernel_meaning.specs.Partition.{Member, with_world}
-use Rattle.kernel_laws.specs.Running.{advances_by}
+use Rattle.partition.specs.Gathering.{ticks_within}
 use Rattle.lone_partition.specs.Sent.{Sent, HasSent}
 use Rattle.module.specs.Standing.{Standing, lines_of}
 
@@ -47,12 +48,12 @@ pub record IsBrokenOff {C : Type 0} (plan : Plan) (lines : List DeviceLine) (k :
   pub beginning : TakesBeginning old new (text_of told)
   pub failed : after ≡ before + 1
 
--- The partition at `place` made k ticks, or those up to the first with a line; they are n, and
--- wrote these lines.
+-- The partition at `place` made k ticks, or fewer, once their lines leave less room than a tick may
+-- need; they are n, and wrote these lines.
 abbrev pub HasMoved : {C : Type 0} → At → ℕ → ℕ → List (Member C) → Option (Member C) → List (Member C) → List Event → ℕ → Type 0
 HasMoved at k place members None now told n = (now ≡ members) × (told ≡ []) × (n ≡ 0)
 HasMoved at k place members (Some x) now told n =
-    let b = advances_by x.engine at.origin.0 k x.world at.now.0 in
+    let b = ticks_within x.engine at.origin.0 MOST_EVENTS k x.world at.now.0 in
     (now ≡ slice_set members place (with_world x b.control)) × (b ≡ record { control = b.control; words = at.now.0 + n; told = told; ticks = n })
 
 -- the same, and these lines were to be written

@@ -40,9 +40,9 @@ impl<E: Executor<Mem = PartitionMem>> Members<E> {
         least
     }
 
-    /// Executes `most` ticks of the partition at `place`, or those up to the first with an event,
-    /// and writes their lines; returns how many, 0 if there is no such partition. The partition
-    /// borrows its own part of the memory, and no other partition's memory changes.
+    /// Executes `most` ticks of the partition at `place`, or fewer, once their lines fill the
+    /// buffer, and writes these lines; returns how many, 0 if there is no such partition. The
+    /// partition borrows its own part of the memory, and no other partition's memory changes.
     #[tactic(auto, using(crate::proofs::Members::others))]
     fn advance_at<S: Sink>(
         &mut self,
@@ -107,7 +107,7 @@ impl<E: Executor<Mem = PartitionMem>> Module<E> {
         self.now = Ticks(self.now.0 + u64::from(ticks));
     }
 
-    /// Executes `most` ticks of the owner of a window, or those up to the first with an event;
+    /// Executes `most` ticks of the owner of a window, or fewer, once their lines fill the buffer;
     /// returns how many.
     fn stretch<S: Sink>(
         &mut self,
@@ -143,8 +143,8 @@ impl<E: Executor<Mem = PartitionMem>> Module<E> {
         count
     }
 
-    /// Executes `most` ticks of the owner of a window, from one event to the next. Stops once the
-    /// sink has failed.
+    /// Executes `most` ticks of the owner of a window, and writes their lines, a buffer at a time.
+    /// Stops once the sink has failed.
     fn piece<S: Sink>(
         &mut self,
         origin: Ticks,

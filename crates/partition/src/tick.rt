@@ -5,9 +5,9 @@ ghost use Rattle.apex_types.specs.declared.limits.TheConstants.{MOST_WORDS};
 ghost use Rattle.apex_types.specs.Room.{IsEmpty};
 ghost use Rattle.kernel_meaning.specs.Partition as meaning;
 ghost use Rattle.kernel_meaning.specs.Made.{IsMade};
-ghost use Rattle.partition.specs.Members.{member_of, acts_all, IsMoved, IsTold};
+ghost use Rattle.partition.specs.Members.{member_of, acts_all, IsMoved, IsRecorded, IsTold};
 ghost use Rattle.processor.specs.Views.{asks_of};
-ghost use Rattle.partition.specs.declared.rooms.TheConstants.{LINES_FOR_DUE, LINES_FOR_TICK, LINES_TO_CHOOSE, LINES_TO_CLEAR, LINES_TO_PREPARE, LINES_TO_SERVE};
+ghost use Rattle.partition.specs.declared.rooms.TheConstants.{LINES_FOR_DUE, LINES_TO_CHOOSE, LINES_TO_CLEAR, LINES_TO_PREPARE, LINES_TO_SERVE};
 ghost use Rattle.process_table_base.specs.declared.rooms.TheConstants.{LINES_TO_TREAT_DUE};
 
 use crate::acting::{act_all, tell};
@@ -31,7 +31,7 @@ impl<E: Executor> Partition<E> {
         ensures fits { E.laid mem.new ≡ E.layout self.new.executor }
         ensures member { member_of E.Executor self.new mem.new
             ≡ acts_all self.old.out.actions (member_of E.Executor self.old mem.old) }
-        ensures told { IsTold L.EventLog log.old log.new
+        ensures told { IsRecorded L.EventLog log.old log.new self.old.room self.new.room
             (meaning.told name moment.at self.old.out.lines) }
         ensures few { L.room log.old ≤ L.room log.new + length self.old.out.lines }
         ensures empty { IsEmpty self.new.out }
@@ -41,6 +41,7 @@ impl<E: Executor> Partition<E> {
         }
         act_all(&mut self.kernel, &mut self.executor, mem, &self.out);
         tell(name, moment, &self.out, log);
+        self.room = self.room.saturating_sub(self.out.line_count());
         self.out.clear();
     }
 
@@ -95,7 +96,8 @@ impl<E: Executor> Partition<E> {
             (member_of E.Executor self.old mem.old).world.kernel).clears }
         ensures moved { let x = member_of E.Executor self.old mem.old in
             IsMoved (meaning.treating_phase x.engine moment.at x.world) x
-            (member_of E.Executor self.new mem.new) (IsTold L.EventLog log.old log.new) }
+            (member_of E.Executor self.new mem.new)
+            (IsRecorded L.EventLog log.old log.new self.old.room self.new.room) }
         ensures few { L.room log.old ≤ L.room log.new + LINES_TO_TREAT_DUE }
     {
         let name = self.kernel.name();
@@ -119,7 +121,8 @@ impl<E: Executor> Partition<E> {
         ensures idle { IsEmpty self.new.out }
         ensures moved { let x = member_of E.Executor self.old mem.old in
             IsMoved (meaning.clearing_phase x.engine moment.at clears x.world) x
-            (member_of E.Executor self.new mem.new) (IsTold L.EventLog log.old log.new) }
+            (member_of E.Executor self.new mem.new)
+            (IsRecorded L.EventLog log.old log.new self.old.room self.new.room) }
         ensures few { L.room log.old ≤ L.room log.new + LINES_TO_CLEAR }
     {
         if clears.is_some() {
@@ -138,7 +141,8 @@ impl<E: Executor> Partition<E> {
         ensures idle { IsEmpty self.new.out }
         ensures moved { let x = member_of E.Executor self.old mem.old in
             IsMoved (meaning.due_phase x.engine moment.at x.world) x
-            (member_of E.Executor self.new mem.new) (IsTold L.EventLog log.old log.new) }
+            (member_of E.Executor self.new mem.new)
+            (IsRecorded L.EventLog log.old log.new self.old.room self.new.room) }
         ensures few { L.room log.old ≤ L.room log.new + LINES_FOR_DUE }
     {
         let clears = self.treat(mem, moment, log);
@@ -154,7 +158,8 @@ impl<E: Executor> Partition<E> {
         ensures idle { IsEmpty self.new.out }
         ensures moved { let x = member_of E.Executor self.old mem.old in
             IsMoved (meaning.choice_phase x.engine moment.at x.world) x
-            (member_of E.Executor self.new mem.new) (IsTold L.EventLog log.old log.new) }
+            (member_of E.Executor self.new mem.new)
+            (IsRecorded L.EventLog log.old log.new self.old.room self.new.room) }
         ensures few { L.room log.old ≤ L.room log.new + LINES_TO_CHOOSE }
     {
         let name = self.kernel.name();
@@ -163,7 +168,7 @@ impl<E: Executor> Partition<E> {
     }
 
     /// Treats what is due, then chooses the runner.
-    fn prepare<L: EventLog>(&mut self, mem: &mut E::Mem, moment: Moment, log: &mut L)
+    pub(crate) fn prepare<L: EventLog>(&mut self, mem: &mut E::Mem, moment: Moment, log: &mut L)
         requires fits { E.laid mem.old ≡ E.layout self.old.executor }
         requires idle { IsEmpty self.old.out }
         requires room { LINES_TO_PREPARE ≤ L.room log.old }
@@ -171,7 +176,8 @@ impl<E: Executor> Partition<E> {
         ensures idle { IsEmpty self.new.out }
         ensures moved { let x = member_of E.Executor self.old mem.old in
             IsMoved (meaning.prepares x.engine moment.at x.world) x
-            (member_of E.Executor self.new mem.new) (IsTold L.EventLog log.old log.new) }
+            (member_of E.Executor self.new mem.new)
+            (IsRecorded L.EventLog log.old log.new self.old.room self.new.room) }
         ensures few { L.room log.old ≤ L.room log.new + LINES_TO_PREPARE }
     {
         self.treat_due(mem, moment, log);
@@ -224,20 +230,6 @@ impl<E: Executor> Partition<E> {
             (IsTold L.EventLog log.old log.new) }
     {
         self.out.clear();
-        self.whole_tick(mem, moment, log);
-    }
-
-    /// The same, if no line or action of a phase remains to be done.
-    pub(crate) fn whole_tick<L: EventLog>(&mut self, mem: &mut E::Mem, moment: Moment, log: &mut L)
-        requires fits { E.laid mem.old ≡ E.layout self.old.executor }
-        requires idle { IsEmpty self.old.out }
-        requires room { LINES_FOR_TICK ≤ L.room log.old }
-        ensures fits { E.laid mem.new ≡ E.layout self.new.executor }
-        ensures idle { IsEmpty self.new.out }
-        ensures moved { let x = member_of E.Executor self.old mem.old in
-            IsMoved (meaning.advances moment.at x) x (member_of E.Executor self.new mem.new)
-            (IsTold L.EventLog log.old log.new) }
-    {
         self.prepare(mem, moment, log);
         self.spend_chosen(mem, moment, log);
     }
