@@ -26,4 +26,4 @@ both_recorded g x y z m rest old mid new before between after more first second 
     let both = both_phases g x y z m rest old mid new more (first.0, first.1.0) (second.0, second.1.0) in
     let same : length (rest y).lines ≡ length n.lines = ap (λ (v : Member _). length (rest v).lines) first.0 in
     let whole : length (m.lines ++ n.lines) ≡ length m.lines + length n.lines = length-append m.lines n.lines in
-    (both.0, both.1, omega (arith, first.1.1, second.1.1, same, whole), omega (arith, first.1.2, second.1.2, same, whole))
+    (both.0, (both.1, omega (arith, first.1.1, second.1.1, same, whole), omega (arith, first.1.2, second.1.2, same, whole)))

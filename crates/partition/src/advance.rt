@@ -39,6 +39,7 @@ impl<E: Executor> Partition<E> {
             result.ticks ≡ (burst_of x.engine k runner x.world).ticks }
         ensures within { result.ticks ≤ k }
         ensures some { 0 < result.ticks }
+        ensures room { self.new.room ≡ self.old.room }
     {
         self.executor.advance(mem, runner, k)
     }

@@ -25,5 +25,6 @@ returns-clause-treated g c =
     ∙ ap (λ k. settled k (with_world x v)) c.from.ensures
     ∙ ap (λ a. moved (tick_from o (t + (ticks - 1))) x.engine (treats_asked (tick_from o (t + (ticks - 1))) x.world.kernel p a (given a b.words)) v) c.run_for-burst.ensures.told in (
       done.0 ∙ ap (λ (z : Member _). with_world z (settled c.from.result r).world) world ∙ ap (λ (m : Moved _). with_world x m.world) same,
-      subst (λ (m : Moved _). IsRecorded g.L.EventLog c.args.log.now c.settle.new.log c.args.self.now.room c.settle.new.self.room m.lines) same done.1,
+      subst (λ (m : Moved _). IsRecorded g.L.EventLog c.args.log.now c.settle.new.log c.args.self.now.room c.settle.new.self.room m.lines) same
+          (subst (λ room. IsRecorded g.L.EventLog c.args.log.now c.settle.new.log room c.settle.new.self.room (settled c.from.result r).lines) c.run_for-burst.ensures.room done.1),
     )
