@@ -13,11 +13,12 @@ use Rattle.machine_meaning.specs.Image.{Item, Image}
 use Rattle.machine_meaning.specs.ImageReading.{Fault, Limit, fields_at, keeps_table_rules}
 use Rattle.module_meaning.specs.ImageRules.{has_wrong_window, keeps_rules}
 use Rattle.kernel_meaning.specs.Windows.{Schedule}
-use Rattle.kernel_meaning.specs.WindowFacts.{BeginWithin}
 use Rattle.machine_meaning.specs.ImageLimits.{EachBeside, IsItem, IsWithinLimits}
 use Rattle.machine_laws.proofs.ImageLaws.{fields_reads}
 use Rattle.machine_laws.proofs.VersionLimits.{limits_narrow}
-use Rattle.machine_laws.proofs.Releases.{windows_begin_within}
+use Rattle.machine_laws.proofs.Releases.{windows_in_order}
+use Rattle.window_table.specs.Orders.{AreApart}
+use Rattle.window_table.proofs.Apart.{apart}
 use Rattle.window_table.specs.declared.table.ChannelRow.{ChannelRow}
 use Rattle.window_table.specs.Views.{partition_view}
 use Rattle.image.specs.declared.item.PartitionItem.{PartitionItem}
@@ -50,9 +51,9 @@ read_limits bytes rest f fits e = (fields_reads.takes bytes (fields_of f, rest) 
 
 -- ---- the rules, judged of the fields as the code holds them
 
-pub windows_begin : (f : Fields) (count : ℕ) (ws : List WindowRow) (wrong : Bool) → IsWithinLimits (fields_of f) → ws ≡ f.windows.items → wrong ≡ has_wrong_window (record { frame = f.frame; windows = ws }) count → wrong ≡ false → BeginWithin f.frame f.windows.items
-windows_begin f count ws wrong h same e none =
-    windows_begin_within f.frame count f.windows.items h.windows (ap (λ (xs : List WindowRow). has_wrong_window (record { frame = f.frame; windows = xs }) count) (sym same) ∙ sym e ∙ none)
+pub windows_apart : (f : Fields) (count : ℕ) (ws : List WindowRow) (wrong : Bool) → IsWithinLimits (fields_of f) → ws ≡ f.windows.items → wrong ≡ has_wrong_window (record { frame = f.frame; windows = ws }) count → wrong ≡ false → AreApart f.frame f.windows.items
+windows_apart f count ws wrong h same e none =
+    apart f.frame f.windows.items (windows_in_order f.frame count f.windows.items h.windows (ap (λ (xs : List WindowRow). has_wrong_window (record { frame = f.frame; windows = xs }) count) (sym same) ∙ sym e ∙ none))
 
 pub kept_is : (f : Fields) (kept : Bool) (its : List PartitionItem) (rows : List ChannelRow) → its ≡ f.partitions.items → rows ≡ f.channels.items → kept ≡ keeps_rules (record { frame = f.frame; windows = f.windows.items }) (rows_of its) (channels_of rows) → keeps_table_rules (fields_of f) ≡ kept
 kept_is f kept its rows i r e =

@@ -19,7 +19,7 @@ use Rattle.kernel_meaning.specs.Kernel.{Kernel, Fixed}
 use Rattle.kernel_meaning.specs.PartitionServices.{next_release_of}
 use Rattle.module_meaning.specs.Table.{fixed_of}
 use Rattle.kernel_meaning.specs.Windows.{Schedule, schedule_of_partition, releases, has_release, until_start, until_one_of, next_release}
-use Rattle.kernel_meaning.specs.WindowFacts.{HasOneOwner, HasOneEnd, IsNextRelease, BeginWithin}
+use Rattle.kernel_meaning.specs.WindowFacts.{HasOneOwner, HasOneEnd, IsNextRelease}
 use Rattle.machine_laws.proofs.AcceptedTable.{accepted_table, last_of, table_in_order}
 use Rattle.kernel_laws.proofs.NextRelease.{is_next_release}
 use Rattle.kernel_laws.proofs.WindowOrder.{AreInOrder, begin_within, one_owner, one_end}
@@ -58,8 +58,8 @@ in_order frame count low before (w ∷ ws) each none e =
     (subst (λ (n : ℕ). n ≤ w.offset) e each.0.after, each.0.length.least, ltb-false frame (w.offset + w.length) ends.1, in_order frame count (w.offset + w.length) (before ++ w ∷ []) ws each.1 parts.1 (last_of before w))
 
 -- the windows of an image whose fields are within their limits, if none is wrong
-pub windows_begin_within : (frame count : ℕ) (ws : List WindowRow) → EachBeside IsWindow [] ws → list_any (is_wrong_window frame count) ws ≡ false → BeginWithin frame ws
-windows_begin_within frame count ws each none = begin_within frame 0 ws (in_order frame count 0 [] ws each none refl)
+pub windows_in_order : (frame count : ℕ) (ws : List WindowRow) → EachBeside IsWindow [] ws → list_any (is_wrong_window frame count) ws ≡ false → AreInOrder frame 0 ws
+windows_in_order frame count ws each none = in_order frame count 0 [] ws each none refl
 
 kept_rows : (a b c d e f : Bool) → (not a && not b && not c && not d && not e && not f) ≡ true → (a ≡ false) × (d ≡ false)
 kept_rows a b c d e f h =

@@ -1,5 +1,5 @@
 -- Many ticks of the module at once, between two standings.
-use Rattle.std.proofs.Common.{◌≡◌, ◌⊎◌, inl, inr, ℕ, zero, suc, ◌+◌, ◌-◌, ◌<◌, ◌≤◌, List, [], ◌∷◌, ◌++◌, length, Option, Some, None, refl, sym, ap, subst, ◌∙◌, arith}
+use Rattle.std.proofs.Common.{◌≡◌, ◌⊎◌, inl, inr, ℕ, zero, suc, ◌+◌, ◌-◌, ◌<◌, ◌≤◌, Bool, true, false, cond, List, [], ◌∷◌, ◌++◌, length, Option, Some, None, refl, sym, ap, subst, ◌∙◌, nat_le, arith}
 use Rattle.std.specs.Prelude.{slice_get, slice_set, option_map}
 use Rattle.std.proofs.lemmas.Option.{none-some, same_Some}
 use Rattle.apex_types.specs.Line.{text_of}
@@ -10,22 +10,23 @@ use Rattle.apex_types.specs.declared.event.Event.{Event}
 use Rattle.apex_types.specs.declared.identity.At.{At}
 use Rattle.apex_types.specs.declared.limits.TheConstants.{MOST_EVENTS}
 use Rattle.kernel_meaning.specs.Kernel.{Kernel}
-use Rattle.module_meaning.specs.Module.{Plan, trace_from}
-use Rattle.kernel_meaning.specs.Partition.{Member, World, with_world}
+use Rattle.module_meaning.specs.Module.{Plan}
+use Rattle.kernel_meaning.specs.Partition.{Member, Moved, World, tick, with_world}
 use Rattle.kernel_meaning.specs.Windows.{Schedule, at_tick, tick_from, owner, ended}
+use Rattle.engine_meaning.specs.Engine.{Engine}
 use Rattle.kernel_laws.specs.Bursts.{Burst}
-use Rattle.partition.specs.Gathering.{ticks_within}
+use Rattle.partition.specs.Gathering.{joined, no_ticks, ticks_within}
 use Rattle.partition.specs.Members.{HasAdvanced}
+use Rattle.partition.specs.declared.rooms.TheConstants.{LINES_FOR_TICK}
+use Rattle.partition.proofs.Gathering.{some_ticks}
 use Rattle.kernel_laws.specs.Quiet.{IsStill, AreStill, HaveNoLines}
 use Rattle.kernel_laws.proofs.Quiet.{jump}
-use Rattle.kernel_laws.proofs.Pieces.{IsAlone, HasNobody, empty_piece}
 use Rattle.lone_partition.proofs.Outputs.{nothing_sent}
 use Rattle.lone_partition.specs.Sent.{Sent}
-use Rattle.module.specs.Pieces.{LeadsTo, HasPassedSome, HasSkippedSome, HasRun, IsBrokenOff, HasMoved, HasMovedWritten}
+use Rattle.module.specs.Pieces.{LeadsTo, HasPassedSome, HasSkippedSome, HasRun, IsBrokenOff, HasMoved, ticks_by}
 use Rattle.module.specs.Standing.{Standing, lines_of}
 use Rattle.module.specs.Written.{AreFrom}
 use Rattle.module.proofs.DeviceLines.{none_before}
-use Rattle.module.proofs.Gathered.{piece}
 use Rattle.module.proofs.Standing.{later_is}
 use Rattle.module.proofs.Texts.{text_append}
 
@@ -55,58 +56,49 @@ leads_still plan lines n now origin ms begun order still m =
     ∙ jump plan lines origin now (now + n) ms still n m now (omega arith) (omega arith) (no_lines now (now + n) lines order)
     ∙ sym (later_is plan lines m (now + n) ms (Some origin) (omega (arith, begun)))
 
-pub leads_empty : {C : Type 0} (plan : Plan) (lines : List DeviceLine) (n now origin : ℕ) (ms : List (Member C)) → 0 < now → AreFrom (now + n) lines
-    → ((i : ℕ) → i < n → owner plan.schedule (tick_from origin (now + i)) ≡ None) → ((i : ℕ) → i < n → ended plan.schedule (tick_from origin (now + i)) ≡ None)
-    → LeadsTo plan lines n (standing_at ms now origin) [] (standing_at ms (now + n) origin)
-leads_empty plan lines n now origin ms begun order owned over m =
-    let nobody : (i : ℕ) → i < n → HasNobody plan lines origin (now + i) = λ i below.
-    record { lines = none_before (now + i) (now + n) lines (omega (arith, below)) order; ended = over i below; owner = owned i below } in
-    later_is plan lines (n + m) now ms (Some origin) begun
-    ∙ empty_piece plan lines origin n m now ms nobody
-    ∙ sym (later_is plan lines m (now + n) ms (Some origin) (omega (arith, begun)))
+-- ---- ticks of a partition
 
--- ---- a piece of a window
+abbrev burst_moved : {C : Type 0} → Burst (World C) ℕ (List Event) → Moved C
+burst_moved b = record { world = b.control; lines = b.told }
 
-moved_leads : {C : Type 0} (plan : Plan) (lines : List DeviceLine) (k n now origin place : ℕ) (ms next : List (Member C)) (told : List Event) (o : Option (Member C)) → slice_get ms place ≡ o
-    → 0 < now → ((i : ℕ) → i < k → IsAlone plan lines origin place (now + i)) → HasMoved (tick_from origin now) k place ms o next told n
-    → LeadsTo plan lines n (standing_at ms now origin) told (standing_at next (now + n) origin)
-moved_leads plan lines k n now origin place ms next told None e begun lone h m =
-    let count : n + m ≡ m = let none : n ≡ 0 = h.2 in omega (arith, none) in
-    let here : now ≡ now + n = let none : n ≡ 0 = h.2 in omega (arith, none) in
-    ap (λ j. lines_of plan lines j (standing_at ms now origin)) count
-    ∙ ap (λ ls. lines_of plan lines m (standing_at ls now origin)) (sym h.0)
-    ∙ ap (λ u. lines_of plan lines m (standing_at next u origin)) here
-    ∙ ap (λ (es : List Event). es ++ lines_of plan lines m (standing_at next (now + n) origin)) (sym h.1)
-moved_leads plan lines k n now origin place ms next told (Some x) e begun lone h m =
-    let b = ticks_within x.engine origin MOST_EVENTS k x.world now in
-    let after = slice_set ms place (with_world x b.control) in
-    let count : b.ticks ≡ n = ap (λ (b : Burst (World _) ℕ (List Event)). b.ticks) h.1 in
-    let until : b.words ≡ now + n = ap (λ (b : Burst (World _) ℕ (List Event)). b.words) h.1 in
-    let tells : b.told ≡ told = ap (λ (b : Burst (World _) ℕ (List Event)). b.told) h.1 in
-    later_is plan lines (n + m) now ms (Some origin) begun
-    ∙ ap (λ j. trace_from plan lines (j + m) (Some (tick_from origin now)) ms) (sym count)
-    ∙ piece plan lines origin place MOST_EVENTS k m now ms x lone e
-    ∙ ap (λ (es : List Event). es ++ trace_from plan lines m (Some (tick_from origin b.words)) after) tells
-    ∙ ap (λ u. told ++ trace_from plan lines m (Some (tick_from origin u)) after) until
-    ∙ ap (λ ls. told ++ trace_from plan lines m (Some (tick_from origin (now + n))) ls) (sym h.0)
-    ∙ ap (λ (es : List Event). told ++ es) (sym (later_is plan lines m (now + n) next (Some origin) (omega (arith, begun))))
+-- the ticks that were made, one after another
+abbrev AreTicks : {C : Type 0} → Engine C → (origin t : ℕ) → World C → Burst (World C) ℕ (List Event) → Type 0
+AreTicks e origin t w b = ticks_by e origin b.ticks w t ≡ burst_moved b
 
-pub leads_moved : {C : Type 0} (plan : Plan) (lines : List DeviceLine) (k n now origin place : ℕ) (ms next : List (Member C)) (told : List Event) → 0 < now → AreFrom (now + k) lines
-    → ((i : ℕ) → i < k → owner plan.schedule (tick_from origin (now + i)) ≡ Some (suc place)) → ((i : ℕ) → i < k → ended plan.schedule (tick_from origin (now + i)) ≡ None)
-    → HasMoved (tick_from origin now) k place ms (slice_get ms place) next told n
-    → LeadsTo plan lines n (standing_at ms now origin) told (standing_at next (now + n) origin)
-leads_moved plan lines k n now origin place ms next told begun order owned over h =
-    let lone : (i : ℕ) → i < k → IsAlone plan lines origin place (now + i) = λ i below.
-    record { lines = none_before (now + i) (now + k) lines (omega (arith, below)) order; ended = over i below; owner = owned i below } in
-    moved_leads plan lines k n now origin place ms next told (slice_get ms place) refl begun lone h
+burst_is_ticks : {C : Type 0} (e : Engine C) (origin room n t : ℕ) (w : World C) → AreTicks e origin t w (ticks_within e origin room n w t)
+burst_is_ticks e origin room zero t w = refl
+burst_is_ticks e origin room (suc n) t w =
+    let k = tick e (tick_from origin t) w in
+    let b = ticks_within e origin (room - length k.lines) n k.world (t + 1) in
+    let one_more : 1 + b.ticks ≡ suc b.ticks = omega arith in
+    let rest : AreTicks e origin (t + 1) k.world b = burst_is_ticks e origin (room - length k.lines) n (t + 1) k.world in
+    let step : (q : Bool) → AreTicks e origin t w (cond q (joined k.lines 1 b) (no_ticks w t)) =
+    λ q. elim q as (λ q. AreTicks e origin t w (cond q (joined k.lines 1 b) (no_ticks w t))) [
+      | true ↦ ap (λ j. ticks_by e origin j w t) one_more ∙ ap (λ (m : Moved _). record { world = m.world; lines = k.lines ++ m.lines }) rest
+      | false ↦ refl
+    ] in
+    step (nat_le LINES_FOR_TICK room)
+
+-- at least one tick is made
+pub advances_some : {C : Type 0} (at : At) (k n : ℕ) (x y : Member C) (told : List Event) → 0 < k → HasAdvanced at k x y told n → 0 < n
+advances_some at k n x y told some h =
+    let count : (ticks_within x.engine at.origin.0 MOST_EVENTS k x.world at.now.0).ticks ≡ n = ap (λ (b : Burst (World _) ℕ (List Event)). b.ticks) h.1 in
+    let room : LINES_FOR_TICK ≤ MOST_EVENTS = omega arith in
+    subst (λ m. 0 < m) count (some_ticks x.engine at.origin.0 MOST_EVENTS at.now.0 k x.world room some)
 
 -- the result of a partition's ticks, among the others
 pub has_moved : {C : Type 0} (at : At) (k place n : ℕ) (ms : List (Member C)) (x y : Member C) (next : List (Member C)) (told : List Event) → next ≡ slice_set ms place y
-    → HasAdvanced at k x y told n → HasMoved at k place ms (Some x) next told n
+    → HasAdvanced at k x y told n → HasMoved at n place ms (Some x) next told
 has_moved at k place n ms x y next told same h =
-    let control : (ticks_within x.engine at.origin.0 MOST_EVENTS k x.world at.now.0).control ≡ y.world = ap (λ (b : Burst (World _) ℕ (List Event)). b.control) h.1 in (
-      same ∙ ap (λ (z : Member _). slice_set ms place z) (h.0 ∙ ap (λ (w : World _). with_world x w) (sym control)),
-      h.1 ∙ ap (λ (w : World _). record { control = w; words = at.now.0 + n; told = told; ticks = n }) (sym control),
+    let b = ticks_within x.engine at.origin.0 MOST_EVENTS k x.world at.now.0 in
+    let count : b.ticks ≡ n = ap (λ (b : Burst (World _) ℕ (List Event)). b.ticks) h.1 in
+    let control : b.control ≡ y.world = ap (λ (b : Burst (World _) ℕ (List Event)). b.control) h.1 in
+    let tells : b.told ≡ told = ap (λ (b : Burst (World _) ℕ (List Event)). b.told) h.1 in
+    let made : ticks_by x.engine at.origin.0 n x.world at.now.0 ≡ burst_moved b = ap (λ j. ticks_by x.engine at.origin.0 j x.world at.now.0) (sym count) ∙ burst_is_ticks x.engine at.origin.0 MOST_EVENTS k at.now.0 x.world in
+    let world = ap (λ (m : Moved _). m.world) made ∙ control in
+    let lines = ap (λ (m : Moved _). m.lines) made ∙ tells in (
+      same ∙ ap (λ (z : Member _). slice_set ms place z) (h.0 ∙ ap (λ (w : World _). with_world x w) (sym world)),
+      sym lines,
     )
 
 -- ---- still partitions
@@ -175,7 +167,7 @@ run_nothing plan lines k s sent =
     let same : s.now ≡ s.now + 0 = omega arith in
     (none, same, record { told = []; leads = leads_nowhere plan lines s; sent = nothing_sent sent })
 
-lift : {C : Type 0} (plan : Plan) (lines : List DeviceLine) (n t origin : ℕ) (s : Standing C) (told : List Event) (ms : List (Member C)) → t ≡ s.now → s.origin ≡ Some origin
+pub lift : {C : Type 0} (plan : Plan) (lines : List DeviceLine) (n t origin : ℕ) (s : Standing C) (told : List Event) (ms : List (Member C)) → t ≡ s.now → s.origin ≡ Some origin
     → LeadsTo plan lines n (standing_at s.members t origin) told (standing_at ms (t + n) origin) → LeadsTo plan lines n s told (record { members = ms; now = s.now + n; origin = s.origin })
 lift plan lines n t origin s told ms here from h =
     subst (λ (o : Option ℕ). LeadsTo plan lines n (record { members = s.members; now = s.now; origin = o }) told (record { members = ms; now = s.now + n; origin = o })) (sym from)
@@ -200,22 +192,6 @@ pub skip_ticks : {C : Type 0} (plan : Plan) (lines : List DeviceLine) (k n t ori
 skip_ticks plan lines k n t origin s here from few begun order still =
     (few, refl, lift plan lines n t origin s [] s.members here from (leads_still plan lines n t origin s.members begun order still))
 
-pub run_empty : {C : Type 0} (plan : Plan) (lines : List DeviceLine) (k t origin : ℕ) (s : Standing C) (sent : Sent) → t ≡ s.now → s.origin ≡ Some origin
-    → 0 < t → AreFrom (t + k) lines
-    → ((i : ℕ) → i < k → owner plan.schedule (tick_from origin (t + i)) ≡ None) → ((i : ℕ) → i < k → ended plan.schedule (tick_from origin (t + i)) ≡ None)
-    → HasPassedSome plan lines k s (record { members = s.members; now = s.now + k; origin = s.origin }) sent sent k
-run_empty plan lines k t origin s sent here from begun order owned over =
-    let all : k ≤ k = omega arith in
-    (all, refl, record { told = []; leads = lift plan lines k t origin s [] s.members here from (leads_empty plan lines k t origin s.members begun order owned over); sent = nothing_sent sent })
-
-pub run_piece : {C : Type 0} {old new : Sent} (plan : Plan) (lines : List DeviceLine) (k n t origin place : ℕ) (s : Standing C) (ms : List (Member C)) → t ≡ s.now → s.origin ≡ Some origin
-    → 0 < t → AreFrom (t + k) lines
-    → ((i : ℕ) → i < k → owner plan.schedule (tick_from origin (t + i)) ≡ Some (suc place)) → ((i : ℕ) → i < k → ended plan.schedule (tick_from origin (t + i)) ≡ None)
-    → HasMovedWritten (tick_from origin t) k place s.members (slice_get s.members place) ms old new n
-    → HasPassedSome plan lines k s (record { members = ms; now = s.now + n; origin = s.origin }) old new n
-run_piece plan lines k n t origin place s ms here from begun order owned over (within, told, moved, sent) =
-    (within, refl, record { told = told; leads = lift plan lines n t origin s told ms here from (leads_moved plan lines k n t origin place s.members ms told begun order owned over moved); sent = sent })
-
 -- some of fewer ticks are some of more
 pub run_fewer : {C : Type 0} (old new : Sent) (plan : Plan) (lines : List DeviceLine) (m k n : ℕ) (s next : Standing C) → m ≤ k → HasPassedSome plan lines m s next old new n → HasPassedSome plan lines k s next old new n
 run_fewer old new plan lines m k n s next few h = let all : n ≤ k = let within : n ≤ m = h.0 in omega (arith, within, few) in (all, h.1, h.2)
@@ -232,7 +208,6 @@ pub owner_kept : (s : Schedule) (at : At) (o : Option ℕ) (count change : ℕ) 
     → (i : ℕ) → i < count → owner s (tick_from at.origin.0 (at.now.0 + i)) ≡ o
 owner_kept s at o count change few is h i below = h i (omega (arith, few, below)) ∙ is
 
-pub none_ended : (s : Schedule) (at : At) (count change : ℕ) → count ≤ change → ended s at ≡ None → ((i : ℕ) → 0 < i → i < change → ended s (at_tick at (at.now.0 + i)) ≡ None)
-    → (i : ℕ) → i < count → ended s (tick_from at.origin.0 (at.now.0 + i)) ≡ None
-none_ended s at count change few is h zero below = let same : at.now.0 + 0 ≡ at.now.0 = omega arith in ap (λ t. ended s (tick_from at.origin.0 t)) same ∙ is
-none_ended s at count change few is h (suc i) below = h (suc i) (omega arith) (omega (arith, few, below))
+pub none_ended : (s : Schedule) (at : At) (count change : ℕ) → count ≤ change → ((i : ℕ) → 0 < i → i < change → ended s (at_tick at (at.now.0 + i)) ≡ None)
+    → (i : ℕ) → 0 < i → i < count → ended s (tick_from at.origin.0 (at.now.0 + i)) ≡ None
+none_ended s at count change few h i some below = h i some (omega (arith, few, below))

@@ -5,7 +5,8 @@ pub mod Collecting
 pub mod Costed
 pub mod DeviceLines
 pub mod Devices
-pub mod Gathered
+pub mod Edges
+pub mod Sources
 pub mod Headline
 pub mod Isolated
 pub mod Loaded

@@ -1,15 +1,15 @@
 -- Many ticks of the module at once.
-use Rattle.std.specs.Prelude.{◌≡◌, ◌≤◌, ℕ, ◌+◌, List, [], ◌++◌, Option, Some, None, slice_set}
+use Rattle.std.specs.Prelude.{◌≡◌, ◌⊎◌, ◌≤◌, ◌<◌, ℕ, zero, suc, ◌+◌, List, [], ◌++◌, Option, Some, None, slice_get, slice_set}
 use Rattle.std.specs.Io.KnownBytes.{Appends}
 use Rattle.apex_types.specs.Line.{text_of}
 use Rattle.apex_types.specs.Line.{TakesBeginning}
 use Rattle.apex_types.specs.declared.device.DeviceLine.{DeviceLine}
 use Rattle.apex_types.specs.declared.event.Event.{Event}
 use Rattle.apex_types.specs.declared.identity.At.{At}
-use Rattle.apex_types.specs.declared.limits.TheConstants.{MOST_EVENTS}
-use Rattle.module_meaning.specs.Module.{Plan}
-use Rattle.kernel_meaning.specs.Partition.{Member, with_world}
-use Rattle.partition.specs.Gathering.{ticks_within}
+use Rattle.engine_meaning.specs.Engine.{Engine}
+use Rattle.module_meaning.specs.Module.{Plan, ports_from, ticks_owner}
+use Rattle.kernel_meaning.specs.Partition.{Member, Moved, World, messages_to_move, tick, with_world}
+use Rattle.kernel_meaning.specs.Windows.{ended, owner, tick_from}
 use Rattle.lone_partition.specs.Sent.{Sent, HasSent}
 use Rattle.module.specs.Standing.{Standing, lines_of}
 
@@ -48,14 +48,63 @@ pub record IsBrokenOff {C : Type 0} (plan : Plan) (lines : List DeviceLine) (k :
   pub beginning : TakesBeginning old new (text_of told)
   pub failed : after ≡ before + 1
 
--- The partition at `place` made k ticks, or fewer, once their lines leave less room than a tick may
--- need; they are n, and wrote these lines.
-abbrev pub HasMoved : {C : Type 0} → At → ℕ → ℕ → List (Member C) → Option (Member C) → List (Member C) → List Event → ℕ → Type 0
-HasMoved at k place members None now told n = (now ≡ members) × (told ≡ []) × (n ≡ 0)
-HasMoved at k place members (Some x) now told n =
-    let b = ticks_within x.engine at.origin.0 MOST_EVENTS k x.world at.now.0 in
-    (now ≡ slice_set members place (with_world x b.control)) × (b ≡ record { control = b.control; words = at.now.0 + n; told = told; ticks = n })
+-- ---- the ticks of one partition
 
--- the same, and these lines were to be written
+-- n ticks of a partition from tick `t` on: the world after them, and their lines
+abbrev pub ticks_by : {C : Type 0} → Engine C → (origin : ℕ) → ℕ → World C → ℕ → Moved C
+ticks_by e origin zero w t = record { world = w; lines = [] }
+ticks_by e origin (suc n) w t =
+    let a = tick e (tick_from origin t) w in
+    let b = ticks_by e origin n a.world (t + 1) in
+    record { world = b.world; lines = a.lines ++ b.lines }
+
+-- The partition at `place` made n ticks, which wrote these lines.
+abbrev pub HasMoved : {C : Type 0} → At → ℕ → ℕ → List (Member C) → Option (Member C) → List (Member C) → List Event → Type 0
+HasMoved at n place members None now told = (now ≡ members) × (told ≡ []) × (n ≡ 0)
+HasMoved at n place members (Some x) now told =
+    let b = ticks_by x.engine at.origin.0 n x.world at.now.0 in
+    (now ≡ slice_set members place (with_world x b.world)) × (told ≡ b.lines)
+
+-- Of k ticks, the partition at `place` made n, and their lines were to be written.
 abbrev pub HasMovedWritten : {C : Type 0} → At → ℕ → ℕ → List (Member C) → Option (Member C) → List (Member C) → Sent → Sent → ℕ → Type 0
-HasMovedWritten at k place members o now old new n = (n ≤ k) × (told : List Event) × HasMoved at k place members o now told n × HasSent old new (text_of told)
+HasMovedWritten at k place members o now old new n = (n ≤ k) × (told : List Event) × HasMoved at n place members o now told × HasSent old new (text_of told)
+
+-- ---- edges at which nothing moves
+
+-- No port of the partition with this number is a source.
+abbrev pub HasNoSource : {C : Type 0} → List (Member C) → ℕ → Type 0
+HasNoSource members p = (place : ℕ) → messages_to_move (slice_get (ports_from members p) place) ≡ None
+
+-- No window ends at a tick, or one of the partition with this number, which has no source port.
+abbrev pub EndsQuietly : {C : Type 0} → Plan → (origin : ℕ) → List (Member C) → ℕ → ℕ → Type 0
+EndsQuietly plan origin members p t =
+    (ended plan.schedule (tick_from origin t) ≡ None)
+    ⊎ ((ended plan.schedule (tick_from origin t) ≡ Some p) × HasNoSource members p)
+
+-- ---- ticks whose messages have moved already
+
+-- after the tick of the owner
+abbrev pub behind_from : {C : Type 0} → Plan → List DeviceLine → ℕ → (now : ℕ) → List (Member C) → Option ℕ → List Event
+behind_from plan lines n now members None = []
+behind_from plan lines n now members (Some origin) =
+    let a = ticks_owner (tick_from origin now) members (owner plan.schedule (tick_from origin now)) in
+    a.lines ++ lines_of plan lines n (record { members = a.members; now = now + 1; origin = Some origin })
+
+-- the lines of n ticks without device lines in the first, whose messages have moved already
+abbrev pub lines_behind : {C : Type 0} → Plan → List DeviceLine → ℕ → Standing C → List Event
+lines_behind plan lines zero s = []
+lines_behind plan lines (suc n) s = behind_from plan lines n s.now s.members s.origin
+
+-- n such ticks write these lines and lead to this standing, whatever ticks follow.
+abbrev pub LeadsBehind : {C : Type 0} → Plan → List DeviceLine → ℕ → Standing C → List Event → Standing C → Type 0
+LeadsBehind plan lines n s told next = (m : ℕ) → lines_behind plan lines (n + m) s ≡ told ++ lines_of plan lines m next
+
+-- n such ticks were made, and their lines were to be written.
+pub record HasPassedBehind {C : Type 0} (plan : Plan) (lines : List DeviceLine) (n : ℕ) (s next : Standing C) (old new : Sent) : Type 0 where
+  pub told : List Event
+  pub leads : LeadsBehind plan lines n s told next
+  pub sent : HasSent old new (text_of told)
+
+-- Of k such ticks, n were made, at least one.
+abbrev pub HasPassedSomeBehind : {C : Type 0} → Plan → List DeviceLine → ℕ → Standing C → Standing C → Sent → Sent → ℕ → Type 0
+HasPassedSomeBehind plan lines k s next old new n = (0 < n) × (n ≤ k) × (next.now ≡ s.now + n) × HasPassedBehind plan lines n s next old new

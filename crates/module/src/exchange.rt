@@ -193,6 +193,7 @@ impl<E: Executor<Mem = PartitionMem>> Members<E> {
     }
 
     /// Moves the messages of the first `count` ports of a partition, in number order.
+    #[inline(never)]
     #[tactic(auto, using(crate::proofs::Written::nothing))]
     fn move_ports<S: Sink>(
         &mut self,
@@ -246,6 +247,8 @@ impl<E: Executor<Mem = PartitionMem>> Members<E> {
             return;
         };
         let count = self.port_count(partition);
-        self.move_ports(count, channels, moment, partition, output);
+        if count > 0 {
+            self.move_ports(count, channels, moment, partition, output);
+        }
     }
 }

@@ -34,6 +34,7 @@ impl Module<PartitionProcessor> {
             members: Members { partitions, memory },
             now: Ticks(0),
             origin: Some(Ticks(0)),
+            window: 0,
         })
     }
 }

@@ -32,6 +32,8 @@ pub struct Module<E: Executor<Mem = PartitionMem>> {
     pub now: Ticks,
     /// The tick from which the major frames count; `None` after a shutdown.
     pub origin: Option<Ticks>,
+    /// The place of the window of the last span in the table: a hint for the next one.
+    pub window: usize,
     ghost limit: { now.0 ≤ MOST_TICKS },
     ghost past: { origin_or_zero origin ≤ now.0 },
 }

@@ -1,8 +1,8 @@
 -- A number of ticks within the limits of a cost.
-use Rattle.std.proofs.Common.{◌≡◌, ℕ, zero, suc, ℤ, pos, negsuc, nat_abs, Bool, true, false, Option, Some, refl, sym, ap, ◌∙◌, arith}
+use Rattle.std.proofs.Common.{◌≡◌, zero, suc, ℤ, pos, negsuc, nat_abs, true, false, Option, Some, refl, sym, ap, ◌∙◌, arith}
 use Rattle.std.proofs.lemmas.Bool.{false≢true}
 use Rattle.std.proofs.lemmas.Bool.Decides.{nat_tests}
-use Rattle.std.specs.Prelude.{◌||◌, nat_le, unwrap_or}
+use Rattle.std.specs.Prelude.{unwrap_or}
 use Rattle.apex_types.specs.Costs.{cost_of_ticks, is_cost, ticks}
 use Rattle.apex_types.specs.declared.cost.TickCost.{TickCost}
 use Rattle.apex_types.proofs.TickCosts.{is_of_ticks}

@@ -6,7 +6,8 @@ pub mod PortNames
 pub mod Costs
 pub mod Reading
 pub mod Rules
-pub mod OwnWindows
+pub mod Apart
+pub mod Spans
 pub mod Changes
 pub mod Rows
 pub mod Whole

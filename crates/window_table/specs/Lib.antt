@@ -4,3 +4,5 @@ pub mod Keys
 pub mod Refusals
 pub mod Answers
 pub mod Edges
+pub mod Orders
+pub mod Spans

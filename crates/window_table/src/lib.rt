@@ -17,6 +17,7 @@ mod numbered;
 mod read;
 mod row;
 mod schedule;
+mod span;
 mod table;
 mod words;
 mod written;
@@ -29,6 +30,7 @@ pub use names::is_port_name;
 pub use read::read_table;
 pub use row::HasRow;
 pub use schedule::Schedule;
+pub use span::Span;
 pub use table::{ChannelRow, ModuleTable, PartitionRow};
 pub use written::{
     WrittenChannel, WrittenKind, WrittenPartition, WrittenPort, WrittenTable, WrittenWindow,

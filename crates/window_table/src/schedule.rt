@@ -2,20 +2,21 @@
 
 ghost use Rattle.std.specs.Prelude.{◌≡◌, ◌<◌, ◌==◌, ◌+◌, ◌%◌, min, IfOk, filter};
 ghost use Rattle.window_table.specs.Edges.{until_edge};
+ghost use Rattle.window_table.specs.Orders.{AreApart};
 ghost use Rattle.kernel_meaning.specs.Windows.{is_within, ends_at, releases};
-ghost use Rattle.kernel_meaning.specs.WindowFacts.{BeginWithin};
 
 use apex_types::{Moment, PartitionId, Ticks, WindowRow};
 use std::alloc::{AllocError, Global};
 
-/// The ticks of the major frame, and its windows in the order of the table. The frame is above 0,
-/// and each window begins within it.
+/// The ticks of the major frame, and its windows in the order of the table. The frame is above 0.
+/// Each window begins at or after the end of the one before it, is not empty, and ends within the
+/// frame.
 #[derive(Drop)]
 pub struct Schedule {
     pub frame: u32,
     pub windows: Vec<WindowRow>,
     ghost frame_there: { 0 < frame },
-    ghost begin_within: { BeginWithin frame windows.items },
+    ghost apart: { AreApart frame windows.items },
 }
 
 /// Returns true if a window holds a place of the frame.
@@ -122,7 +123,7 @@ impl Schedule {
     }
 
     /// The place in its frame of the tick that is `since` ticks after the origin.
-    fn phase(&self, since: u64) -> Ticks
+    pub(crate) fn phase(&self, since: u64) -> Ticks
         ensures place { result.0 ≡ since % self.now.frame }
         ensures within { result.0 < self.now.frame }
     {

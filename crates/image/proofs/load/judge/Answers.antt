@@ -1,12 +1,12 @@
 use Rattle.std.proofs.Common.{◌≡◌, Bool, true, false, rules, ◌∙◌}
 use Rattle.machine_meaning.specs.ImageReading.{keeps_table_rules}
 use Rattle.image.specs.Views.{fields_of}
-use Rattle.image.proofs.Limits.{windows_begin, periods_within, kept_is, refused}
+use Rattle.image.proofs.Limits.{windows_apart, periods_within, kept_is, refused}
 use Rattle.image.proofs.load.judge.Goals as goal
 
-pub invariant_of-schedule-clause-begin_within : goal.invariant_of-schedule-clause-begin_within
-invariant_of-schedule-clause-begin_within c =
-    windows_begin c.args.fields _ c.as_slice.result.now c.has_wrong_window.result c.requires c.as_slice.ensures.value c.has_wrong_window.ensures c.if-has_wrong_window.false
+pub invariant_of-schedule-clause-apart : goal.invariant_of-schedule-clause-apart
+invariant_of-schedule-clause-apart c =
+    windows_apart c.args.fields _ c.as_slice.result.now c.has_wrong_window.result c.requires c.as_slice.ensures.value c.has_wrong_window.ensures c.if-has_wrong_window.false
 
 pub keeps_rules-requires-clause-periods : goal.keeps_rules-requires-clause-periods
 keeps_rules-requires-clause-periods c = rw c.as_slice-2.ensures.value (periods_within c.args.fields c.requires)

@@ -1,13 +1,12 @@
-use Rattle.std.proofs.Common.{◌≡◌, ◌≤◌, ◌<◌, length, Option, Some, None, slice_get, slice_set, [], refl, sym, subst, arith, rules}
+use Rattle.std.proofs.Common.{◌≡◌, ◌<◌, length, Option, Some, slice_get, slice_set, sym, subst, arith, rules}
 use Rattle.std.proofs.lemmas.Option.{slice_get-get_or}
 use Rattle.kernel_meaning.specs.Partition.{Member}
-use Rattle.lone_partition.proofs.Outputs.{nothing_sent}
 use Rattle.lone_partition.specs.Outputs.{sent_of}
 use Rattle.partition.specs.Members.{member_of}
 use Rattle.module.specs.Members.{members_of}
 use Rattle.module.specs.Pieces.{HasMovedWritten}
-use Rattle.module.proofs.Members.{few_set, fit_at, fit_set, get_member, set_member, no_member, same_length}
-use Rattle.module.proofs.Bursts.{has_moved}
+use Rattle.module.proofs.Members.{few_set, fit_at, fit_set, get_member, set_member, same_length}
+use Rattle.module.proofs.Bursts.{advances_some, has_moved}
 use Rattle.module.proofs.member.Members.advance_at.Goals as goal
 
 pub lend-mem-requires : goal.lend-mem-requires
@@ -29,8 +28,8 @@ write_advance-requires-clause-fits g c =
     let here : slice_get ps place ≡ Some p = search (rules, slice_get-get_or) in
     fit_at e ps memory place p s c.args.self.now.fit here (rw c.number_at.ensures.place at c.lend-mem.ensures.lent)
 
-pub invariant_of-self-2 : goal.invariant_of-self-2
-invariant_of-self-2 g c = rw c.number_at.ensures.place (record { few = few_set c.args.self.now.partitions.items c.args.place c.write_advance.new.partition c.args.self.now.few; fit = fit_set g.E.Executor c.args.self.now.partitions.items c.args.self.now.memory c.args.place c.write_advance.new.partition c.write_advance.new.mem c.args.self.now.fit c.write_advance.ensures.fits })
+pub invariant_of-self : goal.invariant_of-self
+invariant_of-self g c = rw c.number_at.ensures.place (record { few = few_set c.args.self.now.partitions.items c.args.place c.write_advance.new.partition c.args.self.now.few; fit = fit_set g.E.Executor c.args.self.now.partitions.items c.args.self.now.memory c.args.place c.write_advance.new.partition c.write_advance.new.mem c.args.self.now.fit c.write_advance.ensures.fits })
 
 pub returns-clause-written : goal.returns-clause-written
 returns-clause-written g c =
@@ -53,14 +52,8 @@ returns-clause-written g c =
       told.3,
     ))
 
-pub returns-then-place-len-clause-written : goal.returns-then-place-len-clause-written
-returns-then-place-len-clause-written g c =
+pub returns-clause-some : goal.returns-clause-some
+returns-clause-some g c = λ more.
     let e = g.E.Executor in
-    let ps = c.args.self.now.partitions.items in
-    let memory = c.args.self.now.memory in
-    let place = c.args.place in
-    let members = members_of e ps memory in
-    let behind : length ps ≤ place = search rules in
-    let none : slice_get members place ≡ None = no_member e ps memory place behind in
-    let sent = sent_of g.S.Sink c.args.output.now in
-    subst (λ (o : Option (Member e.Control)). HasMovedWritten c.args.moment.at c.args.most place members o members sent sent 0) (sym none) (omega arith, [], (refl, refl, refl), nothing_sent sent)
+    let told = c.write_advance.ensures.written in
+    advances_some c.args.moment.at c.args.most c.write_advance.result (member_of e c.index_mut.result.now c.lend-mem.result.now) (member_of e c.write_advance.new.partition c.write_advance.new.mem) told.1 more told.2

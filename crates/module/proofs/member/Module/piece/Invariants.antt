@@ -1,18 +1,20 @@
-use Rattle.std.proofs.Common.{◌≡◌, ◌≤◌, ◌+◌, ◌-◌, List}
+use Rattle.std.proofs.Common.{◌≡◌, ◌<◌, ◌+◌, ◌-◌, List, length, suc}
 use Rattle.apex_types.specs.declared.device.DeviceLine.{DeviceLine}
 use Rattle.lone_partition.specs.Outputs.{sent_of}
-use Rattle.module.specs.Pieces.{HasPassed}
-use Rattle.module.specs.Views.{plan_of, standing_of}
+use Rattle.module.specs.Pieces.{HasNoSource, HasPassedBehind}
+use Rattle.module.specs.Views.{members_in, plan_of, standing_of}
 use Rattle.module.specs.Written.{AreFrom}
 use Rattle.module.proofs.member.Module.piece.Given as goal
 
 abbrev pub invariant-loop-left : goal.invariant-loop-left
 invariant-loop-left g l = record {
-  few : l.left ≤ l.fn.most;
+  fewer : l.left < l.fn.most;
+  there : l.place < length l.self.members.partitions.items;
   image : l.self.image ≡ l.fn.self.image;
   origin : l.self.origin ≡ l.fn.self.origin;
   now : l.self.now.0 ≡ l.fn.self.now.0 + (l.fn.most - l.left);
-  run : (lines : List DeviceLine) → AreFrom (l.fn.self.now.0 + l.fn.most) lines → HasPassed (plan_of l.fn.self.image) lines (l.fn.most - l.left) (standing_of g.E.Executor l.fn.self) (standing_of g.E.Executor l.self) (sent_of g.S.Sink l.fn.output) (sent_of g.S.Sink l.output);
+  kept : HasNoSource (members_in g.E.Executor l.fn.self.members) (suc l.place) → HasNoSource (members_in g.E.Executor l.self.members) (suc l.place);
+  run : (lines : List DeviceLine) → AreFrom (l.fn.self.now.0 + l.fn.most) lines → HasPassedBehind (plan_of l.fn.self.image) lines (l.fn.most - l.left) (standing_of g.E.Executor l.fn.self) (standing_of g.E.Executor l.self) (sent_of g.S.Sink l.fn.output) (sent_of g.S.Sink l.output);
 }
 
 abbrev pub decreases-loop-left : goal.decreases-loop-left

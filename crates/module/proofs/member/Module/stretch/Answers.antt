@@ -1,20 +1,19 @@
-use Rattle.std.proofs.Common.{◌≡◌, Some, refl, ap, sym, subst}
+use Rattle.std.proofs.Common.{List, ap, sym, subst}
+use Rattle.std.specs.Prelude.{slice_get}
+use Rattle.kernel_meaning.specs.Partition.{Member}
+use Rattle.kernel_meaning.specs.Windows.{tick_from}
 use Rattle.lone_partition.specs.Outputs.{sent_of}
-use Rattle.module.specs.Pieces.{HasPassedSome}
-use Rattle.module.specs.Standing.{Standing, ticks_in}
-use Rattle.module.specs.Views.{members_in, plan_of, standing_of}
-use Rattle.module.proofs.Bursts.{run_piece}
+use Rattle.module.specs.Pieces.{HasMovedWritten}
+use Rattle.module.specs.Standing.{Standing}
+use Rattle.module.specs.Views.{members_in}
 use Rattle.module.proofs.member.Module.stretch.Goals as goal
 
-pub returns-clause-run : goal.returns-clause-run
-returns-clause-run g c = λ lines order.
+pub returns-clause-moved : goal.returns-clause-moved
+returns-clause-moved g c =
     let e = g.E.Executor in
-    let s = standing_of e c.args.self.now in
-    let plan = plan_of c.args.self.now.image in
-    let n = c.advance_at-count.result in
-    let from : s.origin ≡ Some c.args.origin.0 = ap ticks_in c.requires.origin in
-    let ms = members_in e c.advance_at-count.new.self in
-    let old = sent_of g.S.Sink c.args.output.now in
-    let new = sent_of g.S.Sink c.advance_at-count.new.output in
-    subst (λ (next : Standing e.Control). HasPassedSome plan lines c.args.most s next old new n) (sym c.skip.ensures.standing)
-    (run_piece plan lines c.args.most n s.now c.args.origin.0 c.args.place s ms refl from c.requires.begun order c.requires.owner c.requires.ended c.advance_at-count.ensures.written)
+    let old = members_in e c.args.self.now.members in
+    subst (λ (ms : List (Member e.Control)). HasMovedWritten (tick_from c.args.origin.0 c.args.self.now.now.0) c.args.most c.args.place old (slice_get old c.args.place) ms (sent_of g.S.Sink c.args.output.now) (sent_of g.S.Sink c.advance_at-count.new.output) c.advance_at-count.result)
+    (sym (ap (λ (s : Standing e.Control). s.members) c.skip.ensures.standing)) c.advance_at-count.ensures.written
+
+pub returns-clause-now : goal.returns-clause-now
+returns-clause-now g c = ap (λ (s : Standing g.E.Executor.Control). s.now) c.skip.ensures.standing
