@@ -33,5 +33,5 @@ pub mod Fresh
 pub mod Law
 pub mod Until
 pub mod Quiet
-pub mod Pieces
+pub mod Sources
 pub mod Running

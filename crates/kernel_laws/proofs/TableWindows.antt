@@ -1,11 +1,10 @@
 -- The windows of an accepted module table are in order.
-use Rattle.std.proofs.Common.{◌≡◌, ℕ, ◌+◌, ◌-◌, ◌≤◌, ℤ, pos, negsuc, nat_abs, true, false, List, [], ◌∷◌, map, refl, subst}
+use Rattle.std.proofs.Common.{◌≡◌, ℕ, ◌+◌, ◌≤◌, ℤ, pos, negsuc, nat_abs, true, false, List, [], ◌∷◌, map, refl, subst}
 use Rattle.std.specs.Prelude.{◌||◌, ◌+ℤ◌, nat_lt, int_lt}
 use Rattle.std.specs.List.{list_any}
 use Rattle.std.proofs.lemmas.Bool.{ltb-false, or_parts}
 use Rattle.module_meaning.specs.TableRules.{PartitionText, WindowText, exceeds_window, window_row, overlaps_after}
-use Rattle.kernel_meaning.specs.WindowFacts.{BeginWithin}
-use Rattle.kernel_laws.proofs.WindowOrder.{AreInOrder, begin_within}
+use Rattle.kernel_laws.proofs.WindowOrder.{AreInOrder}
 
 -- the rules that a window keeps if it begins at or after an end and ends within the frame
 pub record WindowKeeps (frame end : ℕ) (offset size : ℤ) : Type 0 where
@@ -32,6 +31,3 @@ windows_in_order ps frame end (w ∷ ws) apart limits =
     let k = window_keeps frame end w.offset w.length l.0 b.0 b.1 in
     let next : overlaps_after (pos frame) (pos (nat_abs w.offset + nat_abs w.length)) ws ≡ false = subst (λ (z : ℤ). overlaps_after (pos frame) z ws ≡ false) k.next a.1 in
     (k.after, k.some, k.room, windows_in_order ps frame (nat_abs w.offset + nat_abs w.length) ws next l.1)
-
-pub windows_begin : (ps : List PartitionText) (frame end : ℕ) (ws : List WindowText) → overlaps_after (pos frame) (pos end) ws ≡ false → list_any exceeds_window ws ≡ false → BeginWithin frame (map (window_row ps) ws)
-windows_begin ps frame end ws apart limits = begin_within frame end (map (window_row ps) ws) (windows_in_order ps frame end ws apart limits)

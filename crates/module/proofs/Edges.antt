@@ -13,6 +13,7 @@ use Rattle.engine_meaning.specs.Engine.{Engine}
 use Rattle.kernel_meaning.specs.Objects.{Port, is_source}
 use Rattle.kernel_meaning.specs.Partition.{Member, World, advances, messages_to_move, tick, with_world}
 use Rattle.kernel_meaning.specs.Windows.{Schedule, tick_from, owner, ended}
+use Rattle.kernel_laws.proofs.Sources.{sources_of, tick_keeps}
 use Rattle.module_meaning.specs.Module.{Advanced, Course, Plan, goes_on, inputs_all, module_tick, moves_and_ticks, moves_ended, moves_ports, moves_so_many, of_member, of_tick, ports_from, ports_of, steps_member, still, then_goes, then_runs, ticks_owner}
 use Rattle.module_meaning.specs.Table.{Channel, at_number}
 use Rattle.lone_partition.proofs.Outputs.{lines_sent, nothing_sent}
@@ -22,7 +23,6 @@ use Rattle.module.specs.Standing.{Standing, lines_of, origin_of, ticks_in}
 use Rattle.module.specs.Written.{AreFrom, IsMade}
 use Rattle.module.proofs.Bursts.{from_lower, lift, standing_at}
 use Rattle.module.proofs.DeviceLines.{none_before, of_tick_again}
-use Rattle.module.proofs.Sources.{sources_of, tick_keeps}
 use Rattle.module.proofs.Standing.{begins_later}
 
 abbrev pub standing_by : {C : Type 0} → List (Member C) → ℕ → Option ℕ → Standing C

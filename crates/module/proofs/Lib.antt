@@ -6,7 +6,6 @@ pub mod Costed
 pub mod DeviceLines
 pub mod Devices
 pub mod Edges
-pub mod Sources
 pub mod Headline
 pub mod Isolated
 pub mod Loaded
