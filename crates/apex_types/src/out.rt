@@ -67,9 +67,9 @@ fn add(words: &mut Vec<i64>, message: &[i64]) -> Part
         from: words.len() as u32,
         count: message.len() as u32,
     };
-    // Most lines have no words.
-    if !message.is_empty() {
-        let _ = words.extend_from_slice(message);
+    // Most have no words or one.
+    for word in message {
+        words.push_reserved(*word);
     }
     part
 }
