@@ -7,6 +7,7 @@ use crate::due_list::DueList;
 use apex_types::{MOST_PROCESSES, ProcessIndex, Ticks};
 
 /// Sets the tick of a process, or removes it.
+#[inline(never)]
 pub fn set_timer(dues: &mut DueList, process: ProcessIndex, tick: Option<Ticks>)
     requires { process.0 < MOST_PROCESSES }
     ensures list { dues.new ≡ timer_set process tick dues.old }

@@ -18,7 +18,8 @@ use partition_base::Executor;
 use processor::Outcome;
 
 impl<E: Executor> Partition<E> {
-    /// Performs the actions of a step, and records its lines.
+    /// Performs the actions of a step, and records its lines. Most steps have none.
+    #[inline(always)]
     pub(crate) fn finish<L: EventLog>(
         &mut self,
         mem: &mut E::Mem,
@@ -36,11 +37,32 @@ impl<E: Executor> Partition<E> {
         ensures few { L.room log.old ≤ L.room log.new + length self.old.out.lines }
         ensures empty { IsEmpty self.new.out }
     {
-        if self.out.is_empty() {
-            return;
+        if !self.out.is_empty() {
+            self.finish_some(mem, &name, moment, log);
         }
+    }
+
+    /// Performs the actions of a step, and records its lines.
+    #[inline(never)]
+    fn finish_some<L: EventLog>(
+        &mut self,
+        mem: &mut E::Mem,
+        name: &Name,
+        moment: Moment,
+        log: &mut L,
+    )
+        requires fits { E.laid mem.old ≡ E.layout self.old.executor }
+        requires room { length self.old.out.lines ≤ L.room log.old }
+        ensures fits { E.laid mem.new ≡ E.layout self.new.executor }
+        ensures member { member_of E.Executor self.new mem.new
+            ≡ acts_all self.old.out.actions (member_of E.Executor self.old mem.old) }
+        ensures told { IsTold L.EventLog log.old log.new
+            (meaning.told name.now moment.at self.old.out.lines) }
+        ensures few { L.room log.old ≤ L.room log.new + length self.old.out.lines }
+        ensures empty { IsEmpty self.new.out }
+    {
         act_all(&mut self.kernel, &mut self.executor, mem, &self.out);
-        tell(name, moment, &self.out, log);
+        tell(*name, moment, &self.out, log);
         self.out.clear();
     }
 
