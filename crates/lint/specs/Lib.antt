@@ -13,3 +13,5 @@ pub mod Listed
 pub mod Sentences
 pub mod Pieces
 pub mod UsedNames
+pub mod Objects
+pub mod KindView

@@ -8,6 +8,7 @@ ghost use Rattle.lint.specs.Views.{call_of, calls_seen, found_all};
 
 use crate::calls::{Call, second_plain, value_of};
 use crate::finding::{Finding, FindingKind, add_if};
+use crate::kind_table::KindTable;
 use crate::names::text_of;
 use crate::port_rules::port_of_id;
 use crate::services::stored_kind;
@@ -15,10 +16,10 @@ use crate::uses::{Id, is_same_kind, name_in, subject_of};
 use apex_types::{ObjectKind, PortRow};
 use indexmap::IndexSet;
 use pal_base::syntax::{Declaration, DeclarationKind, NameId};
-use std::alloc::AllocError;
+use std::alloc::{AllocError, Global};
 
 /// The size of an array, as it is declared.
-fn size_in(kind: &DeclarationKind) -> Option<u64>
+pub fn size_in(kind: &DeclarationKind) -> Option<u64>
     ensures { (names : List (List ℕ)) → result ≡ meant.size_in (declared_of names kind.now) }
 {
     match kind {
@@ -34,7 +35,7 @@ fn size_in(kind: &DeclarationKind) -> Option<u64>
 }
 
 /// The words of a message of a buffer or a blackboard.
-fn words_in(kind: &DeclarationKind) -> Option<u64>
+pub fn words_in(kind: &DeclarationKind) -> Option<u64>
     ensures { (names : List (List ℕ)) → result ≡ meant.words_in (declared_of names kind.now) }
 {
     match kind {
@@ -49,27 +50,8 @@ fn words_in(kind: &DeclarationKind) -> Option<u64>
     }
 }
 
-/// The first declaration of a name.
-#[tactic(auto, using(std::proofs::lemmas::List::drop_more))]
-fn declared<'a>(
-    names: &IndexSet<String>,
-    name: &str,
-    declarations: &'a [Declaration],
-) -> Option<&'a DeclarationKind>
-    ensures { option_map (λ kind. declared_of (texts names.now.keys) kind.now) result
-        ≡ meant.declared name.now
-        (map (declaration_of (texts names.now.keys)) declarations.now) }
-{
-    for declaration in declarations {
-        if text_of(names, declaration.name.name) == name {
-            return Some(&declaration.kind);
-        }
-    }
-    None
-}
-
 /// Returns true if a declaration is of a buffer or a blackboard, whichever the kind is.
-fn is_of_kind(kind: ObjectKind, declaration: &DeclarationKind) -> bool
+pub fn is_of_kind(kind: ObjectKind, declaration: &DeclarationKind) -> bool
     ensures { (names : List (List ℕ))
         → result ≡ meant.is_of_kind kind (declared_of names declaration.now) }
 {
@@ -86,51 +68,27 @@ fn is_of_kind(kind: ObjectKind, declaration: &DeclarationKind) -> bool
 }
 
 /// How many are left to pass, if one more was passed.
-fn left_behind(is_one: bool, left: u64) -> u64
+pub fn left_behind(is_one: bool, left: u64) -> u64
     ensures { result ≡ (if is_one then left - 1 else left) }
 {
     if is_one { left.saturating_sub(1) } else { left }
 }
 
-/// The declaration of this kind with this number, from 1.
-#[tactic(auto, using(std::proofs::lemmas::List::drop_more))]
-fn declared_at<'a>(
+/// The words of a message of the object of this kind that an argument stands for.
+fn object_words(
     names: &IndexSet<String>,
-    kind: ObjectKind,
-    number: u64,
-    declarations: &'a [Declaration],
-) -> Option<&'a DeclarationKind>
-    ensures { option_map (λ kind. declared_of (texts names.now.keys) kind.now) result
-        ≡ meant.declared_at kind number
-        (map (declaration_of (texts names.now.keys)) declarations.now) }
-{
-    let mut left = number;
-    for declaration in declarations {
-        let is_one = is_of_kind(kind, &declaration.kind);
-        if is_one && left == 1 {
-            return Some(&declaration.kind);
-        }
-        left = left_behind(is_one, left);
-    }
-    None
-}
-
-/// The declaration of the object of this kind that an argument stands for.
-fn object_of<'a>(
-    names: &IndexSet<String>,
-    declarations: &'a [Declaration],
+    table: &KindTable<'_>,
     kind: ObjectKind,
     id: Id,
-) -> Option<&'a DeclarationKind>
-    ensures { option_map (λ kind. declared_of (texts names.now.keys) kind.now) result
-        ≡ meant.object_of (map (declaration_of (texts names.now.keys)) declarations.now) kind
-        (id_seen (texts names.now.keys) id) }
+) -> Option<u64>
+    ensures { result
+        ≡ meant.words_or_none (meant.object_of table.now kind (id_seen (texts names.now.keys) id)) }
 {
     match id {
-        Id::Numbered(number) => declared_at(names, kind, number, declarations),
+        Id::Numbered(number) => table.words_at(kind, number),
         Id::Named(other, object) => {
             if is_same_kind(other, kind) {
-                declared(names, text_of(names, object), declarations)
+                table.words_named(text_of(names, object))
             } else {
                 None
             }
@@ -143,14 +101,12 @@ fn object_of<'a>(
 fn words_of(
     names: &IndexSet<String>,
     ports: &[PortRow],
-    declarations: &[Declaration],
+    table: &KindTable<'_>,
     kind: ObjectKind,
     id: Id,
 ) -> Option<u64>
     ensures { result
-        ≡ meant.words_of ports.now
-        (map (declaration_of (texts names.now.keys)) declarations.now) kind
-        (id_seen (texts names.now.keys) id) }
+        ≡ meant.words_of ports.now table.now kind (id_seen (texts names.now.keys) id) }
 {
     if is_same_kind(kind, ObjectKind::Port) {
         match port_of_id(names, ports, id) {
@@ -158,28 +114,21 @@ fn words_of(
             None => None,
         }
     } else {
-        match object_of(names, declarations, kind, id) {
-            Some(kind) => words_in(kind),
-            None => None,
-        }
+        object_words(names, table, kind, id)
     }
 }
 
 /// The size of the array that an argument names.
 fn array_of(
     names: &IndexSet<String>,
-    declarations: &[Declaration],
+    table: &KindTable<'_>,
     name: Option<NameId>,
 ) -> Option<u64>
     ensures { result
-        ≡ meant.array_of (map (declaration_of (texts names.now.keys)) declarations.now)
-        (option_map (id_text (texts names.now.keys)) name) }
+        ≡ meant.array_of table.now (option_map (id_text (texts names.now.keys)) name) }
 {
     match name {
-        Some(name) => match declared(names, text_of(names, name), declarations) {
-            Some(kind) => size_in(kind),
-            None => None,
-        },
+        Some(name) => table.size_named(text_of(names, name)),
         None => None,
     }
 }
@@ -209,7 +158,7 @@ fn text_or_none(names: &IndexSet<String>, name: Option<NameId>) -> &str
 fn add_small_array<'a>(
     names: &'a IndexSet<String>,
     ports: &[PortRow],
-    declarations: &[Declaration],
+    table: &KindTable<'_>,
     call: &Call<'_>,
     findings: &mut Vec<Finding<'a>>,
 ) -> Result<(), AllocError>
@@ -217,15 +166,15 @@ fn add_small_array<'a>(
         (found_all findings.new.items
         ≡ found_all findings.old.items
         ++ meant.small_array ports.now
-        (map (declaration_of (texts names.now.keys)) declarations.now)
+        table.now
         (call_of (texts names.now.keys) call.now)) }
 {
     let Some(kind) = stored_kind(call.service) else {
         return Ok(());
     };
     let array = name_in(second_plain(call.arguments));
-    let size = array_of(names, declarations, array);
-    let words = words_of(names, ports, declarations, kind, subject_of(names, call));
+    let size = array_of(names, table, array);
+    let words = words_of(names, ports, table, kind, subject_of(names, call));
     let finding = Finding {
         line: call.line,
         kind: FindingKind::SmallArray,
@@ -234,9 +183,31 @@ fn add_small_array<'a>(
     add_if(is_less(size, words), finding, findings)
 }
 
-/// Adds the calls whose arrays are smaller than the messages that they may store in them.
+/// The same for each of some calls.
 #[tactic(auto, using(std::proofs::lemmas::List::drop_more))]
+fn add_each<'a>(
+    names: &'a IndexSet<String>,
+    ports: &[PortRow],
+    table: &KindTable<'_>,
+    calls: &[Call<'_>],
+    findings: &mut Vec<Finding<'a>>,
+) -> Result<(), AllocError>
+    ensures { OnOk result
+        (found_all findings.new.items
+        ≡ found_all findings.old.items
+        ++ meant.small_arrays ports.now
+        table.now
+        (calls_seen (texts names.now.keys) calls.now)) }
+{
+    for call in calls {
+        add_small_array(names, ports, table, call, findings)?;
+    }
+    Ok(())
+}
+
+/// Adds the calls whose arrays are smaller than the messages that they may store in them.
 pub fn add_small_arrays<'a>(
+    alloc: Global,
     names: &'a IndexSet<String>,
     ports: &[PortRow],
     declarations: &[Declaration],
@@ -250,8 +221,6 @@ pub fn add_small_arrays<'a>(
         (map (declaration_of (texts names.now.keys)) declarations.now)
         (calls_seen (texts names.now.keys) calls.now)) }
 {
-    for call in calls {
-        add_small_array(names, ports, declarations, call, findings)?;
-    }
-    Ok(())
+    let table = KindTable::of(alloc, names, declarations)?;
+    add_each(names, ports, &table, calls, findings)
 }

@@ -63,6 +63,7 @@ fn init_calls<'a>(alloc: Global, program: &'a Program) -> Result<Vec<Call<'a>>, 
 
 /// Adds what is found about ports.
 fn add_port_findings<'a>(
+    alloc: Global,
     rows: &'a [PartitionRow],
     ports: &'a [PortRow],
     program: &'a Program,
@@ -81,7 +82,7 @@ fn add_port_findings<'a>(
     port_rules::add_better_row(names, rows, ports, &program.declarations, findings)?;
     port_rules::add_undeclared(names, ports, &program.declarations, findings)?;
     port_rules::add_wrong_uses(names, ports, calls, findings)?;
-    arrays::add_small_arrays(names, ports, &program.declarations, calls, findings)
+    arrays::add_small_arrays(alloc, names, ports, &program.declarations, calls, findings)
 }
 
 /// Adds what is found about creation and starts.
@@ -182,7 +183,7 @@ pub fn findings<'a>(
 {
     let calls = all_calls(alloc, program)?;
     let mut findings = Vec::new(alloc);
-    add_port_findings(rows, ports, program, &calls, &mut findings)?;
+    add_port_findings(alloc, rows, ports, program, &calls, &mut findings)?;
     add_creations(program, &calls, &mut findings)?;
     add_waits(alloc, program, &mut findings)?;
     add_unused(alloc, program, &mut findings)?;

@@ -7,6 +7,7 @@ mod arrays;
 mod calls;
 mod finding;
 mod gathering;
+mod kind_table;
 mod lives;
 mod names;
 mod port_rules;

@@ -1,0 +1,17 @@
+-- The declarations of a program, as a table for look-ups holds them.
+use Rattle.std.specs.Prelude.{◌≡◌, ℕ, List, map, option_map}
+use Rattle.std.specs.HashMap.{get_by}
+use Rattle.std.specs.Str.{bytes_eq}
+use Rattle.pal_base.specs.View.{declaration_of, declared_of, texts}
+use Rattle.pal_meaning.specs.Syntax as written
+use Rattle.lint.specs.Arrays.{declared}
+use Rattle.lint.specs.Objects.{objects_in}
+use Rattle.lint.specs.declared.kind_table.KindTable.TheInside.{Inside}
+
+abbrev pub declarations_of : Inside → List written.Declaration
+declarations_of t = map (declaration_of (texts t.names.now.keys)) t.declarations.now
+
+-- a look-up by name finds the first declaration; the objects are those of the declarations
+pub record IsKindTable (t : Inside) : Type 0 where
+  pub named : (name : List ℕ) → option_map (λ kind. declared_of (texts t.names.now.keys) kind.now) (get_by (λ k. bytes_eq name k.now) t.kinds) ≡ declared name (declarations_of t)
+  pub objects : map (λ kind. declared_of (texts t.names.now.keys) kind.now) t.objects.items ≡ objects_in (declarations_of t)
