@@ -15,8 +15,8 @@ OF_FILE = ("types", "constants", "functions", "uses")
 
 
 def words_of(text, comment):
-    """Returns the words of a text, without its lines of comment."""
-    return " ".join(" ".join(it for it in text.split("\n") if not it.lstrip().startswith(comment)).split())
+    """Returns the words of a text, without its lines of comment and its hints for inlining, of which no proof takes notice."""
+    return " ".join(" ".join(it for it in text.split("\n") if not it.lstrip().startswith((comment, "#[inline("))).split())
 
 
 def without_places(value):

@@ -1,15 +1,16 @@
 #!/usr/bin/env python3
 """Measures what a modelled tick costs the program `mb`.
 
-    measure.py MB [INPUT..] [--baseline PROGRAM] [--replay] [--growth] [--json FILE]
+    measure.py MB [INPUT..] [--baseline PROGRAM] [--rows] [--replay] [--growth] [--json FILE]
 
-MB is the program. For each input it prints the machine instructions a tick, which valgrind counts (they are the same on every run and on
-every machine), and the ticks a second of the best of five runs. Both are of ticks alone: a run of twice as many ticks is measured too, and
-the difference is taken. With `--baseline`, another program that takes `run IMAGE DEVICES TICKS` is measured beside it, and the ratio is
-printed: how many of its instructions come on one of `mb`.
+MB is the program. For each input it prints the machine instructions a tick, which valgrind counts (they are the same on every run, but
+paths of other lengths change them by up to 0.2 %), and the ticks a second of the best of five runs. Both are of ticks only: a run of twice
+as many ticks is measured too, and the difference is taken. With `--baseline`, another program that takes `run IMAGE DEVICES TICKS` is
+measured too, and the ratio is printed: how many of its instructions come on one of `mb`. Without names it measures all inputs but `hostile`.
 
-`--replay` prints for each partition of each input what share of the instructions of `mb run` its `mb replay` takes. `--growth` measures
-modules of growing size. `--json` writes all numbers to a file, from which `plot.py` draws.
+`--rows` prints the rows of the table on docs/PERFORMANCE.md instead, and takes no time of runs. `--replay` prints for each partition of each
+input what share of the instructions of `mb run` its `mb replay` takes. `--growth` measures modules of growing size. `--json` writes all
+numbers to a file, from which `plot.py` draws.
 """
 
 import argparse
@@ -79,20 +80,21 @@ def ticks_a_second(program, image, devices, ticks):
     return ticks / took if took > 0.001 else None
 
 
-def measure_inputs(mb, names, baseline, folder):
-    """A line for each input."""
+def measure_inputs(mb, names, baseline, rows, folder):
+    """A line for each input, or its row of the table."""
     numbers = {}
     for name in names:
         module = modules.INPUTS[name]()
         image, devices = built(mb, module, folder / name)
-        count = per_tick(mb, image, devices, module.ticks)
-        speed = ticks_a_second(mb, image, devices, 10 * module.ticks)
-        line = f"{name:10} {count:9.2f} instructions a tick, {'over 10^9' if speed is None else f'{speed:.3g}'} ticks a second"
-        numbers[name] = {"instructions": count, "ticks_a_second": speed}
-        if baseline:
-            other = per_tick(baseline, image, devices, module.ticks)
-            numbers[name]["baseline"] = other
-            line += f", baseline {other:.2f}, ratio {other / count:.3f}" if count >= 0.005 else f", baseline {other:.2f}"
+        counts = [per_tick(it, image, devices, module.ticks) for it in (mb, baseline) if it]
+        numbers[name] = dict(zip(("instructions", "baseline"), counts))
+        if rows:
+            line = " | ".join([f"| `{name}`", modules.INPUTS[name].__doc__.rstrip("."), *(f"{it:,.2f}" for it in counts)]) + " |"
+        else:
+            speed = ticks_a_second(mb, image, devices, 10 * module.ticks)
+            line = f"{name:10} {counts[0]:9.2f} instructions a tick, {'over 10^9' if speed is None else f'{speed:.3g}'} ticks a second"
+            line += "".join(f", baseline {it:.2f}" + (f", ratio {it / counts[0]:.3f}" if counts[0] >= 0.005 else "") for it in counts[1:])
+            numbers[name]["ticks_a_second"] = speed
         print(line, flush=True)
     return numbers
 
@@ -134,17 +136,18 @@ def main():
     parser.add_argument("mb", type=lambda path: Path(path).resolve())
     parser.add_argument("inputs", nargs="*", metavar="INPUT", help=", ".join(modules.INPUTS))
     parser.add_argument("--baseline", type=lambda path: Path(path).resolve())
+    parser.add_argument("--rows", action="store_true")
     parser.add_argument("--replay", action="store_true")
     parser.add_argument("--growth", action="store_true")
     parser.add_argument("--json", type=Path)
     args = parser.parse_args()
-    names = args.inputs or list(modules.INPUTS)
+    names = args.inputs or [name for name in modules.INPUTS if name != "hostile"]
     unknown = [name for name in names if name not in modules.INPUTS]
     if unknown:
         parser.error(f"no input is named {', '.join(unknown)}")
     with tempfile.TemporaryDirectory() as place:
         folder = Path(place)
-        numbers = {"inputs": measure_inputs(args.mb, names, args.baseline, folder)}
+        numbers = {"inputs": measure_inputs(args.mb, names, args.baseline, args.rows, folder)}
         if args.replay:
             numbers["replay"] = measure_replays(args.mb, names, folder)
         if args.growth:

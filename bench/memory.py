@@ -18,7 +18,7 @@ from pathlib import Path
 
 sys.dont_write_bytecode = True
 from measure import built  # noqa: E402
-from modules import Module, Partition  # noqa: E402
+from modules import Module, Process, created, endless, partition, queuing  # noqa: E402
 
 TICKS = 1_000
 PARTITIONS, PROCESSES, STACK, DATA = 32, 63, 64, 1_000
@@ -39,27 +39,16 @@ class Shape:
     instructions: int = 0
 
     def module(self):
-        return Module([self.partition(f"p{number}") for number in range(self.partitions)])
+        return Module([self.partition(f"p{number}") for number in range(self.partitions)], 100)
 
     def partition(self, name):
-        ports = [
-            {"name": f"q{number}", "kind": "QUEUING", "direction": "SOURCE", "words": 1, "depth": self.port_messages, "discipline": "FIFO"}
-            for number in range(self.ports)
-        ]
-        return Partition(name, self.source(), [100], ports)
-
-    def source(self):
-        """The processes and buffers are created, and the ports too; the first process computes for ever."""
-        lines = [f"array d[{self.data_words}];"] * (self.data_words > 0)
-        lines += [f"buffer b{number} 1 {self.buffer_messages} fifo;" for number in range(self.buffers)]
-        lines += [f"port q{number};" for number in range(self.ports)]
-        made = [f"CREATE_PROCESS(r{number}) -> r, i; START(i) -> r;" for number in range(self.processes)]
-        made += [f"CREATE_BUFFER(b{number}) -> r, i;" for number in range(self.buffers)]
-        made += [f"CREATE_QUEUING_PORT(q{number}) -> r, i;" for number in range(self.ports)]
-        lines += ["init stack 16 { local r; local i;", *made, "work 1;" * self.instructions, "SET_PARTITION_MODE(3) -> r; }"]
-        body = f"stack {self.stack_words} {{ while 1 {{ work 1000; }} }}"
-        lines += [f"process r{number} priority 5 period -1 capacity -1 {body}" for number in range(self.processes)]
-        return "\n".join(lines) + "\n"
+        """The processes, buffers and ports are created; the first process computes for ever."""
+        ports = [queuing(f"q{number}", "SOURCE", 1, self.port_messages) for number in range(self.ports)]
+        buffers = [f"b{number}" for number in range(self.buffers)]
+        head = f"array d[{self.data_words}];" * (self.data_words > 0) + "".join(f"buffer {it} 1 {self.buffer_messages} fifo;" for it in buffers)
+        first = created("BUFFER", *buffers) + "work 1;" * self.instructions
+        processes = [Process(f"r{number}", 5, endless("work 1000;"), "", self.stack_words) for number in range(self.processes)]
+        return partition(name, *processes, head=head, ports=ports, first=first, stack=16)
 
 
 # What is counted, and two modules that differ in the number of it alone.

@@ -1,4 +1,4 @@
--- The text of a name is ASCII, and a text that lies in the bytes of a name with zeros behind it is stored.
+-- The text of a name is ASCII, and a text that lies in the bytes of a name with zeros after it is stored.
 use Rattle.std.proofs.Common.{◌≡◌, ℕ, ◌<◌, List, [], ◌∷◌, ◌++◌, length, take, drop, replicate, true, sym, ap, arith}
 use Rattle.std.proofs.lemmas.Bool.{and_parts}
 use Rattle.std.proofs.lemmas.Bool.Decides.{nat_tests}
@@ -34,7 +34,7 @@ name_IsAscii (c ∷ cs) h =
 pub name_IsUtf8 : (text : List ℕ) → is_name text ≡ true → IsUtf8 text
 name_IsUtf8 text h = IsUtf8-from_ascii text (name_IsAscii text h)
 
--- the bytes of a name with zeros behind it
+-- the bytes of a name with zeros after it
 pub name_IsStored : (text : List ℕ) → is_name text ≡ true → IsStored (text ++ drop (length text) (replicate MOST_NAME_BYTES 0)) (length text)
 name_IsStored text h =
     let front : take (length text) (text ++ drop (length text) (replicate MOST_NAME_BYTES 0)) ≡ text = take-append_seam text (drop (length text) (replicate MOST_NAME_BYTES 0)) in

@@ -14,7 +14,7 @@ use Rattle.apex_types.specs.declared.out.Part.{Part}
 
 -- ---- the words of a part
 
--- more words behind the others change no part
+-- more words after the others change no part
 part_kept : (words more : List ℤ) (p : Part) → IsPart (length words) p → part_of (words ++ more) p ≡ part_of words p
 part_kept words more p h =
     ap (take p.count) (drop-append-le p.from words more (omega (arith, h.within)))

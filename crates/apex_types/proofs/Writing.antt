@@ -40,7 +40,7 @@ under_way_fails old mid new text line rest w (k, within, h) =
 
 pub ruleset under_way = (under_way_start, under_way_more, under_way_end, under_way_fails)
 
--- the line of an event behind a text is the text of this event behind it
+-- the line of an event after a text is the text of this event after it
 pub line_behind : (e : Event) (old new digits : List ℕ) → digits ≡ thirteen_digits e.tick.0
     → new ≡ old ++ (digits ++ codes " " ++ partition_text e.partition ++ codes " " ++ kind_text e.kind ++ 10 ∷ []) → new ≡ old ++ text_of (e ∷ [])
 line_behind e old new digits same pushed =

@@ -15,7 +15,7 @@ is_cost n = nat_le 1 n && nat_le n MOST_COST
 abbrev pub ticks : (n : ℕ) → is_cost n ≡ true → TickCost
 ticks n within = record { ticks = n; within = within }
 
--- the cost of so many ticks: none outside the limits
+-- the cost of `n` ticks: none outside the limits
 abbrev pub cost_if : (n : ℕ) (is : Bool) → is_cost n ≡ is → Option TickCost
 cost_if n true within = Some (ticks n within)
 cost_if n false outside = None

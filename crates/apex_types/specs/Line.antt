@@ -11,7 +11,7 @@ use Rattle.apex_types.specs.declared.event.Subject.{Subject}
 use Rattle.apex_types.specs.declared.event.Subject.TheVariants as subject
 use Rattle.std.specs.Io.KnownBytes.{Appends}
 
--- the byte of a space, which stands between the words of a line
+-- the byte of a space, which is between the words of a line
 abbrev pub space : ℕ
 space = 32
 

@@ -8,7 +8,7 @@ use Rattle.apex_types.specs.declared.limits.TheConstants.{MOST_EVENTS, MOST_LINE
 use Rattle.apex_types.specs.Line.{line_of, text_of}
 use Rattle.apex_types.specs.declared.event.Event.{Event}
 
--- the number of further lines that fit behind this text
+-- the number of further lines that fit after this text
 abbrev pub lines_left : List ℕ → ℕ
 lines_left text = (MOST_STEP_BYTES - length text) / MOST_LINE_BYTES
 

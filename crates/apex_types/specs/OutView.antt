@@ -1,4 +1,4 @@
--- How an output is kept: the words of all its lines and actions stand one after another in one list.
+-- How an output is kept: the words of all its lines and actions follow one another in one list.
 use Rattle.std.specs.Prelude.{ℕ, ℤ, ◌+◌, ◌*◌, ◌≤◌, List, length, map, take, drop, vec_capacity}
 use Rattle.std.specs.List.{AllByRecursion}
 use Rattle.apex_types.specs.declared.limits.TheConstants.{MOST_ACTIONS, MOST_EVENTS, MOST_OUT_WORDS, MOST_WORDS}
@@ -22,7 +22,7 @@ actions_of words acts = map (λ (a : Act). action_of a.kind (part_of words a.par
 abbrev pub output_of : out.Inside → Output
 output_of o = record { lines = lines_of o.words.items o.lines.items; actions = actions_of o.words.items o.actions.items }
 
--- a part of so many words
+-- a part of `count` words
 pub record IsPart (count : ℕ) (p : Part) : Type 0 where
   pub within : p.from + p.count ≤ count
   pub few : p.count ≤ MOST_WORDS

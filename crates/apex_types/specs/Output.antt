@@ -15,7 +15,7 @@ pub record Output : Type 0 where
   pub lines : List EventKind
   pub actions : List Action
 
--- ---- lines and actions, and the words beside them
+-- ---- lines and actions, and the words that go with them
 
 abbrev message : List ℤ → ArrayVec ℤ
 message words = record { items = words }

@@ -12,8 +12,8 @@ place_of runners.Init = 0
 place_of runners.Handler = 1
 place_of (runners.Process p) = suc (suc p.0)
 
--- A runner begins its body afresh, has nothing left to do, or gets the answer to its service call:
--- the code, then the outputs. Or nobody has anything left to do. The data become the initial data,
+-- A runner begins its body afresh, has nothing left to do, or gets the reply to its service call:
+-- the code, then the outputs. Or no runner has anything left to do. The data become the initial data,
 -- or words go into them from a place on. Or an error waits for the error handler.
 pub data Action : Type 0 where
   Begin : (runner : Runner) → Action

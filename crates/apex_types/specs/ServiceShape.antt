@@ -1,6 +1,6 @@
 -- The shape of each service, one row per service: its number in this profile, its name in the
 -- standard, the kinds of its arguments, the number of its outputs besides its code, and whether it
--- creates. What a service takes, answers and costs follows from its row.
+-- creates. What a service takes, returns and costs follows from its row.
 use Rattle.std.specs.Prelude.{◌≡◌, ℕ, ◌+◌, Bool, true, false, List, [], ◌∷◌, codes, if◌then◌else◌, ◌-◌, nat_eq, Option, None, slice_get}
 use Rattle.std.specs.List.{sum_by, list_any}
 use Rattle.apex_types.specs.declared.cost.Costs.{Costs}
@@ -85,7 +85,7 @@ shape service.CreateErrorHandler = creation 55 (codes "CREATE_ERROR_HANDLER") []
 shape service.GetErrorStatus = row 56 (codes "GET_ERROR_STATUS") (argument.Array ∷ []) 3
 shape service.RaiseApplicationError = row 57 (codes "RAISE_APPLICATION_ERROR") (argument.Word ∷ argument.Array ∷ argument.Word ∷ []) 0
 
--- the shape has this name, these arguments and so many outputs, and creates or does not
+-- the shape has this name, these arguments and this many outputs, and creates or does not
 abbrev pub Has : declared.Shape → List ℕ → List ArgumentKind → ℕ → Bool → Type 0
 Has s word arguments outputs creates = (s.word.now ≡ word) × (s.arguments.now ≡ arguments) × (s.outputs ≡ outputs) × (s.creates ≡ creates)
 
@@ -107,7 +107,7 @@ words_of_kind _ = 1
 abbrev pub argument_words : Service → ℕ
 argument_words s = sum_by words_of_kind (arguments_of s)
 
--- the number of words of an answer: the code and the outputs; STOP_SELF has no answer
+-- the number of words that a service returns: the code and the outputs; STOP_SELF returns none
 abbrev pub answer_words : Service → ℕ
 answer_words service.StopSelf = 0
 answer_words s = 1 + (shape s).outputs

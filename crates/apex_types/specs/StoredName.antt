@@ -3,7 +3,7 @@ use Rattle.std.specs.Prelude.{◌≡◌, ℕ, ◌-◌, List, ◌++◌, length, t
 use Rattle.apex_types.specs.declared.limits.TheConstants.{MOST_NAME_BYTES}
 use Rattle.apex_types.specs.NameText.{is_name}
 
--- the bytes of a text: behind its end they are 0
+-- the bytes of a text: after its end they are 0
 abbrev pub stored : List ℕ → List ℕ
 stored text = text ++ replicate (MOST_NAME_BYTES - length text) 0
 

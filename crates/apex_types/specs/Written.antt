@@ -3,7 +3,7 @@ use Rattle.std.specs.Prelude.{◌≡◌, ◌≤◌, ◌+◌, ℕ, List, ◌∷�
 use Rattle.apex_types.specs.Line.{kind_text, partition_text}
 use Rattle.apex_types.specs.declared.event.EventKind.{EventKind}
 
--- The piece, of at most so many bytes, was written behind the first `at` bytes and ends at `end`.
+-- The piece, of at most `most` bytes, was written after the first `at` bytes and ends at `end`.
 pub record IsWritten (old : List ℕ) (at : ℕ) (new : List ℕ) (end : ℕ) (piece : List ℕ) (most : ℕ) : Type 0 where
   pub items : take end new ≡ take at old ++ piece
   pub within : end ≤ at + most

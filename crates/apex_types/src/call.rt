@@ -213,6 +213,7 @@ pub fn call_of(service: Service, words: &[i64]) -> Call
 }
 
 /// The array argument of a call, if it has one.
+#[inline(always)]
 pub fn array_of(call: Call) -> Option<ArrayPlace>
     ensures { result ≡ array_of call }
 {

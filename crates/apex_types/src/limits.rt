@@ -135,7 +135,7 @@ pub const MOST_REPORT_WORDS: u8 = 16;
 pub const MOST_EVENTS: usize = 512;
 
 /// The most actions of a phase of a tick, on the processor, the data and the error queue: the words
-/// of a message and an answer for each process, the answer to a call, and the three of a Clear.
+/// of a message and a reply for each process, the reply to a call, and the three of a Clear.
 pub const MOST_ACTIONS: usize = 2 * MOST_PROCESSES as usize + 4;
 
 /// The most words of the lines and the actions of a step.

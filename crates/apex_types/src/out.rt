@@ -55,6 +55,7 @@ impl Model for Out {
 }
 
 /// Adds words after the others, and returns their place.
+#[inline(always)]
 fn add(words: &mut Vec<i64>, message: &[i64]) -> Part
     requires room { length words.old.items + length message.now ≤ MOST_OUT_WORDS }
     requires memory { MOST_OUT_WORDS ≤ vec_capacity words.old }
@@ -143,7 +144,7 @@ impl Out {
         self.actions.push_reserved(Act { kind, part });
     }
 
-    /// Adds the answer to a service call: the code, then the outputs.
+    /// Adds the reply to a service call: the code, then the outputs.
     pub fn reply(&mut self, runner: Runner, code: i64, outputs: &[i64])
         requires room { HasRoom 0 1 self.old }
         requires few { length outputs.now < MOST_WORDS }

@@ -14,7 +14,7 @@ pub enum Wait {
     NormalStart(Ticks),
     /// It is started, and its due time is its first release.
     FirstRelease,
-    /// A service on time or a suspension, which answers at its due time or earlier.
+    /// A service on time or a suspension, which ends at its due time or earlier.
     Service(Service),
     /// A service on an object or a port: it is in the waiting list of that object, and a receiver has
     /// this array.
@@ -92,7 +92,7 @@ pub struct WaitingError {
 }
 
 /// An action of a step of the kernel, on the processor, on the partition's data or on its error
-/// queue, without the words of its answer or message.
+/// queue, without the words of its reply or message.
 #[derive(Clone, Copy)]
 pub enum ActionKind {
     /// The process begins its body afresh.
@@ -101,7 +101,7 @@ pub enum ActionKind {
     Stop(Runner),
     /// No process has anything left to do.
     StopAll,
-    /// The answer to a service call, whose words are the code, then the outputs.
+    /// The reply to a service call, whose words are the code, then the outputs.
     Reply(Runner),
     /// The data becomes the initial data.
     Restore,

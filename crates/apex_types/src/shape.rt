@@ -205,8 +205,8 @@ impl Service {
         self.arguments().iter().map(|kind| kind.words()).sum()
     }
 
-    /// The number of words of this service's answer: the code and the outputs; STOP_SELF has no
-    /// answer.
+    /// The number of words that this service returns: the code and the outputs; STOP_SELF returns
+    /// none.
     pub fn answer_words(self) -> u8
         ensures { result ≡ answer_words self }
     {

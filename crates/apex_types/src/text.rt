@@ -239,7 +239,7 @@ impl EventLog for TraceBuffer {
     }
 }
 
-/// Writes the line of an event behind the first `at` bytes; returns the place behind it.
+/// Writes the line of an event after the first `at` bytes; returns the place after it.
 fn put_line(
     line: &mut [u8],
     at: usize,
@@ -261,7 +261,7 @@ fn put_line(
     put_text(line, at, "\n")
 }
 
-/// Writes a piece behind the first `at` bytes; returns the place behind it.
+/// Writes a piece after the first `at` bytes; returns the place after it.
 fn put(line: &mut [u8], at: usize, piece: &[u8]) -> usize
     requires { at + length piece.now ≤ length line.old }
     ensures { IsWritten line.old at line.new result piece.now (length piece.now) }
@@ -278,8 +278,8 @@ fn put_text(line: &mut [u8], at: usize, text: &str) -> usize
     put(line, at, text.as_bytes())
 }
 
-/// Writes a name. As many bytes are copied for each name, and by way of a copy here, so that they
-/// need no loop; what comes next is written over those behind its text.
+/// Writes a name. The same number of bytes is copied for each name, and by way of a copy here, so
+/// that they need no loop; what comes next is written over those after its text.
 #[inline(always)]
 fn put_name(line: &mut [u8], at: usize, name: &Name) -> usize
     requires { at + MOST_NAME_BYTES ≤ length line.old }

@@ -23,11 +23,11 @@ use Rattle.command_line.proofs.WholeLines.{line_behind, line_of_nothing}
 abbrev pub text_on : Image → List DeviceLine → ℕ → Standing MachineControl → List ℕ
 text_on image lines k s = text_of (lines_of (machine_module image).plan lines k s)
 
--- Up to the standing the text is that of its ticks, and further ticks write theirs behind it.
+-- Up to this `Standing` the text is that of its ticks, and further ticks append theirs.
 abbrev pub IsAhead : Image → List DeviceLine → List DeviceLine → Standing MachineControl → Type 0
 IsAhead image devices lines s = (k : ℕ) → text_to image devices (s.now + k) ≡ text_to image devices s.now ++ text_on image lines k s
 
--- no line came in so many ticks, nor in fewer
+-- no line came in this many ticks, nor in fewer
 abbrev pub NoneCame : List (List ℕ) → Image → List DeviceLine → ℕ → Type 0
 NoneCame asked image devices n = (k : ℕ) → k ≤ n → has_line asked (text_to image devices k) ≡ false
 
@@ -66,7 +66,7 @@ skipped_none plan lines n k s next leads few =
     let same : n ≡ n + 0 = omega arith in
     none_sooner plan lines n k s few (ap (λ j. lines_of plan lines j s) same ∙ leads 0)
 
--- the text is as it was
+-- the text is unchanged
 pub text_skipped : (image : Image) (devices lines : List DeviceLine) (n k : ℕ) (s next : Standing MachineControl) → IsAhead image devices lines s → LeadsTo (machine_module image).plan lines n s [] next → k ≤ n
     → text_to image devices (s.now + k) ≡ text_to image devices s.now
 text_skipped image devices lines n k s next ahead leads few =
@@ -102,7 +102,7 @@ none_later asked image devices t n u is same none k few = elim (apart k t) [
 
 -- ---- a tick
 
--- the ticks from here are this one, and those behind it
+-- the ticks from here on are the current tick and those after it
 pub tick_on : (image : Image) (m next : Machine) (lines later : List DeviceLine) (bytes : List ℕ) (k : ℕ) → m.image ≡ image → IsHeld lines later m next bytes
     → text_on image lines (suc k) m.standing ≡ bytes ++ text_on image later k next.standing
 tick_on image m next lines later bytes k same held =
@@ -112,7 +112,7 @@ tick_on image m next lines later bytes k same held =
     tick_text plan lines now later (suc k) k m.standing next.standing refl (of_tick_again m.standing.now lines) held.others (held.standing ∙ ap (λ c. after m.standing c) course)
     ∙ ap (λ (text : List ℕ). text ++ text_on image later k next.standing) (ap (λ c. text_of c.lines) (sym course) ∙ sym held.text)
 
--- the text behind the tick
+-- the text after the tick
 pub text_ticked : (image : Image) (m next : Machine) (devices lines later : List DeviceLine) (bytes : List ℕ) → m.image ≡ image → IsHeld lines later m next bytes
     → IsAhead image devices lines m.standing → text_to image devices (m.standing.now + 1) ≡ text_to image devices m.standing.now ++ bytes
 text_ticked image m next devices lines later bytes same held ahead =

@@ -1,4 +1,4 @@
--- Files of which a beginning was read: what it settles stands for the whole file.
+-- Files of which a beginning was read: what it settles holds for the whole file.
 use Rattle.std.proofs.Common.{◌≡◌, ◌⊎◌, inl, inr, ℕ, ◌≤◌, ◌<◌, Bool, true, false, List, [], ◌∷◌, ◌++◌, Option, Some, None, Result, Ok, Err, IfOk, IfErr, refl, sym, ap, subst, ◌∙◌, append-nil}
 use Rattle.apex_types.specs.declared.device.DeviceLine.{DeviceLine}
 use Rattle.apex_types.specs.declared.device.DeviceFault.{DeviceFault}
@@ -171,7 +171,7 @@ pub inputs_of_whole : {files : Option Contents} {image devices image_read text_r
 inputs_of_whole {text_read = text_read} g name n old new answer h =
     tells_alike (image_at g.given.image_bytes) name text_read g.given.text_bytes n old new answer g.same_devices (subst (λ read. Tells read name text_read n old new answer) (sym g.same_image) h)
 
--- ---- an image alone
+-- ---- only an image
 
 pub loaded_whole : (files : Option Contents) (name bytes given : List ℕ) (image : Image)
     → given ≡ bytes → HoldsFrom settles_image files name bytes → image_at given ≡ Ok image → IsImageIn files name image

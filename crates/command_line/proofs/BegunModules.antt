@@ -322,7 +322,7 @@ cut_at suffices n text bytes enough whole (rest, begun, why) = go (suffices byte
         begun ∙ ap (λ b. b ++ rest) (sym (take-append-drop n bytes)) ∙ append_assoc (take n bytes) (drop n bytes) rest in
         (drop n bytes ++ rest, split, inr (enough settled))
 
--- a table that is cut behind the first byte that it may not have
+-- a table that is cut after the first byte that it may not have
 pub cut_table : (files : Option Contents) (name bytes : List ℕ) (n : ℕ) → n ≡ table_end bytes → HoldsFrom settles_table files name bytes → HoldsFrom settles_table files name (take n bytes)
 cut_table None name bytes n is held = tt
 cut_table (Some files) name bytes n is (text, in_file, begun) =
@@ -330,7 +330,7 @@ cut_table (Some files) name bytes n is (text, in_file, begun) =
     let whole : settles_table bytes ≡ false → take n bytes ≡ bytes = λ s. ap (λ k. take k bytes) is ∙ all_of_table bytes s in
     (text, in_file, cut_at settles_table n text bytes enough whole begun)
 
--- a text that is cut behind so many bytes and one more
+-- a text that is cut after this many bytes and one more
 cut_by : (most : ℕ) (text bytes : List ℕ) → IsBeginningOf (λ b. nat_lt most (length b)) text bytes → IsBeginningOf (λ b. nat_lt most (length b)) text (take (most + 1) bytes)
 cut_by most text bytes =
     cut_at (λ b. nat_lt most (length b)) (most + 1) text bytes
@@ -340,7 +340,7 @@ cut_by most text bytes =
     lt-ltb most (length (take (most + 1) bytes)) (omega (arith, size)))
     (λ short. take_all (most + 1) bytes (omega (arith, ltb-false most (length bytes) short)))
 
--- a source that is cut behind the first byte that it may not have
+-- a source that is cut after the first byte that it may not have
 pub cut : (files : Option Contents) (name bytes : List ℕ) → HoldsFrom settles_source files name bytes → HoldsFrom settles_source files name (take (MOST_SOURCE_BYTES + 1) bytes)
 cut None name bytes held = tt
 cut (Some files) name bytes (text, is, begun) = (text, is, cut_by MOST_SOURCE_BYTES text bytes begun)

@@ -118,7 +118,7 @@ found_in files table sources m new is (found, same, are) =
 linted : (any : Bool) (table : List ℕ) (sources : List (List ℕ)) (m : ReadModule) (before after : State) → after.files ≡ before.files → IsModuleIn before.files table sources m → AreShown any m before.out.taken after.out.taken → IsLinted any table sources before after
 linted any table sources m before after same is (found, are, which, written) = (same, found, found_in before.files table sources m found is are, which, written)
 
--- the outcome tells whether anything is found
+-- the outcome says whether anything is found
 pub lint_done : (table : List ℕ) (sources : List (List ℕ)) (m : ReadModule) (before after : State) (answer : Result Outcome Refusal) → after.files ≡ before.files → IsModuleIn before.files table sources m
     → IfOk answer (λ o. AreShown (is_remarkable o) m before.out.taken after.out.taken) → IfOk answer (λ o. IsDoneWith o (Lint table sources) before after)
 lint_done table sources m before after (Ok Usual) same is h = linted false table sources m before after same is h
@@ -149,7 +149,7 @@ unnamed_findings old new m before after (Err (File name reason)) same h = absurd
 
 -- ---- sources that are read a second time
 
--- a text that is that of a program is refused for want of memory alone
+-- the text of a program is refused only for lack of memory
 pub only_memory : (r : Refused) (text : List ℕ) → HasTree text → IsRefused r text → r ≡ refused.Memory
 only_memory refused.Text text (tree, is) h = absurd (h is.0)
 only_memory refused.Grammar text (tree, is) h = absurd (h.1 tree is)

@@ -103,7 +103,7 @@ pub words_some : (words : List (Bor (List ℕ))) → words ≢ [] → map (λ w.
 words_some [] some is = some refl
 words_some (w ∷ ws) some is = cc
 
--- ---- refusals that are handed on
+-- ---- refusals that are passed on
 
 pub told_as : {A E : Type 0} (P : E → Type 0) (f : E) (answer : Result A E) → IsErr answer × IsErrAnd answer (λ e. e ≡ f) → P f → IfErr answer P
 told_as P f (Ok x) h p = tt

@@ -154,7 +154,7 @@ breaks_between {image = image} {devices = devices} {lines = lines} {n = n} {left
     let whole : text_to image devices n ≡ text_to image devices m.standing.now ++ ([] ++ text_on image lines left m.standing) = ap (text_to image devices) (sym i.count) ∙ i.ahead left in
     under_way_fails old mid new (text_to image devices n) [] (text_on image lines left m.standing) (record { done = text_to image devices m.standing.now; taken = i.taken; left = whole }) (0, none, Appends-kept mid mid new [] (Appends-nil mid) kept)
 
--- the answer of a run that breaks off
+-- the result of a run that breaks off
 pub ends_broken : (asked : List (List ℕ)) (image : Image) (devices : List DeviceLine) (n : ℕ) (old new : Option (List ℕ)) (f : RunFault) (r : Result Bool RunFault) → r ≡ Err f → (f ≡ fault.Write) ⊎ (f ≡ fault.Memory)
     → TakesBeginning old new (text_to image devices n) → EndsImage asked image devices n old new r
 ends_broken asked image devices n old new f r is (inl w) h = subst (EndsImage asked image devices n old new) (sym (is ∙ ap (λ (x : RunFault). Err x) w)) h

@@ -1,4 +1,4 @@
--- Lists that grow behind one another.
+-- Lists that are appended one after another.
 use Rattle.std.proofs.Common.{◌≡◌, List, [], ◌++◌}
 use Rattle.std.proofs.lemmas.List.{append-nil}
 

@@ -20,7 +20,7 @@ refused_alike read devices asked n old new (fault.Device f) h = h
 refused_alike read devices asked n old new fault.Partition h = h
 refused_alike read devices asked n old new fault.Failed h = h
 
--- the same for the answer that is handed on
+-- the same for the result that is passed on
 pub refused_with : (read : Result Image Fault) (devices : List ℕ) (asked : List (List ℕ)) (n : ℕ) (old new : Option (List ℕ)) (f : RunFault) (answer : Result Bool RunFault) → answer ≡ Err f → Runs read devices n old new (Err f) → RunsUntil read devices asked n old new answer
 refused_with read devices asked n old new f answer is h = subst (RunsUntil read devices asked n old new) (sym is) (refused_alike read devices asked n old new f h)
 

@@ -42,7 +42,7 @@ cut_off text left part rest old mid new before between after (Ok x) split w h is
 cut_off text left part rest old mid new before between after (Err fault) split w h is_err =
     (under_way_fails old mid new text part rest (subst (writing.IsUnderWay old mid text) split w.written) h.0, h.1 ∙ ap (λ n. n + 1) w.quiet)
 
--- the parts from a place on: the one there, and those behind it
+-- the parts from a place on: the part there, and those after it
 pub next_of : {A : Type 0} (xs : List A) (place : ℕ) (x : A) → place < length xs → x ≡ get_or xs place x → drop place xs ≡ x ∷ drop (place + 1) xs
 next_of xs place x within is = drop_more xs place x within ∙ ap (λ y. y ∷ drop (place + 1) xs) (sym is)
 

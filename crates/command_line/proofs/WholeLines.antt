@@ -1,4 +1,4 @@
--- The lines of a text that stands behind whole lines.
+-- The lines of a text that follows whole lines.
 use Rattle.std.proofs.Common.{◌≡◌, ℕ, ◌+◌, Bool, true, false, cond, List, [], ◌∷◌, ◌++◌, take, refl, sym, ap, ◌∙◌, append_assoc, codes, rules}
 use Rattle.std.specs.Prelude.{not, ◌||◌, ◌==◌}
 use Rattle.std.specs.List.{list_any, prefix_len}
@@ -42,7 +42,7 @@ unfolding longer
 in_front_apart true b p ps qs = refl
 in_front_apart false b p ps qs = refl
 
--- the pieces before a mark, and those behind it
+-- the pieces before a mark, and those after it
 pieces_apart : (mark : ℕ) (xs ys : List ℕ) → (mark == mark) ≡ true → pieces mark (xs ++ mark ∷ ys) ≡ pieces mark xs ++ pieces mark ys
 unfolding pieces_behind_marks
 pieces_apart mark [] ys same = pieces_more mark mark ys ∙ ap (λ t. in_front t mark (pieces mark ys)) same
@@ -52,7 +52,7 @@ pieces_apart mark (x ∷ xs) ys same =
     ∙ in_front_apart (x == mark) x _ _ (pieces mark ys)
     ∙ ap (λ ps. ps ++ pieces mark ys) (sym (pieces_more mark x xs))
 
--- the last of several pieces is behind all marks
+-- the last of several pieces is after all marks
 one_apart : (asked ps : List (List ℕ)) (q : List ℕ) (qs : List (List ℕ)) → one_has_words asked (ps ++ q ∷ qs) ≡ (list_any (has_words asked) ps || one_has_words asked (q ∷ qs))
 one_apart asked [] q qs = refl
 one_apart asked (p ∷ []) q qs = ap (λ t. t || one_has_words asked (q ∷ qs)) (sym (or_false (has_words asked p)))
@@ -65,7 +65,7 @@ nothing : (asked : List (List ℕ)) → has_line asked [] ≡ false
 unfolding pieces_behind_marks
 nothing asked = refl
 
--- a text behind a whole line
+-- a text after a whole line
 line_first : (asked : List (List ℕ)) (xs ys : List ℕ) → has_line asked ((xs ++ 10 ∷ []) ++ ys) ≡ (has_line asked (xs ++ 10 ∷ []) || has_line asked ys)
 line_first asked xs ys =
     let whole = list_any (has_words asked) (pieces 10 xs) in
@@ -81,7 +81,7 @@ front_of e = thirteen_digits e.tick.0 ++ codes " " ++ partition_text e.partition
 event_first : (asked : List (List ℕ)) (e : Event) (ys : List ℕ) → has_line asked (line_of e ++ ys) ≡ (has_line asked (line_of e) || has_line asked ys)
 event_first asked e ys = line_first asked (front_of e) ys
 
--- A text behind the lines of events has a line if they have, or if it has by itself.
+-- The lines of events with a text after them have such a line if the events have one, or if the text has one.
 pub line_behind : (asked : List (List ℕ)) (es : List Event) (ys : List ℕ) → has_line asked (text_of es ++ ys) ≡ (has_line asked (text_of es) || has_line asked ys)
 line_behind asked [] ys = ap (λ t. t || has_line asked ys) (sym (nothing asked))
 line_behind asked (e ∷ es) ys =

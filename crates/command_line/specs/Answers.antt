@@ -21,7 +21,7 @@ use Rattle.command_words.specs.declared.failure.Failure.TheVariants.{Refused, Us
 use Rattle.command_line.specs.declared.refusal.Refusal.{Refusal}
 use Rattle.command_line.specs.declared.refusal.Refusal.TheVariants.{Write}
 
--- the words are no command, or one of them is wrong: a word for ticks without digits, or `-` alone
+-- the words are no command, or one of them is wrong: a word for ticks without digits, or a word that is only `-`
 abbrev pub AreNoCommand : Kinds → Order → Type 0
 AreNoCommand kinds order = AreMistaken kinds ⊎ ((kinds ≡ []) × HasWrongWord order)
 
@@ -37,11 +37,11 @@ abbrev pub IsRefusedFor : Kinds → Order → State → State → Refusal → Ty
 IsRefusedFor kinds order before after r =
     IsFailureOfWords kinds order before after (Refused r) ⊎ ((r ≡ Write) × AskForHelp kinds × HasFailed before.out after.out × (after.files ≡ before.files))
 
--- standard error has the line of the refusal, and an explanation behind it only if the words ask for one, unless it failed
+-- unless it failed, standard error has the line of the refusal, followed by an explanation only if the words ask for one
 abbrev pub IsRefusalTold : Bool → Seen → Seen → Refusal → Type 0
 IsRefusalTold asked old_err new_err r = (explained : Bool) × (note : Note) × (asked ≡ false → explained ≡ false) × TakesText old_err new_err (told_text explained r note)
 
--- With 0 the order is done, and standard error is as it was; with 1 it is refused, and standard error has
+-- With 0 the order is done, and standard error is unchanged; with 1 it is refused, and standard error has
 -- the line of the refusal, with an explanation if that was asked for; with 2 the words are no command, neither files nor standard output were
 -- touched, and what standard error took is flushed, if it did not fail; with 3 the order is done as with 0, and something is found. A
 -- file is named exactly if it was not read or not written.

@@ -4,22 +4,22 @@ use Rattle.apex_types.specs.Line.{space}
 use Rattle.engine_meaning.specs.Digits.{same}
 use Rattle.module_meaning.specs.DeviceText.{pieces, pieces_behind_marks}
 
--- a word that is asked for stands for this word of a line: `_` for any one, others for themselves
+-- a word that is asked for matches this word of a line: `_` matches any word, and every other word matches only itself
 abbrev pub stands_for : List ℕ → List ℕ → Bool
 stands_for asked word = same asked (codes "_") || same asked word
 
--- the words stand for these, one by one
+-- the words match these, one by one
 abbrev pub stand_for : List (List ℕ) → List (List ℕ) → Bool
 stand_for [] [] = true
 stand_for [] (w ∷ ws) = false
 stand_for (a ∷ rest) [] = false
 stand_for (a ∷ rest) (w ∷ ws) = stands_for a w && stand_for rest ws
 
--- a line has these words behind its tick, and no others
+-- a line has these words after its tick, and no others
 abbrev pub has_words : List (List ℕ) → List ℕ → Bool
 has_words asked line = stand_for asked (pieces_behind_marks space line)
 
--- One of the pieces has them. What stands behind the last line feed is no line.
+-- One of the pieces has them. What follows the last line feed is no line.
 abbrev pub one_has_words : List (List ℕ) → List (List ℕ) → Bool
 one_has_words asked [] = false
 one_has_words asked (last ∷ []) = false

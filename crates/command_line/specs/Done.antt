@@ -100,7 +100,7 @@ upgraded_text n = codes "upgraded " ++ decimal n ++ codes " bytes" ++ 10 ∷ []
 abbrev pub is_ok : {E : Type 0} → Result (Unit {0}) E
 is_ok = Ok tt
 
--- The output of a run of n ticks with this answer. If it waits for a line with some words, it ends with
+-- The output of a run of n ticks with this result. If it waits for a line with some words, it ends with
 -- the first tick that has one; if none comes, that is remarkable.
 abbrev pub IsTraced : Result Image Fault → List ℕ → List (List ℕ) → ℕ → Option (List ℕ) → Option (List ℕ) → Result Outcome RunFault → Type 0
 IsTraced read devices [] n old new (Ok Usual) = Runs read devices n old new is_ok
@@ -114,15 +114,15 @@ IsTraced read devices (word ∷ words) n old new (Err fault) = RunsUntil read de
 abbrev pub IsRunOf : {files : Option Contents} {image devices : List ℕ} → ImageAndText files image devices → List (List ℕ) → ℕ → Option (List ℕ) → Option (List ℕ) → Result Outcome RunFault → Type 0
 IsRunOf given until n old new answer = IsTraced (image_at given.image_bytes) given.text_bytes until n old new answer
 
--- the output of a replay of a partition for n ticks with this answer
+-- the output of a replay of a partition for n ticks with this result
 abbrev pub IsReplayOf : {files : Option Contents} {image inputs : List ℕ} → ImageAndText files image inputs → List ℕ → ℕ → Option (List ℕ) → Option (List ℕ) → Result (Unit {0}) RunFault → Type 0
 IsReplayOf given partition n old new answer = Replays (image_at given.image_bytes) partition given.text_bytes n old new answer
 
--- the output, with this answer, of the inputs that n ticks of a run bring a partition
+-- the output, with this result, of the inputs that n ticks of a run bring a partition
 abbrev pub AreInputsOf : {files : Option Contents} {image devices : List ℕ} → ImageAndText files image devices → List ℕ → ℕ → Option (List ℕ) → Option (List ℕ) → Result (Unit {0}) InputsFault → Type 0
 AreInputsOf given partition n old new answer = Tells (image_at given.image_bytes) partition given.text_bytes n old new answer
 
--- the output of the run of the stored module with this answer
+-- the output of the run of the stored module with this result
 abbrev pub IsFirstRun : Option (List ℕ) → Option (List ℕ) → Result (Unit {0}) BuildAndRunFault → Type 0
 IsFirstRun old new answer = Means TABLE.now (SOURCE.now ∷ []) [] TICKS old new answer
 

@@ -1,4 +1,4 @@
--- The report of a refusal: its line and, on request, an explanation behind it.
+-- The report of a refusal: its line and, on request, an explanation after it.
 use Rattle.std.specs.Prelude.{◌≡◌, ℕ, Bool, true, false, List, [], ◌∷◌, ◌++◌, if◌then◌else◌, Option, Some, None, Result, Err, string_bytes}
 use Rattle.std.specs.Str.{bytes_eq}
 use Rattle.command_words.specs.declared.failure.Failure.{Failure}
@@ -51,7 +51,7 @@ run_sentence run.Memory = command_sentence command.Memory
 run_sentence run.Write = command_sentence command.Write
 run_sentence run.Failed = command_sentence command.Write
 
--- a replay has a text with rules of its own
+-- a replay has a text with its own rules
 abbrev pub sentence_of_replay : RunFault → List ℕ
 sentence_of_replay (run.Device fault) = replay_sentence fault
 sentence_of_replay fault = run_sentence fault
@@ -75,7 +75,7 @@ sentence_of (File name reason) = file_sentence reason
 sentence_of Memory = command_sentence command.Memory
 sentence_of Write = command_sentence command.Write
 
--- The line alone, or the line and its explanation: what was noted, or else the sentence.
+-- Only the line, or the line and its explanation: what was noted, or else the sentence.
 abbrev pub told_text : Bool → Refusal → Note → List ℕ
 told_text false r note = line_of r ++ 10 ∷ []
 told_text true r Unwanted = line_of r ++ 10 ∷ sentence_of r ++ 10 ∷ []
@@ -119,7 +119,7 @@ report_on form file = record { file = file; form = form }
 abbrev pub source_file : SourceFile → Source
 source_file s = record { file = s.file.now; text = s.text.now; period = s.period }
 
--- the source of the partition of this name, one source standing for each partition
+-- the source of the partition of this name, with one source for each partition
 abbrev pub source_of : List Partition → List (List ℕ) → List (List ℕ) → List ℕ → Option Source
 source_of (row ∷ rows) (file ∷ files) (text ∷ texts) name =
     if bytes_eq row.name name then Some (record { file = file; text = text; period = row.period }) else source_of rows files texts name
@@ -143,7 +143,7 @@ pub record Costed : Type 0 where
 abbrev pub costed_file : CostedFile → Costed
 costed_file c = record { file = c.file.now; text = c.text.now; bodies = c.bodies.now }
 
--- the source of the partition of this name, one source standing for the costs of each partition
+-- the source of the partition of this name, with one source for the costs of each partition
 abbrev pub costed_of : List PartitionCosts → List (List ℕ) → List (List ℕ) → List ℕ → Option Costed
 costed_of (row ∷ rows) (file ∷ files) (text ∷ texts) name =
     if bytes_eq row.partition name then Some (record { file = file; text = text; bodies = row.bodies.items }) else costed_of rows files texts name

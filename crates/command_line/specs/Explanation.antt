@@ -9,7 +9,7 @@ use Rattle.window_table.specs.declared.fault.TableFault.{TableFault}
 use Rattle.command_line.specs.Sentences.{command_sentence, source_sentence, table_sentence}
 use Rattle.command_line.specs.declared.explanations.sentences.CommandFault.TheVariants as command
 
--- a sentence on a line of its own, and the lines behind it; the objects of findings stand alone
+-- a sentence on its own line, and the lines after it; the objects of findings come without a sentence
 abbrev pub explanation : Form → List ℕ → List ℕ → List ℕ
 explanation plain sentence lines = sentence ++ (codes "\n" ++ lines)
 explanation (json rule) sentence lines = lines

@@ -4,7 +4,7 @@ use Rattle.module.specs.Lines.{build_line, inputs_line, run_line}
 use Rattle.command_line.specs.declared.refusal.Refusal.{Refusal}
 use Rattle.command_line.specs.declared.refusal.Refusal.TheVariants.{Build, Run, Replay, Inputs, File, Memory, Write}
 
--- what it says behind the program's name
+-- what it says after the program's name
 abbrev pub rule_of : Refusal → List ℕ
 rule_of (Build fault) = build_line fault
 rule_of (Run fault) = run_line fault

@@ -27,7 +27,7 @@ use Rattle.command_line.specs.declared.refusal.Refusal.TheVariants.{Memory, Writ
 
 -- ---- of accepted sources
 
--- What is found of a source as it is written and as it was accepted, for the partition of a row in a table with these costs and rows.
+-- What is found in a source, both as written and as accepted, for the partition of a row in a table with these costs and rows.
 pub record IsFoundOf (costs : Costs) (all : List Partition) (row : Partition) (source : written.Program) (given : Checked) (found : PartitionFindings) : Type 0 where
   pub partition : found.partition.now ≡ row.name
   pub findings : found_all found.findings.items ≡ findings all row.ports source ++ slow_processes costs given.program.processes.items
@@ -38,7 +38,7 @@ AreFoundOf costs all (row ∷ rows) (source ∷ sources) (given ∷ accepted) (f
 AreFoundOf costs all (row ∷ rows) (source ∷ sources) (given ∷ accepted) [] = ⊥
 AreFoundOf costs all _ _ _ found = found ≡ []
 
--- behind what is already there
+-- added after what is already there
 abbrev pub AddsFound : Costs → List PartitionRow → List PartitionRow → List tree.Program → List Checked → List PartitionFindings → List PartitionFindings → Type 0
 AddsFound costs all rows trees accepted old new =
     (found : List PartitionFindings) × (new ≡ old ++ found) × AreFoundOf costs (map partition_view all) (map partition_view rows) (map program_of trees) accepted found

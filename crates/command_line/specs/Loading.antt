@@ -44,7 +44,7 @@ pub record Shown : Type 0 where
   pub windows : List WindowRow
   pub bodies : List PartitionBodies
 
--- This is shown of a table and its accepted sources; without sources, of the table alone.
+-- This is shown of a table and its accepted sources; without sources, only of the table.
 pub record IsShownOf (t : Table) (given : List Checked) (shown : Shown) : Type 0 where
   pub load : IsLoadOf t shown.load
   pub windows : shown.windows ≡ t.schedule.windows

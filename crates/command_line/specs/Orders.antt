@@ -10,7 +10,7 @@ use Rattle.command_line.specs.declared.form.Form.{Form}
 use Rattle.command_line.specs.declared.form.Form.TheVariants.{Tables, Rows, Picture}
 
 -- files and partitions are named; ticks are a word; a run may wait for a line with some words;
--- if a word is `-` alone, nothing is asked for
+-- if a word is only `-`, nothing is asked for
 pub data Order : Type 0 where
   First : Order
   Check : (table : List ℕ) (sources : List (List ℕ)) → Order
@@ -92,7 +92,7 @@ named =
 abbrev pub is_dash : List ℕ → Bool
 is_dash word = bytes_eq word (codes "-")
 
--- a word that was found for an argument is `-` alone
+-- a word that was found for an argument is only `-`
 abbrev pub has_dash_at : List Row → List ℕ → Bool
 has_dash_at rows name = list_any is_dash (words_at name rows)
 

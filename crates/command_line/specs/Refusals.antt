@@ -208,7 +208,7 @@ IsRefused dashed before after r = IsUntouched before after × (r ≡ Memory)
 
 -- ---- the words
 
--- the word for the ticks is not written in digits, or a word is `-` alone
+-- the word for the ticks is not written in digits, or a word is only `-`
 abbrev pub HasWrongWord : Order → Type 0
 HasWrongWord (run image devices ticks until) = IsNumeral 10 ticks → ⊥
 HasWrongWord (replay image partition text ticks) = IsNumeral 10 ticks → ⊥

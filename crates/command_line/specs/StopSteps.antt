@@ -1,4 +1,4 @@
--- A tick whose text is held before it is handed on.
+-- A tick whose text is held before it is passed on.
 use Rattle.std.specs.Prelude.{◌≡◌, ◌<◌, ℕ, false, List}
 use Rattle.apex_types.specs.Line.{text_of}
 use Rattle.apex_types.specs.declared.device.DeviceLine.{DeviceLine}

@@ -23,7 +23,7 @@ pub fn spelled<'a, S: AsStr>(alloc: Global, words: &'a [S]) -> Result<Vec<&'a st
     Ok(spelled)
 }
 
-/// A word, or the flag that it stands for.
+/// A word, or the flag that it means.
 fn flag_or(is_open: bool, word: &str) -> &str
     ensures { result.now ≡ spec.flag_or is_open word.now }
 {

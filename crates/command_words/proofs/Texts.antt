@@ -1,4 +1,4 @@
--- Texts that grow behind one another, and the script around the words.
+-- Texts that are appended one after another, and the script around the words.
 use Rattle.std.proofs.Common.{◌≡◌, ℕ, List, [], ◌++◌, Result, string_bytes, String, subst}
 use Rattle.std.proofs.lemmas.List.{append-nil}
 use Rattle.std.specs.Prelude.{IfOk}

@@ -3,7 +3,7 @@ use Rattle.std.specs.Prelude.{ℕ, List, [], ◌++◌, codes, encode_utf8, flat_
 use Rattle.clap.specs.Simple.{App, Shape}
 use Rattle.clap.specs.Walk.{Rule}
 
--- a command's name, behind a space
+-- a command's name, after a space
 abbrev pub name_word : Shape → List ℕ
 name_word command = codes " " ++ command.name
 
@@ -13,7 +13,7 @@ words_of (Some short) None = codes " -" ++ encode_utf8 short
 words_of None (Some long) = codes " --" ++ long
 words_of None None = []
 
--- the words for an option, each behind a space; none for an argument that is no option
+-- the words for an option, each after a space; none for an argument that is no option
 abbrev pub option_words : Rule → List ℕ
 option_words rule = words_of rule.short rule.long
 

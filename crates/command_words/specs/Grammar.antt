@@ -47,7 +47,7 @@ rule (argument.Option name value help) = option_rule name.now
 rule (argument.Pair name values help) = pair_rule name.now
 rule (argument.Sequence name value help) = sequence_rule name.now
 
--- a program that tells its version
+-- a program that reports its version
 abbrev pub versioned : App → App
 versioned app = on_top (λ s. record s { has_version = true }) app
 

@@ -1,4 +1,4 @@
--- The pages that a program writes of its own words, and the words that ask for them.
+-- The pages that a program writes about its own words, and the words that ask for them.
 use Rattle.std.specs.Prelude.{◌≡◌, ◌&&◌, ℕ, List, [], ◌∷◌, Option, Some, None, codes, if◌then◌else◌}
 use Rattle.std.specs.Str.{bytes_eq}
 use Rattle.clap.specs.Simple.{App, built}
@@ -19,7 +19,7 @@ page_of (program ∷ help ∷ page ∷ []) = manual_of help page
 page_of (program ∷ help ∷ page ∷ shell ∷ []) = completion_of help page shell
 page_of words = None
 
--- The text of a page, where the library of command lines has added its own words. What stands in a manual page is not said.
+-- The text of a page, where the library of command lines has added its own words. What a manual page contains is not specified.
 abbrev pub IsBuiltText : Page → App → List ℕ → Type 0
 IsBuiltText Manual app text = Unit {0}
 IsBuiltText Bash app text = text ≡ completion app

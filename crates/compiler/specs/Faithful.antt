@@ -10,8 +10,8 @@ use Rattle.pal_meaning.specs.Program.{Program}
 use Rattle.compiling_laws.specs.Related.{Keeps}
 use Rattle.pal_meaning.specs.SourceControl.{source_engine}
 
--- The processor over a section cannot be told apart from a program's source, whatever both cost: at
--- each start of a body, by each tick over any data, and by each answer.
+-- The processor over a section cannot be distinguished from a program's source, whatever both cost: at
+-- each start of a body, by each tick over any data, and by each reply.
 abbrev pub IsFaithful : Section → Program → Type 0
 IsFaithful section program =
     let code = map reading section.code in

@@ -90,7 +90,7 @@ fn emit_exprs(code: &mut Vec<Instr>, exprs: &[Expr]) -> Result<(), AllocError>
     Ok(())
 }
 
-/// Stores the words of a service's answer in its targets, from left to right.
+/// Stores the words returned by a service in its targets, from left to right.
 fn emit_targets(code: &mut Vec<Instr>, targets: &[Place]) -> Result<(), AllocError>
     ensures { OnOk result (code.new.items ≡ code.old.items ++ map code_of.store targets.now) }
 {
@@ -113,7 +113,7 @@ fn emit_test(code: &mut Vec<Instr>, test: &Expr) -> Result<u32, AllocError>
     Ok(code.len() as u32)
 }
 
-/// A request of a service: its arguments, the request, and the stores of its answer.
+/// A request of a service: its arguments, the request, and the stores of the words that it returns.
 fn emit_service_call(
     code: &mut Vec<Instr>,
     service: Service,

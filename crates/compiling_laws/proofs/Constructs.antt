@@ -26,7 +26,7 @@ targets_constructs : (ts : List Place) (r : List Part) → constructs_of (target
 targets_constructs [] r = refl
 targets_constructs (t ∷ ts) r = ap (λ xs. WriteScalar t ∷ xs) (targets_constructs ts r)
 
--- the constructs of the unfolded front and of the parts behind it
+-- the constructs of the unfolded front and of the parts after it
 abbrev unfolded : Front → List Simple
 unfolded f = with_held f.construct ++ constructs_of f.rest
 

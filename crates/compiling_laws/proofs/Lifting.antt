@@ -1,4 +1,4 @@
--- Engines that cannot be told apart give equal traces. Nothing here looks into a service.
+-- Engines that cannot be distinguished give equal traces. Nothing here looks into a service.
 use Rattle.std.proofs.Common.{◌≡◌, ℕ, zero, suc, ◌+◌, ℤ, List, [], ◌∷◌, ◌++◌, length, Option, Some, None, map, refl, sym, ap, subst, ◌∙◌}
 use Rattle.arrayvec.specs.ArrayVec.{ArrayVec}
 use Rattle.std.specs.Prelude.{slice_get, slice_set, option_map}
@@ -184,11 +184,11 @@ module _ {I C D : Type 0} (R : I → C → D → Type 0) where
   starts_same at c (i ∷ is) [] ys h = absurd h
   starts_same at c (i ∷ is) (x ∷ xs) [] h = absurd h
 
-  -- steps of one partition that cannot be told apart
+  -- steps of one partition that cannot be distinguished
   abbrev SameSteps : (Member C → Moved C) → (Member D → Moved D) → Type 0
   SameSteps f g = (i : I) (x : Member C) (y : Member D) → SameMember (R i) x y → SameMoved (R i) (f x) (g y)
 
-  -- a step of one behind the first one
+  -- a step of a member after the first
   behind_first : {E : Type 0} (f : Member E → Moved E) (p : ℕ) (x : Member E) (xs : List (Member E)) (o : Option (Member E)) → steps_member f (x ∷ xs) (suc p) o ≡ record { members = x ∷ (steps_member f xs p o).members; lines = (steps_member f xs p o).lines }
   behind_first f p x xs None = refl
   behind_first f p x xs (Some y) = refl
@@ -403,7 +403,7 @@ module _ {I C D : Type 0} (R : I → C → D → Type 0) where
       (from_same plan devices n (option_map next_tick left.at) is _ _ one.members
       ∙ ap (λ (o : Option At). trace_from plan devices n (option_map next_tick o) right.members) one.at)
 
-  -- modules on engines that cannot be told apart have the same trace
+  -- modules on engines that cannot be distinguished have the same trace
   pub trace_same : (plan : Plan) (devices : List DeviceLine) (n : ℕ) (is : List I) (xs : List (Member C)) (ys : List (Member D)) → SameMembers R is xs ys → trace (record { plan = plan; members = xs }) devices n ≡ trace (record { plan = plan; members = ys }) devices n
   trace_same plan devices zero is xs ys h = refl
   trace_same plan devices (suc n) is xs ys h =

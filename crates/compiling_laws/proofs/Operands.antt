@@ -1,5 +1,5 @@
--- Operands that wait at once are at most as many as there are instructions, and six for the words
--- of an answer.
+-- The number of operands that wait together is at most the number of instructions, plus six for the
+-- words of a reply.
 use Rattle.std.proofs.Common.{◌+◌, ◌≤◌, arith}
 use Rattle.apex_types.specs.declared.service.Service.{Service}
 use Rattle.apex_types.specs.declared.service.Service.TheVariants as service

@@ -1,4 +1,4 @@
--- Instructions that stand one after the other.
+-- Instructions that follow one another.
 use Rattle.std.proofs.Common.{◌≡◌, ℕ, ◌+◌, List, [], ◌∷◌, ◌++◌, length, Option, Some, refl, subst, arith, map, append_assoc, length-append}
 use Rattle.std.specs.Prelude.{slice_get}
 use Rattle.apex_types.specs.declared.instruction.Instr.{Instr}
@@ -18,7 +18,7 @@ get_seam : (before after : Code) (x : Option Instr) → slice_get (before ++ x �
 get_seam [] after x = refl
 get_seam (b ∷ before) after x = get_seam before after x
 
--- a list stands behind what is before it
+-- a list starts where the code before it ends
 pub has_list : (before after : Code) (xs : List Instr) → HasAt (before ++ (map Some xs ++ after)) (length before) xs
 has_list before after [] = tt
 has_list before after (x ∷ xs) =

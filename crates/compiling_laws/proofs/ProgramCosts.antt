@@ -182,7 +182,7 @@ module _ (costs : Costs) where
       let declared = declared_entries ports p in
       (body_held declared p.init.stack p.init.body (omega arith), handler_held declared p.handler (omega arith), processes_held declared p.processes (omega arith), procedures_held declared p.declarations (omega arith))
 
--- The constructs of an accepted program are at most twice as many as the bytes of its text.
+-- An accepted program has at most twice as many constructs as its text has bytes.
 pub accepted_size : (ports : List PortRow) (period : ℕ) (text : List ℕ) (p : written.Program) (r : program.Program) → IsWritten (words_of text) p → verdict ports period p ≡ Ok r → size_of r ≤ 2 * length text
 accepted_size ports period text p r written judged =
     subst (λ (q : program.Program). size_of q ≤ 2 * length text) (accepted ports period p r judged).is (text_few ports p text written.1)

@@ -1,5 +1,5 @@
--- The constructs of a program are at most twice as many as the words that it is written with: an array
--- that is handed to a service is one word and two constructs.
+-- A program has at most twice as many constructs as it has words: an array passed to a service is
+-- one word and two constructs.
 use Rattle.std.proofs.Common.{◌≡◌, ℕ, zero, suc, ◌+◌, ◌*◌, ◌≤◌, ◌<◌, Bool, true, false, cond, List, [], ◌∷◌, ◌++◌, length, map, pos, Option, Some, None, ap, arith}
 use Rattle.std.specs.Prelude.{codes, filter_map, option_map}
 use Rattle.std.specs.List.{cons_option, sum_by}
@@ -194,6 +194,6 @@ words_few : (text : List ℕ) → length (words_of text) ≤ length text
 unfolding words_from
 words_few text = omega (arith, blanks_shorter false text, within_few (length (behind_blanks false text)) (behind_blanks false text))
 
--- The constructs of a program are at most twice as many as the bytes of a text of it.
+-- A program has at most twice as many constructs as a text of it has bytes.
 pub text_few : (ports : List PortRow) (p : written.Program) (text : List ℕ) → words_of text ≡ program_words p → size_of (resolve ports p) ≤ 2 * length text
 text_few ports p text is = let same : length (words_of text) ≡ length (program_words p) = ap length is in omega (arith, program_few ports p, words_few text)

@@ -63,14 +63,14 @@ pushes_one x vs junk ws w sp e h (j ∷ js) later left =
     let same : length js + length (w ∷ ws) ≡ length junk = omega arith in
     (js, ap (λ l. slice_set l (sp + length ws) w) later ∙ set_at_top x (ws ++ vs) j js w (sp + length ws) at, same)
 
--- an answer becomes values
+-- the words of a reply become values
 pub pushed_onto : (x vs junk answer : List ℤ) (sp : ℕ) → sp ≡ length x + length vs → length answer ≤ length junk → (js : List ℤ) × (pushed (x ++ onto vs junk) sp answer ≡ x ++ onto (answer ++ vs) js) × (length js + length answer ≡ length junk)
 pushed_onto x vs junk [] sp e h = (junk, refl, omega arith)
 pushed_onto x vs junk (w ∷ ws) sp e h =
     let later = pushed_onto x vs junk ws sp e (omega arith) in
     pushes_one x vs junk ws w sp e h later.0 later.1 later.2
 
--- the arguments of a service are the values handed on, the first one first
+-- the arguments of a service are the values passed to it, the first one first
 pub popped_values : (n : ℕ) (x vs junk : List ℤ) (sp : ℕ) (after : List ℤ) → n ≤ length vs → sp ≡ length x + length vs → popped n (x ++ onto vs junk) sp after ≡ onto (take n vs) after
 popped_values zero x vs junk sp after h e = refl
 popped_values (suc n) x [] junk sp after h e = absurd (omega arith)

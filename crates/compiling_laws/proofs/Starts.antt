@@ -1,4 +1,4 @@
--- The bodies of a program stand in its code, and a started body is the same on both sides.
+-- The code of a program contains its bodies, and a started body is the same on both sides.
 use Rattle.std.proofs.Common.{◌≡◌, ℕ, zero, suc, ◌+◌, ◌-◌, ◌≤◌, ◌<◌, pos, false, List, [], ◌∷◌, ◌++◌, length, map, replicate, Option, Some, None, refl, sym, ap, ◌∙◌, subst, arith, length-append, max}
 use Rattle.std.specs.Prelude.{slice_get, get_or}
 use Rattle.std.specs.Option.{option_map}
@@ -46,7 +46,7 @@ body_goes code ps b at fits has =
     let room : 0 + operands_of_block b.block ≤ operands_of_block b.block = omega arith in
     block_goes code ps (limits_of_body b) b.block (Do EndBody ∷ []) at 0 (record { has = has_front code at block end has; fits = fits.block; room = room }) back.0
 
--- words of 0 are slots of 0 and the words behind them
+-- words of 0 are slots of 0 and the words after them
 zeros_split : (a b : ℕ) → replicate (a + b) (pos 0) ≡ replicate a (pos 0) ++ replicate b (pos 0)
 zeros_split zero b = let e : 0 + b ≡ b = omega arith in ap (λ n. replicate n (pos 0)) e
 zeros_split (suc a) b = let e : suc a + b ≡ suc (a + b) = omega arith in ap (λ n. replicate n (pos 0)) e ∙ ap (λ l. pos 0 ∷ l) (zeros_split a b)
@@ -79,7 +79,7 @@ body_starts code ps b at fits has =
       awaits = refl;
     }
 
--- each procedure stands where its row says
+-- each procedure is where its row says
 procedures_placed : (code : Code) (all ps : List Procedure) (at : ℕ) → ((f : ℕ) (p : Procedure) → slice_get ps f ≡ Some p → FitsProcedure all p) → HasAt code at (procedures_code at ps) → (f : ℕ) (p : Procedure) → slice_get ps f ≡ Some p → (r : RoutineRow) × (slice_get (routine_rows at ps) f ≡ Some r) × Stands code all p r
 procedures_placed code all [] at fits has f p e = absurd (cc)
 procedures_placed code all (q ∷ ps) at fits has zero p e =

@@ -1,4 +1,4 @@
--- The relation is kept by each tick and each answer.
+-- Each tick and each reply keeps the relation.
 use Rattle.std.proofs.Common.{◌≡◌, ◌≢◌, ℕ, zero, suc, ◌+◌, ◌-◌, ◌≤◌, ◌<◌, ◌&&◌, ℤ, pos, Bool, true, false, List, [], ◌∷◌, ◌++◌, length, take, drop, reverse, replicate, Option, Some, None, refl, sym, ap, ◌∙◌, subst, arith, append_assoc, length-append, max, nat_lt, nat_le, nat_eq}
 use Rattle.std.specs.Prelude.{slice_get, slice_set, if◌then◌else◌}
 use Rattle.std.proofs.lemmas.Bool.{lt-ltb, le-ltb, le-leb, leb-true, leb-false, eqb-true, eq-eqb, ne_eqb}
@@ -51,7 +51,7 @@ same_stored words (Some place) v = refl
 abbrev pub limits_of : Procedure → Limits
 limits_of p = record { slots = slots_of p; room = max 1 (operands_of_block p.block); returns = true }
 
--- a routine in the code of which the procedure stands
+-- a routine whose code is that of the procedure
 pub record Stands (code : Code) (ps : List Procedure) (p : Procedure) (r : RoutineRow) : Type 0 where
   pub parameters : r.parameters ≡ p.parameters
   pub slots : r.slots ≡ slots_of p
@@ -138,7 +138,7 @@ module _ (costs : Costs) (code : Code) (program : Program) (rs : List RoutineRow
       let enough : n ≤ m.sp - m.fp = omega arith in
       ap (λ b. if b then refuses error.IllegalRequest m words else f m words) (le-ltb (m.sp - m.fp) n enough)
 
-  -- operands were taken, and the stack is as it was
+  -- operands were taken, and the stack is unchanged
   takes : (rest : List Part) (vs junk data_now : List ℤ) (n pc sp : ℕ) → n ≡ length vs → Goes code program.procedures k.limits pc n rest → sp ≡ length here + length vs → m.stack ≡ here ++ onto vs junk → sp ≤ m.sp → Same code program (source.goes_on c rest vs data_now) (machine.goes_on pc sp m.stack m data_now)
   takes rest vs junk data_now n pc sp en goes es et le =
       let top_fits = k.answer in
@@ -706,7 +706,7 @@ tick_by costs code program rs placed c m words k (suc a) e =
 pub keeps_tick : (costs : Costs) (code : Code) (program : Program) (rs : List RoutineRow) → Placed code program rs → (c : SourceControl) (m : MachineControl) (words : List ℤ) → Keeps code program.procedures c m → Same code program (source_tick costs program c words) (machine_tick costs code rs m words)
 keeps_tick costs code program rs placed c m words k = tick_by costs code program rs placed c m words k c.awaits refl
 
--- an answer
+-- a reply
 answered : (code : Code) (ps : List Procedure) (c : SourceControl) (m : MachineControl) (answer : List ℤ) → Keeps code ps c m → length answer ≡ c.awaits → Keeps code ps (record { parts = c.parts; values = answer ++ c.values; slots = c.slots; callers = c.callers; spent = c.spent; awaits = 0; stack = c.stack }) (record m { sp = m.sp + length answer; stack = pushed m.stack m.sp answer; awaits = 0 })
 answered code ps c m answer k e =
     let x = base k.laid c.slots in

@@ -1,5 +1,5 @@
 -- The code that a program is compiled to. Each construct is one instruction, in the order in which
--- the constructs take effect. The bodies stand one after the other: INIT, the handler, the
+-- the constructs take effect. The bodies follow one another: INIT, the handler, the
 -- processes and the procedures, each in the order of declaration.
 use Rattle.std.specs.Prelude.{ℕ, ◌+◌, pos, List, [], ◌∷◌, ◌++◌, Option, Some, None, map}
 use Rattle.std.specs.List.{sum_by}

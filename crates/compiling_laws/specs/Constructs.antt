@@ -1,5 +1,5 @@
 -- The simple constructs of a program's parts, each once, in the order in which they are written. A
--- branch holds the constructs of its blocks, and the leap behind or before them.
+-- branch holds the constructs of its blocks, and the jump after or before them.
 use Rattle.std.specs.Prelude.{List, [], ◌∷◌, ◌++◌, map}
 use Rattle.pal_meaning.specs.Program.{Expr, Links, Exprs, Stmt, Block}
 use Rattle.pal_meaning.specs.Program.{Literal, Read, Element, Unary, Chain, Apply, NoLink, MoreLinks, NoExpr, MoreExprs}

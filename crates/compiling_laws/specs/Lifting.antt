@@ -1,4 +1,4 @@
--- When two worlds, and two modules, on different engines cannot be told apart.
+-- When two worlds, and two modules, on different engines cannot be distinguished.
 use Rattle.std.specs.Prelude.{◌≡◌, List, [], ◌∷◌, Option, Some, None}
 use Rattle.engine_meaning.specs.Simulates.{Simulates}
 use Rattle.kernel_meaning.specs.Partition.{World, Moved, Member}
@@ -32,7 +32,7 @@ pub record SameMember {C D : Type 0} (R : C → D → Type 0) (x : Member C) (y 
   pub engine : Simulates R x.engine y.engine
   pub world : SameWorld R x.world y.world
 
--- each member with its counterpart, by a relation of its own
+-- each member with its counterpart, by its own relation
 abbrev pub SameMembers : {I C D : Type 0} → (I → C → D → Type 0) → List I → List (Member C) → List (Member D) → Type 0
 SameMembers R [] [] [] = Unit {0}
 SameMembers R (i ∷ is) (x ∷ xs) (y ∷ ys) = SameMember (R i) x y × SameMembers R is xs ys

@@ -41,7 +41,7 @@ pub record Limits : Type 0 where
   pub room : ℕ
   pub returns : Bool
 
--- The code of an expression, a statement or a block stands at pc; it fits its body, and its values
+-- The code of an expression, a statement or a block is at pc; it fits its body, and its values
 -- have room while n values wait.
 pub record ExprAt (code : Code) (procedures : List Procedure) (k : Limits) (pc n : ℕ) (e : Expr) : Type 0 where
   pub has : HasAt code pc (expr_code e)
@@ -58,7 +58,7 @@ pub record BlockAt (code : Code) (procedures : List Procedure) (k : Limits) (pc 
   pub fits : FitsBlock procedures k.slots k.returns b
   pub room : n + operands_of_block b ≤ k.room
 
--- a jump back to a while, which ends behind that jump
+-- a jump back to a while, which ends right after that jump
 abbrev pub GoesBack : Code → List Procedure → Limits → ℕ → ℕ → Expr → Block → Type 0
 GoesBack code ps k pc n test block = (a : ℕ) × Fetches code pc (instr.Jump a) × StmtAt code ps k a n (While test block) × (a + size_of_stmt (While test block) ≡ pc + 1)
 
@@ -110,7 +110,7 @@ abbrev pub onto : List ℤ → List ℤ → List ℤ
 onto [] rest = rest
 onto (w ∷ ws) rest = onto ws (w ∷ rest)
 
--- the two words behind the slots of a body: the instruction and the frame of its caller
+-- the two words after the slots of a body: the instruction and the frame of its caller
 abbrev pub saved : List Laid → List ℤ
 saved [] = pos 0 ∷ pos 0 ∷ []
 saved (l ∷ ls) = pos l.back ∷ pos (taken (calls_of ls)) ∷ []
@@ -159,7 +159,7 @@ abbrev pub body_row_at : Section → Runner → BodyRow
 body_row_at s p = body_at s.init s.handler (map row_of_process s.processes) p
 
 -- Compilation is correct: where each instruction is what its bytes read as, the processor over the
--- section of a program that fits cannot be told apart from the program's source, whatever both cost.
+-- section of a program that fits cannot be distinguished from the program's source, whatever both cost.
 abbrev pub CompiledCorrectly : Program → Type 0
 CompiledCorrectly program =
     let section = section_of program in

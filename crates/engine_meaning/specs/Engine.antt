@@ -1,5 +1,5 @@
 -- A process on an engine: its remaining work (a control), the effect of one tick on it, and the
--- effect of an answer. The kernel is the same over every engine.
+-- effect of a reply. The kernel is the same over every engine.
 use Rattle.std.specs.Prelude.{ℤ, List, Option, Some, None, get_or}
 use Rattle.apex_types.specs.declared.codes.ErrorKind.{ErrorKind}
 use Rattle.apex_types.specs.declared.identity.Runner.{Runner}

@@ -11,7 +11,7 @@ pub record SameTick {C D : Type 0} (R : C → D → Type 0) (a : Ticked C) (b : 
   pub asks : a.asks ≡ b.asks
 
 -- Two engines whose controls stay related: at the start of each body, by each tick over the same
--- data, and by each answer.
+-- data, and by each reply.
 pub record Simulates {C D : Type 0} (R : C → D → Type 0) (c : Engine C) (d : Engine D) : Type 0 where
   pub start : (p : Runner) → R (c.start p) (d.start p)
   pub tick : (x : C) (y : D) (words : List ℤ) → R x y → SameTick R (c.tick x words) (d.tick y words)

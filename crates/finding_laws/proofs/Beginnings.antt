@@ -10,7 +10,7 @@ use Rattle.image_findings.specs.Seen.{IsSeenAt, is_cut, is_truncated}
 use Rattle.machine_meaning.specs.Image.{Image}
 use Rattle.machine_meaning.specs.ImageReading.{Fault, Foreign, Limit, Order, Read, Trailing, Truncated, ◌>>=◌, fields_at, image_at, keeps_table_rules}
 
--- what is read behind the last field
+-- what is read after the last field
 abbrev ends : Image × List ℕ → Result Image Fault
 ends read = cond (nat_eq (length read.1) 0) (cond (keeps_table_rules read.0) (Ok read.0) (Err Limit)) (Err Trailing)
 

@@ -113,7 +113,7 @@ or_unknown test ks (member l d ms) unknown = elim (cases_Bool (is_one_of ks l)) 
     step false true any is = refl
     step false false any is = is
 
--- ---- what stands at a key is sorted too
+-- ---- the data at a key is sorted too
 
 pub sorted_at : (k : List ℕ) (ms : Members) (d : Data) → members_are_sorted ms ≡ true → get_member k ms ≡ Some d → is_sorted d ≡ true
 sorted_at k no_members d s is = absurd (none-some d is)

@@ -95,7 +95,7 @@ no_service : (w : Word) (found : Option Service) → ((s : Service) → ServiceW
 no_service w (Some s) h k is = h s is
 no_service w None h k is = k is
 
--- which of the kinds of words stands at the front, if it is none that begins with another byte than a letter
+-- which kind of word is at the front, if it is none that begins with a byte other than a letter
 small_by : (b : ℕ) (bs : List ℕ) (w : Word) → (word_at (b ∷ bs)).0 ≡ w → ((n : Option ℕ) → Number n ≡ w → ⊥) → ((s : Service) → ServiceWord s ≡ w → ⊥) → (Stray ≡ w → ⊥)
     → ((sign_or_stray (find (starts_with nat_eq (b ∷ bs)) signs) b bs).0 ≡ w → ⊥) → is_lower b ≡ true
 unfolding word_at sign_word upper_word

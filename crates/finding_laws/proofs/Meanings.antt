@@ -16,7 +16,7 @@ use Rattle.image_findings.specs.Parts.{Part, parts, total}
 use Rattle.image_findings.specs.What.{UnknownPartition}
 use Rattle.finding_laws.specs.Rules.{rule_in}
 
--- the rule that a message of so many words to a channel or port breaks
+-- the rule that a message of this many words to a channel or port breaks
 abbrev pub receiver_rule : ℕ → ℕ → Option Receiver → Option DeviceFault
 receiver_rule count words None = Some fault.Name
 receiver_rule count words (Some r) = cond r.is_open (cond (is_room count && nat_le words r.most) None (Some fault.Size)) (Some fault.Name)

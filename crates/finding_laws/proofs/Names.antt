@@ -1,4 +1,4 @@
--- A name is wrong if and only if one is found: one that stands twice, or names nothing.
+-- A name is wrong if and only if one is found: one that appears twice, or names nothing.
 use Rattle.std.proofs.Common.{◌≡◌, arith, ℕ, ◌+◌, ◌&&◌, ◌||◌, Bool, true, false, not, List, [], ◌∷◌, ◌++◌, Option, Some, None, length, map, refl, sym, ap, ◌∙◌, append_assoc, inl, inr}
 use Rattle.std.proofs.lemmas.Bool.{cases_Bool, lt-ltb, le-ltb}
 use Rattle.std.proofs.lemmas.List.{length-append}
@@ -18,7 +18,7 @@ use Rattle.table_findings.specs.Names.{Channels, Named, Partitions, Ports, chann
 use Rattle.table_findings.specs.Shape.{one}
 use Rattle.table_findings.specs.Subjects.{Row}
 
--- ---- names that stand twice
+-- ---- names that appear twice
 
 -- the names of some rows
 twice_named : {A : Type 0} (name : A → List ℕ) (xs : List A) → has_twice (λ x y. same (name x) (name y)) xs ≡ has_twice same (map name xs)

@@ -1,4 +1,4 @@
--- Where partitions differ in name, the number of one stands for its name.
+-- Where partitions differ in name, the number of a partition denotes its name.
 use Rattle.std.proofs.Common.{◌≡◌, ◌<◌, arith, ℕ, ◌+◌, Bool, true, false, eqb, List, [], ◌∷◌, ◌++◌, Some, length, refl, sym, ap, ◌∙◌, append_assoc}
 use Rattle.std.proofs.Common.{inl, inr, length-append}
 use Rattle.std.proofs.lemmas.Bool.{false≢true, and_parts, cases_Bool, eq-eqb, eqb-true, ne_eqb, or_parts}
@@ -31,7 +31,7 @@ same_list [] (y ∷ b) h = absurd (false≢true h)
 same_list (x ∷ a) [] h = absurd (false≢true h)
 same_list (x ∷ a) (y ∷ b) h = let parts = and_parts (eqb x y) (same a b) h in ap (λ (z : ℕ). z ∷ a) (eqb-true x y parts.0) ∙ ap (λ (zs : List ℕ). y ∷ zs) (same_list a b parts.1)
 
--- no number is below the one that is counted from
+-- no number is below the number that the count starts from
 not_below : (m n : ℕ) (name : List ℕ) (ps : List PartitionText) → n < m → 0 < n → (unwrap_or (number_from m (is_of_name name) ps) 0 == n) ≡ false
 unfolding number_from
 not_below m n name [] below there = ne_eqb 0 n (λ e. omega arith)
@@ -40,7 +40,7 @@ not_below m n name (p ∷ ps) below there = elim (same p.name name) as (λ b. (u
   | false ↦ not_below (m + 1) n name ps (omega arith) there
 ]
 
--- the partition behind some others
+-- the partition after some others
 numbered_at : (m n : ℕ) (name : List ℕ) (front : List PartitionText) (p : PartitionText) (rest : List PartitionText) → 0 < m → n ≡ m + length front → has_twice have_same_name (front ++ p ∷ rest) ≡ false
     → (unwrap_or (number_from m (is_of_name name) (front ++ p ∷ rest)) 0 == n) ≡ same name p.name
 unfolding number_from has_twice

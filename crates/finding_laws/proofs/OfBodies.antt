@@ -101,7 +101,7 @@ module _ (text : List ℕ) (name : BodyName) where
   abbrev pub IsFound : List ℕ → Type 0
   IsFound t = (n : ℕ) × (t ≡ from_word n text) × (rest : List Word) × (words_from (from_word n text) ≡ beginning_of name ++ rest)
 
-  -- the search goes from a word on over so many more, and the body begins with one of them
+  -- the search goes from a word on over `n` more, and the body begins with one of them
   found_from : (n i j : ℕ) (ws : List Word) → i ≤ j → j ≤ i + n → words_from (from_word j text) ≡ beginning_of name ++ ws → IsFound (from_body n name (from_word i text))
   unfolding from_body
   found_from zero i j ws low high is = let at : j ≡ i = omega (arith, low, high) in (i, refl, ws, ap (λ k. words_from (from_word k text)) (sym at) ∙ is)
@@ -117,7 +117,7 @@ module _ (text : List ℕ) (name : BodyName) where
             let k : false ≡ true = sym e ∙ there in cc)
       ]
 
-  -- behind some words of a text others stand
+  -- after some words of a text come the others
   word_behind : (i : ℕ) (front ws : List Word) → words_from (from_word i text) ≡ front ++ ws → (j : ℕ) × (i ≤ j) × (j ≤ i + length front) × (words_from (from_word j text) ≡ ws)
   word_behind i [] ws is = (i, omega arith, omega arith, is)
   word_behind i (w ∷ front) ws is =

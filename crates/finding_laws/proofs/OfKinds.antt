@@ -126,7 +126,7 @@ module _ (period : ℕ) (declared own : List Entry) (scope : Scope) (means : (na
   given_is (argument.Object kind) (written.Unary operator operand) = refl
   given_is (argument.Object kind) (written.Chain first rest) = refl
 
-  -- so many arguments as there are kinds, and each fits
+  -- there are as many arguments as kinds, and each fits
   arguments_are : (ks : List ArgumentKind) (es : written.Exprs) → (nat_eq (expr_count es) (length ks) && fine_all_given j ks es) ≡ fits_arguments scope ks es
   arguments_are [] written.NoExpr = refl
   arguments_are (k ∷ ks) written.NoExpr = ap (λ b. b && true) (eqb-zero-suc (length ks))

@@ -49,7 +49,7 @@ program_total costs p =
     all_of (cost_of_body costs name.Init p.init) (cost_of_handler costs p.handler) (map (cost_of_process costs) p.processes.items) (map (cost_of_procedure costs) p.procedures.items)
     ∙ omega (arith, handler_total costs p.handler, processes_total costs p.processes.items, procedures_total costs p.procedures.items)
 
--- with some body more than so many instructions are passed
+-- at some body, the instructions so far are more than `most`
 passed : (text : List ℕ) (all bodies : List BodyCost) (most : ℕ) → most < total bodies → has_none (wrongs_at text all (passing most bodies)) ≡ false
 passed text all [] most above = absurd (omega (arith, above))
 passed text all (b ∷ bs) most above = by (nat_lt most b.instructions) refl (λ h. passed text all bs (most - b.instructions) h)

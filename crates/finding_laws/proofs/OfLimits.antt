@@ -362,7 +362,7 @@ module _ (period : ℕ) (declared : List Entry) (entries : List meant.Entry) whe
   abbrev k : Judge
   k = record { rule = rule.Limit; period = period; declared = declared; own = [] }
 
-  -- the declarations behind some whose counts are within their limits
+  -- the declarations after some whose counts are within their limits
   declarations_hold : (before : List Entry) (c : Counts) (ds : List written.Declaration) → fine_declarations k before (tally_at c) ds ≡ (keeps_counts c ds && list_all (keeps_declaration entries) ds)
   declarations_hold before c [] = refl
   declarations_hold before c (d ∷ ds) = by (after c d.kind) (tallied c d.kind) (λ next. declarations_hold (before ++ declaration_entry d ∷ []) next ds)

@@ -42,7 +42,7 @@ both_stand : (xs ys : List BodyCost) (all : List Word) → AllStandIn xs all →
 both_stand [] ys all h k = k
 both_stand (x ∷ xs) ys all h k = (h.0, both_stand xs ys all h.1 k)
 
--- behind the words of a thing
+-- after the words of a thing
 all_behind : {X : Type 0} (words : X → List Word → List Word) → Extends words → (x : X) (bs : List BodyCost) (rest : List Word) → AllStandIn bs rest → AllStandIn bs (words x rest)
 all_behind words extends x [] rest h = tt
 all_behind words extends x (b ∷ bs) rest h = ((words x [] ++ h.0.0, h.0.1, extends x [] rest ∙ ap (λ (ws : List Word). words x [] ++ ws) h.0.2 ∙ sym (append_assoc (words x []) h.0.0 _)), all_behind words extends x bs rest h.1)
@@ -57,7 +57,7 @@ handler_stands costs f None handler rest same = tt
 handler_stands costs f (Some b) None rest same = let k : Some (body_of b) ≡ None = same in cc
 handler_stands costs f (Some b) (Some h) rest same = (([], _, refl), tt)
 
--- the first of two lists of processes, and those behind them
+-- the name of the first process of a list, and the processes after it
 first_name : List ℕ → List resolved.Process → List ℕ
 first_name other [] = other
 first_name other (p ∷ ps) = p.name

@@ -1,4 +1,4 @@
--- What the names of a program stand for, by its entries with their meanings.
+-- The roles of the names of a program, by its entries with their meanings.
 use Rattle.std.proofs.Common.{◌≡◌, ℕ, ◌+◌, Bool, true, false, cond, not, List, [], ◌∷◌, ◌++◌, map, Option, Some, None, is_some, refl, sym, ap, ◌∙◌, append_assoc, append-nil}
 use Rattle.std.specs.Option.{unwrap_or}
 use Rattle.std.specs.Str.{bytes_eq}
@@ -16,7 +16,7 @@ use Rattle.source_findings.specs.Roles.{Entry, declaration_entry, declared_entri
 use Rattle.source_findings.specs.declared.roles.Role.{Role}
 use Rattle.source_findings.specs.declared.roles.Role.TheVariants as role
 
--- what a name with this meaning stands for
+-- the role of a name with this meaning
 abbrev pub role_as : Option Denotation → Role
 role_as None = role.Nothing
 role_as (Some (denotation.Scalar place)) = role.Variable
@@ -78,7 +78,7 @@ same_declared ports c name (written.Procedure parameters body) = refl
 pub declaration_is : (ports : List PortRow) (c : Counts) (d : written.Declaration) → to_role (record { name = d.name; meaning = declared_meaning ports c d.name d.kind }) ≡ declaration_entry d
 declaration_is ports c d = ap (entry d.name) (same_declared ports c d.name d.kind)
 
--- the counts behind a declaration
+-- the counts after a declaration
 abbrev pub next_counts : Counts → written.Declaration → Counts
 next_counts c d = unwrap_or (after c d.kind) c
 

@@ -1,11 +1,11 @@
--- The same tests in another order, and twice or once, have one answer.
+-- The same tests in another order, and twice or once, give the same result.
 use Rattle.std.proofs.Common.{◌≡◌, ℕ, ◌&&◌, ◌||◌, Bool, true, false, eqb, get_or, List, [], ◌∷◌, ◌++◌, refl, sym, ap, ◌∙◌, inl, inr}
 use Rattle.std.proofs.lemmas.Bool.{and_parts, eqb-true, false≢true, or_cases, or_left, or_right}
 use Rattle.std.proofs.lemmas.List.Folds.{list_any-append}
 use Rattle.std.specs.List.{list_any}
 use Rattle.finding_laws.proofs.Twice.{both_or, or_swap}
 
--- tests, each by its place in a list of answers
+-- tests, each by its place in a list of results
 pub data Tests : Type 0 where
   nothing : Tests
   the : ℕ → Tests
@@ -16,7 +16,7 @@ answer bs nothing = false
 answer bs (the n) = get_or bs n false
 answer bs (either a b) = answer bs a || answer bs b
 
--- some tests, one behind the other
+-- some tests, one after the other
 abbrev pub all_of : List ℕ → Tests
 all_of [] = nothing
 all_of (n ∷ ns) = either (the n) (all_of ns)

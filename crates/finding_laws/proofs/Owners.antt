@@ -129,7 +129,7 @@ module _ (p : tree.Program) where
   own_beginning (body.Process name) front rest all = own_among front (Name name ∷ rest) (Mark (codes "process")) refl all (body.Process name) rest refl
   own_beginning (body.Procedure name) front rest all = own_among front (Name name ∷ rest) (Mark (codes "proc")) refl all (body.Procedure name) rest refl
 
--- the words of a text from one of them on stand behind others
+-- the words of a text from one of them on follow the words before it
 words_behind : (n : ℕ) (text : List ℕ) → (front : List Word) × (words_of text ≡ front ++ words_from (from_word n text))
 unfolding from_word behind_blanks word_at
 words_behind zero text = ([], refl)

@@ -105,7 +105,7 @@ unfolding judge_text judge_table first_broken broken outcome code
 judged t =
     either_way _ _ _ 3 _ refl (either_way _ _ _ 4 _ refl (either_way _ _ _ 5 _ refl (either_way _ _ _ 6 _ refl (either_way _ _ _ 7 _ refl (either_way _ _ _ 8 _ refl (either_way _ _ _ 9 _ refl (either_way _ _ _ 10 _ refl refl)))))))
 
--- the table of a document that is refused by a rule behind that of shapes
+-- the table of a document that is refused by a rule after that of shapes
 refused_by : (n : ℕ) (ms : Members) → outcome (verdict ms) ≡ 3 + n → (t : TableText) × (table_text_of ms ≡ Some t) × IsFirst n (broken t)
 unfolding verdict outcome code
 refused_by n ms is = by_text (table_text_of ms) refl is

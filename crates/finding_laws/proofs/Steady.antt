@@ -1,5 +1,5 @@
--- A field that is read is read so with any bytes behind it, and a fault that is found is found so, too; only what ends within
--- a field may be read otherwise.
+-- A field that is read is read the same with any bytes after it, and a fault that is found is found again; only what ends within
+-- a field may be read differently.
 use Rattle.std.proofs.Common.{arith, ◌≡◌, ℕ, zero, suc, ◌≤◌, Bool, true, false, cond, List, [], ◌∷◌, ◌++◌, length, take, drop, Option, Some, None, Ok, Err, refl, sym, ap, ◌∙◌, subst}
 use Rattle.std.specs.Prelude.{◌||◌, nat_lt}
 use Rattle.std.specs.Int.{Width, w32, byte_len, from_le_bytes}
@@ -7,7 +7,7 @@ use Rattle.std.proofs.lemmas.Bool.{ltb-false, ltb-true}
 use Rattle.std.proofs.lemmas.List.{length-append}
 use Rattle.machine_meaning.specs.ImageReading.{Truncated, Foreign, Limit, Order, Trailing, Read, ◌>>=◌, byte_at, bytes_at, choice_at, chosen, items_at, limited_at, list_at, number_at, small_at, within}
 
--- the same, with more bytes behind
+-- the same, with more bytes following
 unfoldable pub Goes : {A : Type 0} → List ℕ → Read A → Read A → Type 0
 Goes more (Ok x) other = other ≡ Ok (x.0, x.1 ++ more)
 Goes more (Err Truncated) other = Unit {0}
@@ -19,7 +19,7 @@ Goes more (Err Trailing) other = other ≡ Err Trailing
 abbrev pub Steady : {A : Type 0} → (List ℕ → Read A) → Type 0
 Steady read = (bytes more : List ℕ) → Goes more (read bytes) (read (bytes ++ more))
 
--- ---- one field behind another
+-- ---- one field after another
 
 module _ {A B : Type 0} (more : List ℕ) (F : A × List ℕ → Read B) (next : (x : A) → Steady (λ rest. F (x, rest))) where
   goes_then : (a b : Read A) → Goes more a b → Goes more (a >>= F) (b >>= F)

@@ -1,4 +1,4 @@
--- Each part of an image is read so with any bytes behind it.
+-- Each part of an image is read the same with any bytes after it.
 use Rattle.std.proofs.Common.{ℕ, ◌+◌, ◌-◌, ◌^◌, Bool, List, [], max, None, nat_eq}
 use Rattle.std.specs.Prelude.{◌||◌, nat_lt}
 use Rattle.std.specs.Int.{w16, w32, w64}

@@ -1,4 +1,4 @@
--- Something that stands twice in a list is looked for among those behind it, or among those before it.
+-- Something that appears twice in a list is looked for among the items after it, or among those before it.
 use Rattle.std.proofs.Common.{◌≡◌, ◌||◌, Bool, true, false, List, [], ◌∷◌, ◌++◌, refl, sym, ap, ◌∙◌, append_assoc}
 use Rattle.std.proofs.lemmas.List.{append-nil}
 use Rattle.std.proofs.lemmas.List.Folds.{list_any-append}

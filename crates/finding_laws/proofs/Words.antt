@@ -56,7 +56,7 @@ placed_more text [] w h k = (k, tt)
 placed_more text (v ∷ ws) w h k = (h.0, placed_more text ws w h.1 k)
 
 module _ (source : List ℕ) where
-  -- The walk is at a word of the source, these are the words from there on, and what was found has its place.
+  -- The walk is at a word of the source, these are the words from that word on, and what was found has its place.
   abbrev pub IsAt : State → List Word → Type 0
   IsAt s ws = ((n : ℕ) × (s.text ≡ from_word n source)) × (words_from s.text ≡ ws) × ArePlaced source s.found
 
@@ -228,7 +228,7 @@ module _ (source : List ℕ) (j : Judge) where
 
   -- ---- services
 
-  -- nothing is said of a word that stands before an expression
+  -- nothing is said of a word before an expression
   no_name_at : (wanted : Role) (e : written.Expr) (s : State) (rest : List Word) → IsAt source s (expr_words e rest) → IsAt source (expr j e (noted (no_name_wrong j.rule wanted) s)) rest
   no_name_at wanted e s rest h =
       let first = begins e rest in
@@ -369,7 +369,7 @@ module _ (source : List ℕ) where
   first_says r (Some first) None = by_limit_says r None (grammar.Number (Some first)) tt
   first_says r (Some first) (Some maximum) = by_limit_says r _ (grammar.Number (Some first)) (says_unless _ _ (grammar.Number (Some first)) refl)
 
-  -- a declaration behind the word of its kind
+  -- a declaration after the word of its kind
   kind_at : (j : Judge) (before : List Entry) (what : Option What) (name : List ℕ) (k : written.Kind) (s : State) (rest : List Word)
       → IsAt source s (kind_words name k rest) → ((w : Word) → IfSome what (λ y. IsSaidOf y w)) → IsAt source (walk.kind j k (walk.declared_name j before name (judged what s))) rest
   kind_at j before what name (written.Variable value) s rest h k =

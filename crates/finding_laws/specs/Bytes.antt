@@ -11,7 +11,7 @@ ends_above [] = false
 ends_above (byte ∷ []) = is_above byte
 ends_above (byte ∷ next ∷ bytes) = ends_above (next ∷ bytes)
 
--- A byte of a text, of which so much is left from it on. It is above 127, and the one before it is not.
+-- A byte of a text, from which on `left` bytes remain. It is above 127, and the byte before it is not.
 pub record IsStrayAt (text : List ℕ) (left byte : ℕ) : Type 0 where
   pub before : List ℕ
   pub after : List ℕ
@@ -20,13 +20,13 @@ pub record IsStrayAt (text : List ℕ) (left byte : ℕ) : Type 0 where
   pub above : 127 < byte
   pub first : ends_above before ≡ false
 
--- The first byte behind those that a source may have; no byte of the text is above 127.
+-- The first byte after those that a source may have; no byte of the text is above 127.
 pub record IsFirstBehind (text : List ℕ) (left : ℕ) : Type 0 where
   pub ascii : IsAscii text
   pub place : MOST_SOURCE_BYTES + left ≡ length text
   pub some : 0 < left
 
--- what is said is so of the byte from which on so much of the text is left
+-- what is said holds for the byte from which on `left` bytes remain
 abbrev pub IsSaidOfByte : List ℕ → ℕ → What → Type 0
 IsSaidOfByte text left (NoAscii byte) = IsStrayAt text left byte
 IsSaidOfByte text left TooLong = IsFirstBehind text left

@@ -4,7 +4,7 @@ use Rattle.pal_meaning.specs.Grammar.{Word, Mark, Name, Number, ServiceWord, wor
 use Rattle.pal_meaning.specs.Lines.{from_word}
 use Rattle.source_findings.specs.What.{What, Wrong, Unknown, Again, Other, Arguments, Targets, Return, Long, Outside, Odd}
 
--- a word of a text, of which so much is left from it on
+-- a word of a text, from which on `left` bytes remain
 abbrev pub IsWordAt : List ℕ → ℕ → Word → Type 0
 IsWordAt text left word = (n : ℕ) × (left ≡ length (from_word n text)) × ((word_at (from_word n text)).0 ≡ word)
 

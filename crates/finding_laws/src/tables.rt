@@ -31,7 +31,7 @@ pub fn limits_are_found()
     ensures { (t : rule.TableText) → AreFew t.costs → rule.exceeds_limits t ≡ has_any (limits t) }
 {}
 
-/// Two rows have one name, or a name stands for nothing, if and only if one such name is found.
+/// Two rows have the same name, or a name denotes nothing, if and only if one such name is found.
 pub fn wrong_names_are_found()
     ensures { (t : rule.TableText) → rule.has_same_names t || rule.has_unknown_name t
         ≡ has_any (names t) }
@@ -65,7 +65,7 @@ pub fn missing_releases_are_found()
         ≡ has_any (without_release t) }
 {}
 
-/// In a table within its limits whose names all stand for something, the ends of channels do not
+/// In a table within its limits whose names all denote something, the ends of channels do not
 /// fit together if and only if one such end is found.
 pub fn wrong_ends_are_found()
     ensures { (t : rule.TableText) → rule.exceeds_limits t ≡ false

@@ -16,6 +16,6 @@ one_more view own xs i x old new y whole some read pushed is before =
     goes_on (map own) (λ (z : _). own z ∷ []) xs i x (map view old) (map view new) whole (λ _ _. refl) some
     (ap (map view) pushed ∙ map_push view old y ∙ ap (λ (a : _). map view old ++ a ∷ []) (is ∙ ap own read)) before
 
--- behind the last item nothing is left
+-- after the last item nothing is left
 pub all_made : {X A : Type 0} (all : List X → List A) (xs : List X) (i : ℕ) (made whole : List A) → all [] ≡ [] → length xs ≤ i → made ++ all (drop i xs) ≡ whole → made ≡ whole
 all_made all xs i made whole none over before = sym (append-nil made) ∙ ap (λ (a : List _). made ++ a) (sym (at_drop_all all xs i over ∙ none)) ∙ before

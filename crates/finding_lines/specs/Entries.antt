@@ -18,8 +18,8 @@ pub data Step : Type 0 where
 abbrev pub Path : Type 0
 Path = List Step
 
--- a key path that the text defines, and how much of the text is left at its key and at its value; the place of a header stands for both,
--- and so does that of an element
+-- a key path that the text defines, and how much of the text is left at its key and at its value; for a header or an element
+-- both are taken at its place
 pub record Entry : Type 0 where
   pub path : Path
   pub key_left : ℕ
@@ -141,7 +141,7 @@ element_path found k = longer (table_path found k) (elements_at (table_path foun
 abbrev pub Section : Type 0
 Section = Path × List Entry
 
--- behind a header of this path
+-- after a header of this path
 abbrev pub headed : List Entry → Path → List ℕ → List ℕ → Section × List ℕ
 headed found path start rest = ((path, added found path start start), rest)
 
@@ -163,7 +163,7 @@ line section start =
     else if first start == left_bracket then table_line section.1 start
     else pair_line section.0 section.1 start
 
--- the entries of the rest of a text of fewer than n lines, behind those found before
+-- the entries of the rest of a text of fewer than n lines, after those found before
 unfoldable pub lines : ℕ → Section → List ℕ → Option (List Entry)
 lines zero section text = None
 lines (suc n) section text =

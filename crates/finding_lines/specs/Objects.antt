@@ -1,9 +1,9 @@
--- The JSON object of a finding. Its members stand in the order of their keys.
+-- The JSON object of a finding. Its members are in the order of their keys.
 use Rattle.std.specs.Prelude.{ℕ, List, ◌++◌, codes}
 use Rattle.serde_json.specs.Data.{Data, Members, member, no_members, number, object, string, unsigned}
 use Rattle.serde_json.specs.Written.{compact_text}
 
--- on a line of its own
+-- on a separate line
 abbrev pub object_line : Data → List ℕ
 object_line finding = compact_text finding ++ codes "\n"
 

@@ -1,4 +1,4 @@
--- How findings are told.
+-- How findings are reported.
 use Rattle.std.specs.Prelude.{ℕ, List}
 use Rattle.finding_lines.specs.declared.report.Form.{Form as FormOfCode}
 use Rattle.finding_lines.specs.declared.report.Form.TheVariants as code
@@ -9,7 +9,7 @@ pub data Form : Type 0 where
   plain : Form
   json : (rule : List ℕ) → Form
 
--- the file whose findings are told, by its name, and the form
+-- the file whose findings are reported, by its name, and the form
 pub record Report : Type 0 where
   pub file : List ℕ
   pub form : Form

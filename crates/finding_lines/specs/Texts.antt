@@ -17,11 +17,11 @@ is_start byte = nat_lt byte 128 || nat_lt 191 byte
 abbrev pub line_of : List ℕ → ℕ
 line_of before = min (count_by is_feed before + 1) (2 ^ 64 - 1)
 
--- how many bytes are behind the last line feed
+-- how many bytes follow the last line feed
 abbrev pub behind_feed : List ℕ → ℕ
 behind_feed text = prefix_len is_no_feed (reverse text)
 
--- the text behind the last line feed
+-- the text after the last line feed
 abbrev pub last_line : List ℕ → List ℕ
 last_line text = drop (length text - behind_feed text) text
 
@@ -43,7 +43,7 @@ shown_byte byte =
 abbrev pub shown : List ℕ → List ℕ
 shown bytes = flat_map shown_byte bytes
 
--- the end of the line before a place: its last 40 bytes, behind dots if it is longer
+-- the end of the line before a place: its last 40 bytes, after dots if it is longer
 abbrev pub shown_end : List ℕ → List ℕ
 shown_end line = if nat_lt 40 (length line) then codes "..." ++ shown (drop (length line - 40) line) else shown line
 

@@ -7,7 +7,7 @@ use Rattle.health.specs.declared.errors.Errors.TheInside as errors
 abbrev pub errors_of : errors.Inside → meaning.Errors
 errors_of x = record { has_handler = x.has_handler; waiting = x.waiting.items }
 
--- no more errors than may wait, and memory for as many as may wait
+-- no more errors than may wait, and memory for that number of them
 pub record HasRing (x : errors.Inside) : Type 0 where
   pub few : length x.waiting.items ≤ MOST_ERRORS
   pub room : MOST_ERRORS ≤ x.waiting.capacity

@@ -16,7 +16,7 @@ use crate::tell::is_message_length;
 use apex_types::{ErrorKind, HealthTable, Out, PartitionAction, ReturnCode, Service, Words};
 use process_table_base::{Handed, ProcessTable, Request, answer, first_words, name_of};
 
-/// Answers the caller, then raises its error APPLICATION_ERROR with the message.
+/// Replies to the caller, then raises its error APPLICATION_ERROR with the message.
 fn raise(
     health: HealthTable,
     table: &ProcessTable,

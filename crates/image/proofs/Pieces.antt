@@ -1,4 +1,4 @@
--- Pieces that are appended one behind another, the last by a call that may lack memory.
+-- Pieces that are appended one after another, the last by a call that may lack memory.
 use Rattle.std.proofs.Common.{◌≡◌, ℕ, ◌+◌, ◌<◌, List, ◌++◌, append_assoc, Result, Ok, Err, OnOk, is_ok, cond, ap, drop, get_or, length, sym, ◌∙◌}
 use Rattle.std.specs.Prelude.{flat_map}
 use Rattle.std.proofs.lemmas.List.{at_drop_more}
@@ -23,7 +23,7 @@ pub four_last : {T E : Type 0} (o : Result T E) (out a b c d p q r s w x y z : L
 four_last (Ok u) out a b c d p q r s w x y z w-is p-is x-is q-is y-is r-is z-is s-is = four_pieces out a b c d p q r s w x y z w-is p-is x-is q-is y-is r-is z-is s-is
 four_last (Err e) out a b c d p q r s w x y z w-is p-is x-is q-is y-is r-is z-is s-is = tt
 
--- behind the piece of one more item, those of the rest are left
+-- after the piece of one more item, those of the rest are left
 pub item_goes_on : {A B : Type 0} (f : A → List B) (xs : List A) (i : ℕ) (x : A) (old new whole : List B) → i < length xs → x ≡ get_or xs i x → new ≡ old ++ f x
     → old ++ flat_map f (drop i xs) ≡ whole → new ++ flat_map f (drop (i + 1) xs) ≡ whole
 item_goes_on f xs i x old new whole some read is before =

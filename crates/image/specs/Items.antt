@@ -31,7 +31,7 @@ item_of it = record { partition = partition_of it.row; section = section_of it.s
 abbrev pub items_of : List PartitionItem → List Item
 items_of its = map item_of its
 
--- the rows of the partitions alone
+-- only the rows of the partitions
 abbrev pub rows_of : List PartitionItem → List Partition
 rows_of its = map (λ it. partition_view it.row) its
 

@@ -20,7 +20,7 @@ number_of fault.Order = 4
 number_of fault.Trailing = 5
 number_of fault.Memory = 6
 
--- the answer of a function, seen by a view, is the result of reading, unless memory ran out
+-- what a function returns, seen by a view, is the result of reading, unless memory ran out
 abbrev pub Gives : {X Y : Type 0} → (X → Y) → Result X ImageFault → Result Y Fault → Type 0
 Gives view (Ok x) read = read ≡ Ok (view x)
 Gives view (Err e) read = IfSome (named e) (λ f. read ≡ Err f)

@@ -11,7 +11,7 @@ use Rattle.image_findings.specs.Parts.{total}
 use Rattle.image_findings.specs.What.{Wrong}
 use Rattle.image_findings.proofs.Pieces.{total_pieces}
 
--- what is said behind a line that is judged
+-- what is said after a line that is judged
 abbrev after_line : Names → ℕ → List ℕ → List (List ℕ) → ℕ → Option Wrong → Option Wrong
 after_line names count line more whole (Some w) = Some (in_text whole (length line) w)
 after_line names count line more whole None = first_wrong names (count + 1) (tick_of (piece space line)) more

@@ -1,4 +1,4 @@
--- Lines that tell a fault at the place where it was seen.
+-- Lines that report a fault at the place where it was seen.
 use Rattle.std.proofs.Common.{◌≡◌, ℕ, ◌+◌, ◌-◌, ◌^◌, Bool, false, List, Option, Some, None, Result, Ok, Err, length, subst}
 use Rattle.std.specs.Prelude.{IfOk, IfSome, min}
 use Rattle.machine_meaning.specs.ImageReading.{Fault, image_at}

@@ -69,7 +69,7 @@ IsOfOrder r bytes lines = (place : ℕ) × IsSeenAt place bytes × (lines ≡ or
 abbrev pub IsOfTrailing : Report → List ℕ → List ℕ → Type 0
 IsOfTrailing r bytes lines = (place : ℕ) × IsSeenAt place bytes × (lines ≡ trailing_lines_at r (min (place + 1) (2 ^ 64 - 1)) (length bytes))
 
--- the lines tell this fault of these bytes
+-- the lines report this fault of these bytes
 abbrev pub IsOf : Report → List ℕ → List ℕ → Fault → Type 0
 IsOf r bytes lines Truncated = lines ≡ cut_lines r (length bytes)
 IsOf r bytes lines Foreign = lines ≡ foreign_lines r bytes
@@ -77,6 +77,6 @@ IsOf r bytes lines Limit = IsOfLimit r bytes lines
 IsOf r bytes lines Order = IsOfOrder r bytes lines
 IsOf r bytes lines Trailing = IsOfTrailing r bytes lines
 
--- the lines tell the fault of these bytes
+-- the lines report the fault of these bytes
 abbrev pub IsExplanation : Report → List ℕ → List ℕ → Type 0
 IsExplanation r bytes lines = (fault : Fault) × (image_at bytes ≡ Err fault) × IsOf r bytes lines fault

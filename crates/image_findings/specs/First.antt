@@ -8,7 +8,7 @@ use Rattle.image_findings.specs.Naming.{meaning_wrong, tick_of}
 use Rattle.image_findings.specs.Parts.{parts, total}
 use Rattle.image_findings.specs.What.{Unended, Wrong}
 
--- what is wrong with a line behind `count` others, of which the last has the tick `before`
+-- what is wrong with a line after `count` others, of which the last has the tick `before`
 abbrev pub line_wrong : Names → ℕ → ℕ → List ℕ → Option Wrong
 line_wrong names count before line =
     or_else (form_wrong names.kind line (parts (pieces space line))) (meaning_wrong names count before (parts (pieces space line)))
@@ -16,7 +16,7 @@ line_wrong names count before line =
 abbrev pub no_feed : Wrong
 no_feed = wrong 0 Unended
 
--- behind the last line feed nothing stands
+-- nothing may follow the last line feed
 abbrev pub unended : List ℕ → Option Wrong
 unended [] = None
 unended (byte ∷ bytes) = Some no_feed
@@ -25,7 +25,7 @@ unended (byte ∷ bytes) = Some no_feed
 abbrev pub in_text : ℕ → ℕ → Wrong → Wrong
 in_text rest line w = wrong (rest - (line - w.left)) w.what
 
--- the first wrong line of these, behind `count` others of which the last has the tick `before`
+-- the first wrong line of these, after `count` others of which the last has the tick `before`
 unfoldable pub first_wrong : Names → ℕ → ℕ → List (List ℕ) → Option Wrong
 first_wrong names count before [] = None
 first_wrong names count before (last ∷ []) = unended last

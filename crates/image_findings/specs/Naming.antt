@@ -56,7 +56,7 @@ abbrev pub event_wrong : Names → ℕ → Part → List Part → Option Wrong
 event_wrong names count tick [] = None
 event_wrong names count tick (event ∷ rest) = if same event.text (mark_of names.kind) then message_wrong names count tick rest else fault_wrong names count tick rest
 
--- what is wrong with a line of one of the forms, behind `count` others of which the last has the tick `before`
+-- what is wrong with a line of one of the forms, after `count` others of which the last has the tick `before`
 abbrev pub meaning_wrong : Names → ℕ → ℕ → List Part → Option Wrong
 meaning_wrong names count before [] = None
 meaning_wrong names count before (tick ∷ rest) =

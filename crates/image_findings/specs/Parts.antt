@@ -10,7 +10,7 @@ abbrev pub behind : List (List ℕ) → ℕ
 behind [] = 0
 behind (piece ∷ more) = 1 + (length piece + behind more)
 
--- the bytes of a piece and of those behind it, with a mark between two of them
+-- the bytes of a piece and of those after it, with a mark between two of them
 abbrev pub total : List (List ℕ) → ℕ
 total [] = 0
 total (piece ∷ more) = length piece + behind more

@@ -40,7 +40,7 @@ early_text tick before = codes "the tick " ++ (decimal tick ++ (codes " is below
 abbrev pub words_text : ℕ → ℕ → List ℕ
 words_text words most = codes "the message has " ++ (decimal words ++ (codes " words, and may have " ++ decimal most))
 
--- what is said of a line without a text or a number of its own
+-- what is said of a line without a text or a number from it
 abbrev pub plain : TextKind → What → List ℕ
 plain kind Unended = codes "the last line has no line feed"
 plain kind Carriage = codes "the line ends with a carriage return"
@@ -98,7 +98,7 @@ receiver_advice names text = near_or (nearest text (open_names names.receivers))
 abbrev pub most_text : ℕ → List ℕ
 most_text most = codes "Write at most " ++ (decimal most ++ codes " of them.")
 
--- advice without a text or a number of its own
+-- advice without a text or a number from the line
 abbrev pub plain_advice : TextKind → What → List ℕ
 plain_advice kind Unended = codes "End it with a line feed."
 plain_advice kind Carriage = codes "End each line with a line feed alone."

@@ -19,7 +19,7 @@ is_trailing (Err Limit) = false
 is_trailing (Err Order) = false
 is_trailing (Err Trailing) = true
 
--- the answer of a test of how bytes are read, by their fault; without one, since memory ran out, there is no answer
+-- the result of a test of how bytes are read, by their fault; without a fault, since memory ran out, there is no result
 abbrev pub IsAnswer : (Result Image Fault → Bool) → Option Fault → Bool → Type 0
 IsAnswer test None answer = ⊥
 IsAnswer test (Some fault) answer = answer ≡ test (Err fault)

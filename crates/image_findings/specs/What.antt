@@ -10,10 +10,10 @@ pub data What : Type 0 where
   Empty : What
   -- a part of the line has no bytes
   NoPart : What
-  -- the text is no tick, or nothing stands behind it
+  -- the text is no tick, or nothing follows it
   NoTick : List ℕ → What
   NoEvent : What
-  -- the text is none of the two words behind a tick
+  -- the text is none of the two words that may follow a tick
   NoKind : List ℕ → What
   -- a message has no channel or port, or the text is no name
   NoReceiver : What
@@ -21,7 +21,7 @@ pub data What : Type 0 where
   -- a message has no word, or the text is no word
   NoWords : What
   NoWord : List ℕ → What
-  -- the text stands behind the partition of a fault
+  -- the text follows the partition of a fault
   More : List ℕ → What
   -- the tick is below that of the line before
   Early : (tick before : ℕ) → What

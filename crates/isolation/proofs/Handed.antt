@@ -124,7 +124,7 @@ all_put P n [] k q h g = tt
 all_put P n (x ∷ qs) zero q h g = (subst (λ (m : ℕ). AllByRecursion (P m) q) (sym (plain n)) g, h.1)
 all_put P n (x ∷ qs) (suc k) q h g = (h.0, all_put P (n + 1) qs k q h.1 (subst (λ (m : ℕ). AllByRecursion (P m) q) (sym (turned n k)) g))
 
--- one more at the end, behind its equals, and by a discipline
+-- one more at the end, after its equals, and by a discipline
 append_all : (P : Entry → Type 0) (e : Entry) (xs : List Entry) → P e → AllByRecursion P xs → AllByRecursion P (xs ++ e ∷ [])
 append_all P e [] g h = (g, tt)
 append_all P e (x ∷ xs) g h = (h.0, append_all P e xs g h.1)

@@ -51,7 +51,7 @@ words_in (pos b) (negsuc n) (negsuc k) words most few within e = absurd (cc)
 words_in (negsuc b) (pos n) l words most few within e = absurd (cc)
 words_in (negsuc b) (negsuc n) l words most few within e = absurd (cc)
 
--- Words from an array within the data: as many as an object takes, at most 16.
+-- Words from an array within the data: a number that an object takes, at most 16.
 pub handed_length : (array : ArrayPlace) (l : ℤ) (words : List ℤ) (most : ℕ) → most ≤ MOST_WORDS → has_array_within (length words) (Some array) ≡ true → is_length most array l ≡ true
     → HasLength most (first_words l (handed (Some array) words))
 handed_length array l words most few within e = words_in array.base array.size l words most few within e

@@ -103,7 +103,7 @@ module _ {C : Type 0} where
   admitted_ports : (at : At) (port : PortId) (x : Member C) → ports_of (goes (admits at port) x).state ≡ (arrival.admits (with_ports x.world.kernel) (place_of_port port)).part.shared.ports
   admitted_ports at port x = ap (λ (o : Ports). o.ports) (all_ports x.engine (of_ports x.world.kernel (arrival.admits (with_ports x.world.kernel) (place_of_port port))).actions (record x.world { kernel = (of_ports x.world.kernel (arrival.admits (with_ports x.world.kernel) (place_of_port port))).part }))
 
-  -- ---- the partition alone: one port sends, the others stay
+  -- ---- the partition on its own: one port sends, the others stay
   module _ (s : Surroundings) (at : At) (port : PortId) where
     abbrev Stay : Member C → Member C → Type 0
     Stay x y = Others (place_of_port port) (ports_of x) (ports_of y)

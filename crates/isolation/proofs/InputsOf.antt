@@ -29,7 +29,7 @@ use Rattle.isolation.proofs.Steps.{AreApart, SamePath, name_of, same_some}
 use Rattle.isolation.proofs.Tick.{tick_same}
 use Rattle.isolation.proofs.Ways.{isolates}
 
--- ---- a partition alone keeps the invariant
+-- ---- a partition on its own keeps the invariant
 module _ {C : Type 0} (row : Partition) (Sound : Member C → Type 0) (kept : IsKept row Sound) where
   meets_sound : (at : At) (fault : ModuleAction) (x : Member C) → Sound x → Sound (meets_fault at fault x).state
   meets_sound at reaction.Ignore x h = h

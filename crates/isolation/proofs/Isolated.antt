@@ -1,5 +1,5 @@
--- The part of a module's trace that belongs to a partition is its trace alone, with the inputs that
--- the run brings it.
+-- The part of a module's trace that belongs to a partition is the trace it has on its own, with the
+-- inputs that the run brings it.
 use Rattle.std.proofs.Common.{◌≡◌, ◌≢◌, ℕ, zero, suc, ◌+◌, ◌<◌, ◌≤◌, Bool, true, false, List, [], ◌∷◌, ◌++◌, map, Option, Some, None, refl, sym, ap, subst, ◌∙◌, arith, le_refl, append-nil}
 use Rattle.std.specs.Prelude.{if◌then◌else◌, option_map}
 use Rattle.std.proofs.lemmas.Bool.{eq-eqb, ne_eqb}
@@ -149,7 +149,7 @@ module _ {C : Type 0} (name : List ℕ) (place : ℕ) (names : List (List ℕ)) 
       (from_same ls n (option_map next_tick r.at) r.members d.state one.members (then_those ls n at ms those)
       ∙ ap (λ (o : Option At). alone_from s ls n (option_map next_tick o) d.state) one.at))
 
-  -- A partition's part of the trace is its trace alone.
+  -- A partition's part of the trace is the trace that the partition has on its own.
   pub isolated : (ms : List (Member C)) (x : Member C) → Is ms x → (n : ℕ)
       → part name (trace (record { plan = plan; members = ms }) devices n) ≡ trace_alone (record { around = surroundings_of plan (suc place) rows; member = x }) (inputs_of (record { plan = plan; members = ms }) (suc place) devices n) n
   isolated ms x h zero = refl

@@ -67,7 +67,7 @@ image_isolates image lawful p item e =
     row_at items zero item e = absurd (cc)
     row_at items (suc place) item e = slice_get-map (λ (i : Item). i.partition) items place ∙ ap (option_map (λ (i : Item). i.partition)) e
 
--- A partition's part of the trace of an image is its trace alone, from its slice and its inputs.
+-- A partition's part of the trace of an image is the trace that it has on its own, from its slice and its inputs.
 isolation : (image : Image) (text : List ℕ) (lines : List DeviceLine) (p : ℕ) (item : Item) (n : ℕ)
     → IsLawful image → verdict_for image text ≡ Ok lines → at_number image.items p ≡ Some item
     → part (name_in item) (machine_trace image lines n) ≡ slice_trace (slice_of image p item) (machine_inputs image p lines n) n

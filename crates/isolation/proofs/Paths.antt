@@ -1,4 +1,4 @@
--- One input after another, for a partition alone.
+-- One input after another, for a partition on its own.
 use Rattle.std.proofs.Common.{◌≡◌, List, [], ◌∷◌, ◌++◌, Option, Some, None, refl, sym, ap, ◌∙◌, append_assoc, append-nil}
 use Rattle.apex_types.specs.declared.codes.ModuleAction.{ModuleAction}
 use Rattle.apex_types.specs.declared.event.Event.{Event}
@@ -42,6 +42,6 @@ module _ {C : Type 0} where
   unit_of None x es = refl
   unit_of (Some a) x es = ap (λ (ls : List Event). path (Some a) x ls) (append-nil es)
 
-  -- one input alone
+  -- a single input
   pub takes_one : (fault : ModuleAction) (i : Input) (at : At) (x : Member C) → takes_all fault at (i ∷ []) x ≡ takes fault at i x
   takes_one fault i at x = let c = takes fault at i x in unit_of c.at c.state c.lines

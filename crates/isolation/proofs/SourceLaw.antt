@@ -144,7 +144,7 @@ module _ (ms : Members) (t : Table) (sources : List Program) (accepted : verdict
             subst (λ (a : List ℕ). same a other ≡ false) r.2 (subst (λ (b : List ℕ). same r.0.name b ≡ false) o.2 (apart.others q o.0.name n (bare_name q o.0 o.1)));
       }
 
-  -- A partition's part of the source meaning is its trace alone, from its row and program and its inputs.
+  -- A partition's part of the source meaning is the trace that it has on its own, from its row and program and its inputs.
   pub source_isolation : (text : List ℕ) (lines : List DeviceLine) (p : ℕ) (row : Partition) (program : Program) (n : ℕ)
       → device_verdict t.partitions t.channels text ≡ Ok lines → at_number t.partitions p ≡ Some row → at_number sources p ≡ Some program
       → part row.name (source_trace t sources lines n) ≡ source_slice_trace (source_slice t sources p row program) (source_inputs t sources p lines n) n

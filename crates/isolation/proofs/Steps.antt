@@ -1,4 +1,4 @@
--- The effect of a step of the module on one partition: a step of its own, or nothing.
+-- The effect of a step of the module on one partition: its own step, or nothing.
 use Rattle.std.proofs.Common.{◌≡◌, ◌≢◌, ℕ, zero, suc, false, List, [], ◌∷◌, ◌++◌, map, Option, Some, None, refl, sym, ap, subst, ◌∙◌, append-nil, arith}
 use Rattle.std.specs.Prelude.{slice_get, slice_set, flat_map, option_map}
 use Rattle.std.proofs.lemmas.Option.{slice_get-map}

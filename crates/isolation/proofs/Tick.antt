@@ -1,4 +1,4 @@
--- One tick of the module is one tick of each of its partitions alone.
+-- One tick of the module is one tick of each of its partitions on its own.
 use Rattle.std.proofs.Common.{◌≡◌, ◌≢◌, ℕ, suc, Bool, true, false, List, length, Option, Some, None, refl, sym, ap, subst, ◌∙◌}
 use Rattle.std.specs.Prelude.{◌==◌, is_some}
 use Rattle.std.proofs.lemmas.Bool.{eqb-true, eqb-false}
@@ -69,7 +69,7 @@ module _ {C : Type 0} (name : List ℕ) (place : ℕ) (names : List (List ℕ)) 
       Goes (goes_on at (then_goes (moves_ended plan.channels at ms e) (owner_ticks at)))
       (and_runs (takes_all plan.fault at (brought_ended plan.channels (suc place) at ms e) x) (sends_and_ticks (surroundings_of plan (suc place) rows)))
 
-  -- the tick alone, if its own window has not ended
+  -- only the tick, if its own window has not ended
   ticks_alone : (at : At) → is_number (suc place) (ended plan.schedule at) ≡ false → (ms : List (Member C)) (x : Member C) → Is ms x → Goes (goes_on at (owner_ticks at ms)) (sends_and_ticks (surroundings_of plan (suc place) rows) at x)
   ticks_alone at k ms x h =
       subst (λ (d : Path (Member C)). Goes (goes_on at (owner_ticks at ms)) d) (sym (as_known at false k x))

@@ -149,7 +149,7 @@ alone_from s inputs (suc n) (Some at) x =
     let r = tick_alone s at (inputs_in at.now.0 inputs) x in
     r.lines ++ alone_from s inputs n (option_map next_tick r.at) r.state
 
--- The trace of n ticks of a partition alone, with its inputs: its start before tick 0, then the
+-- The trace of n ticks of a partition on its own, with its inputs: its start before tick 0, then the
 -- ticks.
 abbrev pub trace_alone : {C : Type 0} → Alone C → List InputLine → ℕ → List Event
 trace_alone a inputs zero = []

@@ -19,7 +19,7 @@ abbrev pub name_of_port : Option PortRow → List ℕ
 name_of_port None = []
 name_of_port (Some x) = x.name
 
--- the text behind the tick, by the names of the partition and of its ports
+-- the text after the tick, by the names of the partition and of its ports
 abbrev pub input_parts : Partition → Input → List (List ℕ)
 input_parts row (Arrive port m) = codes "ARRIVE" ∷ name_of_port (at_number row.ports port.0) ∷ map signed_decimal m.items
 input_parts row ModuleFault = codes "FAULT" ∷ []

@@ -1,4 +1,4 @@
--- The slice of an image that belongs to one partition, and the partition alone with it.
+-- The slice of an image that belongs to one partition, and the partition that runs on its own with it.
 use Rattle.std.specs.Prelude.{ℕ, List, Option, option_map}
 use Rattle.apex_types.specs.declared.device.DeviceLine.{DeviceLine}
 use Rattle.apex_types.specs.declared.event.Event.{Event}
@@ -37,7 +37,7 @@ slice image p = option_map (slice_of image p) (at_number image.items p)
 abbrev pub machine_alone : Slice → Alone MachineControl
 machine_alone s = record { around = s.around; member = machine_member s.costs (fixed_of s.around.schedule s.number s.item.partition) s.item.partition.ports s.item.section }
 
--- The trace of n ticks of a partition alone, from its slice and its inputs.
+-- The trace of n ticks of a partition on its own, from its slice and its inputs.
 abbrev pub slice_trace : Slice → List InputLine → ℕ → List Event
 slice_trace s inputs n = trace_alone (machine_alone s) inputs n
 

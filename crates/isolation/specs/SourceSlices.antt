@@ -1,4 +1,4 @@
--- The slice of a table and its programs that belongs to one partition, and the partition alone with
+-- The slice of a table and its programs that belongs to one partition, and the partition that runs on its own with
 -- it.
 use Rattle.std.specs.Prelude.{ℕ, List}
 use Rattle.apex_types.specs.declared.device.DeviceLine.{DeviceLine}
@@ -30,7 +30,7 @@ source_slice t sources p row program = record { costs = t.costs; number = p; row
 abbrev pub source_alone : SourceSlice → Alone SourceControl
 source_alone s = record { around = s.around; member = source_member s.costs (fixed_of s.around.schedule s.number s.row) s.row.ports s.program }
 
--- The trace of n ticks of a partition alone, from its slice and its inputs.
+-- The trace of n ticks of a partition on its own, from its slice and its inputs.
 abbrev pub source_slice_trace : SourceSlice → List InputLine → ℕ → List Event
 source_slice_trace s inputs n = trace_alone (source_alone s) inputs n
 

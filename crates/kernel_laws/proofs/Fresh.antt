@@ -90,7 +90,7 @@ module _ (fixed : Fixed) (rows : List ProcessStatus) (objects : Objects) (ports 
   fresh_queue : (k : ListKey) → IsQueue (disciplines_in fresh k) first_numbers.waiting first_numbers.next (list_at fresh_queues k)
   fresh_queue k = subst (λ (list : List Entry). IsQueue (disciplines_in fresh k) first_numbers.waiting first_numbers.next list) (sym (none_at k)) (record { ordered = tt; below = tt })
 
-  -- nobody is ready, and no record is READY or RUNNING
+  -- no process is ready, and no record is READY or RUNNING
   fresh_agrees : AreAtRest rows → RecordsAgree fresh.processes
   fresh_agrees h = record {
     listed = λ e. ((λ a. absurd a), (λ k. absurd (none_ready rows h e.process.0 e.priority (slice_get rows e.process.0) refl k)));

@@ -33,5 +33,4 @@ pub mod Fresh
 pub mod Law
 pub mod Until
 pub mod Quiet
-pub mod Pieces
 pub mod Running

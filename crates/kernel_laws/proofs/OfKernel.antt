@@ -190,7 +190,7 @@ module _ (d : ListKey → Discipline) (names : ℕ → List ℕ) where
   acts_moves may k p e None h = of_moves may k _ h (nothing_goes d names may k.processes h.named)
   acts_moves may k p e (Some action) h = enters_moves may k p e (mode_of_action action) h
 
-  -- an error calls nobody ready
+  -- an error reports no process as ready
   queues_told : (p : Runner) (e : ErrorKind) (words : List ℤ) → [] ≡ ready_lines (queues p e words).lines
   queues_told runner.Init e words = refl
   queues_told runner.Handler e words = refl
@@ -201,7 +201,7 @@ module _ (d : ListKey → Discipline) (names : ℕ → List ℕ) where
   waits_told p e words (response.Partition action) = refl
   waits_told p e words (response.Module action) = refl
 
-  -- a step that leaves the partition unchanged and calls nobody ready, then the action that remains
+  -- a step that leaves the partition unchanged and reports no process as ready, then the action that remains
   -- to be done
   then_acts_moves : (may : May) (k : Kernel) (p : Runner) (e : ErrorKind) (s : Step (Option PartitionAction)) → IsReady k → [] ≡ ready_lines s.lines → Moves may k (then_acts k p e s)
   then_acts_moves may k p e s h told =

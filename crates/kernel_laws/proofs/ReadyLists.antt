@@ -96,7 +96,7 @@ length-without n p es h lt =
     let k = IsListed-without n p es h in
     omega (arith, length-all n (without p es) k.below, all_times-lt n p (without p es) k.once (without-none p es) lt)
 
--- ---- a process that goes behind its equals
+-- ---- a process that is put after its equals
 
 behind-times : (e : Entry) (q : ℕ) (es : List Entry) → times_listed q (behind_equals e es) ≡ times_listed q (e ∷ es)
 behind-times e q [] = refl

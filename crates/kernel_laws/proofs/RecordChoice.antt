@@ -110,7 +110,7 @@ module _ (s : Processes) (h : RecordsAgree s) where
   leaves_agrees None e = h
   leaves_agrees (Some p) e = preempts_agrees p e
 
-  -- then nobody runs
+  -- then nothing runs
   none_runs : (o : Option Runner) → s.running ≡ o → (leaves_processor s o).part.running ≡ None
   none_runs None e = e
   none_runs (Some p) e = by_row (row_of s p) refl

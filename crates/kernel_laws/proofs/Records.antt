@@ -83,7 +83,7 @@ still_holds p (lock.Held other holder) level q e = by_test (is_same p (runner.Pr
 abbrev pub IsFree : Processes → Runner → Type 0
 IsFree s p = (level : ℕ) (q : ProcessIndex) → s.lock ≡ lock.Held level q → is_same p (runner.Process q) ≡ false
 
--- if nobody holds the lock
+-- if no process holds the lock
 pub nobody_holds : (s : Processes) (p : Runner) → is_held s.lock ≡ false → IsFree s p
 nobody_holds s p e level q k = absurd (false≢true (sym e ∙ ap is_held k))
 
@@ -157,7 +157,7 @@ module _ (s : Processes) (h : RecordsAgree s) (p : Runner) (r x : ProcessStatus)
       by_test true t = let is = the_same p q t in absurd (false≢true (sym (never q is) ∙ (sym (ap is_ready (was_at q is)) ∙ h.holds level q e)))
       by_test false t = t
 
-  -- ---- it is ready, behind its equals
+  -- ---- it is ready, after its equals
 
   same_ready : (i : ProcessIndex) → p ≡ runner.Process i → is_ready_state x.state ≡ true → (e : Entry)
       → (IsAmong e (behind_equals (entry i x.current_priority) (without i.0 s.ready)) ↔ IsReadyAt (record_at new e.process) e.priority)
@@ -241,7 +241,7 @@ module _ (s : Processes) (h : RecordsAgree s) where
   unready_listed runner.Handler r x there never e = other_listed s h runner.Handler r x there e refl
   unready_listed (runner.Process i) r x there never e = not_among s h (runner.Process i) r x there i refl (never i refl) e
 
-  -- with this record, ready behind its equals
+  -- with this record, ready after its equals
   pub ready_agrees : (p : Runner) (r x : ProcessStatus) → row_of s p ≡ Some r → OfProcess p (is_ready_state x.state ≡ true) → OfProcess p (IsPlain x) → RecordsAgree (put_ready s p x)
   ready_agrees p r x there ready plain = record {
     listed = ready_listed p r x there ready;

@@ -11,7 +11,7 @@ use Rattle.kernel_meaning.specs.Windows.{tick_from}
 use Rattle.kernel_laws.specs.Bursts.{Burst, later, alone, burst, is_nothing, told_of}
 use Rattle.kernel_laws.proofs.Until.{ticked_once}
 use Rattle.kernel_laws.specs.Quiet.{HasNothingDue}
-use Rattle.kernel_laws.specs.Running.{Goes, SoFar, is_silent, partition_tick, advances_by, with_control, burst_of, treated_at, lifted}
+use Rattle.kernel_laws.specs.Running.{Goes, is_silent, partition_tick, advances_by, with_control, burst_of, treated_at, lifted}
 use Rattle.kernel_laws.proofs.Quiet.{idle_tick, running_tick}
 
 nothing_is : (a : Asks) → is_nothing a ≡ true → a ≡ Nothing
@@ -133,24 +133,7 @@ ticks_most f (suc n) c ws =
     λ q. elim q as (λ q. (cond q (later 1 rest) (alone (told_of t))).ticks ≤ suc n) [ true ↦ one | false ↦ alone_one ] in
     step (is_nothing t.asks)
 
-ticks_some : {C : Type 0} (f : C → List ℤ → Ticked C) (n : ℕ) (c : C) (ws : List ℤ) → 0 < (burst f (suc n) c ws).ticks
-ticks_some f n c ws =
-    let t = f c ws in
-    let rest = burst f n t.control t.words in
-    let one : 0 < 1 + rest.ticks = omega arith in
-    let alone_one : 0 < 1 = omega arith in
-    let step : (q : Bool) → 0 < (cond q (later 1 rest) (alone (told_of t))).ticks =
-    λ q. elim q as (λ q. 0 < (cond q (later 1 rest) (alone (told_of t))).ticks) [ true ↦ one | false ↦ alone_one ] in
-    step (is_nothing t.asks)
-
--- one tick
-pub goes_once : {C : Type 0} (e : Engine C) (origin t : ℕ) (w v : World C) (lines : List Event) → tick e (tick_from origin t) w ≡ record { world = v; lines = lines } → Goes e origin w t (record { control = v; words = t + 1; told = lines; ticks = 1 })
-goes_once e origin t w v lines here m =
-    let one_more : 1 + m ≡ suc m = omega arith in
-    ap (λ k. advances_by e origin k w t) one_more
-    ∙ ap (λ (x : Moved _). cond (is_silent x.lines) (later 1 (advances_by e origin m x.world (t + 1))) (record { control = x.world; words = t + 1; told = x.lines; ticks = 1 })) here
-
--- n ticks in which nobody runs
+-- n ticks in which nothing runs
 pub goes_idle : {C : Type 0} (e : Engine C) (origin n t : ℕ) (w : World C) → w.kernel.processes.running ≡ None → chooses_with_handler w.kernel ≡ nothing w.kernel → ((i : ℕ) → i < n → HasNothingDue (tick_from origin (t + i)) w.kernel)
     → Goes e origin w t (record { control = w; words = t + n; told = []; ticks = n })
 goes_idle e origin zero t w runs chosen due m =
@@ -177,64 +160,3 @@ goes_idle e origin (suc n) t w runs chosen due m =
 -- the number of ticks of a burst
 pub burst_ticks : {C : Type 0} (e : Engine C) (n : ℕ) (p : Runner) (w : World C) → (burst_of e n p w).ticks ≤ n
 burst_ticks e n p w = ticks_most (ticked e) n (control_at w.controls (place_of p)) w.words
-
-pub burst_some_ticks : {C : Type 0} (e : Engine C) (n : ℕ) (p : Runner) (w : World C) → 0 < n → 0 < (burst_of e n p w).ticks
-burst_some_ticks e zero p w h = absurd (omega (arith, h))
-burst_some_ticks e (suc n) p w h = ticks_some (ticked e) n (control_at w.controls (place_of p)) w.words
-
--- A burst of the current runner with its last request treated, from what is known of the burst.
-pub goes_as : {C : Type 0} (e : Engine C) (origin : ℕ) (p : Runner) (n t : ℕ) (w v : World C) (lines : List Event) (asks : Asks) (ticks : ℕ)
-    → w.kernel.processes.running ≡ Some p → chooses_with_handler w.kernel ≡ nothing w.kernel → ((i : ℕ) → i < n → HasNothingDue (tick_from origin (t + i)) w.kernel)
-    → ticks ≡ (burst_of e n p w).ticks → asks ≡ (burst_of e n p w).told → 0 < ticks
-    → record { world = v; lines = lines } ≡ moved (tick_from origin (t + (ticks - 1))) e (treats_asked (tick_from origin (t + (ticks - 1))) w.kernel p asks (given asks (burst_of e n p w).words)) (with_control w p (burst_of e n p w).control (burst_of e n p w).words)
-    → Goes e origin w t (record { control = v; words = t + ticks; told = lines; ticks = ticks })
-goes_as e origin p n t w v lines asks ticks runs chosen due many told some here =
-    let b = burst_of e n p w in
-    let last : t + (ticks - 1) ≡ t + ticks - 1 = omega (arith, some) in
-    let shows : ℕ → ℕ → Asks → Moved _ = λ u k a. moved (tick_from origin u) e (treats_asked (tick_from origin u) w.kernel p a (given a b.words)) (with_control w p b.control b.words) in
-    let is : record { world = v; lines = lines } ≡ shows (t + b.ticks - 1) ticks b.told =
-    here ∙ ap (λ u. shows u ticks asks) last ∙ ap (λ k. shows (t + k - 1) ticks asks) many ∙ ap (λ a. shows (t + b.ticks - 1) ticks a) told in
-    let whole : lifted e origin p w t b ≡ record { control = v; words = t + ticks; told = lines; ticks = ticks } =
-    ap (λ (x : Moved _). record { control = x.world; words = t + b.ticks; told = x.lines; ticks = b.ticks }) (sym is) ∙ ap (λ k. record { control = v; words = t + k; told = lines; ticks = k }) (sym many) in
-    subst (λ l. Goes e origin w t l) whole (λ m. running_burst e origin p n m t w runs chosen due)
-
--- nothing is done yet
-pub so_far_none : {C : Type 0} (e : Engine C) (origin k t : ℕ) (w : World C) → SoFar e origin k 0 w t w []
-so_far_none e origin k t w =
-    let count : k ≡ k - 0 = omega arith in
-    let here : t ≡ t + 0 = omega arith in
-    let x = advances_by e origin (k - 0) w (t + 0) in
-    let ticks : x.ticks ≡ 0 + x.ticks = omega arith in
-    ap (λ n. advances_by e origin n w t) count ∙ ap (λ u. advances_by e origin (k - 0) w u) here ∙ ap (λ n. record { control = x.control; words = x.words; told = x.told; ticks = n }) ticks
-
--- some more are done
-pub so_far_more : {C : Type 0} (e : Engine C) (origin k done n t : ℕ) (w v u : World C) (lines : List Event)
-    → SoFar e origin k done w t v [] → Goes e origin v (t + done) (record { control = u; words = t + done + n; told = lines; ticks = n }) → n ≤ k - done → done ≤ k
-    → SoFar e origin k (done + n) w t u lines
-so_far_more e origin k done n t w v u lines before goes few within =
-    let left = k - (done + n) in
-    let rest : k - done ≡ n + left = omega (arith, few, within) in
-    let when : t + done + n ≡ t + (done + n) = omega arith in
-    let b = advances_by e origin left u (t + done + n) in
-    let l : Burst (World _) ℕ (List Event) = record { control = u; words = t + done + n; told = lines; ticks = n } in
-    let joined : (s : Bool) → later done (cond s (later n b) l) ≡ cond s (later (done + n) b) (record { control = u; words = t + done + n; told = lines; ticks = done + n }) =
-    let sums : done + (n + b.ticks) ≡ done + n + b.ticks = omega arith in
-    λ s. elim s as (λ s. later done (cond s (later n b) l) ≡ cond s (later (done + n) b) (record { control = u; words = t + done + n; told = lines; ticks = done + n })) [
-      | true ↦ ap (λ k. record { control = b.control; words = b.words; told = b.told; ticks = k }) sums
-      | false ↦ refl
-    ] in
-    before
-    ∙ ap (λ m. later done (advances_by e origin m v (t + done))) rest
-    ∙ ap (later done) (goes left)
-    ∙ joined (is_silent lines)
-    ∙ ap (λ r. cond (is_silent lines) (later (done + n) (advances_by e origin left u r)) (record { control = u; words = r; told = lines; ticks = done + n })) when
-
--- all ticks are done, or a line is written
-pub so_far_all : {C : Type 0} (e : Engine C) (origin k done t : ℕ) (w v : World C) (lines : List Event)
-    → SoFar e origin k done w t v lines → (is_silent lines ≡ true → k ≡ done)
-    → advances_by e origin k w t ≡ record { control = v; words = t + done; told = lines; ticks = done }
-so_far_all e origin k done t w v [] h all =
-    let none_left : k - done ≡ 0 = let same = all refl in omega (arith, same) in
-    let ticks : done + 0 ≡ done = omega arith in
-    h ∙ ap (λ m. later done (advances_by e origin m v (t + done))) none_left ∙ ap (λ n. record { control = v; words = t + done; told = []; ticks = n }) ticks
-so_far_all e origin k done t w v (l ∷ ls) h all = h

@@ -203,7 +203,7 @@ first_of_list d number (x ∷ xs) e h = (
 pub released_first : (disciplines : ListKey → Discipline) (number : ℕ → ℕ) (next : ℕ) (k : ListKey) (e : Entry) (lists : Queues) → AreQueues disciplines number next lists → (slice_get (list_at lists k) 0 ≡ Some e ↔ IsReleasedFirst (disciplines k) number (list_at lists k) e)
 released_first disciplines number next k e lists h = let queue = h k in first_of_list (disciplines k) number (list_at lists k) e queue.ordered
 
--- ---- nobody waits
+-- ---- no process waits
 
 at_emptied : (queues : Queues) (k : ListKey) → list_at (emptied queues) k ≡ []
 at_emptied queues k = at_each no_entries queues k refl

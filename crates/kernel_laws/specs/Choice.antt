@@ -36,7 +36,7 @@ PicksInNormal number true held ready p = p ≡ runner.Handler
 PicksInNormal number false held ready p = PicksUnlessHeld number held ready p
 
 -- Who may run: INIT before the normal start; in normal mode the handler if it is ready, then the
--- holder of the lock, then the first ready process; in idle mode nobody.
+-- holder of the lock, then the first ready process; in idle mode none of them.
 abbrev pub Picks : (ℕ → ℕ) → Mode → Processes → Runner → Type 0
 Picks number mode.Idle s p = ⊥
 Picks number mode.Normal s p = PicksInNormal number (is_ready (row_of s runner.Handler)) s.lock s.ready p
@@ -56,7 +56,7 @@ abbrev pub AreNumbersBelow : (ℕ → ℕ) → ℕ → List Entry → Type 0
 AreNumbersBelow number next [] = Unit {0}
 AreNumbersBelow number next (e ∷ es) = (number e.process.0 < next) × AreNumbersBelow number next es
 
--- Each is before those behind it, and the next number and those above it are not given yet.
+-- Each is before those after it, and the next number and those above it are not given yet.
 pub record IsNumbered (number : ℕ → ℕ) (next : ℕ) (ready : List Entry) : Type 0 where
   pub ordered : IsOrdered number ready
   pub below : AreNumbersBelow number next ready

@@ -50,8 +50,8 @@ abbrev pub chosen_among : Kernel → Processes
 chosen_among k = let s = starts_handler k.mode (with_errors k) in s.part
 
 -- In a tick of a partition, the processes that become ready by what is due take numbers. The choice
--- gives nobody a number: it picks the only runner that `Picks` allows by these numbers. The picked
--- runner runs, and spends the tick; if nobody is picked, nobody runs.
+-- gives no process a number: it picks the only runner that `Picks` allows by these numbers. The picked
+-- runner runs, and spends the tick; if none is picked, nothing runs.
 pub record TickGoes {C : Type 0} (disciplines : ListKey → Discipline) (names : ℕ → List ℕ) (n : Numbers) (e : Engine C) (at : At) (w : World C) : Type 0 where
   pub due : GoesOn disciplines names nobody n (due_phase e at w)
   pub picks : (p : Runner)

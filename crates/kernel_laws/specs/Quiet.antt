@@ -11,7 +11,7 @@ use Rattle.kernel_meaning.specs.Partition.{Member, chooses_with_handler, treats_
 use Rattle.kernel_meaning.specs.Step.{nothing}
 use Rattle.kernel_meaning.specs.Windows.{tick_from}
 
--- Nobody runs, nobody is chosen, and the handler does not start.
+-- Nothing runs, no runner is chosen, and the handler does not start.
 pub record IsIdle (k : Kernel) : Type 0 where
   pub nobody : k.processes.running ≡ None
   pub chosen : chooses_with_handler k ≡ nothing k
@@ -21,7 +21,7 @@ pub record HasNothingDue (at : At) (k : Kernel) : Type 0 where
   pub treated : (treats_due at k).step ≡ nothing k.processes
   pub clears : (treats_due at k).clears ≡ None
 
--- no message of a port can move, and nobody who waits at it can enter
+-- no message of a port can move, and no process that waits at it can enter
 abbrev pub IsAtRest : Kernel → PortId → Type 0
 IsAtRest k port =
     (messages_to_move (at_number k.ports.ports port.0) ≡ None)

@@ -1,4 +1,4 @@
--- Many ticks of a partition at once: `n` of them, or those up to the first that writes a line.
+-- Many ticks of a partition together: `n` of them, or those up to the first that writes a line.
 use Rattle.std.specs.Prelude.{◌≡◌, ℕ, ◌+◌, ◌-◌, ℤ, Bool, true, false, if◌then◌else◌, List, [], ◌∷◌, Option, slice_set}
 use Rattle.apex_types.specs.Runners.{place_of}
 use Rattle.apex_types.specs.declared.event.Event.{Event}
@@ -32,12 +32,6 @@ burst_of e n p w = burst (ticked e) n (control_at w.controls (place_of p)) w.wor
 -- these lines, and number `l.ticks`.
 abbrev pub Goes : {C : Type 0} → Engine C → (origin : ℕ) → World C → ℕ → Burst (World C) ℕ (List Event) → Type 0
 Goes e origin w t l = (m : ℕ) → advances_by e origin (l.ticks + m) w t ≡ (if is_silent l.told then later l.ticks (advances_by e origin m l.control l.words) else l)
-
--- `done` of `k` ticks from tick `t` are done: they led to this world and wrote these lines. If they
--- wrote none, the other ticks follow.
-abbrev pub SoFar : {C : Type 0} → Engine C → (origin k done : ℕ) → World C → ℕ → World C → List Event → Type 0
-SoFar e origin k done w t v lines =
-    advances_by e origin k w t ≡ (if is_silent lines then later done (advances_by e origin (k - done) v (t + done)) else record { control = v; words = t + done; told = lines; ticks = done })
 
 -- the last request of p is treated
 abbrev pub treated_at : {C : Type 0} → Engine C → (origin : ℕ) → Runner → World C → ℕ → Burst (Option C) (List ℤ) Asks → Moved C

@@ -1,7 +1,7 @@
 -- The waiting lists by numbers. Each start of a wait takes a fresh and greater number, so that a
 -- smaller number is an earlier start. First in, first out: a process is before another if its
 -- number is smaller. By priority: if its priority is higher, or is the same and its number is
--- smaller. Of the processes that wait for an object, the one that no other is before is released
+-- smaller. Of the processes that wait for an object, the process with no other before it is released
 -- first. The state of a partition stores no number: each waiting list has their order.
 use Rattle.std.specs.Prelude.{◌<◌, ℕ, List, [], ◌∷◌}
 use Rattle.apex_types.specs.declared.codes.Discipline.{Discipline}
@@ -30,7 +30,7 @@ abbrev pub IsOrderedUnder : Discipline → (ℕ → ℕ) → List Entry → Type
 IsOrderedUnder d number [] = Unit {0}
 IsOrderedUnder d number (e ∷ es) = IsBeforeEachUnder d number e es × IsOrderedUnder d number es
 
--- Each is before those behind it, and the next number and those above it are not given yet.
+-- Each is before those after it, and the next number and those above it are not given yet.
 pub record IsQueue (d : Discipline) (number : ℕ → ℕ) (next : ℕ) (list : List Entry) : Type 0 where
   pub ordered : IsOrderedUnder d number list
   pub below : AreNumbersBelow number next list

@@ -46,7 +46,7 @@ is_full x = nat_le x.row.depth (length x.messages)
 abbrev pub with_message : Buffer → ArrayVec ℤ → Buffer
 with_message x m = record x { messages = x.messages ++ m ∷ [] }
 
--- the first waiting receiver takes the message; without one it goes behind the others
+-- the first waiting receiver takes the message; without one, it goes after the others
 abbrev pub takes_message : Sharing Objects → ℕ → Buffer → ArrayVec ℤ → Option (Runner × ProcessStatus) → Step (Sharing Objects)
 takes_message b place x m None = becomes b (put_buffer b.shared place (with_message x m))
 takes_message b place x m (Some f) = of_processes b (gives b.processes f.0 f.1 m)
@@ -72,7 +72,7 @@ send_buffer at b p id array length limit words =
 abbrev pub receiver : ℕ → Buffer → ArrayPlace → Waiting
 receiver place x array = record { service = service.ReceiveBuffer; list = list place; discipline = x.row.discipline; array = Some array }
 
--- the message of the first waiting sender, if any, goes behind the others, and the sender is
+-- the message of the first waiting sender, if any, goes after the others, and the sender is
 -- released
 abbrev pub admits : Sharing Objects → ℕ → Buffer → Option (Runner × ProcessStatus) → Step (Sharing Objects)
 admits b place x None = becomes b (put_buffer b.shared place x)

@@ -47,7 +47,7 @@ handler_row = fresh_row Handler (record { 0 = 0 }) None None
 abbrev pub no_message : ProcessStatus → ArrayVec ℤ
 no_message r = message []
 
--- nobody waits for an object or a port
+-- no process waits for an object or a port
 abbrev pub fresh_queues : Queues
 fresh_queues =
     let none = replicate MOST_OBJECTS [] in

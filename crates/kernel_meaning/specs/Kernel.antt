@@ -85,7 +85,7 @@ of_ports k s = lifted (put_ports k) s
 abbrev pub put_only_ports : Kernel → Ports → Kernel
 put_only_ports k o = record k { ports = o }
 
--- a step of the ports alone, as a step of the partition
+-- a step of only the ports, as a step of the partition
 abbrev pub of_ports_alone : Kernel → Step Ports → Step Kernel
 of_ports_alone k s = lifted (put_only_ports k) s
 

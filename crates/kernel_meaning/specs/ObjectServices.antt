@@ -14,7 +14,7 @@ use Rattle.kernel_meaning.specs.Sharing.{Sharing}
 use Rattle.kernel_meaning.specs.Step.{Step, nothing}
 
 -- The services on semaphores, events, buffers and blackboards, in a mode. A service that the kernel
--- does not serve leaves its caller without an answer.
+-- does not serve gives its caller no reply.
 abbrev pub serves_objects : Mode → At → Sharing Objects → Runner → Call → List ℤ → Step (Sharing Objects)
 serves_objects m at b p (call.CreateBuffer name) words = create_buffer m b p name
 serves_objects m at b p (call.SendBuffer id array length limit) words = send_buffer at b p id array length limit words

@@ -55,7 +55,7 @@ is_ready None = false
 is_ready (Some r) = is_ready_state r.state
 
 -- INIT before the normal start; then the handler if it is ready, the holder of the lock, or the
--- first ready process; in idle mode nobody
+-- first ready process; in idle mode none
 abbrev pub pick : Mode → Processes → Option Runner
 pick mode.Idle s = None
 pick mode.Normal s = if is_ready (row_of s runner.Handler) then Some runner.Handler else unless_held s.lock s.ready

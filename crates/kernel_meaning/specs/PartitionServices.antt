@@ -46,7 +46,7 @@ abbrev pub started_rows : Mode → List ProcessStatus → List ProcessStatus
 started_rows mode.Idle rows = rows
 started_rows _ rows = ready_init (slice_get rows 0) rows
 
--- no process is created, and nobody runs, waits or holds the lock
+-- no process is created, and none runs, waits or holds the lock
 abbrev pub cleared_processes : Mode → Processes → Processes
 cleared_processes m s = record { rows = started_rows m (map forgotten s.rows); ready = []; running = None; lock = lock.Free; queues = emptied s.queues; handed = s.handed }
 

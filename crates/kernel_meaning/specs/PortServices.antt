@@ -202,8 +202,8 @@ is_on_ports (call.GetQueuingPortStatus id) = true
 is_on_ports (call.ClearQueuingPort id) = true
 is_on_ports _ = false
 
--- The services on ports, in a mode. A service that the kernel does not serve leaves its caller
--- without an answer.
+-- The services on ports, in a mode. A service that the kernel does not serve gives its caller
+-- no reply.
 abbrev pub serves_ports : Mode → At → Sharing Ports → Runner → Call → List ℤ → Step (Sharing Ports)
 serves_ports m at b p (call.CreateSamplingPort name) words = create_sampling_port m b p name
 serves_ports m at b p (call.WriteSamplingMessage id array length) words = write_sampling_message b p id array length words
@@ -284,7 +284,7 @@ enters_found b place x (Some f) =
     let s = becomes_port b place (with_message x (handed_by b.processes f.0)) in
     after s (of_processes s.part (released b.processes f.0 f.1 code.NoError))
 
--- the message of a sender goes behind the others if there is room, and the sender is released
+-- the message of a sender goes after the others if there is room, and the sender is released
 abbrev pub enters_port : Sharing Ports → ℕ → Entry → Option Port → Step (Sharing Ports)
 enters_port b place e None = nothing b
 enters_port b place e (Some x) =

@@ -180,7 +180,7 @@ stop s p id =
 
 -- ---- STOP_SELF
 
--- The caller becomes dormant, and gets no answer. At INIT's end this does nothing: the partition
+-- The caller becomes dormant, and gets no reply. At INIT's end this does nothing: the partition
 -- clears.
 abbrev pub stop_self : Processes → Runner → Step Processes
 stop_self s runner.Init = nothing s

@@ -66,7 +66,7 @@ abbrev pub leaves : Runner → List Entry → List Entry
 leaves (runner.Process p) ready = without p.0 ready
 leaves _ ready = ready
 
--- adds p to the ready list, behind its equals
+-- adds p to the ready list, after its equals
 abbrev pub goes_last : Runner → Priority → List Entry → List Entry
 goes_last (runner.Process p) priority ready = behind_equals (entry p priority) (without p.0 ready)
 goes_last _ priority ready = ready
@@ -108,7 +108,7 @@ without_holder p (lock.Held level holder) = if is_same p (runner.Process holder)
 abbrev pub put_row : Processes → Runner → ProcessStatus → Processes
 put_row s p r = record s { rows = slice_set s.rows (place_of p) r }
 
--- with this record, ready behind its equals
+-- with this record, ready, in the list after its equals
 abbrev pub put_ready : Processes → Runner → ProcessStatus → Processes
 put_ready s p r = record s { rows = slice_set s.rows (place_of p) r; ready = goes_last p r.current_priority s.ready }
 
@@ -182,11 +182,11 @@ answers_wait s p r c outputs (wait.Service service) = answered s p r.who service
 answers_wait s p r c outputs (wait.Object service array) = answered s p r.who service c outputs
 answers_wait s p r c outputs _ = nothing s
 
--- its service answers with these outputs, and it is ready
+-- its service returns these outputs, and it is ready
 abbrev pub released_with : Processes → Runner → ProcessStatus → ReturnCode → List ℤ → Step Processes
 released_with s p r c outputs = after (answers_wait s p r c outputs r.wait) (wakes (no_longer_waits s p) p r)
 
--- its service answers with outputs of 0, and it is ready
+-- its service returns outputs of 0, and it is ready
 abbrev pub released : Processes → Runner → ProcessStatus → ReturnCode → Step Processes
 released s p r c = released_with s p r c (zeros_of_wait r.wait)
 

@@ -21,7 +21,7 @@ is_entry_of p e = p == e.process.0
 abbrev pub without : ℕ → List Entry → List Entry
 without p entries = filter (λ e. not (is_entry_of p e)) entries
 
--- inserted behind all entries of its priority or a higher one
+-- inserted after all entries of its priority or a higher one
 abbrev pub behind_equals : Entry → List Entry → List Entry
 behind_equals e [] = e ∷ []
 behind_equals e (x ∷ xs) = if nat_lt x.priority.0 e.priority.0 then e ∷ x ∷ xs else x ∷ behind_equals e xs
@@ -69,7 +69,7 @@ each_list change q = record {
 abbrev pub without_in_all : ℕ → Queues → Queues
 without_in_all p q = each_list (without p) q
 
--- First in, first out: behind all others. By priority: behind all of its priority or a higher one.
+-- First in, first out: after all others. By priority: after all of its priority or a higher one.
 abbrev pub joined : Discipline → Entry → List Entry → List Entry
 joined discipline.Fifo e entries = entries ++ e ∷ []
 joined discipline.Priority e entries = behind_equals e entries

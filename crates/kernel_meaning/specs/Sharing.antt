@@ -179,7 +179,7 @@ abbrev pub array_of_wait : Wait → Option ArrayPlace
 array_of_wait (wait.Object service array) = array
 array_of_wait _ = None
 
--- A receiver takes a message: the words go into its array, its call answers how many they are, and it is
+-- A receiver takes a message: the words go into its array, its call returns how many they are, and it is
 -- ready.
 abbrev pub gives : Processes → Runner → ProcessStatus → ArrayVec ℤ → Step Processes
 gives s p r message = after (fills s (array_of_wait r.wait) message) (released_with s p r code.NoError (pos (length message.items) ∷ []))

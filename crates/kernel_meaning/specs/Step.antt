@@ -55,7 +55,7 @@ code_number code.InvalidConfig = 4
 code_number code.InvalidMode = 5
 code_number code.TimedOut = 6
 
--- a service of p ends with a code and its outputs: its line, then the answer to the process
+-- a service of p ends with a code and its outputs: its line, then the reply to the process
 abbrev pub answered : {P : Type 0} → P → Runner → Subject → Service → ReturnCode → List ℤ → Step P
 answered part p who service c outputs = record {
   part = part;

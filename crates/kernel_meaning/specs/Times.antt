@@ -66,7 +66,7 @@ abbrev pub waits_for_release : Processes → Runner → ProcessStatus → ℕ �
 waits_for_release s q r tick = waits s q r wait.FirstRelease (Some (due_time.Release (ticks tick)))
 
 -- In normal mode: releases a periodic process `delay` ticks after the partition's next release
--- point, which is `next`; an aperiodic process `delay` ticks from now, at once if the delay is 0.
+-- point, which is `next`; an aperiodic process `delay` ticks from now, immediately if the delay is 0.
 abbrev pub starts_in_normal : At → (next : ℕ) → Processes → Runner → Ticks → ProcessStatus → Step Processes
 starts_in_normal at next s q delay r =
     if is_periodic r then waits_for_release s q r (next + delay.0)

@@ -1,4 +1,4 @@
--- Many ticks of a script at once.
+-- Many ticks of a script together.
 use Rattle.std.proofs.Common.{◌≡◌, ℕ, zero, suc, ◌+◌, ◌-◌, ◌<◌, ◌≤◌, ℤ, List, [], ◌∷◌, true, false, map, refl, ap, sym, ◌∙◌, arith}
 use Rattle.std.specs.Prelude.{Option, Some, None, slice_get, slice_set}
 use Rattle.std.proofs.lemmas.Option.{none-some, same_Some}
@@ -45,7 +45,7 @@ ends_at scripts k left c d words asks b some within so_far to told loud =
     ∙ ap (λ n. burst (ticked (script_engine scripts)) n c words) whole)
     ∙ so_far
 
--- behind one that asks for nothing come the others
+-- after a tick that asks for nothing come the others
 pub goes_on : (scripts : List (List Asks)) (k left : ℕ) (c d : Option (List Asks)) (words : List ℤ) (asks : Asks) (b : Burst (Option (List Asks)) (List ℤ) Asks)
     → 0 < left → left ≤ k → later (k - left) (burst (ticked (script_engine scripts)) left c words) ≡ b
     → d ≡ (ticked (script_engine scripts) c words).control → asks ≡ (ticked (script_engine scripts) c words).asks → is_nothing asks ≡ true

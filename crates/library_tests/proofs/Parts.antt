@@ -24,7 +24,7 @@ pub laid_first : (parts : List Space) (part : Space) → map laid_of parts ≡ (
 laid_first [] part all e = absurd (none-some part e)
 laid_first (p ∷ parts) part all e = ap laid_of (sym (same_Some p part e)) ∙ ap (λ l. get_or l 0 []) all
 
--- ---- an answer changes no script
+-- ---- a reply changes no script
 
 pub replied_same : (scripts : List (List Asks)) (xs : List (Option (List Asks))) (p : ℕ) (answer : List ℤ) → xs ≡ slice_set xs p (replied (script_engine scripts) (control_at xs p) answer)
 replied_same scripts [] zero answer = refl

@@ -3,7 +3,7 @@ use Rattle.std.specs.Prelude.{ℤ, List, [], ◌∷◌, get_or}
 use Rattle.apex_types.specs.Runners.{place_of}
 use Rattle.engine_meaning.specs.Engine.{Engine, Ticked, Asks, Nothing}
 
--- the next request; nothing behind the last
+-- the next request; nothing after the last
 abbrev pub plays : List Asks → List ℤ → Ticked (List Asks)
 plays [] words = record { control = []; words = words; asks = Nothing }
 plays (asks ∷ rest) words = record { control = rest; words = words; asks = asks }

@@ -23,7 +23,7 @@ or_none zero lt = refl
 or_none (suc zero) lt = refl
 or_none (suc (suc a)) lt = absurd (omega (arith, lt))
 
--- the mask has the bits of the processes before a place; with the bits of those from there on, it
+-- the mask has the bits of the processes before a place; with the bits of those from the place on, it
 -- has all
 abbrev pub HasThoseBefore : ℕ → ℕ → List DueEntry → ℕ → Type 0
 HasThoseBefore now place dues mask = (p : ℕ) → or_bit (bit_at mask p) (one_if_come now (tick_in p (drop place dues))) ≡ one_if_come now (tick_in p dues)
@@ -51,7 +51,7 @@ one_more now place mask next e dues is le set others h = λ p. by_test p (nat_eq
 pub all_there : (now place mask : ℕ) (dues : List DueEntry) → ((p : ℕ) → one_if_come now (tick_in p (drop place dues)) ≡ 0) → HasThoseBefore now place dues mask → HasThoseDue now dues mask
 all_there now place mask dues none h = λ p. sym (or_none (bit_at mask p) (bit_at-lt mask p)) ∙ (ap (or_bit (bit_at mask p)) (sym (none p)) ∙ h p)
 
--- ---- the entries behind are not due
+-- ---- past the end no entry is due
 
 pub none_behind : (now place : ℕ) (dues : List DueEntry) → length dues ≤ place → (p : ℕ) → one_if_come now (tick_in p (drop place dues)) ≡ 0
 none_behind now zero [] le p = refl

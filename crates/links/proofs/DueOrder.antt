@@ -135,7 +135,7 @@ order-without p (e ∷ es) h =
       | false ↦ (from-without e.tick.0 p es h.0, order-without p es h.1)
     ]
 
--- ---- a process that goes behind those that are not later
+-- ---- a process that is put after those that are not later
 
 behind-times : (e : DueEntry) (q : ℕ) (es : List DueEntry) → times_due q (behind_earlier e es) ≡ times_due q (e ∷ es)
 behind-times e q [] = refl

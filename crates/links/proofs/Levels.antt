@@ -1,4 +1,4 @@
--- The lists one behind another.
+-- The lists one after another.
 use Rattle.std.proofs.Common.{◌≡◌, ℕ, zero, suc, ◌+◌, ◌<◌, ◌≤◌, nat_eq, nat_lt, cond, true, false, not, List, [], ◌∷◌, ◌++◌, length, slice_get, replicate, refl, sym, ap, ◌∙◌, arith}
 use Rattle.std.proofs.lemmas.Bool.Decides.{nat_tests}
 use Rattle.apex_types.specs.declared.process.Entry.{Entry}
@@ -55,7 +55,7 @@ all_absent p (l ∷ ls) h =
     let both = times_append p l (in_order ls) in
     ap (λ x. x ∷ without_in_each p ls) (without_absent p l (omega (arith, both, h))) ∙ ap (λ rest. l ∷ rest) (all_absent p ls (omega (arith, both, h)))
 
--- ---- an entry behind its equals
+-- ---- an entry after its equals
 behind_first : (m k : ℕ) (e : Entry) (ls : List (List Entry)) → m < k → e.priority.0 + m ≡ 255 → AreLevels k ls → behind_equals e (in_order ls) ≡ e ∷ in_order ls
 behind_first m k e [] lt own h = refl
 behind_first m k e ([] ∷ ls) lt own h = behind_first m (suc k) e ls (omega (arith, lt)) own h.1
@@ -134,7 +134,7 @@ at_put_same [] k l lt = absurd (omega (arith, lt))
 at_put_same (x ∷ xs) zero l lt = refl
 at_put_same (x ∷ xs) (suc k) l lt = at_put_same xs k l (omega (arith, lt))
 
--- ---- nobody
+-- ---- empty lists
 pub at_nothing : (n k : ℕ) → list_in (replicate n []) k ≡ []
 at_nothing zero k = refl
 at_nothing (suc n) zero = refl

@@ -38,7 +38,7 @@ put-entries lists place number old new next same lt is changed =
     let at : list_in (map entries_of lists) place ≡ old.items = get_or-map entries_of lists place old [] lt ∙ ap entries_of (sym is) in
     rw (← same) (rw (map-set entries_of lists place new, changed, at) refl)
 
--- ---- nobody waits
+-- ---- no process waits
 
 same-everywhere : {X : Type 0} (n i : ℕ) (x : X) → get_or (replicate n x) i x ≡ x
 same-everywhere n i x = elim (cases_lt i n) [
@@ -99,7 +99,7 @@ without-nobody p (x ∷ xs) h =
     let rest : without_in_each p xs ≡ xs = without-nobody p xs (λ j. h (suc j)) in
     cc
 
--- a process that is in no other list leaves all lists when it leaves this one
+-- a process that is in one list only leaves all lists when it leaves that list
 without-one : (p k : ℕ) (lists : List (List Entry)) → ((j : ℕ) → (j ≡ k → ⊥) → times_listed p (list_in lists j) ≡ 0) → put_in lists k (without p (list_in lists k)) ≡ without_in_each p lists
 without-one p zero [] h = refl
 without-one p (suc k) [] h = refl

@@ -1,5 +1,5 @@
 -- The waiting lists by their keys, and the place of each among lists with numbers: sixteen of a
--- kind, one kind behind another.
+-- kind, one kind after another.
 use Rattle.std.specs.Prelude.{◌*◌, ℕ, ◌≡◌, ◌+◌, nat_lt, List, length, take, drop, if◌then◌else◌}
 use Rattle.apex_types.specs.declared.identity.ListKey.{ListKey}
 use Rattle.apex_types.specs.declared.identity.ListKey.TheVariants as key
@@ -22,7 +22,7 @@ by_kind lists = record {
   ports = lists_from (4 * MOST_OBJECTS) lists;
 }
 
--- the number of the list at a place; behind all lists if the kind has no such place
+-- the number of the list at a place; past all lists if the kind has no such place
 abbrev pub number_from : ℕ → ℕ → ℕ
 number_from first place = if nat_lt place MOST_OBJECTS then first + place else ALL_LISTS
 

@@ -14,7 +14,7 @@ is_due_of p e = p == e.process.0
 abbrev pub without : ℕ → List DueEntry → List DueEntry
 without p dues = filter (λ e. not (is_due_of p e)) dues
 
--- inserted behind all entries whose tick is not later
+-- inserted after all entries whose tick is not later
 abbrev pub behind_earlier : DueEntry → List DueEntry → List DueEntry
 behind_earlier e [] = e ∷ []
 behind_earlier e (x ∷ xs) = if nat_lt e.tick.0 x.tick.0 then e ∷ x ∷ xs else x ∷ behind_earlier e xs

@@ -5,7 +5,7 @@ use Rattle.apex_types.specs.declared.limits.TheConstants.{MARK_BITS}
 use Rattle.apex_types.specs.declared.process.Entry.{Entry}
 use Rattle.kernel_meaning.specs.Queues.{list_in}
 
--- all lists, one behind another
+-- all lists, one after another
 abbrev pub in_order : List (List Entry) → List Entry
 in_order [] = []
 in_order (l ∷ ls) = l ++ in_order ls

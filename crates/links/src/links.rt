@@ -90,6 +90,7 @@ impl Links {
     }
 
     /// Moves a process from its list to `list`, where its place follows the discipline.
+    #[inline(always)]
     pub fn join(&mut self, list: ListId, discipline: Discipline, entry: Entry)
         requires below { entry.process.0 < MOST_PROCESSES }
         ensures { self.new ≡ joins_in list.0 discipline entry self.old }

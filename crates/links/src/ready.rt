@@ -54,6 +54,7 @@ impl ReadyLists {
     }
 
     /// Removes a process that is no longer ready.
+    #[inline(always)]
     pub fn remove(&mut self, process: ProcessIndex)
         ensures { self.new ≡ without process.0 self.old }
     {
@@ -68,6 +69,7 @@ impl ReadyLists {
     }
 
     /// Adds a ready process after its equals.
+    #[inline(always)]
     pub fn push_back(&mut self, entry: Entry)
         requires { entry.process.0 < MOST_PROCESSES }
         ensures { self.new ≡ behind_equals entry (without entry.process.0 self.old) }

@@ -11,7 +11,7 @@ use Rattle.pal.proofs.SyntaxRows.{seen_if, seen_if_else, seen_while}
 use Rattle.lint.specs.Calls.{Call, Created, calls_behind, calls_in, left_by}
 use Rattle.lint.proofs.Adding.{adds, next_of}
 
--- a statement of a block, before those behind it
+-- a statement of a block, before those that follow it
 pub goes_on : (names : List (List ℕ)) (all : List Stmt) (i : ℕ) (s : Stmt) (created after : Option Created) (old new total : List Call) → i < length all → s ≡ get_or all i s
     → new ≡ old ++ calls_in created (kind_of names s.kind) → after ≡ left_by created (kind_of names s.kind)
     → old ++ calls_behind created (block_of names (drop i all)) ≡ total → new ++ calls_behind after (block_of names (drop (i + 1) all)) ≡ total

@@ -1,4 +1,4 @@
--- The pieces of the line of a finding, one behind the other.
+-- The pieces of the line of a finding, one after the other.
 use Rattle.std.proofs.Common.{◌≡◌, ◌==◌, ℕ, List, [], ◌++◌, Bool, false, ap, append_assoc, append-nil, codes, if◌then◌else◌, arith}
 use Rattle.std.specs.Fmt.{decimal}
 use Rattle.lint.specs.Sentences.{place_text}

@@ -48,7 +48,7 @@ abbrev pub size_or_none : Option written.Kind → Option ℕ
 size_or_none None = None
 size_or_none (Some k) = size_in k
 
--- the declaration of the object of this kind that an argument stands for
+-- the declaration of the object of this kind that an argument denotes
 abbrev pub object_of : List written.Declaration → ObjectKind → Id → Option written.Kind
 object_of ds kind (Numbered n) = declared_at kind n ds
 object_of ds kind (Named other name) = if is_same_kind other kind then declared name ds else None
@@ -58,7 +58,7 @@ abbrev pub is_port : ObjectKind → Bool
 is_port object.Port = true
 is_port _ = false
 
--- the words of a message of the object or the port of this kind that an argument stands for
+-- the words of a message of the object or the port of this kind that an argument denotes
 abbrev pub words_of : List PortRow → List written.Declaration → ObjectKind → Id → Option ℕ
 words_of ports ds kind id = if is_port kind then option_map (λ row. row.words) (port_of_id ports id) else words_or_none (object_of ds kind id)
 

@@ -7,7 +7,7 @@ use Rattle.apex_types.specs.declared.service.Service.{Service}
 use Rattle.pal_meaning.specs.Syntax as written
 use Rattle.lint.specs.Services.{numbered_kind}
 
--- An argument, as far as it is looked at: a number as it is written, a name alone, or anything else.
+-- An argument, as far as it is looked at: a number as it is written, just a name, or anything else.
 pub data Plain : Type 0 where
   Literal : Option ℕ → Plain
   Word : List ℕ → Plain
@@ -70,7 +70,7 @@ abbrev pub or_before : Option Created → Option Created → Option Created
 or_before (Some c) before = Some c
 or_before None before = before
 
--- what was created last behind a statement
+-- what was created last, after a statement
 abbrev pub left_by : Option Created → written.Stmt → Option Created
 left_by created (written.Assign target value) = unless_written (target ∷ []) created
 left_by created (written.CallService service arguments targets) = or_before (numbered (numbered_kind service) (first_of (plains arguments)) (second_of targets)) (unless_written targets created)

@@ -63,7 +63,7 @@ undeclared_ports ds ports = flat_map (undeclared_port ds) ports
 abbrev pub port_named : List PortRow → List ℕ → Option PortRow
 port_named ports name = find (λ row. bytes_eq row.name name) ports
 
--- the port that an argument stands for
+-- the port that an argument denotes
 abbrev pub port_of_id : List PortRow → Id → Option PortRow
 port_of_id ports (Numbered n) = at_number ports n
 port_of_id ports (Named object.Port name) = port_named ports name
@@ -74,8 +74,8 @@ abbrev pub port_of_name : List PortRow → Option (List ℕ) → Option PortRow
 port_of_name ports (Some name) = port_named ports name
 port_of_name ports None = None
 
--- The port that a call is about: the one that its first argument names where a service takes a name, else the one that it stands
--- for.
+-- The port that a call is about. Where a service takes a name, it is the port that the first argument names; else it is the
+-- port that the argument denotes.
 abbrev pub port_of_call : List PortRow → Option ObjectKind → Call → Option PortRow
 port_of_call ports (Some kind) c = port_of_name ports (name_in (first_of c.arguments))
 port_of_call ports None c = port_of_id ports (subject_of c)

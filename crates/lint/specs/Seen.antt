@@ -1,4 +1,4 @@
--- What arguments stand for, as the definitions see what the code has.
+-- What arguments denote, as the definitions see what the code has.
 use Rattle.std.specs.Prelude.{ℕ, List}
 use Rattle.pal_base.specs.View.{id_text}
 use Rattle.lint.specs.Lives as lives

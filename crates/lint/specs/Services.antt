@@ -1,4 +1,4 @@
--- What services do, as far as it can be seen from their names alone.
+-- What services do, as far as this can be seen just from their names.
 use Rattle.std.specs.Prelude.{Bool, true, false, Option, Some, None}
 use Rattle.apex_types.specs.declared.denotation.ObjectKind.{ObjectKind}
 use Rattle.apex_types.specs.declared.denotation.ObjectKind.TheVariants as object
@@ -18,7 +18,7 @@ created_kind service.CreateSamplingPort = Some object.Port
 created_kind service.CreateQueuingPort = Some object.Port
 created_kind _ = None
 
--- the kind of what a service answers the number of: it creates it, or finds it by its name
+-- the kind of object whose number a service returns: it creates the object, or finds it by its name
 abbrev pub numbered_kind : Service → Option ObjectKind
 numbered_kind service.GetProcessId = Some object.Process
 numbered_kind service.GetBufferId = Some object.Buffer
@@ -55,7 +55,7 @@ abbrev pub is_handler_creation : Service → Bool
 is_handler_creation service.CreateErrorHandler = true
 is_handler_creation _ = false
 
--- whoever asks for it waits, whatever its arguments are
+-- the process that asks for it waits, whatever its arguments are
 abbrev pub always_waits : Service → Bool
 always_waits service.TimedWait = true
 always_waits service.PeriodicWait = true

@@ -8,7 +8,7 @@ use Rattle.lint.specs.Views.{Found, unless}
 use Rattle.lint.specs.declared.finding.FindingKind.{FindingKind}
 use Rattle.lint.specs.declared.finding.FindingKind.TheVariants as finding
 
--- the names that stand in an expression, in the order of the text
+-- the names in an expression, in the order of the text
 abbrev mutual
   pub names_in : written.Expr → List (List ℕ)
   names_in (written.Number value) = []

@@ -5,7 +5,7 @@ use Rattle.apex_types.specs.declared.denotation.ObjectKind.{ObjectKind}
 use Rattle.pal_meaning.specs.WellFormed.{is_same_kind}
 use Rattle.lint.specs.Calls.{Call, Created, Plain, Literal, Word, first_of}
 
--- What an argument stands for where a number is asked for: the number as it is written; what was created last, if the argument is
+-- What an argument denotes where a number is asked for: the number as it is written; what was created last, if the argument is
 -- the variable that got its number; or it cannot be seen.
 pub data Id : Type 0 where
   Numbered : ℕ → Id
@@ -17,7 +17,7 @@ id_of created (Some (Literal (Some n))) = Numbered n
 id_of (Some c) (Some (Word name)) = if bytes_eq c.variable name then Named c.kind c.object else Unseen
 id_of created _ = Unseen
 
--- what the first argument of a call stands for
+-- what the first argument of a call denotes
 abbrev pub subject_of : Call → Id
 subject_of c = id_of c.created (first_of c.arguments)
 
@@ -26,18 +26,18 @@ abbrev pub name_in : Option Plain → Option (List ℕ)
 name_in (Some (Word name)) = Some name
 name_in _ = None
 
--- the name is this one
+-- the argument is a name, and it is this name
 abbrev pub is_name : List ℕ → Option (List ℕ) → Bool
 is_name name (Some other) = bytes_eq other name
 is_name name None = false
 
--- it may stand for the object of this kind, number and name
+-- it may denote the object of this kind, number and name
 abbrev pub may_be : ObjectKind → ℕ → List ℕ → Id → Bool
 may_be kind number name (Numbered n) = n == number
 may_be kind number name (Named other object) = is_same_kind other kind && bytes_eq object name
 may_be kind number name Unseen = true
 
--- it may stand for this number
+-- it may denote this number
 abbrev pub may_be_number : ℕ → Id → Bool
 may_be_number number (Numbered n) = n == number
 may_be_number number _ = true

@@ -115,7 +115,7 @@ fn declared_at<'a>(
     None
 }
 
-/// The declaration of the object of this kind that an argument stands for.
+/// The declaration of the object of this kind that an argument denotes.
 fn object_of<'a>(
     names: &IndexSet<String>,
     declarations: &'a [Declaration],
@@ -139,7 +139,7 @@ fn object_of<'a>(
     }
 }
 
-/// The words of a message of the object or the port of this kind that an argument stands for.
+/// The words of a message of the object or the port of this kind that an argument denotes.
 fn words_of(
     names: &IndexSet<String>,
     ports: &[PortRow],

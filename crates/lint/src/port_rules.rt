@@ -232,7 +232,7 @@ fn port_numbered(ports: &[PortRow], number: u64) -> Option<&PortRow>
     ports.get(place as usize)
 }
 
-/// The port that an argument stands for.
+/// The port that an argument denotes.
 pub fn port_of_id<'a>(names: &IndexSet<String>, ports: &'a [PortRow], id: Id) -> Option<&'a PortRow>
     ensures { option_copied result
         ≡ meant.port_of_id ports.now (id_seen (texts names.now.keys) id) }

@@ -1,4 +1,4 @@
-//! The names that stand in some statements, for look-ups by their texts.
+//! The names that appear in some statements, for look-ups by their texts.
 
 ghost use Rattle.std.specs.Prelude.{◌≡◌, ℕ, List, IfOk};
 ghost use Rattle.pal_base.specs.View.{texts};
@@ -11,7 +11,7 @@ use indexmap::IndexSet;
 use pal_base::syntax::NameId;
 use std::alloc::{AllocError, Global};
 
-/// The texts of the names that stand in some statements, each of them once.
+/// The texts of the names that appear in some statements, each of them once.
 #[derive(Drop)]
 pub struct Used<'a> {
     pub texts: IndexSet<&'a str>,

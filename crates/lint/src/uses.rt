@@ -1,4 +1,4 @@
-//! What the arguments of a call stand for.
+//! What the arguments of a call denote.
 
 ghost use Rattle.std.specs.Prelude.{◌≡◌, ℕ, List, Some, option_map};
 ghost use Rattle.pal_base.specs.View.{id_text, texts};
@@ -13,7 +13,7 @@ use apex_types::ObjectKind;
 use indexmap::IndexSet;
 use pal_base::syntax::NameId;
 
-/// What an argument stands for where a number is asked for.
+/// What an argument denotes where a number is asked for.
 #[derive(Clone, Copy)]
 pub enum Id {
     /// The number as it is written.
@@ -36,7 +36,7 @@ fn id_of(names: &IndexSet<String>, created: Option<Created>, argument: Option<Pl
     }
 }
 
-/// What the name of a variable stands for.
+/// What the name of a variable denotes.
 fn id_of_name(names: &IndexSet<String>, created: Option<Created>, name: NameId) -> Id
     ensures { id_seen (texts names.now.keys) result
         ≡ meant.id_of (option_map (created_of (texts names.now.keys)) created)
@@ -54,7 +54,7 @@ fn id_of_name(names: &IndexSet<String>, created: Option<Created>, name: NameId) 
     }
 }
 
-/// What the first argument of a call stands for.
+/// What the first argument of a call denotes.
 pub fn subject_of(names: &IndexSet<String>, call: &Call<'_>) -> Id
     ensures { id_seen (texts names.now.keys) result
         ≡ meant.subject_of (call_of (texts names.now.keys) call.now) }
@@ -101,7 +101,7 @@ pub fn is_same_kind(found: ObjectKind, kind: ObjectKind) -> bool
     }
 }
 
-/// Returns true if what an argument stands for may be the object of this kind, number and name.
+/// Returns true if what an argument denotes may be the object of this kind, number and name.
 pub fn may_be(names: &IndexSet<String>, kind: ObjectKind, number: u64, text: &str, id: Id) -> bool
     ensures { result
         ≡ meant.may_be kind number text.now (id_seen (texts names.now.keys) id) }
@@ -113,7 +113,7 @@ pub fn may_be(names: &IndexSet<String>, kind: ObjectKind, number: u64, text: &st
     }
 }
 
-/// Returns true if what an argument stands for may be this number.
+/// Returns true if what an argument denotes may be this number.
 pub fn may_be_number(number: u64, id: Id) -> bool
     ensures { (names : List (List ℕ)) → result ≡ meant.may_be_number number (id_seen names id) }
 {

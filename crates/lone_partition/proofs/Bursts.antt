@@ -1,7 +1,8 @@
--- Many ticks of a partition alone, at once.
-use Rattle.std.proofs.Common.{◌≡◌, inl, inr, ℕ, zero, suc, ◌+◌, ◌-◌, ◌<◌, ◌≤◌, Bool, true, false, cond, List, [], ◌∷◌, ◌++◌, length, Option, Some, None, refl, sym, ap, subst, ◌∙◌, arith}
+-- Many ticks of a lone partition together.
+use Rattle.std.proofs.Common.{◌≡◌, inl, inr, ℕ, zero, suc, ◌+◌, ◌-◌, ◌<◌, ◌≤◌, Bool, true, false, cond, List, [], ◌∷◌, ◌++◌, length, Option, Some, None, refl, sym, ap, subst, ◌∙◌, append_assoc, nat_le, arith}
 use Rattle.std.specs.Prelude.{option_map, is_some}
 use Rattle.apex_types.specs.declared.event.Event.{Event}
+use Rattle.apex_types.specs.declared.limits.TheConstants.{MOST_EVENTS}
 use Rattle.apex_types.specs.declared.identity.At.{At}
 use Rattle.apex_types.specs.declared.identity.PortId.{PortId}
 use Rattle.kernel_meaning.specs.Kernel.{of_ports}
@@ -10,10 +11,11 @@ use Rattle.kernel_meaning.specs.Partition.{Member, Moved, World, moved, with_wor
 use Rattle.kernel_meaning.specs.Windows.{at_tick, tick_from, owner, ended}
 use Rattle.isolation.specs.Alone.{Gone, Path, Surroundings, and_then, alone_from, goes, inputs_in, keeps_on, sends_ended, sends_port, sends_ports, sends_so_many, stays, tick_alone, ticks_own}
 use Rattle.isolation.specs.declared.input.InputLine.{InputLine}
+use Rattle.partition.specs.Gathering.{joined, no_ticks, ticks_within}
 use Rattle.partition.specs.Members.{HasAdvanced}
-use Rattle.kernel_laws.specs.Bursts.{Burst, later, alone}
+use Rattle.partition.specs.declared.rooms.TheConstants.{LINES_FOR_TICK}
+use Rattle.kernel_laws.specs.Bursts.{Burst}
 use Rattle.kernel_laws.specs.Quiet.{IsAtRest, IsStill}
-use Rattle.kernel_laws.specs.Running.{is_silent, advances_by, partition_tick}
 use Rattle.kernel_laws.proofs.Quiet.{idle_tick}
 use Rattle.lone_partition.proofs.LinesOfTicks.{inputs_are, none_before}
 use Rattle.lone_partition.proofs.Outputs.{CompletesLines, lines_go_on, nothing_sent}
@@ -24,10 +26,6 @@ use Rattle.lone_partition.specs.Sent.{Sent}
 -- the partition gets no input in the ticks from `from` on, before `limit`
 abbrev pub HaveNoInputs : ℕ → ℕ → List InputLine → Type 0
 HaveNoInputs from limit inputs = (t : ℕ) → from ≤ t → t < limit → inputs_in t inputs ≡ []
-
-silent_none : (ls : List Event) → is_silent ls ≡ true → ls ≡ []
-silent_none [] h = refl
-silent_none (l ∷ ls) h = absurd (cc)
 
 module _ {C : Type 0} (s : Surroundings) where
   -- ---- a tick in which nothing happens
@@ -100,7 +98,7 @@ module _ {C : Type 0} (s : Surroundings) where
   leads_empty inputs n origin now x h m =
       still_ticks inputs origin n m now x (λ i below. within_tick inputs origin (now + i) None x (h i below))
 
-  -- ---- a piece of its own window
+  -- ---- a piece of the partition's window
 
   first_tick : (inputs : List InputLine) (origin number k t : ℕ) (x : Member C) → IsWithin s inputs origin t (Some number)
       → alone_from s inputs (suc k) (Some (tick_from origin t)) x ≡ (tick x.engine (tick_from origin t) x.world).lines ++ alone_from s inputs k (Some (tick_from origin (t + 1))) (with_world x (tick x.engine (tick_from origin t) x.world).world)
@@ -110,42 +108,42 @@ module _ {C : Type 0} (s : Surroundings) where
   abbrev Piece : List InputLine → (origin m t : ℕ) → Member C → Burst (World C) ℕ (List Event) → Type 0
   Piece inputs origin m t x b = alone_from s inputs (b.ticks + m) (Some (tick_from origin t)) x ≡ b.told ++ alone_from s inputs m (Some (tick_from origin b.words)) (with_world x b.control)
 
-  -- while its window continues and no input comes, ticks of the partition alone are its ticks
-  piece : (inputs : List InputLine) (origin number n m t : ℕ) (x : Member C) → ((i : ℕ) → i < n → IsWithin s inputs origin (t + i) (Some number)) → Piece inputs origin m t x (advances_by x.engine origin n x.world t)
-  piece inputs origin number zero m t x h =
+  -- while its window continues and no input comes, ticks of the lone partition are its ticks
+  piece : (inputs : List InputLine) (origin number room n m t : ℕ) (x : Member C) → ((i : ℕ) → i < n → IsWithin s inputs origin (t + i) (Some number)) → Piece inputs origin m t x (ticks_within x.engine origin room n x.world t)
+  piece inputs origin number room zero m t x h =
       let same : 0 + m ≡ m = omega arith in
       ap (λ k. alone_from s inputs k (Some (tick_from origin t)) x) same
-  piece inputs origin number (suc n) m t x h =
+  piece inputs origin number room (suc n) m t x h =
       let now : t + 0 ≡ t = omega arith in
       let a : IsWithin s inputs origin t (Some number) = subst (λ u. IsWithin s inputs origin u (Some number)) now (h 0 (omega arith)) in
       let k = tick x.engine (tick_from origin t) x.world in
       let y = with_world x k.world in
       let next : (i : ℕ) → i < n → IsWithin s inputs origin (t + 1 + i) (Some number) = λ i below.
       let u : t + suc i ≡ t + 1 + i = omega arith in subst (λ v. IsWithin s inputs origin v (Some number)) u (h (suc i) (omega (arith, below))) in
-      let b = advances_by x.engine origin n k.world (t + 1) in
-      let rest : Piece inputs origin m (t + 1) y b = piece inputs origin number n m (t + 1) y next in
+      let b = ticks_within x.engine origin (room - length k.lines) n k.world (t + 1) in
+      let rest : Piece inputs origin m (t + 1) y b = piece inputs origin number (room - length k.lines) n m (t + 1) y next in
       let one_more : 1 + b.ticks + m ≡ suc (b.ticks + m) = omega arith in
-      let once : 1 + m ≡ suc m = omega arith in
-      let step : (q : Bool) → is_silent k.lines ≡ q → Piece inputs origin m t x (cond q (later 1 b) (alone (partition_tick x.engine origin x.world t))) =
-      λ q. elim q as (λ q. is_silent k.lines ≡ q → Piece inputs origin m t x (cond q (later 1 b) (alone (partition_tick x.engine origin x.world t)))) [
-        | true ↦ λ e. ap (λ j. alone_from s inputs j (Some (tick_from origin t)) x) one_more
+      let none : 0 + m ≡ m = omega arith in
+      let step : (q : Bool) → Piece inputs origin m t x (cond q (joined k.lines 1 b) (no_ticks x.world t)) =
+      λ q. elim q as (λ q. Piece inputs origin m t x (cond q (joined k.lines 1 b) (no_ticks x.world t))) [
+        | true ↦ ap (λ j. alone_from s inputs j (Some (tick_from origin t)) x) one_more
             ∙ first_tick inputs origin number (b.ticks + m) t x a
-            ∙ ap (λ ls. ls ++ alone_from s inputs (b.ticks + m) (Some (tick_from origin (t + 1))) y) (silent_none k.lines e)
-            ∙ rest
-        | false ↦ λ e. ap (λ j. alone_from s inputs j (Some (tick_from origin t)) x) once ∙ first_tick inputs origin number m t x a
+            ∙ ap (λ (ls : List Event). k.lines ++ ls) rest
+            ∙ sym (append_assoc k.lines b.told (alone_from s inputs m (Some (tick_from origin b.words)) (with_world x b.control)))
+        | false ↦ ap (λ j. alone_from s inputs j (Some (tick_from origin t)) x) none
       ] in
-      step (is_silent k.lines) refl
+      step (nat_le LINES_FOR_TICK room)
 
   pub leads_on : (inputs : List InputLine) (k n origin now number : ℕ) (x y : Member C) (told : List Event) → ((i : ℕ) → i < k → IsWithin s inputs origin (now + i) (Some number)) → HasAdvanced (tick_from origin now) k x y told n
       → LeadsTo s inputs n (tick_from origin now) x told y
   leads_on inputs k n origin now number x y told h g m =
-      let b = advances_by x.engine origin k x.world now in
+      let b = ticks_within x.engine origin MOST_EVENTS k x.world now in
       let count : b.ticks ≡ n = ap (λ (b : Burst (World C) ℕ (List Event)). b.ticks) g.1 in
       let until : b.words ≡ now + n = ap (λ (b : Burst (World C) ℕ (List Event)). b.words) g.1 in
       let tells : b.told ≡ told = ap (λ (b : Burst (World C) ℕ (List Event)). b.told) g.1 in
       let world : b.control ≡ y.world = ap (λ (b : Burst (World C) ℕ (List Event)). b.control) g.1 in
       ap (λ j. alone_from s inputs (j + m) (Some (tick_from origin now)) x) (sym count)
-      ∙ piece inputs origin number k m now x h
+      ∙ piece inputs origin number MOST_EVENTS k m now x h
       ∙ ap (λ (es : List Event). es ++ alone_from s inputs m (Some (tick_from origin b.words)) (with_world x b.control)) tells
       ∙ ap (λ u. told ++ alone_from s inputs m (Some (tick_from origin u)) (with_world x b.control)) until
       ∙ ap (λ (w : World C). told ++ alone_from s inputs m (Some (tick_from origin (now + n))) (with_world x w)) world
@@ -221,7 +219,7 @@ module _ {C : Type 0} (s : Surroundings) (lines : List InputLine) where
       lines_go_on whole (alone_from s lines left (Some at) x) h.told (alone_from s lines k (Some (at_tick at (at.now.0 + n))) y) old mid new
       (ap (λ j. alone_from s lines j (Some at) x) count ∙ h.leads k) way h.sent
 
-  -- none of these ticks was made at once
+  -- none of these ticks was made
   pub none_made : (whole : List Event) (left n : ℕ) (at : At) (x y : Member C) (old mid new : Sent) → n ≡ 0
       → CompletesLines whole (alone_from s lines left (Some at) x) old mid → HasRun s lines n at x y mid new
       → CompletesLines whole (alone_from s lines left (Some at) y) old new

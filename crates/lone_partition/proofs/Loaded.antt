@@ -1,4 +1,4 @@
--- A partition that is loaded alone is the partition alone of its slice.
+-- A partition that is loaded alone is the lone partition of its slice.
 use Rattle.std.proofs.Common.{◌≡◌, ℕ, suc, List, Option, Some, sym, ap, ◌∙◌}
 use Rattle.std.specs.Prelude.{option_map, slice_get}
 use Rattle.std.proofs.lemmas.Option.{slice_get-map}
@@ -23,7 +23,7 @@ item_here items place number item e here =
     ∙ slice_get-map item_of items place
     ∙ ap (λ (o : Option PartitionItem). option_map item_of o) here
 
--- surroundings and a member of an item make its slice alone
+-- surroundings and a member of an item make the lone partition of its slice
 pub alone_is : (image : Image) (number : ℕ) (item : Item) (s : Surroundings) (x : Member MachineControl) (fixed : Fixed) → at_number image.items number ≡ Some item
     → s ≡ surroundings_of (machine_module image).plan number item.partition.ports → x ≡ machine_member (costs_of image.version) fixed item.partition.ports item.section → fixed ≡ fixed_of s.schedule number item.partition
     → Some (record { around = s; member = x }) ≡ option_map machine_alone (slice image number)

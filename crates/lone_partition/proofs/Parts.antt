@@ -1,5 +1,5 @@
--- Ticks of a partition alone that are made in parts, one after another.
-use Rattle.std.proofs.Common.{◌≡◌, ◌≤◌, ◌<◌, ℕ, ◌+◌, ◌-◌, List, [], ◌++◌, Some, sym, ap, subst, ◌∙◌, append_assoc, arith, refl}
+-- Ticks of a lone partition that are made in parts, one after another.
+use Rattle.std.proofs.Common.{◌≡◌, ◌≤◌, ◌<◌, ℕ, ◌+◌, ◌-◌, List, ◌++◌, Some, sym, ap, subst, ◌∙◌, append_assoc, arith, refl}
 use Rattle.apex_types.specs.declared.event.Event.{Event}
 use Rattle.apex_types.specs.declared.identity.At.{At}
 use Rattle.kernel_meaning.specs.Partition.{Member}

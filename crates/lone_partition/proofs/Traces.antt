@@ -1,4 +1,4 @@
--- A partition alone tick by tick, and the lines of its trace.
+-- A lone partition tick by tick, and the lines of its trace.
 use Rattle.std.proofs.Common.{◌≡◌, ◌≢◌, ℕ, zero, suc, ◌+◌, ◌<◌, ◌≤◌, List, [], ◌∷◌, ◌++◌, Option, Some, None, refl, sym, ap, subst, ◌∙◌, arith, le_refl}
 use Rattle.std.specs.Prelude.{option_map}
 use Rattle.apex_types.specs.Line.{text_of}

@@ -1,5 +1,5 @@
 -- The text written by one step after another.
-use Rattle.std.proofs.Common.{◌≡◌, [], ◌++◌, Option, Some, None, sym, ap, subst, ◌∙◌, refl}
+use Rattle.std.proofs.Common.{◌≡◌, ◌++◌, Option, Some, None, sym, ap, subst, ◌∙◌, refl}
 use Rattle.apex_types.specs.declared.identity.At.{At}
 use Rattle.isolation.specs.Alone.{Gone, Path, stays, and_then, keeps_on, unless_over, and_runs}
 use Rattle.lone_partition.proofs.Outputs.{lines_sent, nothing_sent}

@@ -1,4 +1,4 @@
--- A partition with a memory that belongs to it alone.
+-- A partition with a memory that belongs to no other partition.
 use Rattle.std.specs.Prelude.{◌≡◌, List, [], get_or, length}
 use Rattle.partition.specs.declared.partition.Partition.{Partition}
 use Rattle.partition_base.specs.Machines.{laid_of, layout_of}

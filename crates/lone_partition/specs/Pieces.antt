@@ -1,4 +1,4 @@
--- Many ticks of a partition alone, at once.
+-- Many ticks of a lone partition together.
 use Rattle.std.specs.Prelude.{◌≡◌, ◌≤◌, ℕ, ◌+◌, List, [], ◌++◌, Option, Some, None}
 use Rattle.apex_types.specs.Line.{text_of}
 use Rattle.apex_types.specs.declared.event.Event.{Event}
@@ -30,7 +30,7 @@ pub record HasRun {C : Type 0} (s : Surroundings) (inputs : List InputLine) (n :
 abbrev pub HasRunSome : {C : Type 0} → Surroundings → List InputLine → ℕ → At → Member C → Member C → Sent → Sent → ℕ → Type 0
 HasRunSome s inputs k at x next old new n = (n ≤ k) × HasRun s inputs n at x next old new
 
--- The partition made k ticks, or those up to the first with a line; they are n, and their lines
+-- The partition made k ticks, or fewer, once their lines fill the buffer; they are n, and their lines
 -- were to be written.
 abbrev pub HasAdvancedWritten : {C : Type 0} → At → ℕ → Member C → Member C → Sent → Sent → ℕ → Type 0
 HasAdvancedWritten at k x next old new n = (n ≤ k) × (told : List Event) × HasAdvanced at k x next told n × HasSent old new (text_of told)

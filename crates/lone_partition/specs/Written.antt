@@ -21,7 +21,7 @@ abbrev pub done_in : {S : Type 0} → Path S → Gone S
 done_in c = record { state = c.state; lines = c.lines }
 
 -- Between two states of an output such a step was made, and its lines were to be written. The
--- answer is the tick with the origin valid from here on, or none.
+-- result is the tick with the origin valid from here on, or none.
 pub record IsPathMade {S : Type 0} (c : Path S) (answer : Option At) (now : S) (old new : Sent) : Type 0 where
   pub at : answer ≡ c.at
   pub made : IsMade (done_in c) now old new

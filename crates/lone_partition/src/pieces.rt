@@ -18,8 +18,8 @@ use isolation::InputLine;
 use partition::Partition;
 use partition_base::Executor;
 
-/// Executes `most` ticks of the partition, or those up to the first with an event, and writes their
-/// lines; returns how many.
+/// Executes `most` ticks of the partition, or fewer, once their lines fill the buffer, and writes
+/// these lines; returns how many.
 pub fn write_advance<E: Executor, S: Sink>(
     partition: &mut Partition<E>,
     mem: &mut E::Mem,
@@ -40,8 +40,8 @@ pub fn write_advance<E: Executor, S: Sink>(
     count
 }
 
-/// Executes `most` ticks of the partition, from one event to the next, and writes their lines;
-/// returns how many. Stops once the sink has failed.
+/// Executes `most` ticks of the partition, and writes their lines, a buffer at a time; returns how
+/// many. Stops once the sink has failed.
 fn write_piece<E: Executor, S: Sink>(
     partition: &mut Partition<E>,
     mem: &mut E::Mem,

@@ -85,7 +85,7 @@ fn send_and_tick<E: Executor, S: Sink>(
     tick_own(owner.is_some(), partition, mem, moment, output);
 }
 
-/// A tick of the partition alone, with its inputs of this tick. Returns the tick with the origin
+/// A tick of the lone partition, with its inputs of this tick. Returns the tick with the origin
 /// valid from now on, or `None` if everything has ended.
 pub fn tick<E: Executor, S: Sink>(
     surroundings: &Surroundings,

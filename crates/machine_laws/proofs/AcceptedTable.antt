@@ -106,7 +106,7 @@ apart_more : {A : Type 0} (equal : A → A → Bool) (before : List A) (x : A) (
 apart_more equal before x [] a n = tt
 apart_more equal before x (y ∷ xs) a n = (list_any-append (λ b. equal b y) before (x ∷ []) ∙ or_from _ _ a.0 (or_from (equal x y) false n.0 refl), apart_more equal before x xs a.1 n.1)
 
--- each row beside those before it, if no two have the same name
+-- each row, given those before it, if no two have the same name
 each_row : {A B : Type 0} (P : List B → B → Type 0) (Q : A → Type 0) (equal : A → A → Bool) (f : A → B) → ((before : List A) (x : A) → list_any (λ b. equal b x) before ≡ false → Q x → P (map f before) (f x))
     → (before xs : List A) → Apart equal before xs → has_twice equal xs ≡ false → AllByRecursion Q xs → EachBeside P (map f before) (map f xs)
 unfolding has_twice
@@ -146,7 +146,7 @@ port_is before p fresh h =
       words = inside 1 (pos MOST_WORDS) p.words n.1;
     }
 
--- a partition beside partitions
+-- a partition, given those before it
 record IsRow (frame : ℕ) (before : List Partition) (row : Partition) : Type 0 where
   name : is_name row.name ≡ true
   fresh : list_any (λ (b : Partition). bytes_eq b.name row.name) before ≡ false

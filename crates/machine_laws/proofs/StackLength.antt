@@ -1,4 +1,4 @@
--- A tick of the processor and an answer change no length: not of the stack, not of the data.
+-- A tick of the processor and a reply change no length: not of the stack, not of the data.
 use Rattle.std.proofs.Common.{◌≡◌, ℕ, ◌+◌, ◌-◌, ℤ, pos, negsuc, Bool, true, false, cond, List, [], ◌∷◌, ◌++◌, length, Option, Some, None, refl, ◌∙◌, nat_lt, nat_eq, replicate}
 use Rattle.std.specs.Prelude.{slice_get, slice_set}
 use Rattle.std.proofs.lemmas.List.{length-set}
@@ -23,7 +23,7 @@ pub record KeepsLengths (m : MachineControl) (data_words : List ℤ) (t : Ticked
   pub stack : length t.control.stack ≡ length m.stack
   pub words : length t.words ≡ length data_words
 
--- changed words are as many as they were
+-- a change keeps the number of words
 abbrev AreAsMany : List ℤ → Option (List ℤ) → Type 0
 AreAsMany words None = words ≡ words
 AreAsMany words (Some changed) = length changed ≡ length words

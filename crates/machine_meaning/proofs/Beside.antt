@@ -1,4 +1,4 @@
--- Lists beside one another, and the place where two lists meet.
+-- Lists whose items are judged with those before them, and the place where two lists meet.
 use Rattle.std.proofs.Common.{◌≡◌, ℕ, zero, suc, ◌+◌, List, [], ◌∷◌, ◌++◌, length, Some, refl, arith}
 use Rattle.std.specs.Prelude.{slice_get}
 use Rattle.std.specs.List.{AllByRecursion, All}

@@ -31,7 +31,7 @@ pub record IsFrom (low high n : ℕ) : Type 0 where
   pub least : low ≤ n
   pub most : n ≤ high
 
--- each item beside those before it
+-- each item, given those before it
 abbrev pub EachBeside : {A : Type 0} → (List A → A → Type 0) → List A → List A → Type 0
 EachBeside P before [] = Unit {0}
 EachBeside P before (item ∷ items) = P before item × EachBeside P (before ++ item ∷ []) items

@@ -402,7 +402,7 @@ own_fields_at number bytes =
     if number == FIRST_VERSION then Ok (First, bytes)
     else (costs_at bytes >>= λ costs. Ok (if number == SECOND_VERSION then Second costs.0 else Third costs.0, costs.1))
 
--- all fields, and the bytes behind them
+-- all fields, and the bytes after them
 unfoldable pub fields_at : List ℕ → Read Image
 fields_at bytes = do
   number ← version_at bytes

@@ -61,7 +61,7 @@ plain_table frame partitions windows = record { schedule = record { frame = fram
 abbrev pub split_schedule : Schedule
 split_schedule = record { frame = 16; windows = release_window 1 0 4 ∷ release_window 2 4 8 ∷ release_window 1 12 4 ∷ [] }
 
--- a frame of 10 ticks with ticks of nobody, and a window that is no release
+-- a frame of 10 ticks, some of them of no partition, and a window that is no release
 abbrev pub sparse_schedule : Schedule
 sparse_schedule = record { frame = 10; windows = release_window 1 1 3 ∷ release_window 2 4 2 ∷ (record { partition = record { 0 = 1 }; offset = 7; length = 2; release = false }) ∷ [] }
 
@@ -199,7 +199,7 @@ text_of_image bytes n = text_of_read (image_at bytes) n
 abbrev pub coded : ℕ → ℕ → ℤ → List ℕ
 coded opcode x v = u32 opcode ++ u32 x ++ i64 v
 
--- INIT alone on a stack of 16 words, with these routines, this code and four words of data
+-- only INIT, on a stack of 16 words, with these routines, this code and four words of data
 abbrev pub code_image : List RoutineRow → List (List ℕ) → Image
 code_image routines code = record {
   schedule = record { frame = 128; windows = release_window 1 0 128 ∷ [] };

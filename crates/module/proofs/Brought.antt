@@ -71,7 +71,7 @@ none_brought plan p lines n now ms (Some origin) e = absurd cc
 
 -- ---- the inputs of a run
 
--- behind the first tick
+-- after the first tick
 pub later_is : {C : Type 0} (plan : Plan) (p : ℕ) (lines : List DeviceLine) (n now : ℕ) (ms : List (Member C)) (o : Option ℕ) → 0 < now
     → brought_of plan p lines n (record { members = ms; now = now; origin = o }) ≡ inputs_from plan p lines n (option_map (λ x. tick_from x now) o) ms
 later_is plan p lines zero now ms o h = refl

@@ -1,5 +1,5 @@
--- Many ticks of the module at once, between two standings.
-use Rattle.std.proofs.Common.{◌≡◌, ◌⊎◌, inl, inr, ℕ, zero, suc, ◌+◌, ◌-◌, ◌<◌, ◌≤◌, Bool, true, false, cond, List, [], ◌∷◌, ◌++◌, length, Option, Some, None, refl, sym, ap, subst, ◌∙◌, append-nil, arith}
+-- Many ticks of the module together, between two standings.
+use Rattle.std.proofs.Common.{◌≡◌, ◌⊎◌, inl, inr, ℕ, zero, suc, ◌+◌, ◌-◌, ◌<◌, ◌≤◌, Bool, true, false, cond, List, [], ◌∷◌, ◌++◌, length, Option, Some, None, refl, sym, ap, subst, ◌∙◌, nat_le, arith}
 use Rattle.std.specs.Prelude.{slice_get, slice_set, option_map}
 use Rattle.std.proofs.lemmas.Option.{none-some, same_Some}
 use Rattle.apex_types.specs.Line.{text_of}
@@ -8,15 +8,18 @@ use Rattle.apex_types.proofs.Writing.{IsUnderWay, under_way_more, under_way_fail
 use Rattle.apex_types.specs.declared.device.DeviceLine.{DeviceLine}
 use Rattle.apex_types.specs.declared.event.Event.{Event}
 use Rattle.apex_types.specs.declared.identity.At.{At}
+use Rattle.apex_types.specs.declared.limits.TheConstants.{MOST_EVENTS}
 use Rattle.kernel_meaning.specs.Kernel.{Kernel}
 use Rattle.module_meaning.specs.Module.{Plan}
 use Rattle.kernel_meaning.specs.Partition.{Member, Moved, World, tick, with_world}
 use Rattle.kernel_meaning.specs.Windows.{Schedule, at_tick, tick_from, owner, ended}
 use Rattle.engine_meaning.specs.Engine.{Engine}
-use Rattle.kernel_laws.specs.Bursts.{Burst, later, alone}
+use Rattle.kernel_laws.specs.Bursts.{Burst}
+use Rattle.partition.specs.Gathering.{joined, no_ticks, ticks_within}
 use Rattle.partition.specs.Members.{HasAdvanced}
+use Rattle.partition.specs.declared.rooms.TheConstants.{LINES_FOR_TICK}
+use Rattle.partition.proofs.Gathering.{some_ticks}
 use Rattle.kernel_laws.specs.Quiet.{IsStill, AreStill, HaveNoLines}
-use Rattle.kernel_laws.specs.Running.{advances_by, is_silent, partition_tick}
 use Rattle.kernel_laws.proofs.Quiet.{jump}
 use Rattle.lone_partition.proofs.Outputs.{nothing_sent}
 use Rattle.lone_partition.specs.Sent.{Sent}
@@ -55,60 +58,43 @@ leads_still plan lines n now origin ms begun order still m =
 
 -- ---- ticks of a partition
 
-silent_none : (ls : List Event) → is_silent ls ≡ true → ls ≡ []
-silent_none [] h = refl
-silent_none (l ∷ ls) h = absurd cc
-
 abbrev burst_moved : {C : Type 0} → Burst (World C) ℕ (List Event) → Moved C
 burst_moved b = record { world = b.control; lines = b.told }
 
--- the ticks of a burst, one after another
+-- the ticks that were made, one after another
 abbrev AreTicks : {C : Type 0} → Engine C → (origin t : ℕ) → World C → Burst (World C) ℕ (List Event) → Type 0
 AreTicks e origin t w b = ticks_by e origin b.ticks w t ≡ burst_moved b
 
--- ticks up to the first with a line are so many ticks
-burst_is_ticks : {C : Type 0} (e : Engine C) (origin n t : ℕ) (w : World C) → ticks_by e origin (advances_by e origin n w t).ticks w t ≡ burst_moved (advances_by e origin n w t)
-burst_is_ticks e origin zero t w = refl
-burst_is_ticks e origin (suc n) t w =
+burst_is_ticks : {C : Type 0} (e : Engine C) (origin room n t : ℕ) (w : World C) → AreTicks e origin t w (ticks_within e origin room n w t)
+burst_is_ticks e origin room zero t w = refl
+burst_is_ticks e origin room (suc n) t w =
     let k = tick e (tick_from origin t) w in
-    let b = advances_by e origin n k.world (t + 1) in
+    let b = ticks_within e origin (room - length k.lines) n k.world (t + 1) in
     let one_more : 1 + b.ticks ≡ suc b.ticks = omega arith in
-    let rest : AreTicks e origin (t + 1) k.world b = burst_is_ticks e origin n (t + 1) k.world in
-    let step : (q : Bool) → is_silent k.lines ≡ q → AreTicks e origin t w (cond q (later 1 b) (alone (partition_tick e origin w t))) =
-    λ q. elim q as (λ q. is_silent k.lines ≡ q → AreTicks e origin t w (cond q (later 1 b) (alone (partition_tick e origin w t)))) [
-      | true ↦ λ s. ap (λ j. ticks_by e origin j w t) one_more
-          ∙ ap (λ (m : Moved _). record { world = m.world; lines = k.lines ++ m.lines }) rest
-          ∙ ap (λ (ls : List Event). record { world = b.control; lines = ls ++ b.told }) (silent_none k.lines s)
-      | false ↦ λ s. ap (λ (ls : List Event). record { world = k.world; lines = ls }) (append-nil k.lines)
+    let rest : AreTicks e origin (t + 1) k.world b = burst_is_ticks e origin (room - length k.lines) n (t + 1) k.world in
+    let step : (q : Bool) → AreTicks e origin t w (cond q (joined k.lines 1 b) (no_ticks w t)) =
+    λ q. elim q as (λ q. AreTicks e origin t w (cond q (joined k.lines 1 b) (no_ticks w t))) [
+      | true ↦ ap (λ j. ticks_by e origin j w t) one_more ∙ ap (λ (m : Moved _). record { world = m.world; lines = k.lines ++ m.lines }) rest
+      | false ↦ refl
     ] in
-    step (is_silent k.lines) refl
+    step (nat_le LINES_FOR_TICK room)
 
 -- at least one tick is made
-burst_some : {C : Type 0} (e : Engine C) (origin n t : ℕ) (w : World C) → 0 < n → 0 < (advances_by e origin n w t).ticks
-burst_some e origin zero t w some = absurd (omega (arith, some))
-burst_some e origin (suc n) t w some =
-    let k = tick e (tick_from origin t) w in
-    let b = advances_by e origin n k.world (t + 1) in
-    let one_more : 0 < 1 + b.ticks = omega arith in
-    let one : 0 < 1 = omega arith in
-    let step : (q : Bool) → 0 < (cond q (later 1 b) (alone (partition_tick e origin w t))).ticks =
-    λ q. elim q as (λ q. 0 < (cond q (later 1 b) (alone (partition_tick e origin w t))).ticks) [ true ↦ one_more | false ↦ one ] in
-    step (is_silent k.lines)
-
 pub advances_some : {C : Type 0} (at : At) (k n : ℕ) (x y : Member C) (told : List Event) → 0 < k → HasAdvanced at k x y told n → 0 < n
 advances_some at k n x y told some h =
-    let count : (advances_by x.engine at.origin.0 k x.world at.now.0).ticks ≡ n = ap (λ (b : Burst (World _) ℕ (List Event)). b.ticks) h.1 in
-    subst (λ m. 0 < m) count (burst_some x.engine at.origin.0 k at.now.0 x.world some)
+    let count : (ticks_within x.engine at.origin.0 MOST_EVENTS k x.world at.now.0).ticks ≡ n = ap (λ (b : Burst (World _) ℕ (List Event)). b.ticks) h.1 in
+    let room : LINES_FOR_TICK ≤ MOST_EVENTS = omega arith in
+    subst (λ m. 0 < m) count (some_ticks x.engine at.origin.0 MOST_EVENTS at.now.0 k x.world room some)
 
 -- the result of a partition's ticks, among the others
 pub has_moved : {C : Type 0} (at : At) (k place n : ℕ) (ms : List (Member C)) (x y : Member C) (next : List (Member C)) (told : List Event) → next ≡ slice_set ms place y
     → HasAdvanced at k x y told n → HasMoved at n place ms (Some x) next told
 has_moved at k place n ms x y next told same h =
-    let b = advances_by x.engine at.origin.0 k x.world at.now.0 in
+    let b = ticks_within x.engine at.origin.0 MOST_EVENTS k x.world at.now.0 in
     let count : b.ticks ≡ n = ap (λ (b : Burst (World _) ℕ (List Event)). b.ticks) h.1 in
     let control : b.control ≡ y.world = ap (λ (b : Burst (World _) ℕ (List Event)). b.control) h.1 in
     let tells : b.told ≡ told = ap (λ (b : Burst (World _) ℕ (List Event)). b.told) h.1 in
-    let made : ticks_by x.engine at.origin.0 n x.world at.now.0 ≡ burst_moved b = ap (λ j. ticks_by x.engine at.origin.0 j x.world at.now.0) (sym count) ∙ burst_is_ticks x.engine at.origin.0 k at.now.0 x.world in
+    let made : ticks_by x.engine at.origin.0 n x.world at.now.0 ≡ burst_moved b = ap (λ j. ticks_by x.engine at.origin.0 j x.world at.now.0) (sym count) ∙ burst_is_ticks x.engine at.origin.0 MOST_EVENTS k at.now.0 x.world in
     let world = ap (λ (m : Moved _). m.world) made ∙ control in
     let lines = ap (λ (m : Moved _). m.lines) made ∙ tells in (
       same ∙ ap (λ (z : Member _). slice_set ms place z) (h.0 ∙ ap (λ (w : World _). with_world x w) (sym world)),

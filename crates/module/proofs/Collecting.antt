@@ -25,7 +25,7 @@ use Rattle.module.specs.declared.inputs_fault.InputsFault.TheVariants as fault
 pub none_collected : {X : Type 0} (tick : ℕ) (old : List InputLine) (x : X) → AreCollected tick [] old old (Ok x)
 none_collected tick old x = sym (append-nil old)
 
--- more inputs than there is room for remain more with others behind them
+-- if there is no room for some inputs, there is none when others follow them
 pub no_room_for_more : (count more : ℕ) (f : InputsFault) → count ≤ more → HasNoRoom count f → HasNoRoom more f
 no_room_for_more count more fault.TooMany above h = omega (arith, above, h)
 no_room_for_more count more fault.Memory above h = tt
@@ -35,7 +35,7 @@ no_room_for_more count more fault.Partition above h = absurd h
 no_room_for_more count more (fault.Device f) above h = absurd h
 no_room_for_more count more fault.Write above h = absurd h
 
--- the answer if there is no room
+-- the result if there is no room
 pub collected_err : {X : Type 0} (tick : ℕ) (inputs : List Input) (old new : List InputLine) (f : InputsFault) (r : Result X InputsFault) → r ≡ Err f → HasNoRoom (length old + length inputs) f → AreCollected tick inputs old new r
 collected_err tick inputs old new f r e h = subst (AreCollected tick inputs old new) (sym e) h
 
@@ -116,7 +116,7 @@ there_is (x ∷ xs) (suc n) h = there_is xs n (omega (arith, h))
 
 -- ---- the messages of a port
 
--- the inputs that a port with this message and those behind it brings
+-- the inputs that a port with this message and those after it brings
 abbrev pub messages_bring : ℕ → Option Channel → List (ArrayVec ℤ) → List Input
 messages_bring p channel ms = flat_map (λ m. brought_by p m channel) ms
 

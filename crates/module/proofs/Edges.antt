@@ -176,7 +176,7 @@ owner_ticks plan lines (suc n) m now origin place ms x e owned h =
     ∙ ap (λ u. a.lines ++ (b.lines ++ lines_of plan lines m (standing_at (slice_set ms place (with_world x b.world)) u origin))) there
     ∙ sym (append_assoc a.lines b.lines (lines_of plan lines m (standing_at (slice_set ms place (with_world x b.world)) (now + suc (suc n)) origin)))
 
--- ---- ticks in which nobody is there to own them
+-- ---- ticks that no partition is there to own
 
 nobody_ticks : {C : Type 0} (plan : Plan) (lines : List DeviceLine) (n m now origin : ℕ) (ms : List (Member C))
     → ((i : ℕ) → i ≤ n → ticks_owner (tick_from origin (now + i)) ms (owner plan.schedule (tick_from origin (now + i))) ≡ still ms)
@@ -209,7 +209,7 @@ nobody_ticks plan lines (suc n) m now origin ms rests h =
 
 -- ---- as the code meets them
 
--- nobody has this number
+-- no partition has this number
 pub nobody_there : {C : Type 0} (ms : List (Member C)) (n place : ℕ) (o : Option ℕ) → o ≡ Some n → place_of_number n ≡ Some place → slice_get ms place ≡ None → (at : At) → ticks_owner at ms o ≡ still ms
 nobody_there ms zero place o is number none at = absurd (none-some place number)
 nobody_there ms (suc m) place o is number none at =
@@ -305,7 +305,7 @@ behind_left plan lines most left m s t u old mid new few made h =
     let count : most - left + m ≡ most - (left - m) = let within = h.0 in omega (arith, few, within) in
     subst (λ n. HasPassedBehind plan lines n s u old new) count (behind_more plan lines (most - left) m s t u old mid new made h.2)
 
--- ticks of nobody
+-- ticks that no partition owns
 pub run_nobody : {C : Type 0} (plan : Plan) (lines : List DeviceLine) (k origin : ℕ) (s : Standing C) (sent : Sent) (o : Option ℕ) → s.origin ≡ Some origin → 0 < k → AreFrom (s.now + k) lines
     → ((i : ℕ) → i < k → owner plan.schedule (tick_from origin (s.now + i)) ≡ o) → ((i : ℕ) → 0 < i → i < k → ended plan.schedule (tick_from origin (s.now + i)) ≡ None)
     → ((at : At) → ticks_owner at s.members o ≡ still s.members)

@@ -114,7 +114,7 @@ never_refused : (read : Result Image Fault) (i : Image) (f : Option Fault) → r
 never_refused read i None e r = r
 never_refused read i (Some f) e r = absurd cc
 
--- an image that is loaded is refused for its devices alone
+-- an image that is loaded is refused only for its devices
 is_refused_in : (table : List ℕ) (sources : List (List ℕ)) (bytes devices : List ℕ) (h : IsImageOf table sources bytes) (f : DeviceFault) (read : Result Image Fault) → read ≡ ok_image h.image → IsDeviceRefusal read devices f → IsDeviceRefused table sources devices f
 is_refused_in table sources bytes devices h f (Ok image) e refused = record {
   rows = h.rows;

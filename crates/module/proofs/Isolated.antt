@@ -1,4 +1,4 @@
--- For each partition, a run writes what the partition shows alone.
+-- For each partition, a run writes what the partition shows when it runs alone.
 use Rattle.std.proofs.Common.{◌≡◌, ◌≤◌, ◌^◌, ℕ, List, Option, Result, Ok, Err, OnOk, sym, subst, ◌∙◌}
 use Rattle.apex_types.specs.declared.limits.TheConstants.{MOST_TICKS}
 use Rattle.apex_types.specs.declared.device.DeviceLine.{DeviceLine}

@@ -95,7 +95,7 @@ kept_fails old mid new text rest way kept =
 
 -- ---- calls of a machine's tick
 
--- the rest of a run behind a part of its text
+-- the rest of a run after a part of its text
 run_on : (old mid new : Option (List ℕ)) (text : List ℕ) (events whole : List Event) (r : Result (Unit {0}) RunFault) → text ≡ text_of whole → IsUnderWay old mid text (text_of events) → RunsImage events mid new r → RunsImage whole old new r
 run_on old mid new text events whole (Ok x) is way h =
     subst (Appends old new) is (under_way_end old new text (under_way_more old mid new text (text_of events) [] (rw (append-nil (text_of events)) way) h))

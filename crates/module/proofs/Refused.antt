@@ -22,7 +22,7 @@ use Rattle.pal_base.specs.declared.checked.Checked.{Checked}
 use Rattle.module.specs.declared.fault.BuildFault.{BuildFault}
 use Rattle.module.specs.declared.fault.BuildFault.TheVariants as fault
 
--- ---- answers
+-- ---- results
 
 -- a refusal for one reason is a refusal for another that follows from it
 pub weaker : {A : Type 0} (P Q : BuildFault → Type 0) (answer : Result A BuildFault) → ((f : BuildFault) → P f → Q f) → IfErr answer P → IfErr answer Q

@@ -49,7 +49,7 @@ text_refused s inputs n old (text_fault.Line f) h = (refused (replay_verdict s.i
 pub inputs_taken : {verdict : Result (List InputLine) DeviceFault} {lines : List InputLine} (lent : List InputLine) → lent ≡ lines → verdict ≡ Ok lines → verdict ≡ Ok lent
 inputs_taken lent same taken = taken ∙ ap (λ (ls : List InputLine). Ok ls) (sym same)
 
--- what runs alone belongs to the slice
+-- the partition that runs is that of the slice
 same_alone : (s : Slice) (o : Option Slice) (a : Alone MachineControl) → Some a ≡ option_map machine_alone o → o ≡ Some s → a ≡ machine_alone s
 same_alone s o a e is = same_Some a (machine_alone s) (e ∙ ap (option_map machine_alone) is)
 

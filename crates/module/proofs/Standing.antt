@@ -69,7 +69,7 @@ pub same_next : (now : ℕ) (o : Option At) → IsNow now o → option_map (λ x
 same_next now None h = refl
 same_next now (Some a) h = ap (λ (n : ℕ). Some (tick_from a.origin.0 (n + 1))) (sym h)
 
--- behind the first tick
+-- after the first tick
 pub later_is : {C : Type 0} (plan : Plan) (lines : List DeviceLine) (n now : ℕ) (ms : List (Member C)) (o : Option ℕ) → 0 < now → lines_of plan lines n (record { members = ms; now = now; origin = o }) ≡ trace_from plan lines n (option_map (λ x. tick_from x now) o) ms
 later_is plan lines zero now ms o h = refl
 later_is plan lines (suc n) now ms None h = none_from plan lines n (now + 1) ms

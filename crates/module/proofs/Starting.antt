@@ -66,7 +66,7 @@ module _ (at : At) (reason : StartCondition) where
       let same : length ps ≡ length xs = sym (members_count g ps memory fit) ∙ ap length so_far ∙ as_many n xs in
       subst (λ k. n < k) same h
 
-  -- behind the last one all have started, and nothing is left
+  -- after the last one, all have started, and nothing is left
   pub all_past : {C : Type 0} (n : ℕ) (xs : List (Member C)) → length xs ≤ n → started_to n xs ≡ map (started_member at reason) xs
   all_past zero [] h = refl
   all_past (suc n) [] h = refl

@@ -44,7 +44,7 @@ held_found channels p q number (Some x) = held_port channels p q number x
 
 -- ---- a tick that is not shown
 
--- Such a step was made. The answer is the tick with the origin valid from here on, or none.
+-- Such a step was made. `answer` is the tick with the origin valid from here on, or none.
 pub record IsMadeUnseen {C : Type 0} (c : Course C) (answer : Option At) (now : List (Member C)) : Type 0 where
   pub at : answer ≡ c.at
   pub members : now ≡ c.members
@@ -60,7 +60,7 @@ brought_from plan p lines now members (Some origin) = brought_tick plan p (tick_
 abbrev pub brought_next : {C : Type 0} → Plan → ℕ → List DeviceLine → Standing C → List Input
 brought_next plan p lines s = brought_from plan p lines s.now s.members s.origin
 
--- the inputs that n ticks bring it, one after another, each with the device lines of its own
+-- the inputs that n ticks bring it, one after another, each tick with its own device lines
 abbrev pub brought_of : {C : Type 0} → Plan → ℕ → List DeviceLine → ℕ → Standing C → List InputLine
 brought_of plan p lines zero s = []
 brought_of plan p lines (suc n) s =

@@ -65,22 +65,22 @@ HasTicked lines m next old new before now (Err fault.Ticks) = (m.failed ≡ fals
 HasTicked lines m next old new before now (Err _) = ⊥
 
 -- The effect of n calls of `Machine::tick`, one after another, on a machine and a sink, where each
--- call gets the device lines of its own tick. The first call that is refused is the last one, and
--- its answer is that of all.
+-- call gets the device lines of its tick. The first call that is refused is the last one, and
+-- its result is that of all.
 abbrev pub HaveTicked : List DeviceLine → ℕ → Machine → Machine → Option (List ℕ) → Option (List ℕ) → ℕ → ℕ → Result (Unit {0}) RunFault → Type 0
 HaveTicked lines zero m last old new before now answer = (answer ≡ Ok tt) × IsUntouched m last old new before now
 HaveTicked lines (suc n) m last old new before now answer =
     ((f : RunFault) × (answer ≡ Err f) × HasTicked (of_tick m.standing.now lines) m last old new before now answer)
     ⊎ ((next : Machine) × (mid : Option (List ℕ)) × (between : ℕ) × HasTicked (of_tick m.standing.now lines) m next old mid before between (Ok tt) × HaveTicked lines n next last mid new between now answer)
 
--- Of `most` ticks, n were made at once, unless the sink failed.
+-- Of `most` ticks, n were made together, unless the sink failed.
 abbrev pub HasRunOn : List DeviceLine → ℕ → Machine → Machine → Option (List ℕ) → Option (List ℕ) → ℕ → ℕ → Result ℕ RunFault → Type 0
 HasRunOn lines most m next old new before now (Ok n) =
     (next.image ≡ m.image) × (next.failed ≡ false) × (n ≤ most) × (next.standing.now ≡ m.standing.now + n) × HasRun (machine_module m.image).plan lines n m.standing next.standing old new before now
 HasRunOn lines most m next old new before now (Err fault.Write) = IsBrokenOff (machine_module m.image).plan lines most m.standing old new before now
 HasRunOn lines most m next old new before now (Err _) = ⊥
 
--- Of `most` ticks, n were made at once, and they have no lines.
+-- Of `most` ticks, n were made together, and they have no lines.
 abbrev pub HasSkipped : List DeviceLine → ℕ → Machine → Machine → ℕ → Type 0
 HasSkipped lines most m next n =
     (next.image ≡ m.image) × (next.failed ≡ m.failed) × HasSkippedSome (machine_module m.image).plan lines most m.standing next.standing n

@@ -1,4 +1,4 @@
--- Many ticks of the module at once.
+-- Many ticks of the module, made together.
 use Rattle.std.specs.Prelude.{◌≡◌, ◌⊎◌, ◌≤◌, ◌<◌, ℕ, zero, suc, ◌+◌, List, [], ◌++◌, Option, Some, None, slice_get, slice_set}
 use Rattle.std.specs.Io.KnownBytes.{Appends}
 use Rattle.apex_types.specs.Line.{text_of}
@@ -13,7 +13,7 @@ use Rattle.kernel_meaning.specs.Windows.{ended, owner, tick_from}
 use Rattle.lone_partition.specs.Sent.{Sent, HasSent}
 use Rattle.module.specs.Standing.{Standing, lines_of}
 
--- n ticks write these lines and lead from one standing to another, whatever ticks follow.
+-- n ticks write these lines and lead from one `Standing` to another, whatever ticks follow.
 abbrev pub LeadsTo : {C : Type 0} → Plan → List DeviceLine → ℕ → Standing C → List Event → Standing C → Type 0
 LeadsTo plan lines n s told next = (m : ℕ) → lines_of plan lines (n + m) s ≡ told ++ lines_of plan lines m next
 
@@ -95,7 +95,7 @@ abbrev pub lines_behind : {C : Type 0} → Plan → List DeviceLine → ℕ → 
 lines_behind plan lines zero s = []
 lines_behind plan lines (suc n) s = behind_from plan lines n s.now s.members s.origin
 
--- n such ticks write these lines and lead to this standing, whatever ticks follow.
+-- n such ticks write these lines and lead to this `Standing`, whatever ticks follow.
 abbrev pub LeadsBehind : {C : Type 0} → Plan → List DeviceLine → ℕ → Standing C → List Event → Standing C → Type 0
 LeadsBehind plan lines n s told next = (m : ℕ) → lines_behind plan lines (n + m) s ≡ told ++ lines_of plan lines m next
 

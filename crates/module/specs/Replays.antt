@@ -25,7 +25,7 @@ IsInputRefusal (Err fault) name inputs f = ⊥
 IsInputRefusal (Ok image) name inputs f = (found : ℕ × Item) × (numbered image name ≡ Some found) × (replay_verdict found.1.partition inputs ≡ Err f)
 
 -- What a replay of one partition of an image has written between two states of its sink: the text
--- of the partition's trace of n ticks alone, from its slice of the image and the replay text's
+-- of the partition's own trace of n ticks, from its slice of the image and the replay text's
 -- inputs; a prefix of that text if the sink failed; nothing if the replay is refused.
 abbrev pub Replays : Result Image Fault → List ℕ → List ℕ → ℕ → Option (List ℕ) → Option (List ℕ) → Result (Unit {0}) RunFault → Type 0
 Replays read name inputs n old new (Ok _) = (s : Slice) × (lines : List InputLine) × IsReplay read name inputs n s lines × Appends old new (text_of (slice_trace s lines n))

@@ -56,7 +56,7 @@ AreRefused (Err f) (Device g) = f ≡ g
 AreRefused read Memory = Unit {0}
 AreRefused _ _ = ⊥
 
--- the answer of a run as that of building and running
+-- the result of a run as that of building and running
 abbrev pub ran : Result (Unit {0}) RunFault → Result (Unit {0}) BuildAndRunFault
 ran (Ok x) = Ok x
 ran (Err fault) = Err (Run fault)

@@ -47,7 +47,7 @@ IsNow t (Some at) = at.now.0 ≡ t
 abbrev pub after : {C : Type 0} → Standing C → Course C → Standing C
 after s c = record { members = c.members; now = s.now + 1; origin = option_map origin_of c.at }
 
--- the lines of n ticks, one after another, each with the device lines of its own
+-- the lines of n ticks, one after another, each tick with its own device lines
 abbrev pub lines_of : {C : Type 0} → Plan → List DeviceLine → ℕ → Standing C → List Event
 lines_of plan lines zero s = []
 lines_of plan lines (suc n) s = let c = ticks plan (of_tick s.now lines) s in c.lines ++ lines_of plan lines n (after s c)

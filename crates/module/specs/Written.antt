@@ -17,8 +17,8 @@ pub record IsMade {C : Type 0} (a : Advanced C) (now : List (Member C)) (old new
 abbrev pub done_in : {C : Type 0} → Course C → Advanced C
 done_in c = record { members = c.members; lines = c.lines }
 
--- Between two states of an output such a step was made, and its lines were to be written. The
--- answer is the tick with the origin valid from here on, or none.
+-- Between two states of an output such a step was made, and its lines were to be written.
+-- `answer` is the tick with the origin valid from here on, or none.
 pub record IsCourse {C : Type 0} (c : Course C) (answer : Option At) (now : List (Member C)) (old new : Sent) : Type 0 where
   pub at : answer ≡ c.at
   pub made : IsMade (done_in c) now old new

@@ -165,7 +165,7 @@ impl Machine {
     }
 }
 
-/// `n` calls of [`Machine::tick`] for an image, in a row, each with the device lines of its own
+/// `n` calls of [`Machine::tick`] for an image, in a row, each with the device lines of its
 /// tick, write what [`run`](crate::run) writes: the text of the trace of n ticks, or a prefix of it
 /// if the sink fails. No call is refused for another reason.
 #[tactic(auto, using(crate::proofs::Machines::calls_write_the_trace, crate::proofs::Machines::ticks_are_the_trace))]
@@ -180,8 +180,8 @@ pub fn ticks_make_the_trace()
         ≡ machine_trace image lines n }
 {}
 
-/// For each partition of the image, such calls write what the partition shows alone, from its slice
-/// of the image and from the inputs that these device lines bring it: whatever code the others run.
+/// For each partition of the image, such calls write what it shows when it runs alone: from its
+/// slice of the image and the inputs that these device lines bring it, whatever code others run.
 pub fn ticks_isolate_the_partitions()
     ensures { (image : meant.Image) (text : List ℕ) (lines : List DeviceLine) (n : ℕ)
         (last : machines.Machine) (old new : Option (List ℕ)) (before now : ℕ)

@@ -93,9 +93,9 @@ impl<E: Executor<Mem = PartitionMem>> Members<E> {
         self.move_ended(image.channels.as_slice(), moment, ended, output);
     }
 
-    /// Executes `most` ticks of the partition at `place`, or those up to the first with an event,
-    /// and writes their lines; returns how many. The partition borrows its own part of the memory,
-    /// and no other partition's memory changes.
+    /// Executes `most` ticks of the partition at `place`, or fewer, once their lines fill the
+    /// buffer, and writes these lines; returns how many. The partition borrows its own part of the
+    /// memory, and no other partition's memory changes.
     #[tactic(auto, using(crate::proofs::Members::others))]
     fn advance_at<S: Sink>(
         &mut self,
@@ -152,7 +152,7 @@ struct Stay {
     window: usize,
 }
 
-/// Whether there is such a partition, and it is this one.
+/// Whether `other` is there, and is `partition`.
 fn is_of(partition: PartitionId, other: Option<PartitionId>) -> bool
     ensures { result ≡ true → option_map (λ p. p.0) other ≡ Some partition.0 }
 {
@@ -188,8 +188,8 @@ impl<E: Executor<Mem = PartitionMem>> Module<E> {
         self.now = Ticks(self.now.0 + u64::from(ticks));
     }
 
-    /// Executes `most` ticks of the partition at `place`, or those up to the first with an event;
-    /// returns how many.
+    /// Executes `most` ticks of the partition at `place`, or fewer, once their lines fill the
+    /// buffer; returns how many.
     fn stretch<S: Sink>(
         &mut self,
         origin: Ticks,
@@ -223,9 +223,9 @@ impl<E: Executor<Mem = PartitionMem>> Module<E> {
         count
     }
 
-    /// Executes `most` ticks of the owner of a window, from one event to the next. Once the sink
-    /// has failed it stops, but not before the first event. The messages of the first tick have
-    /// moved already.
+    /// Executes `most` ticks of the owner of a window, and writes their lines, a buffer at a time.
+    /// Once the sink has failed it stops, but not before the first buffer. The messages of the
+    /// first tick have moved already.
     fn piece<S: Sink>(
         &mut self,
         origin: Ticks,
@@ -258,7 +258,7 @@ impl<E: Executor<Mem = PartitionMem>> Module<E> {
     }
 
     /// Whether the window after that of the last span may be of a partition. It is only a hint: a
-    /// wrong answer costs time and nothing else.
+    /// wrong one costs time and nothing else.
     fn may_stay(&self, owner: PartitionId) -> bool {
         let windows = self.image.schedule.windows.as_slice();
         match windows.get(self.window.saturating_add(1)) {
@@ -386,9 +386,9 @@ impl<E: Executor<Mem = PartitionMem>> Module<E> {
         0
     }
 
-    /// Executes some of `most` ticks at once, all of them before the first of these device lines;
-    /// returns how many. 0 if the next tick has to be made alone: the first tick of a run, or one
-    /// with a device line. 0 after a shutdown.
+    /// Executes some of `most` ticks together, all of them before the first of these device lines;
+    /// returns how many. 0 if the next tick has to be made separately: the first tick of a run, or
+    /// one with a device line. 0 after a shutdown.
     pub fn advance<S: Sink>(
         &mut self,
         lines: &[DeviceLine],

@@ -30,7 +30,7 @@ use std::alloc::Global;
 /// every other refusal comes before the sink is asked to take anything.
 ///
 /// What the trace shows of a partition is what [`replay`](crate::replay) writes for the inputs of
-/// this run: its trace alone, whatever code the others run.
+/// this run: its trace without the other partitions, whatever code they run.
 ///
 /// # Errors
 ///
@@ -116,7 +116,7 @@ fn offer_nothing<S: Sink>(sink: &mut S) -> Result<(), RunFault>
     }
 }
 
-/// So many ticks of a machine, with these lines of the devices; after a shutdown nothing happens.
+/// `ticks` ticks of a machine, with these lines of the devices; after a shutdown nothing happens.
 fn run_ticks<S: Sink, W: Watch>(
     machine: &mut Machine,
     devices: &[DeviceLine],

@@ -11,7 +11,7 @@ use Rattle.isolation.specs.declared.input.InputLine.{InputLine}
 use Rattle.isolation.specs.InputText.{input_parts, input_text, name_of_port}
 use Rattle.module_base.specs.LineText.{behind_tick, line_text}
 
--- parts, each behind a space
+-- parts, each after a space
 spaced : List (List ℕ) → List ℕ
 spaced ps = flat_map (λ (p : List ℕ). space ∷ p) ps
 

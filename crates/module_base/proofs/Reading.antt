@@ -27,7 +27,7 @@ put_lines_more : {L : Type 0} (ls : List L) (l : L) (rest : Result (List L) Devi
 put_lines_more [] l rest = refl
 put_lines_more (x ∷ ls) l rest = ap (put_line x) (put_lines_more ls l rest)
 
--- the line at the front, and those behind its line feed
+-- the line at the front, and those after its line feed
 next_line : {L : Type 0} (mark : List ℕ) (named : Taking L) (tick_of : L → ℕ) (count before : ℕ) (rest front more : List ℕ) → front ≡ piece 10 rest → pieces_behind_marks 10 rest ≡ pieces 10 more → lines_by mark named tick_of count before (pieces 10 rest) ≡ and_then (taken_by named count before (line_by mark front)) (λ l. lines_by mark named tick_of (count + 1) (tick_of l) (pieces 10 more))
 unfolding lines_by
 next_line mark named tick_of count before rest front more f b =

@@ -28,7 +28,7 @@ held_with tick w None o e h = cc
 held_with tick w (Some n) None e h = cc
 held_with tick w (Some n) (Some v) e h = let t : tick ≡ n = cc in let s : w ≡ seen v = cc in rw (t, s) refl
 
--- a line consists of its first piece, which is its tick, and the meaning of the pieces behind it
+-- a line consists of its first piece, which is its tick, and the meaning of the pieces after it
 pub held_line : (mark text front : List ℕ) (rest : Option (List ℕ)) (tick : ℕ) (w : Written) → front ≡ piece space text → pieces_behind_marks space text ≡ pieces_of space rest → Some tick ≡ plain_number MOST_TICKS front → Some w ≡ option_map seen (written_by mark (pieces_of space rest)) → Some (record { tick = record { 0 = tick }; written = w }) ≡ option_map seen_line (line_by mark text)
 held_line mark text front rest tick w f b t h =
     held_with tick w (plain_number MOST_TICKS (piece space text)) (written_by mark (pieces_behind_marks space text))
@@ -39,7 +39,7 @@ none_with None o h = refl
 none_with (Some n) None h = refl
 none_with (Some n) (Some w) h = cc
 
--- if the pieces behind the first one mean nothing, there is no line
+-- if the pieces after the first one mean nothing, there is no line
 pub unsaid_line : (mark text : List ℕ) (rest : Option (List ℕ)) → pieces_behind_marks space text ≡ pieces_of space rest → None ≡ option_map seen (written_by mark (pieces_of space rest)) → None ≡ option_map seen_line (line_by mark text)
 unsaid_line mark text rest b h =
     none_with (plain_number MOST_TICKS (piece space text)) (written_by mark (pieces_behind_marks space text))

@@ -8,7 +8,7 @@ use Rattle.isolation.specs.declared.input.Input.TheVariants.{Arrive, ModuleFault
 use Rattle.isolation.specs.declared.input.InputLine.{InputLine}
 use Rattle.isolation.specs.InputText.{name_of_port}
 
--- the text behind the tick, each part behind a space
+-- the text after the tick, each part after a space
 abbrev pub behind_tick : Partition → Input → List ℕ
 behind_tick row (Arrive port m) = codes " ARRIVE " ++ name_of_port (at_number row.ports port.0) ++ words_text m.items
 behind_tick row ModuleFault = codes " FAULT"

@@ -8,7 +8,7 @@ use Rattle.module_meaning.specs.DeviceText.{Written, WrittenLine, message_of, fa
 use Rattle.engine_meaning.specs.Digits.{same}
 
 -- ---- the forms of a line
--- a message behind its mark, or a fault
+-- a message after its mark, or a fault
 abbrev pub written_by : List ℕ → List (List ℕ) → Option Written
 written_by mark [] = None
 written_by mark (kind ∷ rest) =
@@ -19,8 +19,8 @@ abbrev pub line_by_pieces : List ℕ → List (List ℕ) → Option WrittenLine
 line_by_pieces mark [] = None
 line_by_pieces mark (tick ∷ rest) = line_with (plain_number MOST_TICKS tick) (written_by mark rest)
 
--- A line without its line feed: a tick of at most 2^40, then the mark with a name and words, or FAULT, alone or
--- with a partition; single spaces between them.
+-- A line without its line feed: a tick of at most 2^40, then the mark with a name and words, or FAULT with or
+-- without a partition; single spaces between them.
 abbrev pub line_by : List ℕ → List ℕ → Option WrittenLine
 line_by mark text = line_by_pieces mark (pieces space text)
 

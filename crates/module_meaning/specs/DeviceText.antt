@@ -22,19 +22,19 @@ use Rattle.kernel_meaning.specs.Step.{message}
 abbrev pub piece : ℕ → List ℕ → List ℕ
 piece mark bs = front (λ b. not (b == mark)) bs
 
--- the text behind each byte `mark`, up to the next
+-- the text after each byte `mark`, up to the next
 unfoldable pub pieces_behind_marks : ℕ → List ℕ → List (List ℕ)
 pieces_behind_marks mark [] = []
 pieces_behind_marks mark (b ∷ bs) =
     if b == mark then piece mark bs ∷ pieces_behind_marks mark bs else pieces_behind_marks mark bs
 
--- the text before, between and behind the bytes `mark`
+-- the text before, between and after the bytes `mark`
 abbrev pub pieces : ℕ → List ℕ → List (List ℕ)
 pieces mark bs = piece mark bs ∷ pieces_behind_marks mark bs
 
 -- ---- numbers
 
--- the digit 0 alone, or digits of which the first is not 0
+-- only the digit 0, or digits of which the first is not 0
 abbrev pub is_plain : List ℕ → Bool
 is_plain [] = false
 is_plain (d ∷ []) = is_digit d
@@ -112,8 +112,8 @@ abbrev pub line_of_pieces : List (List ℕ) → Option WrittenLine
 line_of_pieces [] = None
 line_of_pieces (tick ∷ rest) = line_with (plain_number MOST_TICKS tick) (written_of rest)
 
--- A line without its line feed: a tick of at most 2^40, then MSG with a channel and words, or FAULT, alone or
--- with a partition; single spaces between them.
+-- A line without its line feed: a tick of at most 2^40, then MSG with a channel and words, or FAULT with or
+-- without a partition; single spaces between them.
 abbrev pub line_of : List ℕ → Option WrittenLine
 line_of text = line_of_pieces (pieces space text)
 
@@ -148,7 +148,7 @@ first_from place test (x ∷ xs) = if test x then Some (place, x) else first_fro
 
 -- ---- the meaning of a line
 
--- the line of an input, unless too many stand before it, or its message is too long
+-- the line of an input, unless there are too many before it, or its message is too long
 abbrev pub within : Bool → ℕ → DeviceInput → Result DeviceLine DeviceFault
 within true tick i = Ok (record { tick = record { 0 = tick }; input = i })
 within false tick i = Err fault.Size
@@ -175,7 +175,7 @@ named rows channels count tick (Message channel ws) = taken_message rows count t
 named rows channels count tick ModuleFault = within (is_room count) tick input.ModuleFault
 named rows channels count tick (PartitionFault name) = taken_fault count tick (first_from 1 (λ p. same p.name name) rows)
 
--- A line with its meaning, behind `count` others, the last of them of tick `before`.
+-- A line with its meaning, after `count` others, the last of them of tick `before`.
 abbrev pub taken : List Partition → List Channel → (count before : ℕ) → Option WrittenLine → Result DeviceLine DeviceFault
 taken rows channels count before None = Err fault.Form
 taken rows channels count before (Some l) =
@@ -183,7 +183,7 @@ taken rows channels count before (Some l) =
 
 -- ---- the verdict
 
--- behind the last line feed nothing stands
+-- no bytes follow the last line feed
 abbrev pub ends_with : List ℕ → Result (List DeviceLine) DeviceFault
 ends_with [] = Ok []
 ends_with _ = Err fault.Form
@@ -196,7 +196,7 @@ abbrev pub and_then : Result DeviceLine DeviceFault → (DeviceLine → Result (
 and_then (Err f) rest = Err f
 and_then (Ok l) rest = put_line l (rest l)
 
--- the lines of these pieces, behind `count` others, the last of them of tick `before`
+-- the lines of these pieces, after `count` others, the last of them of tick `before`
 unfoldable pub lines_from : List Partition → List Channel → (count before : ℕ) → List (List ℕ) → Result (List DeviceLine) DeviceFault
 lines_from rows channels count before [] = Ok []
 lines_from rows channels count before (last ∷ []) = ends_with last

@@ -22,7 +22,7 @@ is_unknown_port ps (ends.Port p q) = (p.0 == 0) || (q.0 == 0) || is_none (port_a
 abbrev pub has_unknown_port : List Partition → List Channel → Bool
 has_unknown_port ps cs = list_any (λ c. list_any (is_unknown_port ps) (ends_of c)) cs
 
--- All these rules are kept, and each number of a partition and of a port stands for one.
+-- All these rules are kept, and each number of a partition or a port names one that exists.
 abbrev pub keeps_rules : Schedule → List Partition → List Channel → Bool
 keeps_rules s ps cs =
     not (has_wrong_window s (length ps)) && not (has_odd_period s.frame ps) && not (has_short_period s ps) && not (lacks_release s.windows ps)

@@ -28,8 +28,8 @@ use Rattle.apex_types.specs.declared.row.ChannelEnd.{ChannelEnd}
 use Rattle.apex_types.specs.declared.row.ChannelEnd.TheVariants as ends
 
 -- The contents of the text of a module table: a TOML document whose keys are those of a module
--- table, each with a value of its type. Names are texts and numbers any, as they are written; the
--- rules that they have to keep stand in `TableRules`.
+-- table, each with a value of its type. Names are any texts and numbers any numbers, as written; the
+-- rules that they have to keep are in `TableRules`.
 
 -- the members of only one kind of port
 pub data KindText : Type 0 where
@@ -184,8 +184,8 @@ port_of ms = do
   words ← integer_at (codes "words") ms
   Some (record { name = name; kind = kind; direction = direction; words = words })
 
--- Health tables. That each value is a text is asked of the shape; which keys and which words stand
--- there is asked by the last rule.
+-- Health tables. The shape asks that each value is a text; the last rule asks which keys and which
+-- words they have.
 
 unfoldable pub has_texts_only : Members → Bool
 has_texts_only no_members = true
@@ -343,7 +343,7 @@ unfoldable pub has_same_names : TableText → Bool
 has_same_names t =
     has_twice (λ p q. same p.name q.name) t.partitions || has_twice (λ c d. same c.name d.name) t.channels || list_any (λ p. has_twice (λ q r. same q.name r.name) p.ports) t.partitions
 
--- Each name that the table mentions stands for a number: partitions and the ports of each are
+-- Each name that the table mentions denotes a number: partitions and the ports of each are
 -- numbered from 1 in the order of the text. An end of a channel is `partition.port` or `DEVICE`.
 
 -- the number of the first item that passes the test, counted from a number

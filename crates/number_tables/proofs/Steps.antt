@@ -14,6 +14,6 @@ pub item_goes_on : {X A : Type 0} (all : List X → List A) (own : X → List A)
     → i < length xs → x ≡ get_or xs i x → new ≡ old ++ own x → old ++ all (drop i xs) ≡ whole → new ++ all (drop (i + 1) xs) ≡ whole
 item_goes_on all own xs i x old new whole law some read grows before = goes_on all all own xs i x old new whole law some (grows ∙ ap (λ (y : _). old ++ own y) read) before
 
--- behind the last item nothing is left
+-- after the last item nothing is left
 pub all_made : {X A : Type 0} (all : List X → List A) (xs : List X) (i : ℕ) (made whole : List A) → all [] ≡ [] → length xs ≤ i → made ++ all (drop i xs) ≡ whole → made ≡ whole
 all_made all xs i made whole none over before = sym (append-nil made) ∙ ap (λ (a : List _). made ++ a) (sym (at_drop_all all xs i over ∙ none)) ∙ before

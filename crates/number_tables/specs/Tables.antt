@@ -41,12 +41,12 @@ widths_from column (heading ∷ headings) rows = width column rows ∷ widths_fr
 abbrev pub blank : ℕ
 blank = 32
 
--- a name stands at the left of its column, a number at the right
+-- a name is at the left of its column, a number at the right
 abbrev pub aligned : Bool → List ℕ → ℕ → List ℕ
 aligned true text wide = text ++ replicate (wide - length text) blank
 aligned false text wide = replicate (wide - length text) blank ++ text
 
--- Texts, of which so many are names, with a gap in front of the first and two blanks in front of each other. Those behind the last column are left out.
+-- Texts, of which this many are names, with a gap in front of the first and two blanks in front of every other. Those after the last column are left out.
 abbrev pub texts_text : List ℕ → ℕ → List (List ℕ) → List ℕ → List ℕ
 texts_text gap names [] widths = []
 texts_text gap names (text ∷ texts) [] = []

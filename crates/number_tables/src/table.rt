@@ -9,7 +9,7 @@ use crate::cell::Cell;
 use crate::row::Row;
 use std::alloc::{AllocError, Global};
 
-/// What stands for a number that is not there.
+/// What is shown for a number that is not there.
 const ABSENT: &str = "-";
 
 /// A table. Its first columns have names, and are aligned to the left; the others have numbers, and

@@ -1,4 +1,4 @@
--- Resolved parts that were put one behind the other are the whole.
+-- Resolved parts that were put one after the other are the whole.
 use Rattle.std.proofs.Common.{◌≡◌, ℕ, suc, ◌+◌, ◌<◌, ◌≤◌, ◌-◌, ℤ, pos, take, replicate, List, [], ◌∷◌, ◌++◌, length, drop, get_or, drop-cons, refl, sym, ap, ◌∙◌, arith}
 use Rattle.std.proofs.lemmas.List.{drop_all, take_all}
 use Rattle.pal_meaning.specs.Program as tree

@@ -1,4 +1,4 @@
--- A written variant with a list of its own kind, as the definitions see it.
+-- A written variant with a list of the same kind, as the definitions see it.
 use Rattle.std.proofs.Common.{◌≡◌, ℕ, List, refl, sym, ap, ◌∙◌}
 use Rattle.std.specs.Prelude.{Vec, Box}
 use Rattle.std.specs.declared.alloc.Global.{Global}

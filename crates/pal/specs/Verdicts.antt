@@ -1,4 +1,4 @@
--- When an answer of the check is the verdict on the program.
+-- When a result of the check is the verdict on the program.
 use Rattle.std.specs.Prelude.{◌≡◌, ℕ, List, not, if◌then◌else◌, Result, Ok, Err}
 use Rattle.pal_meaning.specs.Program as tree
 use Rattle.pal_meaning.specs.Resolve.{Entry}

@@ -1,4 +1,4 @@
--- The sum of two lists of costs, one behind the other.
+-- The sum of two lists of costs, one after the other.
 use Rattle.std.proofs.Common.{◌≡◌, ℕ, zero, suc, ◌+◌, ◌<◌, List, [], ◌∷◌, ◌++◌, length, map, append-nil, drop, get_or, refl, sym, ap, ◌∙◌, arith, append_assoc}
 use Rattle.std.proofs.lemmas.List.{drop_more}
 use Rattle.pal_base.specs.declared.cost.Cost.{Cost}
@@ -32,6 +32,6 @@ one_more {X = X} ticks xs i cost new within adds u =
         let at : suc i + 1 ≡ suc (i + 1) = omega arith in
         next xs i (omega (arith, within)) ∙ ap (λ k. ticks ∷ map (λ _. ticks) (drop k (x ∷ xs))) (sym at)
 
--- the cost of an item behind those so far, and the rest of a slice
+-- the costs of the next item and of the rest of a slice
 pub next_of : {X : Type 0} (costs : List X → List ℕ) (xs : List X) (i : ℕ) (x : X) → i < length xs → x ≡ get_or xs i x → costs (drop i xs) ≡ costs (x ∷ drop (i + 1) xs)
 next_of costs xs i x within is = ap costs (drop_more xs i x within ∙ ap (λ y. y ∷ drop (i + 1) xs) (sym is))

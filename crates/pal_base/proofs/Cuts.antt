@@ -153,7 +153,7 @@ operated_reads op (suc k) ws h =
     ap (λ b. cond b (no_level ws) (unary_at (suc k - 1) ws) >>= λ e. Ok (tree.Unary op e.0, e.1)) (not_none k)
     ∙ ap (λ r. r >>= λ e. Ok (tree.Unary op e.0, e.1)) (sym (unary_is (suc k - 1) ws))
 
--- the parts of a program, and the words behind them
+-- the parts of a program, and the words after them
 pub program_reads : (ws xs bs cs ds : List Word) (declarations : List tree.Declaration) (init : tree.StackBody) (handler : Option tree.StackBody) (processes : List tree.Process) →
     declarations_at ws ≡ Ok (declarations, xs) → stack_body_at (codes "init") xs ≡ Ok (init, bs) → handler_at bs ≡ Ok (handler, cs) → processes_at cs ≡ Ok (processes, ds) →
     program_at ws ≡ all_read (record { declarations = declarations; init = init; handler = handler; processes = processes }) ds

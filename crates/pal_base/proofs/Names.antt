@@ -1,4 +1,4 @@
--- Names stay what they are while others are put behind them.
+-- Names stay unchanged while others are added after them.
 use Rattle.std.proofs.Common.{◌≡◌, ℕ, zero, suc, ◌+◌, ◌<◌, ◌≤◌, Bool, true, false, ◌||◌, ◌&&◌, List, [], ◌∷◌, ◌++◌, length, map, take, Some, option_map, refl, sym, ◌∙◌, ap, arith, cond, append_assoc, append-nil, subst, lit<, length-append, inl, inr, ◌⊎◌}
 use Rattle.std.specs.Prelude.{slice_get, nat_eq}
 use Rattle.std.specs.List.{prefix_len, list_any}
@@ -105,7 +105,7 @@ pub all_known : (names more : List (List ℕ)) (ts : List Token) (t : Token) →
 all_known names more [] t h k = (k, tt)
 all_known names more (u ∷ ts) t h k = (known_in_more names more u.word h.0, all_known names more ts t h.1 k)
 
--- one more token: what was seen so far stays, and the new word comes behind it
+-- one more token: what was seen so far stays, and the new word comes after it
 pub one_more : (old new : List (List ℕ)) (ts : List Token) (t : Token) (w : grammar.Word) (all rest rest' : List grammar.Word) →
     AreKnown old ts → Extends old new → token_of new t ≡ w → rest ≡ w ∷ rest' →
     all ≡ map (token_of old) ts ++ rest → all ≡ map (token_of new) (ts ++ t ∷ []) ++ rest'

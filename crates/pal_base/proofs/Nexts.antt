@@ -139,7 +139,7 @@ listing_goes_on name before old new others k fit.Fits so_far fits noted = subst 
 listing_goes_on name before old new others k fit.TooDeep so_far fits noted = subst (λ xs. Listing name before xs others) (sym noted) (listing_skips name before old others k so_far fits)
 listing_goes_on name before old new others k fit.Misfit so_far fits noted = subst (λ xs. Listing name before xs others) (sym noted) (listing_skips name before old others k so_far fits)
 
--- one word of a kind stands for all
+-- one word of a kind represents all
 stands_for : (name : List ℕ) (before : List Word) (k : WordKind) (word : Word) → IsOf k word → IsBeginning (before ++ word ∷ []) → MayFollow name before k
 stands_for name before kind.Name word is begins = alike_begins before word (Name name) (ap shape is.1) begins
 stands_for name before kind.Number word is begins = alike_begins before word (Number (Some 0)) (ap shape is.1) begins

@@ -64,7 +64,7 @@ fits_so ws misfit fit.Fits leaves none =
 fits_so ws misfit fit.TooDeep leaves left = never_so ws misfit leaves left
 fits_so ws misfit fit.Misfit leaves left = never_so ws misfit leaves left
 
--- one word behind others is tried
+-- one word after others is tried
 tried : (view : Token → grammar.Word) (before items new given : List Token) (t : Token) → items ≡ before → new ≡ items ++ t ∷ [] → given ≡ new → map view given ≡ map view before ++ view t ∷ []
 tried view before items new given t copied pushed lent = ap (map view) (lent ∙ pushed ∙ ap (λ (ts : List Token). ts ++ t ∷ []) copied) ∙ map-append view before (t ∷ [])
 

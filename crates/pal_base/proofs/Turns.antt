@@ -59,7 +59,7 @@ until_fails front read none left stands failed = ap (λ r. until r read) stands 
 pub fewer : {A B : Type 0} (view : A → B) (xs ys : List A) → length xs < length ys → length (map view xs) < length (map view ys)
 fewer view xs ys h = omega (arith, length-map xs view, length-map ys view)
 
--- the tokens are as many as the words that they are
+-- there is one word for each token
 pub as_many : (s : Source) (ts : List Token) → length (seen s ts) ≡ length ts
 as_many s ts = length-map ts (token_of (names_of s))
 
@@ -82,7 +82,7 @@ pub refuses : {D : Type 0} (error : ReadError) (r : Answer D) (left : ℕ) → I
 refuses Memory r left h e = absurd h
 refuses (Refused misfit) r left h e = e ∙ ap Err (sym h)
 
--- that nothing stands at the front, and that something does
+-- that nothing is at the front, and that something is
 abbrev count_of : {B : Type 0} → Answer B → ℕ
 count_of (Ok b) = 0
 count_of (Err left) = left
@@ -95,7 +95,7 @@ pub until_stops : {B X : Type 0} (t : Bool) (front : Answer B) (read : Answer (X
 until_stops t (Err left) read h k = cc
 until_stops t (Ok b) read h k = refl
 
--- a repetition of one thing behind a mark finds the next one
+-- a repetition of one thing after a mark finds the next one
 pub listed_finds : {A X : Type 0} (view : A → X) (mark : List ℕ) (read : Reading X) (whole : Answer (List X × List Word)) (old new : List A) (a : A) (ws vs us : List Word) →
     whole ≡ after (map view old) (listed mark read ws) → expect mark ws ≡ Ok vs → read vs ≡ Ok (view a, us) → length us < length ws → new ≡ old ++ a ∷ [] →
     whole ≡ after (map view new) (listed mark read us)

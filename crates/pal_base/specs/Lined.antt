@@ -1,4 +1,4 @@
--- In which lines the words of a text stand, as the code holds them.
+-- The lines of the words of a text, as the code holds them.
 use Rattle.std.specs.Prelude.{◌≡◌, ℕ, suc, ◌-◌, ◌<◌, List, [], ◌∷◌, length, drop}
 use Rattle.pal_meaning.specs.Beginning.{LeavesAt}
 use Rattle.pal_meaning.specs.Grammar.{words_of}
@@ -13,7 +13,7 @@ use Rattle.pal_base.specs.declared.word.Token.{Token}
 abbrev pub HasFewLines : List ℕ → Type 0
 HasFewLines text = length text < 4294967295
 
--- each of these words of a text has its line, where `n` words stand before them
+-- each of these words of a text has its line, where `n` words come before them
 abbrev pub AreLined : List ℕ → ℕ → List Token → Type 0
 AreLined text n [] = Unit {0}
 AreLined text n (t ∷ ts) = (t.line ≡ word_line text n) × AreLined text (suc n) ts

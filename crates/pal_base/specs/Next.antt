@@ -24,7 +24,7 @@ IsOf kind.Service word = (service : Service) × (word ≡ ServiceWord service)
 IsOf (kind.Mark mark) word = word ≡ Mark (mark_text mark)
 IsOf kind.End word = ⊥
 
--- Behind these words exactly the words of the listed kinds may stand, whichever name, number or service it is, and the
+-- Exactly the words of the listed kinds may follow these words, whichever name, number or service it is, and the
 -- end of the text exactly if it is listed.
 abbrev pub AreNext : List Word → List WordKind → Type 0
 AreNext before kinds =
@@ -33,7 +33,7 @@ AreNext before kinds =
     × (IsWhole before → Contains kinds kind.End) × (Contains kinds kind.End → IsWhole before)
 
 -- The result of looking at a text outside the grammar: the place where its words leave the grammar,
--- the line of that place, and the words that may stand there.
+-- the line of that place, and the words that are allowed there.
 abbrev pub IsLookedFor : List ℕ → Option LookedFor → Type 0
 IsLookedFor text None = IsWhole (words_of text)
 IsLookedFor text (Some looked_for) =
@@ -45,7 +45,7 @@ abbrev pub IsMisfit : List Word → Option Misfit → Type 0
 IsMisfit words None = IsWhole words
 IsMisfit words (Some misfit) = (misfit.left ≤ length words) × LeavesAt words (length words - misfit.left)
 
--- A word of this kind may stand behind these words, or the end of the text. One name, one number and one service are tried
+-- A word of this kind, or the end of the text, may follow these words. One name, one number and one service are tried
 -- for all.
 abbrev pub MayFollow : List ℕ → List Word → WordKind → Type 0
 MayFollow name before kind.Name = IsBeginning (before ++ Name name ∷ [])
@@ -54,7 +54,7 @@ MayFollow name before kind.Service = IsBeginning (before ++ ServiceWord GetTime 
 MayFollow name before (kind.Mark mark) = IsBeginning (before ++ Mark (mark_text mark) ∷ [])
 MayFollow name before kind.End = IsWhole before
 
--- a kind of word may stand behind these words exactly if it is listed
+-- a kind of word may follow these words exactly if it is listed
 abbrev pub AreTried : List ℕ → List Word → List WordKind → Type 0
 AreTried name before kinds = ((k : WordKind) → MayFollow name before k → Contains kinds k) × ((k : WordKind) → Contains kinds k → MayFollow name before k)
 
@@ -62,13 +62,13 @@ AreTried name before kinds = ((k : WordKind) → MayFollow name before k → Con
 abbrev pub first_name : List (List ℕ) → List ℕ
 first_name names = text_or_none (slice_get names 0)
 
--- how the last of some words fits behind the others
+-- how the last of some words fits after the others
 abbrev pub IsWordFit : List Word → Fit → Type 0
 IsWordFit words fit.Fits = IsBeginning words
 IsWordFit words fit.TooDeep = IsBeginning words → ⊥
 IsWordFit words fit.Misfit = IsBeginning words → ⊥
 
--- how a word of this kind fits behind these
+-- how a word of this kind fits after these
 abbrev pub IsFit : List ℕ → List Word → WordKind → Fit → Type 0
 IsFit name before k fit.Fits = MayFollow name before k
 IsFit name before k fit.TooDeep = MayFollow name before k → ⊥

@@ -5,7 +5,7 @@ use Rattle.pal_laws.specs.GrammarReading.{Answer, Reading, no_level, repeat, eac
 use Rattle.pal_meaning.specs.Syntax as tree
 use Rattle.apex_types.specs.declared.service.Service.{Service}
 
--- one thing as often as this mark stands before it
+-- one thing as often as this mark comes before it
 abbrev pub listed : {X : Type 0} → List ℕ → Reading X → Reading (List X)
 listed mark read ws = repeat (λ ws. each (expect mark ws) read) ws
 
@@ -13,7 +13,7 @@ listed mark read ws = repeat (λ ws. each (expect mark ws) read) ws
 abbrev pub up_to : {X : Type 0} → List ℕ → Reading X → Reading (List X)
 up_to mark read ws = repeat (λ ws. until (expect mark ws) (read ws)) ws
 
--- `x`, followed by what is read behind it
+-- `x`, followed by what is read after it
 abbrev pub and_more : {X : Type 0} → X → Answer (List X × List Word) → Answer (List X × List Word)
 and_more x read = read >>= λ xs. Ok (x ∷ xs.0, xs.1)
 
@@ -21,7 +21,7 @@ unfoldable pub integers_read : Reading (List tree.Integer)
 integers_read ws = integer_at ws >>= λ first. and_more first.0 (up_to (codes ";") integer_at first.1) >>= λ all.
     expect (codes ";") all.1 >>= λ rest. Ok (all.0, rest)
 
--- arguments behind an opened parenthesis, where `k` levels may still be opened
+-- arguments after an open parenthesis, where `k` levels may still be opened
 unfoldable pub arguments_within : ℕ → Reading tree.Exprs
 arguments_within k ws = either (expect (codes ")") ws)
     (λ rest. Ok (tree.NoExpr, rest))

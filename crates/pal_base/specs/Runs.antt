@@ -1,4 +1,4 @@
--- The bytes that may stand in a run of bytes.
+-- The bytes that a run of bytes may contain.
 use Rattle.std.specs.Prelude.{ℕ, Bool}
 use Rattle.engine_meaning.specs.Digits.{is_digit}
 use Rattle.pal_meaning.specs.Grammar.{in_name, in_service}

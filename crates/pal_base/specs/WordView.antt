@@ -18,7 +18,7 @@ word_of names word.Stray = grammar.Stray
 abbrev pub token_of : List (List ℕ) → Token → grammar.Word
 token_of names t = word_of names t.word
 
--- names are only put behind those that are there
+-- names are only added after those that are there
 abbrev pub Extends : List (List ℕ) → List (List ℕ) → Type 0
 Extends old new = (more : List (List ℕ)) × (new ≡ old ++ more)
 

@@ -47,7 +47,7 @@ fn operands_of_exprs(exprs: &[Expr]) -> u64
     most.max(waiting)
 }
 
-/// The operands of a statement: the words of an answer are operands until the targets take them.
+/// The operands of a statement: the words of a reply are operands until the targets take them.
 #[cycle(operands_of_stmt)]
 fn operands_of_stmt(stmt: &Stmt) -> u64
     ensures { result ≡ min (cost.operands_of_stmt (stmt_of stmt.now)) u64.MAX }

@@ -19,7 +19,7 @@ use std::alloc::{AllocError, AllocFailed};
 /// The place where the words of a text leave the grammar.
 #[derive(Clone, Copy)]
 pub struct Misfit {
-    /// The number of words from there on.
+    /// The number of words from that place on.
     pub left: usize,
     /// The word there would open one level too many.
     pub is_too_deep: bool,

@@ -35,7 +35,7 @@ Front front = (rest more : List Word) → front (rest ++ more) ≡ front rest ++
 pub fitting : {X : Type 0} (words : X → List Word → List Word) (P Q : X → Type 0) (ws : List Word) (n : ℕ) → ((x : X) → P x → Q x) → Begun words P ws n → Begun words Q ws n
 fitting words P Q ws n h b = record { front = b.front; back = b.back; parts = b.parts; count = b.count; thing = b.thing; fits = h b.thing b.fits; more = b.more; spelled = b.spelled }
 
--- the words are refused behind what stands in front, and the thing is complete with these
+-- the words are refused after those in front, and the thing is complete with these
 pub stopped : {X : Type 0} (words : X → List Word → List Word) (P : X → Type 0) (ws us : List Word) (n : ℕ) (front : List Word → List Word) (x : X) (end : List Word) →
     Front front → ws ≡ front us → length us ≡ n → P x → ((rest : List Word) → words x rest ≡ front (end ++ rest)) → Begun words P ws n
 stopped words P ws us n front x end f e l p w =

@@ -113,7 +113,7 @@ arguments_begin k read s p b ws n h = one_way (expect _ ws) _ _ _ h
     (λ rest. ap (expr_words first.0) (arguments_list xs.0 (Mark (codes ")") ∷ rest))))
     (λ vs g i. something n _ i))))
 
--- one level further in: the word before opens a level too many, or the words behind it begin such a thing
+-- one level further in: the word before opens a level too many, or the words after it begin such a thing
 abbrev pub DeepBegins : (X : Type 0) → (X → List Word → List Word) → (X → Type 0) → Reading X → Type 0
 DeepBegins X words P read = (ws : List Word) (n : ℕ) → read ws ≡ Err n → (suc (length ws) ≡ n) ⊎ Begun words P ws n
 

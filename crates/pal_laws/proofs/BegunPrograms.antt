@@ -103,11 +103,11 @@ body_begins ws n h = refused (expect (codes "{") ws) _ n h
     (λ rest more. ap (λ (us : List Word). Mark (codes "{") ∷ us) (locals_extend xs.0 rest more)) (expect_spells _ ws vs e ∙ ap (λ (us : List Word). Mark (codes "{") ∷ us) (locals_spell vs xs.1 xs.0 f)) (λ b q. q) (λ b rest. refl) (statements_at_begin (MOST_LEVELS - 1) xs.1 n g))
     (λ b g i. something n _ i)))
 
--- declarations, behind the word of their kind
+-- declarations, after the word of their kind
 abbrev Declares : List ℕ → (List Word → Answer (tree.Declaration × List Word)) → Type 0
 Declares mark read = (ws : List Word) (n : ℕ) → read ws ≡ Err n → Begun declaration_words IsDeclared (Mark mark ∷ ws) n
 
--- where only marks, names and numbers stand before the place, and nothing is asked of the kind
+-- where only marks, names and numbers come before the place, and nothing is asked of the kind
 plain : (ws us : List Word) (n : ℕ) (front : List Word → List Word) (x : List ℕ) (kind : tree.Kind) (end : List Word) → Front front → ws ≡ front us → length us ≡ n → IsDeclared (declared x kind) →
     ((rest : List Word) → declaration_words (declared x kind) rest ≡ front (end ++ rest)) → Begun declaration_words IsDeclared ws n
 plain ws us n front x kind end f e l p w = stopped declaration_words IsDeclared ws us n front (declared x kind) end f e l p w

@@ -34,7 +34,7 @@ Even read other = (ws : List Word) → Same (read ws) (other (shapes ws))
 as_many : (ws : List Word) → suc (length ws) ≡ suc (length (shapes ws))
 as_many ws = ap suc (sym (length-map ws shape))
 
--- one thing behind another
+-- one thing after another
 module _ {A B C D : Type 0} (F : A × List Word → Answer (B × List Word)) (G : C × List Word → Answer (D × List Word)) (next : (x : A) (y : C) → Even (λ us. F (x, us)) (λ us. G (y, us))) where
   pub same_then : (a : Answer (A × List Word)) (b : Answer (C × List Word)) → Same a b → Same (a >>= F) (b >>= G)
   unfolding Same

@@ -1,4 +1,4 @@
--- Each part of a program is read without asking which name, which number or which service stands at a place.
+-- Each part of a program is read without asking which name, which number or which service is at a place.
 use Rattle.std.proofs.Common.{◌≡◌, ℕ, zero, suc, ◌-◌, true, false, nat_eq, List, [], ◌∷◌, ◌++◌, ◌++◌, Option, Some, None, Ok, Err, refl, sym, ap, ◌∙◌}
 use Rattle.std.specs.Prelude.{codes, is_ok}
 use Rattle.std.proofs.lemmas.List.{map-append}

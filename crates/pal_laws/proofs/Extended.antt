@@ -1,4 +1,4 @@
--- More words behind those that follow a thing stand behind its own.
+-- More words after those that follow a thing also come after its own words.
 use Rattle.std.proofs.Common.{◌≡◌, ℕ, Bool, true, false, List, [], ◌∷◌, ◌++◌, Option, Some, None, refl, ap, ◌∙◌}
 use Rattle.std.specs.Prelude.{codes}
 use Rattle.pal_meaning.specs.Grammar.{Word, Name, Number, ServiceWord, Mark}

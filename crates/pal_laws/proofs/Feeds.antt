@@ -1,4 +1,4 @@
--- Line feeds stand between words, and not within them.
+-- Line feeds appear between words, and not within them.
 use Rattle.std.proofs.Common.{◌≡◌, ℕ, zero, suc, ◌+◌, ◌<◌, ◌≤◌, Bool, true, false, ◌&&◌, ◌||◌, List, [], ◌∷◌, length, drop, Option, Some, refl, sym, ap, ◌∙◌, arith, cond, nat_eq}
 use Rattle.std.specs.Prelude.{find}
 use Rattle.std.specs.List.{prefix_len, starts_with}
@@ -122,7 +122,7 @@ word_feeds b bs none =
     (chosen_feeds (is_upper b) _ _ _ (run_feeds in_service (b ∷ bs) refl)
     (found_feeds signs b bs none signs_have_none)))
 
--- no line feed stands first behind blanks
+-- after blanks, the first byte is no line feed
 abbrev pub BeginsPlain : List ℕ → Type 0
 BeginsPlain [] = Unit {0}
 BeginsPlain (b ∷ bs) = nat_eq b 10 ≡ false
@@ -143,7 +143,7 @@ unfolding word_at
 next_feeds [] plain = refl
 next_feeds (b ∷ bs) plain = word_feeds b bs plain
 
--- the next word begins behind the blanks that follow the word before it
+-- the next word begins after the blanks that follow the word before it
 pub next_word : (n : ℕ) (text : List ℕ) → from_word (suc n) text ≡ behind_blanks false (word_at (from_word n text)).1
 unfolding from_word
 next_word zero text = refl

@@ -1,4 +1,4 @@
--- The words that may stand behind an expression: none with which it would continue.
+-- The words that may follow an expression: none with which it would continue.
 use Rattle.std.proofs.Common.{◌≡◌, ℕ, suc, ◌-◌, ◌<◌, ◌≤◌, List, ◌∷◌, length, Ok, Err, refl, arith, subst, ap}
 use Rattle.std.specs.Prelude.{codes}
 use Rattle.apex_types.specs.declared.instruction.BinaryOperator.{BinaryOperator}

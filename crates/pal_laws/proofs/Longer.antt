@@ -1,4 +1,4 @@
--- A thing is written with words of its own, before those that follow it.
+-- A thing is written with at least one word, before those that follow it.
 use Rattle.std.proofs.Common.{ℕ, ◌<◌, ◌≤◌, Bool, true, false, List, [], ◌∷◌, length, Option, Some, None, arith}
 use Rattle.std.specs.Prelude.{codes}
 use Rattle.pal_meaning.specs.Grammar.{Word, Number, Mark}

@@ -65,7 +65,7 @@ no_links operand Comparison rest e = then_reads (link_at operand Comparison rest
 no_links operand Sum rest e = then_reads (repeat (link_at operand Sum) rest) _ _ _ (repeat_ends (link_at operand Sum) rest (no_link operand Sum rest e)) refl
 no_links operand Product rest e = then_reads (repeat (link_at operand Product) rest) _ _ _ (repeat_ends (link_at operand Product) rest (no_link operand Product rest e)) refl
 
--- an operand that is read is also read where looser operators may stand, if none does
+-- an operand that is read is also read where looser operators may appear, if none does
 raised : (u : Reading tree.Expr) (n : ℕ) (e : tree.Expr) (ws rest : List Word) → Ends (suc n) rest → loose_with u n ws ≡ Ok (e, rest) → loose_with u (suc n) ws ≡ Ok (e, rest)
 unfolding loose_with
 raised u n e ws rest ends h = chain_reads (loose_with u n) (rank_at n) ws rest rest e tree.NoLink h (no_links (loose_with u n) (rank_at n) rest (ends.no_operator (rank_at n) (rank_low n)))

@@ -14,7 +14,7 @@ use Rattle.pal_laws.proofs.ReadSteps.{then_reads, other_way, repeat_reads, repea
 use Rattle.pal_laws.proofs.Followed.{Ends, semicolon_ends, bracket_ends, brace_ends}
 use Rattle.pal_laws.proofs.ReadExpressions.{expr_reads, expr_at_is, nested_reads, arguments_read, arguments_at_read, not_none}
 
--- names with commas between them, up to where no comma stands
+-- names with commas between them, up to where there is no comma
 abbrev name_turn : Turn (List ℕ)
 name_turn ws = each (expect (codes ",") ws) name_at
 

@@ -5,7 +5,7 @@ use Rattle.pal_laws.specs.GrammarReading.{Answer, Turn, ◌>>=◌, either, repea
 use Rattle.pal_meaning.specs.Grammar.{all_words, Each}
 use Rattle.pal_laws.proofs.Repeats.{repeat_ends, repeat_goes_on}
 
--- a reading at the front, then a reading behind it
+-- a reading at the front, then a reading after it
 pub then_reads : {A B : Type 0} (o : Answer A) (f : A → Answer B) (a : A) (y : Answer B) → o ≡ Ok a → f a ≡ y → (o >>= f) ≡ y
 then_reads o f a y e g = ap (λ p. p >>= f) e ∙ g
 

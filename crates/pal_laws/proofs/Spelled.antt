@@ -1,4 +1,4 @@
--- Words that are read are the words of the tree that is found, followed by those behind it.
+-- Words that are read are the words of the tree that is found, followed by the words that are left.
 use Rattle.std.proofs.Common.{◌≡◌, ℕ, zero, suc, ◌-◌, Bool, true, false, cond, nat_eq, List, [], ◌∷◌, length, Option, Some, None, Ok, Err, refl, sym, ◌∙◌, ap}
 use Rattle.std.specs.Prelude.{codes, nat_lt}
 use Rattle.std.specs.Cmp.Lexicographic.{same_text}
@@ -404,7 +404,7 @@ unfolding body_at
 body_spells ws us b h = and_then _ _ _ h (λ vs e h. and_then _ _ _ h (λ xs f h. and_then _ _ _ h (λ c g h. ends body_words ws c.1 us (record { locals = xs.0; block = c.0 }) b
     (expect_spells _ ws vs e ∙ ap (λ v. Mark (codes "{") ∷ v) (locals_spell vs xs.1 xs.0 f ∙ ap (all_words local_words xs.0) (statements_at_spell (MOST_LEVELS - 1) xs.1 c.1 c.0 g))) h)))
 
--- declarations, behind the word of their kind
+-- declarations, after the word of their kind
 pub first_spells : Spells (Option tree.Integer) first_words first_value_at
 unfolding first_value_at
 first_spells ws us x h = one_way _ _ _ _ h

@@ -1,4 +1,4 @@
--- A reading looks at no word behind the one where it stops: what it answers there does not change with the words that
+-- A reading looks at no word after the one where it stops: what it returns there does not change with the words that
 -- follow.
 use Rattle.std.proofs.Common.{◌≡◌, ℕ, zero, suc, ◌+◌, ◌<◌, ◌≤◌, Bool, true, false, cond, inl, inr, List, [], ◌∷◌, ◌++◌, length, length-append, Option, Some, None, Ok, Err, refl, sym, ap, ◌∙◌, subst, arith}
 use Rattle.std.specs.Prelude.{nat_lt, ◌⊎◌}
@@ -14,7 +14,7 @@ abbrev pub Within : {X : Type 0} → Answer (X × List Word) → ℕ → Type 0
 Within (Ok x) n = length x.1 ≤ n
 Within (Err left) n = left ≤ n
 
--- The answer where more words follow: the same if a word was left; nothing that stops before them
+-- The result where more words follow: the same if a word was left; nothing that stops before them
 -- if none was.
 abbrev pub StaysFound : {X : Type 0} → List Word → X → List Word → Answer (X × List Word) → Type 0
 StaysFound more x [] b = Within b (length more)
@@ -28,8 +28,8 @@ abbrev pub Stays : {X : Type 0} → List Word → Answer (X × List Word) → An
 Stays more (Ok x) b = StaysFound more x.0 x.1 b
 Stays more (Err n) b = StaysRefused more n b
 
--- A reading that looks at no word behind the place where it stops. It leaves at most `d` of the
--- number of words that it was given; behind a word that opens a level it may refuse that word, too.
+-- A reading that looks at no word after the place where it stops. It leaves at most `d` of the
+-- number of words that it was given; after a word that opens a level it may refuse that word, too.
 abbrev pub SteadyBy : {X : Type 0} → (ℕ → ℕ) → Reading X → Type 0
 SteadyBy d read = (ws more : List Word) → Within (read ws) (d (length ws)) × Stays more (read ws) (read (ws ++ more))
 
@@ -59,7 +59,7 @@ up_to (Err k) n m w l = omega (arith, w, l)
 pub steady_more : {X : Type 0} (read : Reading X) → Steady read → SteadyBehind read
 steady_more read s ws more = let r = s ws more in (up_to (read ws) (length ws) (suc (length ws)) r.0 (omega arith), r.1)
 
--- one thing behind another
+-- one thing after another
 module _ {A B : Type 0} (F : A × List Word → Answer (B × List Word)) (next : (x : A) → Steady (λ us. F (x, us))) where
   pub within_then : (b : Answer (A × List Word)) (n : ℕ) → Within b n → Within (b >>= F) n
   within_then (Ok x) n w = up_to (F x) (length x.1) n (next x.0 x.1 []).0 w
@@ -170,7 +170,7 @@ pub left_steady : (X : Type 0) → Steady {X = X} (λ ws. Err (length ws))
 left_steady X [] more = (omega arith, omega arith)
 left_steady X (w ∷ ws) more = (omega arith, refused_more ws more)
 
--- the same where nothing else may stand there
+-- the same where nothing else may be there
 itself : {A : Type 0} (o : Answer (A × List Word)) (left : ℕ) → (o ≡ Err left) ⊎ ((x : A × List Word) × (o ≡ Ok x)) → either o (λ x. Ok x) (Err left) ≡ o
 itself o left (inl h) = ap (λ r. either r (λ x. Ok x) (Err left)) h ∙ sym h
 itself o left (inr h) = ap (λ r. either r (λ x. Ok x) (Err left)) h.1 ∙ sym h.1

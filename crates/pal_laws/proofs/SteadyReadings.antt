@@ -1,4 +1,4 @@
--- Each part of a program is read so that no word behind the one where it stops is looked at.
+-- Each part of a program is read without looking at a word after the one where the reading stops.
 use Rattle.std.proofs.Common.{◌≡◌, ℕ, zero, suc, ◌-◌, nat_eq, List, [], ◌∷◌, ◌++◌, length, Option, Some, None, Ok, Err, refl, sym, ap, ◌∙◌, ◌+◌, ◌<◌, ◌≤◌, arith}
 use Rattle.std.specs.Prelude.{codes}
 use Rattle.apex_types.specs.declared.limits.TheConstants.{MOST_LEVELS}
@@ -23,7 +23,7 @@ number_steady ws more = one_steady number_at number_peeks ws more
 ok_behind : {X : Type 0} (x : X) → SteadyBehind (λ ws. Ok (x, ws))
 ok_behind x = steady_more (λ ws. Ok (x, ws)) (ok_steady x)
 
--- a mark, and what stands behind it
+-- a mark, and what follows it
 mark_next : {X : Type 0} (mark : List ℕ) (F : Reading X) → Steady F → Steady (λ ws. expect mark ws >>= F)
 mark_next mark F f = mark_then mark F (steady_more F f)
 
@@ -310,7 +310,7 @@ handler_steady : Steady handler_at
 handler_steady ws more = steady_same same (λ vs. either (expect (codes "handler") vs) (λ rest. stack_behind rest >>= λ b. Ok (Some b.0, b.1)) (Ok (None, vs))) handler_at handler_is
     (mark_either (codes "handler") (λ rest. stack_behind rest >>= λ b. Ok (Some b.0, b.1)) (λ vs. Ok (None, vs)) (then_steady same stack_behind _ stack_behind_steady (λ b. ok_steady _)) (ok_steady None)) ws more
 
--- programs, and the words behind them
+-- programs, and the words after them
 abbrev pub parts_at : Reading tree.Program
 parts_at ws = declarations_at ws >>= λ ds. stack_body_at (codes "init") ds.1 >>= λ i. handler_at i.1 >>= λ h. processes_at h.1 >>= λ ps.
     Ok (record { declarations = ds.0; init = i.0; handler = h.0; processes = ps.0 }, ps.1)

@@ -66,7 +66,7 @@ word_shorter b bs =
     (tested_short (is_upper b) _ _ _ (λ h. run_shorter in_service b bs (upper_in_service b h))
     (found_short (starts_with nat_eq (b ∷ bs)) signs b bs signs_have_bytes)))
 
--- the text behind the first word and the blanks behind it
+-- the text after the first word and the blanks that follow it
 pub next_shorter : (b : ℕ) (bs : List ℕ) → length (behind_blanks false (word_at (b ∷ bs)).1) < length (b ∷ bs)
 next_shorter b bs = omega (arith, blanks_shorter false (word_at (b ∷ bs)).1, word_shorter b bs)
 

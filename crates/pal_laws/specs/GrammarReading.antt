@@ -15,11 +15,11 @@ use Rattle.pal_meaning.specs.Syntax as tree
 pub use Rattle.pal_meaning.specs.Grammar.{operator_mark, Rank, Disjunction, Conjunction, Comparison, Sum, Product}
 
 -- A result, or the number of words that are left where the words leave the grammar: the word there,
--- and those behind it.
+-- and those after it.
 abbrev pub Answer : Type 0 → Type 0
 Answer X = Result X ℕ
 
--- the result of reading at the front of the words, and the words behind it
+-- the result of reading at the front of the words, and the words after it
 abbrev pub Reading : Type 0 → Type 0
 Reading X = List Word → Answer (X × List Word)
 
@@ -33,7 +33,7 @@ abbrev pub either : {A B : Type 0} → Answer A → (A → B) → B → B
 either (Ok x) found none = found x
 either (Err left) found none = none
 
--- the words behind a mark
+-- the words after a mark
 unfoldable pub expect : List ℕ → List Word → Answer (List Word)
 expect mark [] = Err 0
 expect mark (Mark text ∷ ws) = if same text mark then Ok ws else Err (suc (length ws))
@@ -77,7 +77,7 @@ discipline_at ws = either (expect (codes "fifo") ws)
     (expect (codes "priority") ws >>= λ rest. Ok (discipline.Priority, rest))
 
 -- Things one after another, as long as a turn finds one. A turn finds one thing, with fewer words
--- behind it, or finds no more; if it fails, there is no reading.
+-- after it, or finds no more; if it fails, there is no reading.
 abbrev pub Turn : Type 0 → Type 0
 Turn X = List Word → Answer (Option (X × List Word))
 
@@ -110,7 +110,7 @@ operators_of Comparison = binary.Equal ∷ binary.NotEqual ∷ binary.Less ∷ b
 operators_of Sum = binary.Add ∷ binary.Subtract ∷ []
 operators_of Product = binary.Multiply ∷ binary.Divide ∷ binary.Remainder ∷ []
 
--- the first of these operators that stands at the front
+-- the first of these operators that is at the front
 unfoldable pub one_of : List BinaryOperator → Reading BinaryOperator
 one_of [] ws = Err (length ws)
 one_of (op ∷ ops) ws = either (expect (operator_mark op) ws) (λ rest. Ok (op, rest)) (one_of ops ws)
@@ -176,7 +176,7 @@ operand_with u Disjunction ws = conjunctions_with u ws
 unfoldable pub ranked : Reading tree.Expr → Rank → Reading tree.Expr
 ranked u rank ws = chain_with (operand_with u rank) rank ws
 
--- arguments behind an opened parenthesis, and the parenthesis that closes
+-- arguments after an opening parenthesis, and the parenthesis that closes
 unfoldable pub arguments_with : Reading tree.Expr → Reading tree.Exprs
 arguments_with inside ws = either (expect (codes ")") ws)
     (λ rest. Ok (tree.NoExpr, rest))

@@ -1,4 +1,4 @@
--- The cost of a body in ticks, loops counted once: what `mb cost` tells.
+-- The cost of a body in ticks, loops counted once: what `mb cost` reports.
 use Rattle.std.specs.Prelude.{ℕ, List, ◌+◌, [], ◌∷◌, ◌++◌, map}
 use Rattle.std.specs.List.{sum}
 use Rattle.apex_types.specs.declared.cost.Costs.{Costs}

@@ -1,5 +1,5 @@
--- The words of a source text, and the grammar: the words that each tree is written with. Blanks and comments stand between words; each
--- word is the longest that begins where it stands. Each line of the grammar is one way to write a thing; rest are the words that follow it.
+-- The words of a source text, and the grammar: the words that each tree is written with. Blanks and comments come between words; each
+-- word is the longest that begins at its place. Each line of the grammar is one way to write a thing; rest are the words that follow it.
 use Rattle.std.specs.Prelude.{ℕ, zero, suc, ◌^◌, ◌==◌, ◌&&◌, ◌||◌, nat_eq, nat_lt, nat_le, Bool, true, false, if◌then◌else◌, List, [], ◌∷◌, length, drop, Option, Some, None, codes, find, ◌≡◌, ◌≤◌, ◌-◌}
 use Rattle.std.specs.List.{prefix_len, starts_with}
 use Rattle.apex_types.specs.declared.limits.TheConstants.{MOST_LEVELS, MOST_SOURCE_BYTES}
@@ -15,8 +15,8 @@ use Rattle.apex_types.specs.declared.codes.Discipline.TheVariants as discipline
 use Rattle.pal_meaning.specs.Syntax as tree
 use Rattle.std.specs.Str.{IsAscii}
 
--- The words of a source text. Blanks and comments stand between words; each word is the longest that
--- begins where it stands.
+-- The words of a source text. Blanks and comments come between words; each word is the longest that
+-- begins at its place.
 
 -- A word: a name, a number (none above 2^63 - 1), the name of a service, a mark (one of the
 -- grammar's own words and signs), or a byte or a run of bytes that is no word of the grammar.
@@ -60,7 +60,7 @@ in_name b = is_lower b || is_digit b || (b == 95)
 abbrev pub in_service : ℕ → Bool
 in_service b = is_upper b || (b == 95)
 
--- The text behind the blanks and comments at the front; the flag is true within a comment, which
+-- The text after the blanks and comments at the front; the flag is true within a comment, which
 -- goes from # to the end of the line.
 unfoldable pub behind_blanks : Bool → List ℕ → List ℕ
 behind_blanks comment [] = []
@@ -97,7 +97,7 @@ upper_word text = service_or_stray (find (λ s. same (service_word s) text) serv
 unfoldable pub sign_word : ℕ → List ℕ → Word × List ℕ
 sign_word b bs = sign_or_stray (find (λ sign. starts_with nat_eq (b ∷ bs) sign) signs) b bs
 
--- the word at the front, and the text behind it
+-- the word at the front, and the text after it
 unfoldable pub word_at : List ℕ → Word × List ℕ
 word_at [] = (Stray, [])
 word_at (b ∷ bs) =

@@ -1,4 +1,4 @@
--- In which line of a source text each of its words stands, counted from 1.
+-- The line of each word in a source text, counted from 1.
 use Rattle.std.specs.Prelude.{ℕ, zero, suc, ◌-◌, ◌==◌, false, if◌then◌else◌, List, [], ◌∷◌}
 use Rattle.pal_meaning.specs.Grammar.{behind_blanks, word_at}
 

@@ -131,7 +131,7 @@ size_of_process p = size_of_body p.body
 abbrev pub size_of : Program → ℕ
 size_of p = size_of_body p.init + size_of_handler p.handler + sum_by size_of_process p.processes + sum_by size_of_procedure p.procedures
 
--- the most operands of an expression that wait at once: an argument waits while those behind it
+-- the most operands of an expression that wait together: an argument waits while those after it
 -- are evaluated, and the result of a call is an operand
 abbrev mutual
   pub operands_of_expr : Expr → ℕ

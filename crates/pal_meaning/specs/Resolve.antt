@@ -17,7 +17,7 @@ use Rattle.apex_types.specs.ServiceShape.{arguments_of}
 use Rattle.pal_meaning.specs.Syntax as written
 use Rattle.pal_meaning.specs.Program as program
 
--- a number up to a limit; beyond it, and beyond 2^63 - 1, it stands as 0
+-- a number up to a limit; above it, and above 2^63 - 1, it becomes 0
 abbrev pub within : ℕ → Option ℕ → ℕ
 within limit None = 0
 within limit (Some n) = if nat_le n limit then n else 0
@@ -67,7 +67,7 @@ abbrev pub port_number : List PortRow → List ℕ → ℕ
 port_number ports name = unwrap_or (option_map (λ i. i + 1) (position (λ p. bytes_eq p.name name) (take MOST_PORTS ports))) 0
 
 -- The meaning of a declared name after the counts `c`: variables and arrays lie in the data in the
--- order of declaration, objects are numbered from 1, each kind by itself, procedures from 0.
+-- order of declaration, objects of each kind are numbered from 1, procedures from 0.
 abbrev pub declared_meaning : List PortRow → Counts → List ℕ → written.Kind → Denotation
 declared_meaning ports c name (written.Variable value) = denotation.Scalar (Data c.words)
 declared_meaning ports c name (written.Array size values) = denotation.Array c.words (pos (within MOST_DATA_WORDS size))
@@ -166,7 +166,7 @@ abbrev pub named : Scope → written.Expr → Option Denotation
 named scope (written.Name name) = scope name
 named scope _ = None
 
--- an argument of a service before those behind it: a name is its number, an array its place and size
+-- an argument of a service before those that follow: a name is its number, an array its place and size
 abbrev pub resolve_argument : Scope → ArgumentKind → written.Expr → program.Exprs → program.Exprs
 resolve_argument scope argument.Word e rest = program.MoreExprs (resolve_expr scope e) rest
 resolve_argument scope argument.Array e rest = program.MoreExprs (program.Literal (pos (array_place_of (named scope e)))) (program.MoreExprs (program.Literal (array_size_of (named scope e))) rest)
@@ -226,7 +226,7 @@ procedure_of declared (written.Procedure parameters b) = Some (record {
 })
 procedure_of declared _ = None
 
--- the first values of an array, and zeros behind them
+-- the first values of an array, and zeros after them
 abbrev pub array_words : ℕ → List written.Integer → List ℤ
 array_words size values = map signed_word values ++ replicate (size - length values) (pos 0)
 

@@ -53,8 +53,8 @@ pub record OpenCall : Type 0 where
   pub slots : List ℤ
 
 -- The parts that the running body still has to do, its values, the last one first, and its slots;
--- the calls that wait, the last one first; the ticks spent on the front construct; the words of an
--- answer that it awaits, 0 for none; and the words of stack of the process.
+-- the calls that wait, the last one first; the ticks spent on the front construct; the words of a
+-- reply that it awaits, 0 for none; and the words of stack of the process.
 pub record SourceControl : Type 0 where
   pub parts : List Part
   pub values : List ℤ
@@ -84,7 +84,7 @@ abbrev pub block_then : Block → List Part → List Part
 block_then NoStmt rest = rest
 block_then (MoreStmts stmt block) rest = Execute stmt ∷ block_then block rest
 
--- the targets of a service take the words of its answer from the left
+-- the targets of a service take the words of its reply from the left
 abbrev pub targets_then : List Place → List Part → List Part
 targets_then [] rest = rest
 targets_then (place ∷ places) rest = Do (WriteScalar place) ∷ targets_then places rest
@@ -186,7 +186,7 @@ abbrev pub parts_of_procedure : Procedure → List Part
 parts_of_procedure p = block_then p.block (Do (Value (pos 0)) ∷ Do ReturnValue ∷ [])
 
 -- A call opens where its place and its frame are within the stack: its parameters are the values
--- handed on, which are the caller's no more, and its locals are 0.
+-- passed to it, which the caller no longer has, and its locals are 0.
 abbrev pub opens : Option Procedure → SourceControl → List Part → List ℤ → List ℤ → Ticked SourceControl
 opens None c rest values words = stays c words (Faults error.IllegalRequest)
 opens (Some p) c rest values words =
@@ -206,7 +206,7 @@ gives_back [] v c words = stays c words (Faults error.MemoryViolation)
 gives_back (caller ∷ callers) v c words = record { control = record { parts = caller.parts; values = v ∷ caller.values; slots = caller.slots; callers = callers; spent = 0; awaits = 0; stack = c.stack }; words = words; asks = Nothing }
 
 -- A service is asked with its values as arguments, the first one evaluated first; an array among
--- them that is not within the data is a memory violation. The control then awaits the answer.
+-- them that is not within the data is a memory violation. The control then awaits the reply.
 abbrev pub asks_service : Service → Call → SourceControl → List Part → List ℤ → List ℤ → Ticked SourceControl
 asks_service service call c rest values words =
     if has_array_within (length words) (array_of call)
@@ -244,7 +244,7 @@ counts c words = record { control = record { parts = c.parts; values = c.values;
 abbrev pub tick_at : Costs → Program → Front → SourceControl → List ℤ → Ticked SourceControl
 tick_at costs program f c words = if nat_lt (c.spent + 1) (cost_of_simple costs f.construct) then counts c words else effect program f.construct f.rest c c.values words
 
--- While an answer is awaited a tick changes nothing. Below the cost of the front construct it is
+-- While a reply is awaited, a tick changes nothing. Below the cost of the front construct it is
 -- counted; at the cost the effect happens once.
 abbrev pub tick_awaiting : Costs → Program → ℕ → SourceControl → List ℤ → Ticked SourceControl
 tick_awaiting costs program zero c words = tick_at costs program (front_of c.parts) c words
@@ -253,7 +253,7 @@ tick_awaiting costs program (suc n) c words = stays c words Nothing
 abbrev pub source_tick : Costs → Program → SourceControl → List ℤ → Ticked SourceControl
 source_tick costs program c words = tick_awaiting costs program c.awaits c words
 
--- The words of an answer become values, the code as the last one; an answer of another length than
+-- The words of a reply become values, the code as the last one; a reply of another length than
 -- the awaited one changes nothing.
 abbrev pub source_reply : SourceControl → List ℤ → SourceControl
 source_reply c answer = if nat_eq (length answer) c.awaits then record { parts = c.parts; values = answer ++ c.values; slots = c.slots; callers = c.callers; spent = c.spent; awaits = 0; stack = c.stack } else c

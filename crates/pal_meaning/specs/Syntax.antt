@@ -1,5 +1,5 @@
 -- A program as it is written. A name is the list of its bytes. A number is its value, or none if that
--- is above 2^63 - 1. Parentheses stand in the tree.
+-- is above 2^63 - 1. Parentheses are kept in the tree.
 use Rattle.std.specs.Prelude.{ℕ, List, Option, Bool}
 use Rattle.apex_types.specs.declared.instruction.BinaryOperator.{BinaryOperator}
 use Rattle.apex_types.specs.declared.instruction.UnaryOperator.{UnaryOperator}

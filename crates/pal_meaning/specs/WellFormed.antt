@@ -30,7 +30,7 @@ abbrev pub holds_of_bodies : (Bool → List (List ℕ) → written.Body → Bool
 holds_of_bodies test p = test false [] p.init.body && holds_of_handler test p.handler
     && list_all (λ q. test false [] q.body) p.processes && list_all (λ d. holds_of_procedure test d.kind) p.declarations
 
--- NAMES: each name that stands in the program is declared, and once.
+-- NAMES: each name in the program is declared, and only once.
 
 -- each name is in neither list of entries before it
 abbrev pub are_new : List Entry → List Entry → List Entry → Bool
@@ -71,7 +71,7 @@ abbrev mutual
   knows_block scope (written.MoreStmts first rest) = knows_stmt scope first && knows_block scope rest
 
 -- the parameters and locals of a body differ from what is declared and from each other, and each
--- name in its statements stands for something
+-- name in its statements means something
 abbrev pub names_hold_in_body : List Entry → List (List ℕ) → written.Body → Bool
 names_hold_in_body declared parameters b = let own = own_entries 0 (parameters ++ b.locals) in
     are_new declared [] own && knows_block (scope_of own declared) b.block
@@ -80,7 +80,7 @@ abbrev pub names_hold : List PortRow → written.Program → Bool
 names_hold ports p = let declared = declared_entries ports p in
     are_new [] [] declared && holds_of_bodies (λ returns parameters b. names_hold_in_body declared parameters b) p
 
--- KINDS: each name stands where its kind may, and calls and services have as many arguments and
+-- KINDS: each name appears where its kind may, and calls and services have as many arguments and
 -- targets as they take.
 
 abbrev pub is_scalar : Option Denotation → Bool
@@ -131,7 +131,7 @@ abbrev mutual
   fits_exprs scope written.NoExpr = true
   fits_exprs scope (written.MoreExprs first rest) = fits_expr scope first && fits_exprs scope rest
 
--- an argument of a service: an expression, or the name alone of an array or of an object, a port or
+-- an argument of a service: an expression, or just the name of an array or of an object, a port or
 -- a process of that kind
 abbrev pub fits_argument : Scope → ArgumentKind → written.Expr → Bool
 fits_argument scope argument.Word e = fits_expr scope e

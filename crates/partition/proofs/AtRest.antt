@@ -15,11 +15,11 @@ empty : {A : Type 0} (xs : List A) → length xs ≡ 0 → xs ≡ []
 empty [] h = refl
 empty (x ∷ xs) h = absurd (omega (arith, h))
 
--- nobody waits, so nobody enters
+-- no process waits, so no process enters
 pub nobody_enters : (k : Kernel) (place : ℕ) → waiting_count k.processes (list place) ≡ 0 → arrival.admits (with_ports k) place ≡ nothing (with_ports k)
 nobody_enters k place h = ap (λ (es : List Entry). arrival.all_enter es place (with_ports k)) (empty (waiting k.processes (list place)) h)
 
--- nobody runs, the ports are at rest, and nothing is due for n ticks
+-- nothing runs, the ports are at rest, and nothing is due for n ticks
 pub is_still : (k : Kernel) (origin now n : ℕ) → k.processes.running ≡ None → ((port : PortId) → IsAtRest k port) → chooses_with_handler k ≡ nothing k
     → ((i : ℕ) → i < n → HasNothingDue (tick_from origin (now + i)) k) → IsStill origin now (now + n) k
 is_still k origin now n nobody ports chosen due = record {

@@ -1,4 +1,6 @@
 pub mod AtRest
+pub mod Gathering
+pub mod Gone
 pub mod Leaving
 pub mod Phases
 pub mod Places

@@ -1,5 +1,5 @@
--- What stands at a place of a list, and the list up to this place and from it on.
-use Rattle.std.proofs.Common.{◌≡◌, ℕ, zero, suc, ◌+◌, ◌<◌, List, [], ◌∷◌, ◌++◌, length, take, drop, get_or, Some, None, inl, inr, refl, sym, ap, ◌∙◌, arith, append_assoc}
+-- The item at a place of a list, and the list up to this place and from it on.
+use Rattle.std.proofs.Common.{◌≡◌, ℕ, zero, suc, ◌+◌, ◌<◌, List, [], ◌∷◌, ◌++◌, length, take, drop, Some, None, inl, inr, refl, sym, ap, ◌∙◌, arith, append_assoc}
 use Rattle.std.specs.Prelude.{slice_get}
 use Rattle.std.proofs.lemmas.List.{take_more, map-append}
 use Rattle.apex_types.specs.declared.event.EventKind.{EventKind}
@@ -36,7 +36,7 @@ told_more g old mid new name at lines i kind more is before then =
     ∙ append_assoc (g.held old) (g.pieces (told name at (take i lines))) (g.pieces (line name at kind ∷ []))
     ∙ ap (λ ps. g.held old ++ ps) (sym (more (told name at (take i lines)) (line name at kind ∷ [])) ∙ ap g.pieces (sym (told_read name at lines i kind is)))
 
--- the action at a place, then those behind it
+-- the action at a place, then those after it
 pub acted_next : {C : Type 0} (actions : List Action) (i : ℕ) (x : Member C) → acts_all (drop i actions) x ≡ acts_all (drop (i + 1) actions) (acts_at (slice_get actions i) x)
 acted_next [] zero x = refl
 acted_next [] (suc i) x =

@@ -1,4 +1,5 @@
 pub mod View
 pub mod Fresh
 pub mod WithinFact
+pub mod Gathering
 pub mod Members

@@ -1,13 +1,14 @@
 -- A partition with its memory, as the member of the definitions.
-use Rattle.std.specs.Prelude.{◌≡◌, ℕ, ◌+◌, List, ◌++◌, Option, Some, None}
+use Rattle.std.specs.Prelude.{◌≡◌, ◌≤◌, ℕ, ◌+◌, ◌-◌, List, ◌++◌, length, Option, Some, None}
 use Rattle.apex_types.specs.declared.identity.At.{At}
 use Rattle.apex_types.specs.declared.event.Event.{Event}
 use Rattle.apex_types.specs.declared.log.EventLog.{Ghosts as Log}
 use Rattle.apex_types.specs.Runners.{Action}
 use Rattle.kernel_meaning.specs.Kernel.{Kernel}
 use Rattle.kernel_meaning.specs.Partition.{Member, Moved, with_world, act, act_all}
-use Rattle.kernel_laws.specs.Running.{Goes, advances_by}
+use Rattle.apex_types.specs.declared.limits.TheConstants.{MOST_EVENTS}
 use Rattle.partition_base.specs.declared.executor.Executor.{Ghosts}
+use Rattle.partition.specs.Gathering.{Gathers, ticks_within}
 use Rattle.partition.specs.declared.partition.Partition.{Partition}
 
 -- a kernel over an executor, with the memory
@@ -42,10 +43,21 @@ TellsSome g old new is_so = (told : List Event) × IsTold g old new told × is_s
 abbrev pub IsMoved : {C : Type 0} → Moved C → Member C → Member C → (List Event → Type 0) → Type 0
 IsMoved m before after is_told = (after ≡ with_world before m.world) × is_told m.lines
 
--- Ticks of a member from `at` on: `ticks` ticks lead to `after` and write `lines`.
-abbrev pub HasGone : {C : Type 0} → At → Member C → Member C → List Event → ℕ → Type 0
-HasGone at before after lines ticks = (after ≡ with_world before after.world) × Goes before.engine at.origin.0 before.world at.now.0 (record { control = after.world; words = at.now.0 + ticks; told = lines; ticks = ticks })
+-- The log holds what it held before, followed by these events, and the room for further lines is
+-- less by their number: the room that the log has at least, and the one that is counted.
+abbrev pub IsRecorded : {L : Type 0} → (g : Log L) → L → L → (before after : ℕ) → List Event → Type 0
+IsRecorded g old new before after events = IsTold g old new events × (g.room old ≤ g.room new + length events) × (after ≡ before - length events)
 
--- n ticks of a member from `at` on, or those up to the first with a line: `ticks` ticks.
+-- Some events with this property were recorded, and their lines counted.
+abbrev pub RecordsSome : {L : Type 0} → (g : Log L) → L → L → (before after : ℕ) → (List Event → Type 0) → Type 0
+RecordsSome g old new before after is_so = (told : List Event) × IsRecorded g old new before after told × is_so told
+
+-- Ticks of a member from `at` on, with room for so many lines: `ticks` ticks lead to `after` and
+-- write `lines`.
+abbrev pub HasGone : {C : Type 0} → At → (room : ℕ) → Member C → Member C → List Event → ℕ → Type 0
+HasGone at room before after lines ticks = (after ≡ with_world before after.world) × Gathers before.engine at.origin.0 room before.world at.now.0 ticks lines after.world
+
+-- n ticks of a member from `at` on, or fewer, once their lines leave less room than a tick may need:
+-- `ticks` ticks, with all their lines.
 abbrev pub HasAdvanced : {C : Type 0} → At → ℕ → Member C → Member C → List Event → ℕ → Type 0
-HasAdvanced at n before after lines ticks = (after ≡ with_world before after.world) × (advances_by before.engine at.origin.0 n before.world at.now.0 ≡ record { control = after.world; words = at.now.0 + ticks; told = lines; ticks = ticks })
+HasAdvanced at n before after lines ticks = (after ≡ with_world before after.world) × (ticks_within before.engine at.origin.0 MOST_EVENTS n before.world at.now.0 ≡ record { control = after.world; words = at.now.0 + ticks; told = lines; ticks = ticks })

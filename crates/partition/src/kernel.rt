@@ -1,6 +1,6 @@
 //! The kernel's state of one partition, in parts with an owner each.
 
-ghost use Rattle.std.specs.Prelude.{◌≡◌, ◌<◌, ◌≤◌, ◌+◌, ℕ, IfOk};
+ghost use Rattle.std.specs.Prelude.{◌≡◌, ◌<◌, ◌≤◌, ◌+◌, ℕ, IfOk, true};
 ghost use Rattle.apex_types.specs.Room.{HasRoom, Grows};
 ghost use Rattle.kernel_meaning.specs.Kernel.{of_processes};
 ghost use Rattle.kernel_meaning.specs.Partition as tick;
@@ -106,33 +106,40 @@ impl Kernel {
         self.processes.subject(runner)
     }
 
-    /// Starts the error handler if an error waits for it; then chooses the runner.
-    pub(crate) fn choose(&mut self, out: &mut Out)
+    /// Starts the error handler if an error waits for it; then chooses the runner. Returns true if
+    /// nothing changes with that.
+    pub(crate) fn choose(&mut self, out: &mut Out) -> bool
         requires { HasRoom LINES_TO_CHOOSE ACTIONS_TO_CHOOSE out.old }
         ensures step { IsMade (tick.chooses_with_handler self.old) self.new out.old out.new }
+        ensures stays { result ≡ true → tick.chooses_with_handler self.old ≡ nothing self.old }
         ensures grows { Grows LINES_TO_CHOOSE ACTIONS_TO_CHOOSE out.old out.new }
     {
         let mode = self.mode;
+        if handler_stays(&self.processes, &self.errors, mode) {
+            return self.processes.choose(mode, out);
+        }
         start_handler(&mut self.processes, &self.errors, mode, out);
         self.processes.choose(mode, out);
+        false
     }
 
-    /// How many of `k` ticks, from `moment` on, come before anything is due; 0 if the start of the
-    /// error handler or the choice of the runner would change anything now.
-    #[tactic(auto, using(crate::proofs::Quiet::quiet_due, crate::proofs::Quiet::choice_stays))]
+    /// Whether neither the start of the error handler nor the choice of the runner would change
+    /// anything.
+    #[tactic(auto, using(crate::proofs::Quiet::choice_stays))]
+    pub(crate) fn choice_stays(&self) -> bool
+        ensures { result ≡ true → tick.chooses_with_handler self.now ≡ nothing self.now }
+    {
+        let mode = self.mode;
+        handler_stays(&self.processes, &self.errors, mode) && self.processes.choice_stays(mode)
+    }
+
+    /// How many of `k` ticks, from `moment` on, come before anything is due.
+    #[tactic(auto, using(crate::proofs::Quiet::quiet_due))]
     pub(crate) fn quiet_ticks(&self, moment: Moment, k: u32) -> u32
         ensures within { result ≤ k }
-        ensures choice { 0 < result → tick.chooses_with_handler self.now ≡ nothing self.now }
         ensures due { (i : ℕ) → i < result
             → HasNothingDue (tick_from moment.at.origin.0 (moment.at.now.0 + i)) self.now }
     {
-        let mode = self.mode;
-        if !handler_stays(&self.processes, &self.errors, mode) {
-            return 0;
-        }
-        if !self.processes.choice_stays(mode) {
-            return 0;
-        }
         self.processes.quiet_ticks(moment.at.now, k)
     }
 

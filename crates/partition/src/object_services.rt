@@ -24,8 +24,8 @@ use sync_objects::semaphores::{
 };
 use sync_objects_base::Objects;
 
-/// Serves a call on semaphores, events, buffers or blackboards, as it was requested. A service that is not served
-/// leaves its caller without an answer.
+/// Serves a call on semaphores, events, buffers or blackboards, as requested. A service that is not served
+/// leaves its caller without a reply.
 pub(crate) fn serve_objects(
     table: &mut ProcessTable,
     objects: &mut Objects,

@@ -29,6 +29,8 @@ pub struct Partition<E: Executor> {
     pub(crate) out: Out,
     /// The words that a call passes, while it is served.
     pub(crate) handed: Words,
+    /// How many more lines the ticks in hand may write.
+    pub(crate) room: usize,
 }
 
 impl<E: Executor + Drop> Partition<E> {
@@ -51,6 +53,7 @@ impl<E: Executor + Drop> Partition<E> {
             executor,
             out: Out::new(alloc)?,
             handed: Words::new(),
+            room: 0,
         })
     }
 }

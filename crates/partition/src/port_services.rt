@@ -35,8 +35,8 @@ pub(crate) fn is_on_ports(call: Call) -> bool
     }
 }
 
-/// Serves a call on ports, as it was requested. A service that is not served leaves its caller without an
-/// answer.
+/// Serves a call on ports, as requested. A service that is not served leaves its caller without a
+/// reply.
 pub(crate) fn serve_ports(
     table: &mut ProcessTable,
     ports: &mut Ports,

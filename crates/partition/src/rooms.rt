@@ -21,18 +21,18 @@ pub const LINES_TO_START_NORMALLY: u16 = 2 + MOST_PROCESSES as u16;
 /// INIT stops.
 pub const ACTIONS_TO_START_NORMALLY: u16 = 1;
 
-/// A service that sets the mode: its answer, and the normal start.
+/// A service that sets the mode: the line of its return, and the normal start.
 pub const LINES_TO_SET_MODE: u16 = 1 + LINES_TO_START_NORMALLY;
 
-/// A service that sets the mode: its answer, and the Clear.
+/// A service that sets the mode: its reply, and the Clear.
 pub const ACTIONS_TO_SET_MODE: u16 = 1 + ACTIONS_TO_CLEAR;
 
 /// A call: no call writes more lines than one that gives a message to all waiting processes, and
-/// its answer.
+/// the line of its return.
 pub const LINES_TO_SERVE: u16 = 1 + LINES_TO_GIVE_ALL;
 
 /// A call: no call has more actions than one that gives a message to all waiting processes, and its
-/// answer.
+/// reply.
 pub const ACTIONS_TO_SERVE: u16 = 1 + ACTIONS_TO_GIVE_ALL;
 
 /// What is due, with the Clear that a missed deadline leads to.

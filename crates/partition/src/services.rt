@@ -34,24 +34,25 @@ impl Kernel {
     }
 
     /// Treats the outcome of a tick of `runner`; `words` are those that a call passes.
+    #[inline(always)]
     pub(crate) fn treat(
         &mut self,
         moment: Moment,
         runner: Runner,
-        outcome: Outcome,
+        outcome: &Outcome,
         words: &Words,
         out: &mut Out,
     )
         requires room { HasRoom LINES_TO_SERVE ACTIONS_TO_SERVE out.old }
         ensures step { IsMade
-            (meaning.treats_asked moment.at self.old runner (asks_of outcome) words.now.items)
+            (meaning.treats_asked moment.at self.old runner (asks_of outcome.now) words.now.items)
             self.new out.old out.new }
         ensures grows { Grows LINES_TO_SERVE ACTIONS_TO_SERVE out.old out.new }
     {
         match outcome {
             Outcome::Busy | Outcome::Local => {}
-            Outcome::Call(call) => self.serve(moment, runner, call, words, out),
-            Outcome::Fault(error) => self.fault(runner, error, out),
+            Outcome::Call(call) => self.serve(moment, runner, *call, words, out),
+            Outcome::Fault(error) => self.fault(runner, *error, out),
             Outcome::End => self.end_body(runner, out),
         }
     }

@@ -57,7 +57,7 @@ impl Kernel {
         if self.running().is_some() {
             return 0;
         }
-        if !self.ports_rest() {
+        if !self.ports_rest() || !self.choice_stays() {
             return 0;
         }
         self.quiet_ticks(moment, k)

@@ -5,9 +5,10 @@ ghost use Rattle.apex_types.specs.declared.limits.TheConstants.{MOST_WORDS};
 ghost use Rattle.apex_types.specs.Room.{IsEmpty};
 ghost use Rattle.kernel_meaning.specs.Partition as meaning;
 ghost use Rattle.kernel_meaning.specs.Made.{IsMade};
-ghost use Rattle.partition.specs.Members.{member_of, acts_all, IsMoved, IsTold};
+ghost use Rattle.kernel_meaning.specs.Step.{nothing};
+ghost use Rattle.partition.specs.Members.{member_of, acts_all, IsMoved, IsRecorded, IsTold};
 ghost use Rattle.processor.specs.Views.{asks_of};
-ghost use Rattle.partition.specs.declared.rooms.TheConstants.{LINES_FOR_DUE, LINES_FOR_TICK, LINES_TO_CHOOSE, LINES_TO_CLEAR, LINES_TO_PREPARE, LINES_TO_SERVE};
+ghost use Rattle.partition.specs.declared.rooms.TheConstants.{LINES_FOR_DUE, LINES_TO_CHOOSE, LINES_TO_CLEAR, LINES_TO_PREPARE, LINES_TO_SERVE};
 ghost use Rattle.process_table_base.specs.declared.rooms.TheConstants.{LINES_TO_TREAT_DUE};
 
 use crate::acting::{act_all, tell};
@@ -18,7 +19,8 @@ use partition_base::Executor;
 use processor::Outcome;
 
 impl<E: Executor> Partition<E> {
-    /// Performs the actions of a step, and records its lines.
+    /// Performs the actions of a step, and records its lines. Most steps have none.
+    #[inline(always)]
     pub(crate) fn finish<L: EventLog>(
         &mut self,
         mem: &mut E::Mem,
@@ -31,16 +33,38 @@ impl<E: Executor> Partition<E> {
         ensures fits { E.laid mem.new ≡ E.layout self.new.executor }
         ensures member { member_of E.Executor self.new mem.new
             ≡ acts_all self.old.out.actions (member_of E.Executor self.old mem.old) }
-        ensures told { IsTold L.EventLog log.old log.new
+        ensures told { IsRecorded L.EventLog log.old log.new self.old.room self.new.room
             (meaning.told name moment.at self.old.out.lines) }
         ensures few { L.room log.old ≤ L.room log.new + length self.old.out.lines }
         ensures empty { IsEmpty self.new.out }
     {
-        if self.out.is_empty() {
-            return;
+        if !self.out.is_empty() {
+            self.finish_some(mem, &name, moment, log);
         }
+    }
+
+    /// Performs the actions of a step, and records its lines.
+    #[inline(never)]
+    fn finish_some<L: EventLog>(
+        &mut self,
+        mem: &mut E::Mem,
+        name: &Name,
+        moment: Moment,
+        log: &mut L,
+    )
+        requires fits { E.laid mem.old ≡ E.layout self.old.executor }
+        requires room { length self.old.out.lines ≤ L.room log.old }
+        ensures fits { E.laid mem.new ≡ E.layout self.new.executor }
+        ensures member { member_of E.Executor self.new mem.new
+            ≡ acts_all self.old.out.actions (member_of E.Executor self.old mem.old) }
+        ensures told { IsRecorded L.EventLog log.old log.new self.old.room self.new.room
+            (meaning.told name.now moment.at self.old.out.lines) }
+        ensures few { L.room log.old ≤ L.room log.new + length self.old.out.lines }
+        ensures empty { IsEmpty self.new.out }
+    {
         act_all(&mut self.kernel, &mut self.executor, mem, &self.out);
-        tell(name, moment, &self.out, log);
+        tell(*name, moment, &self.out, log);
+        self.room = self.room.saturating_sub(self.out.line_count());
         self.out.clear();
     }
 
@@ -95,7 +119,8 @@ impl<E: Executor> Partition<E> {
             (member_of E.Executor self.old mem.old).world.kernel).clears }
         ensures moved { let x = member_of E.Executor self.old mem.old in
             IsMoved (meaning.treating_phase x.engine moment.at x.world) x
-            (member_of E.Executor self.new mem.new) (IsTold L.EventLog log.old log.new) }
+            (member_of E.Executor self.new mem.new)
+            (IsRecorded L.EventLog log.old log.new self.old.room self.new.room) }
         ensures few { L.room log.old ≤ L.room log.new + LINES_TO_TREAT_DUE }
     {
         let name = self.kernel.name();
@@ -119,7 +144,8 @@ impl<E: Executor> Partition<E> {
         ensures idle { IsEmpty self.new.out }
         ensures moved { let x = member_of E.Executor self.old mem.old in
             IsMoved (meaning.clearing_phase x.engine moment.at clears x.world) x
-            (member_of E.Executor self.new mem.new) (IsTold L.EventLog log.old log.new) }
+            (member_of E.Executor self.new mem.new)
+            (IsRecorded L.EventLog log.old log.new self.old.room self.new.room) }
         ensures few { L.room log.old ≤ L.room log.new + LINES_TO_CLEAR }
     {
         if clears.is_some() {
@@ -138,15 +164,16 @@ impl<E: Executor> Partition<E> {
         ensures idle { IsEmpty self.new.out }
         ensures moved { let x = member_of E.Executor self.old mem.old in
             IsMoved (meaning.due_phase x.engine moment.at x.world) x
-            (member_of E.Executor self.new mem.new) (IsTold L.EventLog log.old log.new) }
+            (member_of E.Executor self.new mem.new)
+            (IsRecorded L.EventLog log.old log.new self.old.room self.new.room) }
         ensures few { L.room log.old ≤ L.room log.new + LINES_FOR_DUE }
     {
         let clears = self.treat(mem, moment, log);
         self.then_clear(mem, moment, clears, log);
     }
 
-    /// Chooses the runner.
-    fn choose<L: EventLog>(&mut self, mem: &mut E::Mem, moment: Moment, log: &mut L)
+    /// Chooses the runner. Returns true if the choice stays.
+    fn choose<L: EventLog>(&mut self, mem: &mut E::Mem, moment: Moment, log: &mut L) -> bool
         requires fits { E.laid mem.old ≡ E.layout self.old.executor }
         requires idle { IsEmpty self.old.out }
         requires room { LINES_TO_CHOOSE ≤ L.room log.old }
@@ -154,16 +181,25 @@ impl<E: Executor> Partition<E> {
         ensures idle { IsEmpty self.new.out }
         ensures moved { let x = member_of E.Executor self.old mem.old in
             IsMoved (meaning.choice_phase x.engine moment.at x.world) x
-            (member_of E.Executor self.new mem.new) (IsTold L.EventLog log.old log.new) }
+            (member_of E.Executor self.new mem.new)
+            (IsRecorded L.EventLog log.old log.new self.old.room self.new.room) }
         ensures few { L.room log.old ≤ L.room log.new + LINES_TO_CHOOSE }
+        ensures stays { result ≡ true
+            → meaning.chooses_with_handler self.new.kernel ≡ nothing self.new.kernel }
     {
         let name = self.kernel.name();
-        self.kernel.choose(&mut self.out);
+        let stays = self.kernel.choose(&mut self.out);
         self.finish(mem, name, moment, log);
+        stays
     }
 
-    /// Treats what is due, then chooses the runner.
-    fn prepare<L: EventLog>(&mut self, mem: &mut E::Mem, moment: Moment, log: &mut L)
+    /// Treats what is due, then chooses the runner. Returns true if the choice stays.
+    pub(crate) fn prepare<L: EventLog>(
+        &mut self,
+        mem: &mut E::Mem,
+        moment: Moment,
+        log: &mut L,
+    ) -> bool
         requires fits { E.laid mem.old ≡ E.layout self.old.executor }
         requires idle { IsEmpty self.old.out }
         requires room { LINES_TO_PREPARE ≤ L.room log.old }
@@ -171,11 +207,14 @@ impl<E: Executor> Partition<E> {
         ensures idle { IsEmpty self.new.out }
         ensures moved { let x = member_of E.Executor self.old mem.old in
             IsMoved (meaning.prepares x.engine moment.at x.world) x
-            (member_of E.Executor self.new mem.new) (IsTold L.EventLog log.old log.new) }
+            (member_of E.Executor self.new mem.new)
+            (IsRecorded L.EventLog log.old log.new self.old.room self.new.room) }
         ensures few { L.room log.old ≤ L.room log.new + LINES_TO_PREPARE }
+        ensures stays { result ≡ true
+            → meaning.chooses_with_handler self.new.kernel ≡ nothing self.new.kernel }
     {
         self.treat_due(mem, moment, log);
-        self.choose(mem, moment, log);
+        self.choose(mem, moment, log)
     }
 
     /// `runner` spends a tick; then its actions are performed.
@@ -193,7 +232,7 @@ impl<E: Executor> Partition<E> {
         let outcome = self.executor.tick(mem, runner);
         hand(&mut self.handed, &self.executor, mem, &outcome);
         let (words, out) = (&self.handed, &mut self.out);
-        self.kernel.treat(moment, runner, outcome, words, out);
+        self.kernel.treat(moment, runner, &outcome, words, out);
         self.finish(mem, name, moment, log);
     }
 
@@ -224,20 +263,6 @@ impl<E: Executor> Partition<E> {
             (IsTold L.EventLog log.old log.new) }
     {
         self.out.clear();
-        self.whole_tick(mem, moment, log);
-    }
-
-    /// The same, if no line or action of a phase remains to be done.
-    pub(crate) fn whole_tick<L: EventLog>(&mut self, mem: &mut E::Mem, moment: Moment, log: &mut L)
-        requires fits { E.laid mem.old ≡ E.layout self.old.executor }
-        requires idle { IsEmpty self.old.out }
-        requires room { LINES_FOR_TICK ≤ L.room log.old }
-        ensures fits { E.laid mem.new ≡ E.layout self.new.executor }
-        ensures idle { IsEmpty self.new.out }
-        ensures moved { let x = member_of E.Executor self.old mem.old in
-            IsMoved (meaning.advances moment.at x) x (member_of E.Executor self.new mem.new)
-            (IsTold L.EventLog log.old log.new) }
-    {
         self.prepare(mem, moment, log);
         self.spend_chosen(mem, moment, log);
     }

@@ -33,7 +33,7 @@ there (a ∷ slots) [] p s e h = absurd (omega (arith, h))
 there (a ∷ slots) (k ∷ ks) zero s e h = ap (λ (b : Slot). control_of_slot b k) (same_Some a s e)
 there (a ∷ slots) (k ∷ ks) (suc p) s e h = there slots ks p s e (omega (arith, h))
 
--- there are no controls behind the slots and behind the stacks
+-- there are no controls past the end of the slots and of the stacks
 pub none_behind : (slots : List Slot) (ks : List (List ℤ)) (p : ℕ) → length slots ≤ p → control_at (controls_from slots ks) p ≡ None
 none_behind [] ks p h = refl
 none_behind (a ∷ slots) [] p h = refl

@@ -95,7 +95,7 @@ pub trait Executor {
             (words mem.old) }
         ensures whole { is_nothing (asks_of result.outcome) ≡ true → result.ticks ≡ k };
 
-    /// Gives the answer to the runner's service call: the code, then the outputs.
+    /// Replies to the runner's service call: the code, then the outputs.
     fn reply(&mut self, mem: &mut Self::Mem, runner: Runner, answer: &[i64])
         requires { laid mem.old ≡ layout self.old }
         ensures fits { laid mem.new ≡ layout self.new }

@@ -110,7 +110,7 @@ impl Slot {
         advance(&mut self.context, memory, code, k)
     }
 
-    /// If something is left to do, gives the answer to a service call.
+    /// If something is left to do, replies to a service call.
     fn reply(&mut self, memory: &mut PartitionMem, answer: &[i64])
         ensures control { (costs : _) (code : _) (routines : _) (bodies : Runner → BodyRow)
             → control_of_slot self.new memory.new.stack
@@ -259,7 +259,7 @@ pub(crate) fn advance_at(
     }
 }
 
-/// Gives the answer to the service call of the runner at `place`.
+/// Replies to the service call of the runner at `place`.
 #[tactic(auto, using(crate::proofs::Places::views))]
 pub(crate) fn reply_at(
     slots: &mut Vec<Slot>,

@@ -19,7 +19,7 @@ enter_nowhere : (es : List Entry) (place : ℕ) (b : Sharing Ports) → port_at 
 enter_nowhere [] place b h = refl
 enter_nowhere (e ∷ es) place b h = rw h (rw (enter_nowhere es place b h) refl)
 
--- nobody enters
+-- no process enters
 pub nobody_enters : (s : Processes) (o : Ports) (place : ℕ) → length o.ports ≤ place → admits (both s o) place ≡ nothing (both s o)
 nobody_enters s o place h = enter_nowhere (waiting s (list place)) place (both s o) (past o.ports place h)
 

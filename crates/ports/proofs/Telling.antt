@@ -1,4 +1,4 @@
--- What GET_QUEUING_PORT_STATUS answers for a created port.
+-- What GET_QUEUING_PORT_STATUS returns for a created port.
 use Rattle.std.proofs.Common.{◌≡◌, ℕ, true, refl}
 use Rattle.std.specs.Prelude.{ℤ, Some}
 use Rattle.apex_types.specs.declared.codes.ReturnCode.TheVariants as code

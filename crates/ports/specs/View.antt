@@ -8,7 +8,7 @@ use Rattle.ports.specs.declared.ports.Ports.TheInside as ports
 abbrev pub port_of : port.Inside → meaning.Port
 port_of x = record { row = x.row; created = x.created; messages = x.messages.items; arrival = x.arrival; valid = x.valid; overflowed = x.overflowed }
 
--- no more messages than the port may hold, and memory for as many as it may hold; the refresh
+-- no more messages than the port may hold, and memory for that number of them; the refresh
 -- period is at most 2^40 ticks
 pub record HasRing (x : port.Inside) : Type 0 where
   pub few : length x.messages.items ≤ meaning.depth_of x.row.kind

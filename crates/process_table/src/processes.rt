@@ -134,7 +134,7 @@ pub fn stop(table: &mut ProcessTable, request: Request, id: i64, out: &mut Out)
 }
 
 /// STOP_SELF (ARINC 653 Part 1, process management), and the end of a body: the caller becomes
-/// dormant, and gets no answer. At the end of INIT this does nothing: the partition's Clear remains
+/// dormant, and gets no reply. At the end of INIT this does nothing: the partition's Clear remains
 /// to be done.
 pub fn stop_self(table: &mut ProcessTable, caller: Runner, out: &mut Out)
     requires { HasRoom 1 1 out.old }

@@ -200,13 +200,13 @@ module _ (at : At) (action : PartitionAction) (mask place count free p rest : �
           let least : place ≤ q = omega (arith, from, start) in
           subst (λ (o : Option ProcessStatus). IsQuiet at.now.0 o) (sym (treats_same (index p) q apart at free action s (row_of s (runner.Process (index p))))) (h.quiet q least (sym (f.others q other) ∙ none))
 
--- nobody has a bit: the treatment ends
+-- no process has a bit: the treatment ends
 pub none_left : (at : At) (action : PartitionAction) (place count free : ℕ) (s : Processes) → IsLeft at.now.0 0 s.rows place count → due_from at action count place free s ≡ without_clear free (nothing s)
 none_left at action place count free s h = skips_rest at action count place free s (λ q from. h.quiet q from (bit_at-zero q))
 
 -- ---- the treatment under way
 
--- After some processes were treated: the rest from `place` on, behind what was written, gives the
+-- After some processes were treated: what was written, followed by the rest from `place` on, gives the
 -- whole.
 pub record IsUnderWay (at : At) (action : PartitionAction) (mask free : ℕ) (s : Processes) (out first : Output) (whole : Treated) : Type 0 where
   pub place : ℕ

@@ -10,7 +10,7 @@ use Rattle.kernel_meaning.specs.Processes.{Processes, goes_last, row_of}
 use Rattle.kernel_meaning.specs.ProcessServices.{yields}
 use Rattle.process_table_base.specs.Yielding.{yields_in}
 
--- a record that is written back where it stood changes nothing
+-- a record that is written back to its place changes nothing
 same_rows : (rows : List ProcessStatus) (place : ℕ) (r : ProcessStatus) → slice_get rows place ≡ Some r → slice_set rows place r ≡ rows
 same_rows [] place r e = absurd cc
 same_rows (first ∷ rows) zero r e = ap (λ (x : ProcessStatus). x ∷ rows) (sym (same_Some first r e))

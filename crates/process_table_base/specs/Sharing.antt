@@ -1,4 +1,4 @@
--- What the services answer that all kinds of objects and ports have, as steps of the processes alone. Where a number is declared,
+-- What the services return that all kinds of objects and ports have, as steps of the processes only. Where a number is declared,
 -- what is found is a place, and whether the object or the port there is created.
 use Rattle.std.specs.Prelude.{ℕ, ℤ, Bool, false, not, [], ◌∷◌, Option, Some, None, is_some, if◌then◌else◌}
 use Rattle.apex_types.specs.declared.codes.Mode.{Mode}
@@ -22,7 +22,7 @@ answers_create m s p service name found =
     ∷ [])
     (answers s p service code.NoError (name ∷ []))
 
--- the place of the one that is to be created now; none where the service is refused
+-- the place of the object or port that is to be created now; none where the service is refused
 abbrev pub to_create : Mode → Option (ℕ × Bool) → Option ℕ
 to_create m None = None
 to_create m (Some f) = if is_normal m then None else if f.1 then None else Some f.0

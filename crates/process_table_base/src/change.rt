@@ -17,7 +17,7 @@ use apex_types::{
     ReturnCode, Runner, Service, Subject, Wait,
 };
 
-/// Ends a service with a code and its outputs: its line, then the answer to the process.
+/// Ends a service with a code and its outputs: its line, then the reply to the process.
 pub fn answer(
     runner: Runner,
     who: Subject,
@@ -53,6 +53,7 @@ pub fn refuse(runner: Runner, who: Subject, service: Service, code: ReturnCode, 
 }
 
 /// The outputs of a service that returns nothing.
+#[inline(always)]
 pub(crate) fn zeros(service: Service) -> &'static [i64]
     ensures zeros { result.now ≡ step.zeros service }
     ensures few { length result.now ≤ 6 }
@@ -104,6 +105,7 @@ impl ProcessTable {
     /// The runner becomes READY with this record, and goes last. A suspended process continues to
     /// wait until it is resumed.
     #[tactic(auto, using(crate::proofs::Bounds::bounds))]
+    #[inline(always)]
     pub(crate) fn wake_as(&mut self, runner: Runner, row: &ProcessStatus, out: &mut Out)
         requires runner { place_of runner < MOST_RUNNERS }
         requires bounded { IsBounded row.now }
@@ -132,6 +134,7 @@ impl ProcessTable {
     /// The runner waits with this record, until its due time if it has one. Writes no line if it
     /// waited before.
     #[tactic(auto, using(crate::proofs::Bounds::bounds))]
+    #[inline(always)]
     pub(crate) fn wait_as(
         &mut self,
         runner: Runner,
@@ -205,6 +208,7 @@ impl ProcessTable {
 
     /// Ends the service in which a process waits with these outputs, if it waits in one; then the
     /// process is ready.
+    #[inline(always)]
     pub(crate) fn release_with(
         &mut self,
         runner: Runner,

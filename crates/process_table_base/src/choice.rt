@@ -86,20 +86,23 @@ impl ProcessTable {
         are_same(self.running(), self.pick(mode, &mut reads))
     }
 
-    /// If the choice changes: the old runner becomes READY, the new one RUNNING.
-    pub fn choose(&mut self, mode: Mode, out: &mut Out)
+    /// If the choice changes: the old runner becomes READY, the new one RUNNING. Returns true if it
+    /// stays.
+    pub fn choose(&mut self, mode: Mode, out: &mut Out) -> bool
         requires { HasRoom 2 0 out.old }
         ensures step { IsMade (meaning.chooses mode self.old) self.new out.old out.new }
+        ensures stays { result ≡ true → meaning.chooses mode self.old ≡ nothing self.old }
         ensures grows { Grows 2 0 out.old out.new }
     {
         let running = self.running();
         let mut reads = 0;
         let chosen = self.pick(mode, &mut reads);
         if are_same(running, chosen) {
-            return;
+            return true;
         }
         self.leave_processor(running, out);
         self.take_processor(chosen, out);
+        false
     }
 }
 

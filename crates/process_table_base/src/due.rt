@@ -123,12 +123,11 @@ impl ProcessTable {
             self.new out.old out.new result }
         ensures grows { Grows 1 1 out.old out.new }
     {
-        if let Some(row) = self.row(Runner::Process(process)) {
-            if is_past(moment.at.now, row.deadline) {
-                return self.miss(free, action, process, &row, out);
-            }
-        }
-        Treated { free, clears: None }
+        let late = match self.look(Runner::Process(process)) {
+            Some(row) if is_past(moment.at.now, row.deadline) => *row,
+            _ => return Treated { free, clears: None },
+        };
+        self.miss(free, action, process, &late, out)
     }
 
     /// Treats one process: its due time, then its deadline.

@@ -65,6 +65,7 @@ impl ProcessTable {
     }
 
     /// Marks a process as created in its record.
+    #[inline(always)]
     pub fn create(&mut self, found: &Found)
         ensures { self.new
             ≡ meaning.put_row self.old found.now.runner (record found.now.row { created = true }) }

@@ -3,7 +3,7 @@
 //!
 //! A contract says that a call makes the step of its definition (`IsMade`), or only its lines and
 //! actions if nothing changes (`IsTold`), and how many lines and actions it adds at most (`Grows`).
-//! A call that changes a process gets the process with its record, as it was looked up ([`Found`]):
+//! A call that changes a process gets the process with the record that was looked up ([`Found`]):
 //! a service looks each record up once.
 #![tactic(auto)]
 

@@ -95,6 +95,7 @@ impl ProcessTable {
 
     /// In normal mode: releases a periodic process `delay` ticks after the partition's next release
     /// point, an aperiodic process `delay` ticks from now, in this tick if the delay is 0.
+    #[inline(always)]
     fn start_in_normal(
         &mut self,
         points: Points,

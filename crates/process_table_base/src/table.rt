@@ -204,6 +204,7 @@ impl ProcessTable {
         self.records.set_state(runner, state);
     }
 
+    #[inline(always)]
     pub(crate) fn put_ready(&mut self, runner: Runner, row: &ProcessStatus)
         requires runner { place_of runner < MOST_RUNNERS }
         requires bounded { IsBounded row.now }
@@ -231,6 +232,7 @@ impl ProcessTable {
     }
 
     /// A ready process goes after the others of this priority.
+    #[inline(always)]
     pub(crate) fn go_behind(&mut self, runner: Runner, priority: Priority)
         requires { place_of runner < MOST_RUNNERS }
         ensures { self.new
@@ -241,6 +243,7 @@ impl ProcessTable {
         }
     }
 
+    #[inline(always)]
     pub(crate) fn put_unready(&mut self, runner: Runner, row: &ProcessStatus)
         requires { IsBounded row.now }
         ensures { self.new ≡ meaning.put_unready self.old runner row.now }

@@ -37,6 +37,7 @@ fn are_same(one: Option<Ticks>, other: Option<Ticks>) -> bool
 
 /// Changes the tick of a process, or removes it.
 #[tactic(auto, using(crate::proofs::Timed::unchanged))]
+#[inline(always)]
 fn renew(list: &mut DueList, process: ProcessIndex, old: Option<Ticks>, next: Option<Ticks>)
     requires { process.0 < MOST_PROCESSES }
     ensures { (ticks : ℕ → Option ℕ) → ticks process.0 ≡ number_of old → IsExact ticks list.old

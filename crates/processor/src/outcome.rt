@@ -9,11 +9,11 @@ use apex_types::{Call, ErrorKind};
 /// The outcome of one tick of a process.
 #[derive(Clone, Copy)]
 pub enum Outcome {
-    /// The tick was only counted, or the process awaits an answer: nothing else changed.
+    /// The tick was only counted, or the process waits for a service: nothing else changed.
     Busy,
     /// An instruction had its effect, only on the process and its partition's data.
     Local,
-    /// The process calls a service, and awaits its answer.
+    /// The process calls a service, and waits for its answer.
     Call(Call),
     /// The instruction is refused with this error, and nothing changed.
     Fault(ErrorKind),

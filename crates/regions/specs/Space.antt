@@ -46,7 +46,7 @@ stored Code offset word s = s
 stored Data offset word s = put s s.stack (slice_set s.words offset word)
 stored Stack offset word s = put s (slice_set s.stack offset word) s.words
 
--- the answer to a store: nothing, or a memory violation
+-- the result of a store: nothing, or a memory violation
 abbrev pub allowed : Bool → Result (Unit {0}) ErrorKind
 allowed true = Ok tt
 allowed false = Err MemoryViolation

@@ -1,4 +1,4 @@
--- The ticks of a stretch are counted at once.
+-- The ticks of a stretch are counted in one step.
 use Rattle.std.proofs.Common.{◌≡◌, ℕ, zero, suc, ◌+◌, ◌-◌, ◌<◌, ◌≤◌, Bool, true, false, cond, ◌∷◌, ◌++◌, Option, refl, sym, ap, ◌∙◌, arith, count_by}
 use Rattle.std.specs.List.{range_with_len}
 use Rattle.std.proofs.lemmas.List.Sums.{sum_by-cons, sum_by-append}
@@ -23,7 +23,7 @@ one_more : (b : Bool) (n : ℕ) → cond b 1 0 + cond b n 0 ≡ cond b (suc n) 0
 one_more true n = omega arith
 one_more false n = refl
 
--- a test that all these ticks answer alike
+-- a test that gives the same result for all these ticks
 all_alike : (p : ℕ → Bool) (b : Bool) (a n : ℕ) → ((i : ℕ) → i < n → p (a + i) ≡ b) → count_by p (range_with_len a n) ≡ cond b n 0
 all_alike p b a zero h = none_more b 0
 all_alike p b a (suc n) h =
@@ -35,7 +35,7 @@ all_alike p b a (suc n) h =
     ∙ ap (λ v. cond b 1 0 + v) (all_alike p b (a + 1) n rest)
     ∙ one_more b n
 
--- a stretch of ticks with one owner, and those behind it
+-- a stretch of ticks with one owner, and the ticks after it
 pub ticks_of-stretch : (s : Schedule) (who owner : Option ℕ) (low n high : ℕ) → low + n ≤ high → ((i : ℕ) → i < n → owner_at s (low + i) ≡ owner)
     → ticks_of s who low high ≡ cond (is_of who owner) n 0 + ticks_of s who (low + n) high
 unfolding ticks_of

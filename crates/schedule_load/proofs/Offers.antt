@@ -80,7 +80,7 @@ in_stretch s p period k low n count owner begins same fits i below =
     ∙ ap (λ t. value + t) (ticks_of-none s (Some p) (first + period) last (omega (arith, end)))
     ∙ omega arith
 
--- so many periods fit into a stretch
+-- `count` periods fit into a stretch
 pub fit : (n period count other : ℕ) → count ≡ min (n / period) other → count * period ≤ n
 fit n period count other is =
     let less : count ≤ n / period = omega (arith, is) in

@@ -22,7 +22,7 @@ in_its_place : (frame : ℕ) (ps : List PartitionLoad) (ws : List WindowRow) (ax
 unfolding picture_of
 in_its_place frame ps ws axis bottom wide high title ea eb ew eh et = rw (et, eh, ew, eb, ea) refl
 
--- its parts, written one behind the other
+-- its parts, written one after the other
 pub put_together : (frame : ℕ) (ps : List PartitionLoad) (ws : List WindowRow) (axis : Axis) (bottom wide high : Length) (title start head contents : List ℕ)
     → axis ≡ frame_axis frame → bottom ≡ lanes_end (length ps) → wide ≡ tenths (1800 + axis.long) → high ≡ behind bottom (tenths 460) → title ≡ heading frame
     → start ≡ page_start wide high → head ≡ start ++ head_text title wide high → contents ≡ head ++ contents_text axis bottom ps ws

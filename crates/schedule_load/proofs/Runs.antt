@@ -30,7 +30,7 @@ step s begun tick n m owner is =
     ap (gaps_from s begun tick) count ∙ one_tick s begun tick (n + m)
     ∙ ap (λ o. cond (is_none o) (gaps_from s (begun + 1) (tick + 1) (n + m)) (gap_before begun tick ++ gaps_from s 0 (tick + 1) (n + m))) is
 
--- ticks that nobody owns
+-- ticks that no partition owns
 unowned : (s : Schedule) (begun tick n m : ℕ) → ((i : ℕ) → i < n → owner_at s (tick + i) ≡ None) → gaps_from s begun tick (n + m) ≡ gaps_from s (begun + n) (tick + n) m
 unowned s begun tick zero m h =
     let all : 0 + m ≡ m = omega arith in

@@ -9,6 +9,6 @@ goes_on all behind own xs i x old new whole law some read grows before =
     ap (λ (a : List _). a ++ behind (drop (i + 1) xs)) (grows ∙ ap (λ (y : _). old ++ own y ∷ []) read) ∙ append_assoc old (own (get_or xs i x) ∷ []) (behind (drop (i + 1) xs))
     ∙ ap (λ (a : List _). old ++ a) (sym (at_drop_more all xs i x some ∙ law (get_or xs i x) (drop (i + 1) xs))) ∙ before
 
--- behind the last item nothing is left
+-- after the last item, nothing is left
 pub all_made : {X A : Type 0} (all : List X → List A) (xs : List X) (i : ℕ) (made whole : List A) → all [] ≡ [] → length xs ≤ i → made ++ all (drop i xs) ≡ whole → made ≡ whole
 all_made all xs i made whole none over before = sym (append-nil made) ∙ ap (λ (a : List _). made ++ a) (sym (at_drop_all all xs i over ∙ none)) ∙ before

@@ -1,4 +1,4 @@
--- Each tick of the frame is counted once: for the partition that owns it, or as one that nobody owns.
+-- Each tick of the frame is counted once: for the partition that owns it, or as a tick without an owner.
 use Rattle.std.proofs.Common.{◌≡◌, ℕ, zero, suc, ◌+◌, ◌<◌, ◌≤◌, true, false, ◌||◌, cond, nat_lt, List, [], ◌∷◌, length, Option, Some, None, option_map, find, refl, ap, ◌∙◌, arith, inl, inr}
 use Rattle.std.specs.List.{list_any}
 use Rattle.std.proofs.lemmas.Bool.{cases_lt, eq-eqb, ne_eqb, ltb-false, or_parts}
@@ -14,7 +14,7 @@ use Rattle.schedule_load.proofs.Counts.{ticks_of-none, ticks_of-stretch}
 
 -- ---- an owner
 
--- it is none, or one of so many partitions
+-- it is none, or one of `count` partitions
 abbrev IsKnown : ℕ → Option ℕ → Type 0
 IsKnown count None = Unit {0}
 IsKnown count (Some q) = (1 ≤ q) × (q ≤ count)

@@ -30,19 +30,19 @@ share_or_none (Some share) = share_cell share
 
 -- ---- numbers
 
--- the ticks of the frame; those that partitions own, and those that nobody owns, and behind each its share
+-- the ticks of the frame; the ticks that partitions own and the ticks without an owner, each followed by its share
 unfoldable pub frame_cells : FrameLoad → List Cell
 frame_cells f =
     cell.Number f.frame ∷ cell.Number (f.frame - f.unowned) ∷ part_cell (f.frame - f.unowned) f.frame ∷ cell.Number f.unowned ∷ part_cell f.unowned f.frame ∷ []
 
--- the windows of the partition with this number; its ticks of a frame of so many, and their share; its period; and
+-- the windows of the partition with this number; its ticks in a frame of `frame` ticks, and their share; its period; and
 -- the ticks of a period: wanted, and offered at least and at most
 unfoldable pub partition_cells : (frame : ℕ) → List WindowRow → (number : ℕ) → PartitionLoad → List Cell
 partition_cells frame windows number p =
     cell.Number (windows_of number windows) ∷ cell.Number p.ticks ∷ part_cell p.ticks frame ∷ cell.Number p.period
     ∷ cell.Number p.wanted ∷ cell.Number p.least ∷ cell.Number p.most ∷ []
 
--- the first tick, the first one behind, and how many there are
+-- the first tick, the tick after the last, and how many there are
 abbrev pub stretch_cells : (from ticks : ℕ) → List Cell
 stretch_cells from ticks = cell.Number from ∷ cell.Number (from + ticks) ∷ cell.Number ticks ∷ []
 

@@ -1,4 +1,4 @@
--- The load of a schedule: the numbers of each partition, the ticks that nobody owns, and the gaps.
+-- The load of a schedule: the numbers of each partition, the ticks that no partition owns, and the gaps.
 use Rattle.std.specs.Prelude.{◌≡◌, ℕ, ◌+◌, List, [], ◌∷◌, Some, None, sum_by}
 use Rattle.kernel_meaning.specs.Windows.{Schedule}
 use Rattle.module_meaning.specs.Table.{Table, Partition}

@@ -7,13 +7,13 @@ use Rattle.kernel_meaning.specs.Windows.{Schedule, owner, tick_from}
 abbrev pub owner_at : Schedule → ℕ → Option ℕ
 owner_at s tick = owner s (tick_from 0 tick)
 
--- whether the owner is this one; no owner is that of the ticks that nobody owns
+-- whether the owner is this partition; without a partition, whether there is no owner
 abbrev pub is_of : Option ℕ → Option ℕ → Bool
 is_of (Some partition) (Some owner) = partition == owner
 is_of None None = true
 is_of _ _ = false
 
--- how many of the ticks from `low` up to `high` this partition owns; without one, how many nobody owns
+-- how many of the ticks from `low` up to `high` this partition owns; without a partition, how many have no owner
 unfoldable pub ticks_of : Schedule → Option ℕ → (low high : ℕ) → ℕ
 ticks_of s who low high = count_by (λ tick. is_of who (owner_at s tick)) (range_with_len low (high - low))
 

@@ -22,13 +22,13 @@ use Rattle.trace_stays.specs.Stays.{span}
 use Rattle.trace_stays.specs.declared.span.Span.{Span}
 use Rattle.schedule_load.specs.Report.{name_of}
 
--- ---- where things stand
+-- ---- where things are
 
 -- the time axis: all ticks of the frame
 abbrev pub frame_axis : (frame : ℕ) → Axis
 frame_axis frame = record { span = span 0 frame; long = 10200 }
 
--- the end of so many lanes, which are 28 pixels apart
+-- the end of this many lanes, which are 28 pixels apart
 abbrev pub lanes_end : (lanes : ℕ) → Length
 lanes_end lanes = behind (tenths 600) (times_of (tenths 280) lanes)
 
@@ -42,7 +42,7 @@ window_span w = span w.offset (w.offset + w.length)
 
 -- ---- lanes
 
--- the line on which the bars of a lane stand
+-- the line at the foot of the bars of a lane
 abbrev pub lane_line : Axis → (height : Length) → List ℕ
 lane_line axis height = line_tag (codes "grid") (tenths 1500) height (tenths (1500 + axis.long)) height ++ codes "/>\n"
 
@@ -57,7 +57,7 @@ lanes_text axis number (p ∷ ps) = lane_text axis (lane_top number) p.name ++ l
 
 -- ---- windows
 
--- whose it is, its first and its last tick, and how many there are
+-- its owner, its first and its last tick, and the number of ticks
 abbrev pub window_title : (name : List ℕ) → WindowRow → List ℕ
 window_title name w =
     name ++ (codes ", ticks " ++ (decimal w.offset ++ (codes " to " ++ (decimal (w.offset + w.length - 1) ++ (codes " (" ++ (decimal w.length ++ codes ")"))))))
@@ -86,7 +86,7 @@ lane_mark left top title = titled tag.Path (path_start (codes "report") REPORT.n
 abbrev pub release_mark : Axis → List PartitionLoad → WindowRow → List ℕ
 release_mark axis partitions w = lane_mark (tenths (place axis w.offset)) (lane_top w.partition.0) (release_title (name_of partitions w.partition.0) w)
 
--- a window that is none has no mark
+-- a window that is no release point has no mark
 abbrev pub release_text : Axis → List PartitionLoad → WindowRow → List ℕ
 release_text axis partitions w = if w.release then release_mark axis partitions w else []
 
@@ -125,7 +125,7 @@ legend_text bottom = window_sample (behind bottom (tenths 160)) ++ release_sampl
 abbrev pub heading : (frame : ℕ) → List ℕ
 heading frame = codes "A frame of " ++ (decimal frame ++ codes " ticks")
 
--- the page begins, so wide and so high
+-- the start of a page of this width and height
 unfoldable pub page_start : (wide high : Length) → List ℕ
 page_start wide high =
     codes "<" ++ tag_name tag.Svg
@@ -143,13 +143,13 @@ paper_text wide high =
 unfoldable pub head_text : (title : List ℕ) → (wide high : Length) → List ℕ
 head_text title wide high = worded tag.Title title ++ (style_text ++ (paper_text wide high ++ heading_text title))
 
--- what stands on the page: the lanes, the axis, the windows, the release points and the legend
+-- what is on the page: the lanes, the axis, the windows, the release points and the legend
 unfoldable pub contents_text : Axis → (bottom : Length) → List PartitionLoad → List WindowRow → List ℕ
 contents_text axis bottom partitions windows =
     lanes_text axis 1 partitions
     ++ (axis_text axis bottom ++ (windows_text axis partitions windows ++ (releases_text axis partitions windows ++ legend_text bottom)))
 
--- the picture: as wide as the axis with what stands beside it, and as high as the lanes with what stands above and below them
+-- the picture: as wide as the axis with what is next to it, and as high as the lanes with what is above and below them
 unfoldable pub picture_of : (frame : ℕ) → List PartitionLoad → List WindowRow → List ℕ
 picture_of frame partitions windows =
     let wide = tenths (1800 + (frame_axis frame).long) in

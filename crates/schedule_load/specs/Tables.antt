@@ -14,7 +14,7 @@ use Rattle.schedule_load.specs.declared.report.PartitionBodies.{PartitionBodies}
 
 -- ---- rows
 
--- a dash stands for a number that is not there
+-- a dash marks a missing number
 abbrev pub shown : List Cell → List (List ℕ)
 shown cells = map (cell_text (codes "-")) cells
 

@@ -102,7 +102,7 @@ fn heading(alloc: Global, frame: u32) -> Result<String, AllocError>
     format!(in alloc; "A frame of {frame} ticks")
 }
 
-/// A page, so wide and so high.
+/// A page of this width and height.
 #[tactic(auto, unfolding(crate::specs::Picture::page_start))]
 fn new_page(alloc: Global, wide: Length, high: Length) -> Result<Page, AllocError>
     ensures text { IfOk result (λ page. string_bytes page.text ≡ text.page_start wide high) }

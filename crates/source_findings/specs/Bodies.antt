@@ -22,26 +22,26 @@ among j declared = record j { declared = declared }
 
 -- ---- bodies
 
--- a name that is a parameter or a local, behind those before
+-- a name that is a parameter or a local, given those before it
 abbrev pub own_name : Judge → List Entry → List ℕ → State → State
 own_name j before name s = judged (new_wrong (within j before) name) s
 
--- the parameters of a procedure, behind those before
+-- the parameters of a procedure, given those before them
 abbrev pub parameters : Judge → List Entry → List (List ℕ) → Bool → State → State
 parameters j before [] first s = s
 parameters j before (name ∷ names) first s = parameters j (before ++ own_entry name ∷ []) names false (own_name j before name (comma first s))
 
--- the locals of a body, behind those before and the parameters
+-- the locals of a body, given the parameters and the locals before them
 abbrev pub locals : Judge → List Entry → List (List ℕ) → State → State
 locals j before [] s = s
 locals j before (name ∷ names) s = locals j (before ++ own_entry name ∷ []) names (step (own_name j before name (step s)))
 
--- parameters or locals behind others
+-- parameters or locals added after others
 abbrev pub with_own : List Entry → List (List ℕ) → List Entry
 with_own before [] = before
 with_own before (name ∷ names) = with_own (before ++ own_entry name ∷ []) names
 
--- a body behind its brace
+-- a body after its opening brace
 abbrev pub inside : Judge → Bool → List Entry → written.Body → State → State
 inside j returns before b s = step (block (within j (with_own before b.locals)) returns b.block (locals j before b.locals s))
 
@@ -74,7 +74,7 @@ abbrev pub words : Judge → List written.Integer → State → State
 words j [] s = s
 words j (n ∷ ns) s = words j ns (word j n s)
 
--- first values behind `=`, if there are any
+-- first values after `=`, if there are any
 abbrev pub first_value : Judge → Option written.Integer → State → State
 first_value j None s = s
 first_value j (Some n) s = word j n (step s)
@@ -88,13 +88,13 @@ abbrev pub size_wrong : ℕ → Option ℕ → Option What
 size_wrong values None = Some TooLarge
 size_wrong values (Some size) = unless (nat_le values size) (TooMany many.Values values size)
 
--- the first value of a semaphore; a maximum above 2^63 - 1 is wrong by itself
+-- the first value of a semaphore; a maximum above 2^63 - 1 has its own finding
 abbrev pub first_wrong : Option ℕ → Option ℕ → Option What
 first_wrong None maximum = Some TooLarge
 first_wrong (Some first) None = None
 first_wrong (Some first) (Some maximum) = unless (nat_le first maximum) (Outside thing.First first 0 maximum)
 
--- a procedure behind its name
+-- a procedure after its name
 abbrev pub procedure : Judge → List (List ℕ) → written.Body → State → State
 procedure j names b s =
     body j true (with_own [] names) (many_wrong j.rule many.FrameWords (procedure_frame names b) MOST_STACK_WORDS) b
@@ -114,7 +114,7 @@ buffer rule size messages s = judged (outside_wrong rule thing.Messages 1 MOST_D
 abbrev pub array : Judge → Option ℕ → List written.Integer → State → State
 array j size values s = first_values j values (step (judged (by_limit j.rule (size_wrong (length values) size)) (step s)))
 
--- what stands behind the name of a declaration that is no procedure, but for the semicolon
+-- what follows the name of a declaration that is no procedure, up to the semicolon
 abbrev pub row : Judge → written.Kind → State → State
 row j (written.Variable value) s = first_value j value s
 row j (written.Array size values) s = array j size values s
@@ -125,16 +125,16 @@ row j (written.Blackboard size) s = blackboard j.rule size s
 row j written.Port s = s
 row j (written.Procedure names b) s = s
 
--- what stands behind the name of a declaration
+-- what follows the name of a declaration
 abbrev pub kind : Judge → written.Kind → State → State
 kind j (written.Procedure names b) s = procedure j names b s
 kind j k s = step (row j k s)
 
--- a name that is declared, behind those before
+-- a name that is declared, given those before it
 abbrev pub declared_name : Judge → List Entry → List ℕ → State → State
 declared_name j before name s = judged (new_wrong (among j before) name) s
 
--- a declaration behind those before, with how many there are up to it
+-- a declaration, given those before it and how many there are up to it
 abbrev pub declaration : Judge → List Entry → Tally → written.Declaration → State → State
 declaration j before tally d s = kind j d.kind (declared_name j before d.name (judged (tally_wrong j.rule tally d.kind) s))
 
@@ -144,7 +144,7 @@ declarations j before tally (d ∷ ds) s = declarations j (before ++ declaration
 
 -- ---- processes
 
--- the words of a process before its stack, behind those before, of which it is the one of that number
+-- the words of a process before its stack, given the names before it and its number among the processes
 abbrev pub process_row : Judge → List Entry → ℕ → written.Process → State → State
 process_row j before number p s =
     signed (capacity_wrong j.rule p.capacity) p.capacity (step

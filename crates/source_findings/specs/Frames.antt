@@ -1,4 +1,4 @@
--- The words of stack that a body needs, by the program as it is written. A number beyond 64 bits stands as the greatest of 64 bits.
+-- The words of stack that a body needs, computed from the program as it is written. A number beyond 64 bits becomes the greatest of 64 bits.
 use Rattle.std.specs.Prelude.{ℕ, ◌+◌, max, min, List, [], ◌∷◌, length}
 use Rattle.apex_types.specs.ServiceShape.{answer_words, arguments_of}
 use Rattle.apex_types.specs.declared.limits.TheConstants.{MOST_LOCALS, MOST_PARAMETERS}
@@ -11,7 +11,7 @@ use Rattle.pal_meaning.specs.Syntax as written
 abbrev pub held : ℕ → ℕ
 held number = min number 18446744073709551615
 
--- the most operands that wait at once
+-- the greatest number of operands that wait at the same time
 abbrev mutual
   pub expr_operands : written.Expr → ℕ
   expr_operands (written.Number value) = 1
@@ -26,12 +26,12 @@ abbrev mutual
   links_operands written.NoLink = 0
   links_operands (written.MoreLinks operator operand rest) = max (1 + expr_operands operand) (links_operands rest)
 
-  -- an argument waits while those behind it are evaluated
+  -- an argument waits while those after it are evaluated
   pub exprs_operands : written.Exprs → ℕ
   exprs_operands written.NoExpr = 0
   exprs_operands (written.MoreExprs first rest) = max (expr_operands first) (1 + exprs_operands rest)
 
--- an argument of a service before those behind it: an array is two operands, its place and its size, and another name one
+-- an argument of a service, given the operands of those after it: an array is two operands, its place and its size; any other name is one
 abbrev pub argument_operands : ArgumentKind → written.Expr → ℕ → ℕ
 argument_operands argument.Word e rest = max (expr_operands e) (1 + rest)
 argument_operands argument.Array e rest = max 1 (1 + max 1 (1 + rest))

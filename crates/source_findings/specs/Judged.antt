@@ -22,7 +22,7 @@ pub record Judge : Type 0 where
   pub declared : List Entry
   pub own : List Entry
 
--- what a name stands for in the body
+-- what a name means in the body
 abbrev pub meant : Judge → List ℕ → Role
 meant j name = or_else (role_of name j.own) (role_of name j.declared)
 
@@ -116,7 +116,7 @@ many_wrong rule thing number most = by_limit rule (unless (nat_le number most) (
 abbrev pub small : ℕ → ℕ → Option What
 small words stack = unless (nat_le words stack) (Frame words stack)
 
--- the frame of a body beside its stack; a stack above 2^63 - 1 is wrong by itself
+-- the frame of a body compared with its stack; a stack above 2^63 - 1 has its own finding
 abbrev pub frame_wrong : Refusal → ℕ → Option ℕ → Option What
 frame_wrong rule words None = None
 frame_wrong rule words (Some stack) = by_limit rule (small words stack)

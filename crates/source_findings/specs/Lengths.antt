@@ -10,14 +10,14 @@ use Rattle.source_findings.specs.Frames.{held}
 use Rattle.source_findings.specs.What.{Instructions, Wrong}
 use Rattle.source_findings.specs.Words.{first_word, next_word}
 
--- The bodies of a program stand in the order in which `mb cost` lists them, each with its instructions.
+-- The bodies of a program are in the order in which `mb cost` lists them, each with its number of instructions.
 
--- the first body that has more instructions than those before it leave of so many
+-- the first body that has more instructions than the bodies before it leave of `most`
 abbrev pub passing : ℕ → List BodyCost → Option BodyCost
 passing most [] = None
 passing most (b ∷ bs) = if nat_lt most b.instructions then Some b else passing (most - b.instructions) bs
 
--- the instructions of all bodies; a number beyond 64 bits stands as the greatest of 64 bits
+-- the instructions of all bodies; a number beyond 64 bits becomes the greatest of 64 bits
 abbrev pub all_instructions : List BodyCost → ℕ
 all_instructions [] = 0
 all_instructions (b ∷ bs) = held (b.instructions + all_instructions bs)
@@ -27,7 +27,7 @@ all_instructions (b ∷ bs) = held (b.instructions + all_instructions bs)
 abbrev pub is_word : List ℕ → List ℕ → Bool
 is_word word text = same (first_word text) word
 
--- a word, and the name that stands behind it
+-- a word, and the name that follows it
 abbrev pub is_named : List ℕ → List ℕ → List ℕ → Bool
 is_named word name text = is_word word text && is_word name (next_word text)
 
@@ -38,7 +38,7 @@ begins body.Handler text = is_word (codes "handler") text
 begins (body.Process name) text = is_named (codes "process") name text
 begins (body.Procedure name) text = is_named (codes "proc") name text
 
--- a text from the first word on at which this body begins; no more than so many words are passed over
+-- a text from the first word at which this body begins; at most this many words are skipped
 unfoldable pub from_body : ℕ → BodyName → List ℕ → List ℕ
 from_body zero name text = text
 from_body (suc n) name text = if begins name text then text else from_body n name (next_word text)

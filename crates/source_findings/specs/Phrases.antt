@@ -73,7 +73,7 @@ noun_text many.Procedures = codes " procedures"
 noun_text many.Processes = codes " processes"
 noun_text many.FrameWords = codes " words"
 
--- so many of something
+-- this number of something
 abbrev pub counted_text : ℕ → List ℕ → List ℕ → List ℕ
 counted_text number one several = decimal number ++ (if number == 1 then one else several)
 
@@ -133,7 +133,7 @@ instructions_text number here = codes "the program has " ++ (decimal number ++ (
 abbrev pub no_name_text : Role → List ℕ
 no_name_text wanted = codes "an expression stands where the name of " ++ (role_text wanted ++ codes " is wanted")
 
--- what is said without a name or a number of its own
+-- what is said without a name or a number of the finding
 abbrev pub plain : What → List ℕ
 plain Return = codes "a `return` stands outside a procedure"
 plain TooLarge = codes "the number is above 9223372036854775807"
@@ -212,7 +212,7 @@ abbrev pub many_advice : Many → ℕ → List ℕ
 many_advice many.FrameWords most = codes "Give it fewer locals and operands."
 many_advice thing most = most_advice most
 
--- what is advised without a name or a number of its own
+-- what is advised without a name or a number of the finding
 abbrev pub plain_advice : What → List ℕ
 plain_advice (NoAscii byte) = codes "Write it with ASCII characters alone, also in a comment."
 plain_advice (Again name) = codes "Give it a name of its own."

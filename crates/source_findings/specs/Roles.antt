@@ -1,4 +1,4 @@
--- What the names of a program stand for.
+-- What the names of a program mean.
 use Rattle.std.specs.Prelude.{ℕ, Bool, true, false, nat_eq, if◌then◌else◌, List, [], ◌∷◌, ◌++◌, length, map}
 use Rattle.apex_types.specs.declared.denotation.ObjectKind.TheVariants as object
 use Rattle.engine_meaning.specs.Digits.{same}
@@ -7,12 +7,12 @@ use Rattle.pal_meaning.specs.WellFormed.{is_same_kind}
 use Rattle.source_findings.specs.declared.roles.Role.{Role}
 use Rattle.source_findings.specs.declared.roles.Role.TheVariants as role
 
--- a name and what it stands for
+-- a name and what it means
 pub record Entry : Type 0 where
   pub name : List ℕ
   pub role : Role
 
--- what a name stands for, by the first entry that has it
+-- what a name means, by the first entry that has it
 abbrev pub role_of : List ℕ → List Entry → Role
 role_of name [] = role.Nothing
 role_of name (e ∷ es) = if same e.name name then e.role else role_of name es
@@ -25,7 +25,7 @@ abbrev pub is_nothing : Role → Bool
 is_nothing role.Nothing = true
 is_nothing found = false
 
--- what stands for one thing may stand where another is wanted
+-- a name of the first role fits where the second is wanted
 abbrev pub fits : Role → Role → Bool
 fits role.Variable role.Variable = true
 fits role.Array role.Array = true

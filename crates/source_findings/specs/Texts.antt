@@ -10,7 +10,7 @@ is_above byte = nat_lt 127 byte
 abbrev pub stray : Bool → ℕ → Option What
 stray before byte = if not before && is_above byte then Some (NoAscii byte) else None
 
--- each of these bytes in the rest of a text, behind what was found
+-- each of these bytes in the rest of a text, added to what was found
 abbrev pub strays : Bool → List ℕ → List Wrong → List Wrong
 strays before [] found = found
 strays before (byte ∷ bytes) found = strays (is_above byte) bytes (noted (stray before byte) (record { text = byte ∷ bytes; found = found })).found

@@ -18,7 +18,7 @@ after_word [] left unclosed = unclosed
 after_word (byte ∷ bytes) left unclosed =
     if byte == 123 then unclosed ++ left ∷ [] else if byte == 125 then take (length unclosed - 1) unclosed else unclosed
 
--- the braces that are open behind so many words of the rest of a text, by the bytes that are left from each on
+-- the braces that are open after this many words of the rest of a text, each given by the bytes that are left from it on
 unfoldable pub open_braces : ℕ → List ℕ → List ℕ → List ℕ
 open_braces zero text unclosed = unclosed
 open_braces (suc n) text unclosed = open_braces n (next_word text) (after_word text (length text) unclosed)
@@ -26,13 +26,13 @@ open_braces (suc n) text unclosed = open_braces n (next_word text) (after_word t
 abbrev pub last_of : List ℕ → Option ℕ
 last_of unclosed = slice_get unclosed (length unclosed - 1)
 
--- the innermost brace that is open behind so many words
+-- the innermost brace that is open after this many words
 abbrev pub open_brace : List ℕ → ℕ → Option ℕ
 open_brace text place = last_of (open_braces place (from_word 0 text) [])
 
 -- ---- what is said
 
--- what stands at the place where the grammar is left
+-- what is at the place where the text leaves the grammar
 abbrev pub unfit_said : List ℕ → Bool → List ℕ → List ℕ
 unfit_said [] is_too_deep wanted = codes "the text ends where " ++ (wanted ++ codes " is wanted")
 unfit_said (byte ∷ bytes) is_too_deep wanted =

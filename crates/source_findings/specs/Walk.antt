@@ -14,19 +14,19 @@ use Rattle.source_findings.specs.declared.finding.Thing.TheVariants as thing
 use Rattle.source_findings.specs.declared.roles.Role.{Role}
 use Rattle.source_findings.specs.declared.roles.Role.TheVariants as role
 
--- behind a comma, but none before the first
+-- after a comma; there is none before the first
 abbrev pub comma : Bool → State → State
 comma true s = s
 comma false s = step s
 
--- a name that is used, and what is wanted there; and behind it
+-- a name that is used, and what is wanted there; and the state after it
 abbrev pub used_here : Judge → Role → List ℕ → State → State
 used_here j wanted name s = noted (name_wrong j name wanted) s
 
 abbrev pub used : Judge → Role → List ℕ → State → State
 used j wanted name s = step (used_here j wanted name s)
 
--- behind an expression
+-- after an expression
 abbrev mutual
   pub expr : Judge → written.Expr → State → State
   expr j (written.Number value) s = judged (number_wrong j.rule value) s
@@ -45,11 +45,11 @@ abbrev mutual
   exprs j written.NoExpr first s = s
   exprs j (written.MoreExprs e es) first s = exprs j es false (expr j e (comma first s))
 
--- behind a name, and an expression in brackets
+-- after a name and an expression in brackets
 abbrev pub element : Judge → List ℕ → written.Expr → State → State
 element j array index s = step (expr j index (step (used j role.Array array s)))
 
--- behind the name of a procedure, and its arguments
+-- after the name of a procedure and its arguments
 abbrev pub apply : Judge → List ℕ → written.Exprs → State → State
 apply j procedure arguments s = step (exprs j arguments true (step (used j (role.Procedure (expr_count arguments)) procedure s)))
 
@@ -73,7 +73,7 @@ all_given j ks written.NoExpr first s = s
 all_given j [] (written.MoreExprs e es) first s = all_given j [] es false (expr j e (comma first s))
 all_given j (k ∷ ks) (written.MoreExprs e es) first s = all_given j ks es false (given j k e (comma first s))
 
--- the targets of a service, each behind an arrow or a comma
+-- the targets of a service, each after an arrow or a comma
 abbrev pub targets : Judge → List (List ℕ) → State → State
 targets j [] s = s
 targets j (name ∷ names) s = targets j names (used j role.Variable name (step s))
@@ -90,7 +90,7 @@ service_call j service es names s =
 abbrev pub work : Refusal → Option ℕ → State → State
 work rule ticks s = judged (outside_wrong rule thing.Work 1 MOST_WORK_TICKS ticks) (step s)
 
--- behind a statement, but for the semicolon or the brace that ends it; whether a body may return is whether it is a procedure's
+-- after a statement, before the semicolon or the brace that ends it; only the body of a procedure may return
 abbrev mutual
   pub stmt : Judge → Bool → written.Stmt → State → State
   stmt j returns (written.Assign target value) s = expr j value (step (used j role.Variable target s))
@@ -106,10 +106,10 @@ abbrev mutual
   block j returns written.NoStmt s = s
   block j returns (written.MoreStmts first rest) s = block j returns rest (step (stmt j returns first s))
 
--- behind `if` or `while`, a test and an opening brace
+-- after `if` or `while`, a test and an opening brace
 abbrev pub tested : Judge → written.Expr → State → State
 tested j test s = step (expr j test (step s))
 
--- behind the brace that closes a branch, `else`, and the statements in braces, but for the closing brace
+-- after the brace that closes a branch, `else`, and the statements in braces, before the closing brace
 abbrev pub otherwise : Judge → Bool → written.Block → State → State
 otherwise j returns inside s = block j returns inside (step (step (step s)))

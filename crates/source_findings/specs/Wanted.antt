@@ -36,13 +36,13 @@ is_same kind other = bytes_eq (word_phrase kind) (word_phrase other)
 abbrev pub is_among : WordKind → List WordKind → Bool
 is_among kind kinds = list_any (is_same kind) kinds
 
--- a word of this kind could stand at the place, with one more level if need be
+-- a word of this kind could fit at the place, with one more level if need be
 abbrev pub could_stand : LookedFor → WordKind → Bool
 could_stand place kind = is_among kind place.words.items || is_among kind place.deeper.items
 
 -- ---- what is said of them
 
--- A part of what is said, and the kind of word that tells it. `var` tells that a declaration fits, `work` a statement, `not` an
+-- A part of what is said, and the kind of word that shows it. `var` shows that a declaration fits, `work` a statement, `not` an
 -- expression and `or` an operator.
 pub record Part : Type 0 where
   pub said : List ℕ
@@ -66,7 +66,7 @@ expression = record { said = codes "an expression"; told_by = kind.Mark mark.Not
 abbrev pub operator : Part
 operator = record { said = codes "an operator"; told_by = kind.Mark mark.Or }
 
--- parts, one behind another, with `or` before the last
+-- parts, one after another, with `or` before the last
 abbrev pub or_more : List Part → List ℕ
 or_more [] = []
 or_more (last ∷ []) = codes " or " ++ last.said
@@ -113,7 +113,7 @@ abbrev pub first_phrase : List WordKind → List ℕ
 first_phrase [] = codes "a text of the grammar"
 first_phrase (kind ∷ kinds) = word_phrase kind
 
--- what is said of the first choice of which all words could stand at the place, or else of the first word that may
+-- what is said of the first choice whose words could all fit at the place, or else of the first word that may
 abbrev pub first_said : LookedFor → List Choice → List ℕ
 first_said place [] = first_phrase place.words.items
 first_said place (choice ∷ others) = if list_all (could_stand place) choice.told_by then choice.said else first_said place others
@@ -127,7 +127,7 @@ abbrev pub is_spelled : List ℕ → WordKind → Bool
 is_spelled text (kind.Mark mark) = bytes_eq (mark_text mark) text
 is_spelled text kind = false
 
--- the word that is written so may stand there
+-- the word with this spelling fits there
 abbrev pub may_stand : List WordKind → List ℕ → Bool
 may_stand kinds text = list_any (is_spelled text) kinds
 
@@ -141,10 +141,10 @@ service_words = map service_word services
 abbrev pub service_names : List WordKind → List (List ℕ)
 service_names kinds = if is_among kind.Service kinds then service_words else []
 
--- those that may stand where these kinds fit
+-- the words that may be written where these kinds fit
 abbrev pub candidates : List WordKind → List (List ℕ)
 candidates kinds = filter (may_stand kinds) small_words ++ service_names kinds
 
--- the one that is nearest to the word which stands there
+-- the candidate that is nearest to the word at the place
 abbrev pub suggested : List ℕ → LookedFor → Option (List ℕ)
 suggested text place = nearest (first_word (from_word place.place text)) (candidates place.words.items)

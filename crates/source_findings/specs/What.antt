@@ -9,17 +9,17 @@ use Rattle.source_findings.specs.declared.roles.Role.{Role}
 pub data What : Type 0 where
   -- a byte that is not ASCII
   NoAscii : (byte : ℕ) → What
-  -- more bytes than a source may have stand from here on
+  -- the bytes from here on are more than a source may have
   TooLong : What
   -- the name is not declared; the nearest one that is may be known
   Unknown : (name : List ℕ) (near : Option (List ℕ)) → What
   -- the name is declared before
   Again : (name : List ℕ) → What
-  -- the name stands for something else than what is wanted
+  -- the name means something other than what is wanted
   Other : (name : List ℕ) (found wanted : Role) → What
-  -- an expression stands where the name of this is wanted
+  -- there is an expression where the name of this is wanted
   NoName : (wanted : Role) → What
-  -- a service is given so many arguments or targets
+  -- a service is given this many arguments or targets
   Arguments : (service : Service) (given : ℕ) → What
   Targets : (service : Service) (given : ℕ) → What
   -- a `return` outside a procedure
@@ -32,13 +32,13 @@ pub data What : Type 0 where
   Outside : (thing : Thing) (number low high : ℕ) → What
   -- the number is neither -1 nor a number of ticks
   NoTime : (thing : Thing) (negative : Bool) (number : ℕ) → What
-  -- there are so many, and more than there may be
+  -- there are this many, and more than there may be
   TooMany : (thing : Many) (number most : ℕ) → What
   -- the frame of a body is larger than its stack
   Frame : (words stack : ℕ) → What
   -- the period of a process is no multiple of that of the partition
   Odd : (period partition : ℕ) → What
-  -- the program has so many instructions, and so many of them in this body
+  -- the program has `number` instructions, and `here` of them are in this body
   Instructions : (number here : ℕ) → What
 
 -- what is wrong, and how many bytes are left at the place where it is
@@ -55,7 +55,7 @@ pub record State : Type 0 where
 abbrev pub MOST_FINDINGS : ℕ
 MOST_FINDINGS = 20
 
--- behind the next word
+-- after the next word
 abbrev pub step : State → State
 step s = record { text = next_word s.text; found = s.found }
 
@@ -67,6 +67,6 @@ pushed (Some what) s = record { text = s.text; found = s.found ++ record { left 
 abbrev pub noted : Option What → State → State
 noted what s = if nat_lt (length s.found) MOST_FINDINGS then pushed what s else s
 
--- behind the next word, at which something may be wrong
+-- after the next word, at which something may be wrong
 abbrev pub judged : Option What → State → State
 judged what s = step (noted what s)

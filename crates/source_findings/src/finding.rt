@@ -56,7 +56,7 @@ pub enum What<'a> {
     },
     /// The name is declared before.
     Again(&'a str),
-    /// The name stands for something else than what is wanted.
+    /// The name means something other than what is wanted.
     Other {
         name: &'a str,
         found: Role,

@@ -16,7 +16,7 @@ use pal_base::fault::Refusal;
 use pal_base::syntax::{Natural, Numeral};
 use std::alloc::{AllocError, Global};
 
-/// The rule that is asked for, the period of the partition, and what the names of a body stand for:
+/// The rule that is asked for, the period of the partition, and what the names of a body mean:
 /// those that are declared, and its parameters and locals.
 #[derive(Clone, Copy)]
 pub struct Judge<'s, 'a> {
@@ -28,7 +28,7 @@ pub struct Judge<'s, 'a> {
     pub own: &'s [Entry<'a>],
 }
 
-/// What a name stands for in the body.
+/// What a name means in the body.
 fn meant(judge: &Judge<'_, '_>, name: &str) -> Role
     ensures { result ≡ spec.meant (judge_of judge.now) name.now }
 {
@@ -99,7 +99,7 @@ fn add_names<'a>(names: &mut Vec<&'a str>, entries: &[Entry<'a>]) -> Result<(), 
     Ok(())
 }
 
-/// That a name stands for something else than what is wanted.
+/// That a name means something other than what is wanted.
 fn other<'a>(judge: &Judge<'_, 'a>, name: &'a str, wanted: Role) -> Option<What<'a>>
     ensures { option_map what_of result ≡ spec.other (judge_of judge.now) name.now wanted }
 {

@@ -1,4 +1,4 @@
-//! What the names of a program stand for.
+//! What the names of a program mean.
 
 ghost use Rattle.std.specs.Prelude.{◌≡◌, ◌++◌, List, ℕ, map, IfOk, OnOk};
 ghost use Rattle.pal_base.specs.View.{declared_of, name_of, texts};
@@ -13,7 +13,7 @@ use indexmap::IndexSet;
 use pal_base::syntax::{Declaration, DeclarationKind, Identifier, Process, Program};
 use std::alloc::{AllocError, Global};
 
-/// What a name stands for.
+/// What a name means.
 #[derive(Clone, Copy)]
 pub enum Role {
     /// It is not declared.
@@ -27,7 +27,7 @@ pub enum Role {
     Object(ObjectKind),
 }
 
-/// A name and what it stands for.
+/// A name and what it means.
 #[derive(Clone, Copy)]
 pub struct Entry<'a> {
     pub name: &'a str,
@@ -44,7 +44,7 @@ pub fn text_of(names: &IndexSet<String>, name: Identifier) -> &str
     }
 }
 
-/// What a name stands for, by the first entry that has it.
+/// What a name means, by the first entry that has it.
 #[tactic(auto, using(std::proofs::lemmas::List::drop_more))]
 pub fn role_of(name: &str, entries: &[Entry<'_>]) -> Role
     ensures { result ≡ spec.role_of name.now (entries_of entries.now) }

@@ -17,6 +17,6 @@ abbrev pub HoldsFrom : (List ℕ → Bool) → Option Contents → List ℕ → 
 HoldsFrom suffices None name bytes = Unit {0}
 HoldsFrom suffices (Some files) name bytes = (text : List ℕ) × (files name ≡ Some text) × IsBeginningOf suffices text bytes
 
--- what was consumed stands behind the bytes that were read before
+-- what was consumed follows the bytes that were read before
 abbrev pub IsPiece : Option (List ℕ) → Option (List ℕ) → List ℕ → List ℕ → Type 0
 IsPiece old new before after = (more : List ℕ) × (after ≡ before ++ more) × Consumes old new more

@@ -15,7 +15,7 @@ HoldAll files [] [] = Unit {0}
 HoldAll files (name ∷ names) (text ∷ texts) = Holds files name text × HoldAll files names texts
 HoldAll files _ _ = ⊥
 
--- every file except that of this name is as it was
+-- every file except that of this name is unchanged
 abbrev pub Spares : List ℕ → Option Contents → Option Contents → Type 0
 Spares name None new = Unit {0}
 Spares name (Some old) None = ⊥

@@ -23,7 +23,7 @@ event_fields e = record { created = e.created; up = e.up }
 abbrev pub buffer_of : buffer.Inside → meaning.Buffer
 buffer_of b = record { row = b.row; created = b.created; messages = b.messages.items }
 
--- no more messages than there may be, and memory for as many as there may be
+-- no more messages than there may be, and memory for that number of them
 pub record HasRing (b : buffer.Inside) : Type 0 where
   pub few : length b.messages.items ≤ b.row.depth
   pub room : b.row.depth ≤ b.messages.capacity

@@ -1,4 +1,4 @@
--- A loop that adds findings: those of the rest, behind those that it has added, are all of them.
+-- A loop that adds findings: those that it has added, followed by those of the rest, are all of them.
 use Rattle.std.proofs.Common.{◌≡◌, ℕ, ◌+◌, ◌<◌, ◌≤◌, List, [], ◌∷◌, ◌++◌, length, drop, get_or, length-drop, refl, sym, ap, ◌∙◌, arith}
 use Rattle.std.proofs.lemmas.List.{append_assoc, append-nil, drop_more, nil_from_length}
 use Rattle.std.proofs.Common.{take, OnOk, Result}
@@ -38,6 +38,6 @@ pub is_one : (words : List (List ℕ)) (text : List ℕ) → list_any (same text
 is_one [] text = refl
 is_one (word ∷ words) text = ap (λ (b : Bool). same text word || b) (is_one words text)
 
--- the last of two calls adds its own behind those of the first
+-- the second of two calls adds its own after those of the first
 pub two_add : {A T E : Type 0} (r : Result T E) (old mid new first last : List A) → mid ≡ old ++ first → OnOk r (new ≡ mid ++ last) → OnOk r (new ≡ old ++ (first ++ last))
 two_add r old mid new first last before after = IfOk-equal r new (mid ++ last) (old ++ (first ++ last)) after (ap (λ (xs : List _). xs ++ last) before ∙ append_assoc old first last)

@@ -39,7 +39,7 @@ is_same_kind (Queuing depth discipline) other = is_queuing other
 
 -- ---- one end
 
--- an end as it stands in the table: what it is, the key there if it is a source, and its text
+-- an end as it is written in the table: what it is, the key there if it is a source, and its text
 pub record End : Type 0 where
   pub subject : Subject
   pub key : Option (List ℕ)
@@ -82,7 +82,7 @@ abbrev pub itself : List PartitionText → Option (ℕ × PortText) → End → 
 itself ps None e = []
 itself ps (Some s) e = elim (port_at ps e.text) [ None ↦ [] | Some p ↦ if s.0 == p.0 then one_at e SamePartition else [] ]
 
--- `DEVICE` behind another `DEVICE` of the channel
+-- `DEVICE` after another `DEVICE` of the channel
 abbrev pub device_twice : Bool → End → List Finding
 device_twice before e = if before && is_device e.text then one_at e DeviceTwice else []
 
@@ -93,7 +93,7 @@ destination ps c before e =
     direction ps false e
     ++ (mixed ps (first_port_of ps c) e ++ (itself ps (port_at ps c.source) e ++ device_twice before e))
 
--- the destinations from a place on; `before` says whether `DEVICE` stands before them
+-- the destinations from a place on; `before` says whether `DEVICE` comes before them
 abbrev pub destinations_from : List PartitionText → ChannelText → Row → Bool → ℕ → List (List ℕ) → List Finding
 destinations_from ps c row before i [] = []
 destinations_from ps c row before i (d ∷ ds) = destination ps c before (destination_end row i d) ++ destinations_from ps c row (before || is_device d) (i + 1) ds

@@ -37,7 +37,7 @@ pub data What : Type 0 where
   DeviceTwice : What
   -- a channel of queuing ports has this number of destinations
   SplitQueue : ℕ → What
-  -- the text stands at another end before
+  -- the text is also that of an earlier end
   PortTwice : List ℕ → What
   -- a window begins before the end of the one before it, or ends past the frame
   Overlaps : (begin before : ℤ) → What

@@ -9,7 +9,7 @@ use Rattle.table_findings.specs.Schedule.{window_at}
 use Rattle.table_findings.specs.Shape.{one}
 use Rattle.table_findings.specs.Subjects.{Row, Subject, Channel, Destination, Partition, Port}
 
--- ---- names that stand twice
+-- ---- names that appear twice
 
 -- a list of rows that differ in name
 pub data Named : Type 0 where

@@ -145,7 +145,7 @@ finding_text f = what_text f.key f.subject f.what
 
 -- ---- what to do
 
--- words, each behind a comma
+-- words, each after a comma
 abbrev pub others : List (List ℕ) → List ℕ
 others words = flat_map (λ word. codes ", " ++ quoted word) words
 

@@ -65,7 +65,7 @@ costs ms = elim (table_at (codes "cost") ms) [ None ↦ [] | Some table ↦ of_p
 
 -- ---- partitions
 
--- the values of a health table have to be texts; which keys and words stand there is asked by the last rule
+-- the values of a health table have to be texts; the last rule checks which keys and words are there
 abbrev pub health_members : Subject → Members → List Finding
 health_members subject no_members = []
 health_members subject (member key d ms) = of_type subject (Some key) (codes "string") d ++ health_members subject ms

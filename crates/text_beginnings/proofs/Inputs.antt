@@ -14,7 +14,7 @@ use Rattle.module_meaning.specs.Table.{Partition, Channel}
 use Rattle.text_beginnings.specs.Settled.{is_control, settles_inputs}
 use Rattle.text_beginnings.proofs.Stained.{is_stained, either, no_device_line, no_replay_line, no_control_line_feed, piece_next, behind_next, piece_ends, behind_ends}
 
--- the text behind a beginning `acc` of a line, in pieces
+-- the text after a beginning `acc` of a line, in pieces
 abbrev lines_behind : List ℕ → List ℕ → List (List ℕ)
 lines_behind acc bs = (acc ++ piece 10 bs) ∷ pieces_behind_marks 10 bs
 

@@ -11,7 +11,7 @@ use Rattle.text_beginnings.specs.Settled.{is_stray}
 abbrev pub has_stray : List ℕ → Bool
 has_stray text = list_any is_stray text
 
--- these bytes and the rest behind what was passed over both have one, or neither has
+-- these bytes and the rest after what was passed over both have one, or neither has
 abbrev pub Passed : {A : Type 0} → List ℕ → A × List ℕ → Type 0
 Passed text p = has_stray text ≡ has_stray p.1
 
@@ -104,13 +104,13 @@ pass_all p fine (suc n) (b ∷ bs) h =
     let parts = and_parts (p b) (list_all p (take n bs)) h in
     ap (λ t. t || has_stray bs) (fine b parts.0) ∙ pass_all p fine n bs parts.1
 
--- ---- readers behind one another
+-- ---- readers one after another
 
 pub either_so : {A : Type 0} (P : A → Type 0) (b : Bool) (x y : Option A) → (b ≡ true → IfSome x P) → (b ≡ false → IfSome y P) → IfSome (cond b x y) P
 either_so P true x y h k = h refl
 either_so P false x y h k = k refl
 
--- behind bytes that were passed over
+-- after bytes that were passed over
 pub behind : {A : Type 0} (text rest : List ℕ) (r : Read A) → has_stray text ≡ has_stray rest → Passes rest r → Passes text r
 behind text rest None e h = tt
 behind text rest (Some p) e h = e ∙ h

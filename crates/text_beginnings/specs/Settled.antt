@@ -7,23 +7,23 @@ use Rattle.apex_types.specs.declared.limits.TheConstants.{MOST_SOURCE_BYTES}
 use Rattle.apex_types.specs.declared.version.TheConstants.{FIRST_VERSION, SECOND_VERSION, THIRD_VERSION}
 use Rattle.machine_meaning.specs.Image.{magic}
 
--- a control character, which stands in no line of a device or replay text
+-- a control character, which appears in no line of a device or replay text
 abbrev pub is_control : ℕ → Bool
 is_control b = nat_lt b 32 && not (b == 10)
 
--- a device or replay text with a byte that stands in no line
+-- a device or replay text with a byte that appears in no line
 abbrev pub settles_inputs : List ℕ → Bool
 settles_inputs bytes = list_any is_control bytes
 
--- a control character that stands in no TOML document: any but tab, line feed and carriage return
+-- a control character that appears in no TOML document: any but tab, line feed and carriage return
 abbrev pub is_stray : ℕ → Bool
 is_stray b = (nat_lt b 32 && not ((b == 9 || b == 10) || b == 13)) || b == 127
 
--- a table with a byte that stands in no TOML document
+-- a table with a byte that appears in no TOML document
 abbrev pub settles_table : List ℕ → Bool
 settles_table bytes = list_any is_stray bytes
 
--- how many bytes of a table there are up to the first that stands in no TOML document, with it
+-- how many bytes of a table there are up to the first that appears in no TOML document, including it
 abbrev pub table_end : List ℕ → ℕ
 table_end [] = 0
 table_end (b ∷ bs) = if is_stray b then 1 else 1 + table_end bs

@@ -12,7 +12,7 @@ use Rattle.module_meaning.specs.DeviceText.{pieces, pieces_behind_marks}
 abbrev pub is_free : ℕ → List ℕ → Bool
 is_free mark bs = list_all (λ b. not (b == mark)) bs
 
--- a byte behind the space: neither a space nor a line feed
+-- a byte above the space: neither a space nor a line feed
 abbrev pub is_ink : ℕ → Bool
 is_ink b = nat_lt space b
 

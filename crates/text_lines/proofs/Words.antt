@@ -1,4 +1,4 @@
--- Decimals: a plain number is the decimal of its value, a word that of its own, and words are found again in their pieces.
+-- Decimals: a plain number is the decimal of its value, a word the signed decimal of its value, and words are found again in their pieces.
 use Rattle.std.proofs.Common.{◌≡◌, ℕ, zero, suc, ℤ, pos, negsuc, ◌+◌, ◌-◌, ◌*◌, ◌^◌, ◌<◌, ◌≤◌, Bool, true, false, cond, List, [], ◌∷◌, length, map, get_or, Option, Some, None, refl, sym, ap, subst, ◌∙◌, arith, rules, lit<}
 use Rattle.std.specs.Prelude.{fold, not, nat_le, ◌&&◌, ◌==◌, FitsSigned}
 use Rattle.std.specs.Fmt.{decimal, signed_decimal}
@@ -146,7 +146,7 @@ pub words_ink : (ws : List ℤ) → AreWords ws → AreInk (map signed_decimal w
 words_ink [] good = refl
 words_ink (w ∷ ws) good = and_from (list_all is_ink (signed_decimal w)) (list_all (list_all is_ink) (map signed_decimal ws)) (word_ink w good.0) (words_ink ws good.1)
 
--- the words from here are the next one and those behind it
+-- the words from here are the next one and those after it
 pub next_word : (text front : List ℕ) (more : Option (List ℕ)) (w : Option ℤ) → front ≡ piece space text → pieces_behind_marks space text ≡ pieces_of space more → w ≡ word front → words (pieces_of space (Some text)) ≡ put_word w (words (pieces_of space more))
 unfolding words
 next_word text front more w f b e =

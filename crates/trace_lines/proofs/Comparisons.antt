@@ -146,7 +146,7 @@ read_first (x ∷ xs) now s e p new a b name empty settled none step order h =
           (read_first xs now s e p new (others x.partition a) (others x.partition b) name empty settled (λ k q get. none (suc k) q get) step order h.2)),
     )
 
--- ---- what is told
+-- ---- what is reported
 
 no_more : (xs ys : List Event) → [] ≡ xs ++ ys → ys ≡ []
 no_more [] ys h = sym h

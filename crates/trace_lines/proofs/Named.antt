@@ -7,7 +7,7 @@ use Rattle.trace_text.specs.declared.keyword.Keyword.{Keyword}
 use Rattle.trace_lines.specs.KindSets.{with_kind, with_word, with_words}
 use Rattle.trace_lines.specs.declared.kinds.Kinds.{Kinds}
 
--- the pieces of a text that is there: the first, and those behind the marks
+-- the pieces of a text that is there: the first, and those after the marks
 first_piece : (text front : List ℕ) (more : Option (List ℕ)) → front ≡ piece 44 text → pieces_behind_marks 44 text ≡ pieces_of 44 more → pieces 44 text ≡ front ∷ pieces_of 44 more
 first_piece text front more f b = ap (λ (p : List ℕ). p ∷ pieces_behind_marks 44 text) (sym f) ∙ ap (λ (ps : List (List ℕ)). front ∷ ps) b
 

@@ -123,9 +123,9 @@ apart_both side.Second line event waiting before a b rest own differ level is_re
   differ = other_by own.line rest.line (event ∷ []) (line ∷ waiting) is_own.first is_rest.first (λ (same : event ≡ line). differ (sym same));
 }
 
--- ---- lines behind the first difference
+-- ---- lines after the first difference
 
--- the next line is later than that of the other trace, if it is the first one behind the difference
+-- the next line is later than that of the other trace, if it is the first one after the difference
 abbrev pub IsLater : Option Event → Option Event → Event → Type 0
 IsLater None (Some y) e = y.tick.0 < e.tick.0
 IsLater _ _ e = Unit {0}
@@ -201,13 +201,13 @@ second_settled (Some x) (Some y) new e now alone order none some = subst (λ (o 
 alone_by : (x y : Option Event) (now : ℕ) (o p : Option Event) → o ≡ x → p ≡ y → IsAlone o p now → IsAlone x y now
 alone_by x y now o p ox py h = subst (λ (q : Option Event). IsAlone x q now) py (subst (λ (q : Option Event). IsAlone q p now) ox h)
 
--- the lines of the trace that is ahead stand alone
+-- the other trace has no lines yet for those of the trace that is ahead
 pub alone_settled : (ahead : Side) (waiting : List Event) (rest none : Rest) (now : ℕ) → 0 < length waiting → IsFrontBefore waiting now → IsRest rest waiting → IsRest none [] → IsSettled (Some (apart_of ahead rest none)) now
 alone_settled ahead [] rest none now some front is_rest is_none = absurd (omega (arith, some))
 alone_settled side.First (w ∷ ws) rest none now some front is_rest is_none = alone_by rest.line none.line now (Some w) None (sym is_rest.first) (sym is_none.first) front
 alone_settled side.Second (w ∷ ws) rest none now some front is_rest is_none = alone_by none.line rest.line now None (Some w) (sym is_none.first) (sym is_rest.first) front
 
--- ---- one line more, behind the first difference
+-- ---- one line more, after the first difference
 
 pub goes_on_first : (before a b : List Event) (x new y : Rest) (e : Event) (now : ℕ) → IsFirst before x y a b → IsAlone x.line y.line now → now ≤ e.tick.0
     → ((lines : List Event) → IsRest x lines → IsRest new (lines ++ e ∷ [])) → (x.line ≡ None → new.line ≡ Some e) → ((first : Event) → x.line ≡ Some first → new.line ≡ Some first)

@@ -22,15 +22,15 @@ AreParts (p ∷ ps) now a b =
 abbrev pub IsNoneOf : Option (List ℕ) → List Part → Type 0
 IsNoneOf q parts = (k : ℕ) (p : Part) → slice_get parts k ≡ Some p → is_same_partition p.partition q ≡ false
 
--- the first one that has it stands at this place
+-- the first part of this partition is at this place
 abbrev pub IsPlaceOf : Option (List ℕ) → List Part → ℕ → Type 0
 IsPlaceOf q parts place =
     ((p : Part) × (slice_get parts place ≡ Some p) × (is_same_partition p.partition q ≡ true))
     × ((k : ℕ) (p : Part) → k < place → slice_get parts k ≡ Some p → is_same_partition p.partition q ≡ false)
 
--- ---- what is told
+-- ---- what is reported
 
--- what is told of a part, if anything is
+-- what is reported of a part, if anything is
 abbrev pub IsFinishedAs : Part → Option Difference → Type 0
 IsFinishedAs p told = IfSome told (λ (d : Difference). d.partition ≡ p.partition) × ((a b : List Event) → IsPart p a b → IsJudged told a b)
 
@@ -39,11 +39,11 @@ AreFinished [] ds = ds ≡ []
 AreFinished (p ∷ ps) ds =
     (told : Option Difference) × (rest : List Difference) × IsFinishedAs p told × (ds ≡ option_to_list told ++ rest) × AreFinished ps rest
 
--- what is told of a partition
+-- what is reported of a partition
 abbrev pub told_of : Option (List ℕ) → List Difference → Option Difference
 told_of q [] = None
 told_of q (d ∷ ds) = if is_same_partition d.partition q then Some d else told_of q ds
 
--- Of each partition its first difference is told, and none only if its lines are the same in both traces.
+-- For each partition its first difference is reported, and none only if its lines are the same in both traces.
 abbrev pub AreDifferences : List Difference → List Event → List Event → Type 0
 AreDifferences ds a b = (q : Option (List ℕ)) → IsJudged (told_of q ds) (part q a) (part q b)

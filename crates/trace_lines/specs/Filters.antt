@@ -71,7 +71,7 @@ is_mode (event.Mode mode) = true
 is_mode _ = false
 
 -- A view reads the lines that are chosen, and the modes of the partitions that are asked for: a mode ends the stays of
--- all processes of its partition, so without it a process that is gone would stay as it was.
+-- all processes of its partition, so without it a process that is gone would keep its state.
 abbrev pub is_viewed : Filter → Event → Bool
 is_viewed f e = is_chosen f e || (is_mode e.kind && is_word f.partition (partition_text e.partition))
 

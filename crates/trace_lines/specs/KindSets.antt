@@ -7,7 +7,7 @@ use Rattle.trace_text.specs.declared.keyword.Keyword.{Keyword}
 use Rattle.trace_text.specs.declared.keyword.Keyword.TheVariants as keyword
 use Rattle.trace_lines.specs.declared.kinds.Kinds.{Kinds}
 
--- the word that says what a line tells
+-- the keyword for what a line says
 abbrev pub keyword_in : EventKind → Keyword
 keyword_in (event.State who state) = keyword.State
 keyword_in (event.Return who service code) = keyword.Return

@@ -25,7 +25,7 @@ abbrev pub counts : Counted → EventKind → Bool
 counts (counted.Kinds kinds) kind = has_kind (keyword_in kind) kinds
 counts counted.MissedDeadlines kind = is_missed kind
 
--- so many lines count
+-- the number of these lines that count
 abbrev pub count_of : Counted → List Event → ℕ
 count_of what events = length (filter (λ (e : Event). counts what e.kind) events)
 
@@ -33,14 +33,14 @@ count_of what events = length (filter (λ (e : Event). counts what e.kind) event
 abbrev pub breaks : Limit → Event → Bool
 breaks l e = counts l.what e.kind && (l.left == 0)
 
--- how many more may come behind it
+-- how many more may follow it
 abbrev pub left_behind : Limit → Event → ℕ
 left_behind l e = if counts l.what e.kind then l.left - 1 else l.left
 
 abbrev pub behind : Limit → Event → Limit
 behind l e = record l { left = left_behind l e }
 
--- how many more may come behind these lines
+-- how many more may follow these lines
 abbrev pub left_after : Limit → List Event → ℕ
 left_after l [] = l.left
 left_after l (e ∷ es) = left_after (behind l e) es

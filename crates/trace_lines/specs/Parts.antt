@@ -118,7 +118,7 @@ abbrev pub IsFrontBefore : List Event → ℕ → Type 0
 IsFrontBefore [] now = Unit {0}
 IsFrontBefore (e ∷ es) now = e.tick.0 < now
 
--- Whatever lines were read before, none of them later, this one is read behind them.
+-- Whatever lines were read before, none of them later, this line is read after them.
 pub record IsStep (s : Side) (e : Event) (old new : Part) : Type 0 where
   pub partition : new.partition ≡ old.partition
   pub lines : (now : ℕ) (a b : List Event) → IsPart old a b → IsSettled old.apart now → now ≤ e.tick.0 → IsPart new (first_with s e a) (second_with s e b) × IsSettled new.apart e.tick.0

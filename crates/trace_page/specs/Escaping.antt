@@ -21,7 +21,7 @@ escaped_line e = escaped (line_of e)
 abbrev pub ends_at : ℕ → Bool
 ends_at b = (b == 34) || (b == 10) || (b == 60)
 
--- The string ends within this text. The byte behind a backslash has no meaning of its own: it is passed over, if one is there.
+-- The string ends within this text. The byte after a backslash has no special meaning: it is passed over, if there is one.
 abbrev pub ends_within : Bool → List ℕ → Bool
 ends_within is_passed [] = is_passed
 ends_within true (b ∷ text) = ends_within false text

@@ -7,7 +7,7 @@ use apex_types::{Name, PartitionId, WindowRow};
 use std::alloc::{AllocError, Global};
 use trace_stays::MemoryFull;
 
-/// What stands for windows that are not known.
+/// The text for windows that are not known.
 pub const NOT_KNOWN: &str = "null";
 
 /// The frame and its windows, each with the name of its partition.

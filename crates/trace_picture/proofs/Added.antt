@@ -52,7 +52,7 @@ same_open false t s = refl
 still_open : (t : ℕ) (s shown : ShownTicks) → shown ≡ with_read t s → open_ticks shown ≡ open_ticks s
 still_open t s shown is = ap open_ticks is ∙ same_open (is_before_end s.to t) t s
 
--- a line behind the end of the ticks
+-- a line after the end of the ticks
 pub not_shown : (e : Event) (old new : Picture) → false ≡ is_before_end old.shown.to e.tick.0
     → new.shapes ≡ old.shapes → new.lanes ≡ old.lanes → new.way ≡ old.way → new.count ≡ old.count → new.full ≡ old.full → IsAdded e old new
 not_shown e old new out shapes lanes way count full = subst (λ b. IsAddedIf b e old new) out (shapes, lanes, way, count, full)
@@ -73,7 +73,7 @@ kept_if (Some end) more old mid new is h =
 more_of : (xs ys zs : List Shape) → zs ≡ xs ++ ys → length zs - length xs ≡ length ys
 more_of xs ys zs is = let long : length zs ≡ length (xs ++ ys) = ap length is in omega (arith, long, length-append xs ys)
 
--- one before it, behind which the shapes of the line are counted, and kept unless the picture was full
+-- a line before that end: its shapes are then counted, and kept unless the picture was full
 pub added : (e : Event) (old mid new : Picture) (shown : ShownTicks) (before : ℕ) → true ≡ is_before_end old.shown.to e.tick.0
     → shown ≡ with_read e.tick.0 old.shown → before ≡ length old.shapes.items → IsTaken e (record old { shown = shown }) mid → mid.count ≡ old.count → mid.full ≡ old.full
     → IsGathered before mid new → new.lanes ≡ mid.lanes → new.way ≡ mid.way → IsAdded e old new
@@ -94,7 +94,7 @@ added e old mid new shown before in_time read at it count full gathered lanes wa
 
 -- ---- the end
 
--- so many shapes came
+-- this many shapes came
 pub all_more : (xs ys zs : List Shape) (count more before : ℕ) → zs ≡ xs ++ ys → before ≡ length xs → more ≡ length zs - before
     → counted count more ≡ counted count (length ys)
 all_more xs ys zs count more before is at so_many =

@@ -24,7 +24,7 @@ one_more : (f : ℕ → List ℕ) (step first place n : ℕ) (bs : List ℕ) →
 one_more f step first place n bs at =
     flat_map_more f bs (so_many step first n) (place * step) ∙ ap (λ xs. bs ++ flat_map f xs) (sym (map-range_with_len_more (λ k. k * step) first n place at))
 
--- the text of the mark at the last place, behind those before it
+-- the text of the mark at the last place, after those before it
 pub up_to : (f : ℕ → List ℕ) (step first front place last : ℕ) (bs drawn now : List ℕ) → first ≡ front → place ≡ last → first ≤ place
     → drawn ≡ bs ++ flat_map f (so_many step first (place - first)) → now ≡ drawn ++ f (place * step)
     → now ≡ bs ++ flat_map f (so_many step front (last + 1 - front))

@@ -28,7 +28,7 @@ named : (axis : Axis) (top : Length) (s : Span) (title class shown_class word sh
     ≡ titled Rect (rect_start class (left_of axis s) (behind top down) (width_of axis s) high) title ++ word_text axis top word s
 named axis top s title class shown_class word shown_word down shown_down high shown_high ec ed eh ew = rw (ec, ed, eh, ew)
 
--- a bar and its word, written one behind the other
+-- a bar and its word, written one after the other
 pub mode_bar_is : (axis : Axis) (top : Length) (stay : ModeStay) (title text one class : List ℕ) (down high : Length) (word : List ℕ)
     → class ≡ class_of_mode stay.mode → down ≡ tenths 40 → high ≡ tenths 140 → word ≡ mode_word stay.mode
     → one ≡ text ++ titled Rect (rect_start class (left_of axis stay.span) (behind top down) (width_of axis stay.span) high) title

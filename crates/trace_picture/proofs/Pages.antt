@@ -83,7 +83,7 @@ pub either : (tags : List Tag) (text longer piece : List ℕ) (grows : Bool) →
 either tags text longer piece true is step h = subst (IsKept tags) (sym is) (step h)
 either tags text longer piece false is step h = subst (IsKept tags) (sym is) h
 
--- ---- what stands in a text
+-- ---- what a text contains
 
 pub stays : (text : List ℕ) → GoesOn text text
 stays text = ([], sym (append-nil text))
@@ -95,7 +95,7 @@ goes text longer piece is = (piece, is)
 pub goes_further : (a b c : List ℕ) → GoesOn a b → GoesOn b c → GoesOn a c
 goes_further a b c (more, is) (rest, then) = (more ++ rest, rw (then, is, append_assoc))
 
--- two pieces that were written one behind the other stand in a text that goes on from there
+-- two pieces that were written one after the other are contained in a text that goes on after them
 pub stands : (text one both whole first second : List ℕ) → one ≡ text ++ first → both ≡ one ++ second → GoesOn both whole → HasWithin (first ++ second) whole
 stands text one both whole first second is then (more, on) =
     let same : both ≡ text ++ (first ++ second) = rw (then, is, append_assoc) in

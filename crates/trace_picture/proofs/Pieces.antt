@@ -1,4 +1,4 @@
--- Pieces that are written one behind another.
+-- Pieces that are written one after another.
 use Rattle.std.proofs.Common.{◌≡◌, ℕ, ◌+◌, ◌<◌, List, ◌++◌, append_assoc, ap, drop, get_or, length, sym, ◌∙◌}
 use Rattle.std.specs.Prelude.{flat_map}
 use Rattle.std.proofs.lemmas.List.{at_drop_more}
@@ -7,7 +7,7 @@ pub one_by_one : (old one two last after_one after_two after : List ℕ) → aft
     → after ≡ old ++ (one ++ two ++ last)
 one_by_one old one two last after_one after_two after h1 h2 h3 = rw (h3, h2, h1, append_assoc, append_assoc, append_assoc)
 
--- behind the piece of one more item, those of the rest are left
+-- after the piece of one more item, those of the rest are left
 pub goes_on : {A B : Type 0} (f : A → List B) (xs : List A) (i : ℕ) (d : A) (old new whole : List B) → i < length xs → new ≡ old ++ f (get_or xs i d)
     → old ++ flat_map f (drop i xs) ≡ whole → new ++ flat_map f (drop (i + 1) xs) ≡ whole
 goes_on f xs i d old new whole some is before =

@@ -30,7 +30,7 @@ encoded : (d : ℕ) (rest : List ℕ) → is_plain (d ∷ rest) ≡ true → is_
 unfolding encode
 encoded d rest alone h = by_count (nat_lt d 128) (nat_lt d 2048) (nat_lt d 65536) d rest alone h
 
--- a character other than the five stands alone, and so does the replacement character
+-- a character other than the five is written as itself, or as the replacement character
 alone : (allowed : Bool) (c : ℕ) (rest : List ℕ) → is_plain (c ∷ rest) ≡ true → is_plain rest ≡ true → is_plain (cond allowed c 65533 ∷ rest) ≡ true
 alone true c rest kept h = kept
 alone false c rest kept h = h

@@ -81,7 +81,7 @@ counted count more = min (count + more) (2 ^ 64 - 1)
 abbrev pub AreGathered : List Shape → Picture → Picture → Type 0
 AreGathered more old new = (new.count ≡ counted old.count (length more)) × AreKeptIf old.full more old new
 
--- the same where a picture has kept all of them for now, behind the first ones, which it had before
+-- the same where a picture has kept all of them for now, after the first ones, which it had before
 abbrev pub AreKeptFrom : Option ShownTicks → ℕ → Picture → Picture → Type 0
 AreKeptFrom None before old new = IsFilled (nat_lt 5000 (length old.shapes.items)) old.shapes.items new
 AreKeptFrom (Some end) before old new = (new.shapes.items ≡ take before old.shapes.items) × (new.full ≡ Some end)
@@ -117,7 +117,7 @@ abbrev pub left_if : Option ShownTicks → List Shape → List Shape
 left_if None shapes = shapes
 left_if (Some end) shapes = []
 
--- the shapes of a picture behind the last line: those that are kept, and the bars of the stays that end with it
+-- the shapes of a picture after the last line: those that are kept, and the bars of the stays that end with it
 abbrev pub all_shapes : Picture → List Shape
 all_shapes p = p.shapes.items ++ left_if p.full (bars_left p)
 

@@ -6,8 +6,8 @@ use Rattle.trace_picture.specs.declared.axis.Axis.{Axis}
 use Rattle.trace_stays.specs.Stays.{ticks_of}
 use Rattle.trace_stays.specs.declared.span.Span.{Span}
 
--- The place of tick t, in tenths of a pixel: 1500 for the first tick of the axis, so much more as it is long for its end, and in
--- proportion between. A tick outside of it stands at the nearer end.
+-- The place of tick t, in tenths of a pixel: 1500 for the first tick of the axis, 1500 plus the length of the axis for its end, and in
+-- proportion between. A tick outside the axis is at the nearer end.
 abbrev pub place : Axis → ℕ → ℕ
 place a t = 1500 + (min t a.span.until.0 - a.span.from.0) * a.long / max 1 (a.span.until.0 - a.span.from.0)
 
@@ -18,7 +18,7 @@ multiples_in step s = map (λ k. k * step) (range_with_len (div_ceil s.from.0 st
 
 -- ---- how far the marks are apart
 
--- 1, 2 or 5 times a power, the smallest that so many ticks have no more than ten times
+-- 1, 2 or 5 times a power: the smallest that goes into this many ticks at most ten times
 abbrev pub step_with : (ticks power : ℕ) → Option ℕ
 step_with ticks power =
     if nat_le (ticks / power) 10 then Some power else

@@ -67,7 +67,7 @@ pub record IsExcess (shown : Span) (begun : List Ticks) (all : ℕ) (e : Excess)
   pub few : e.elements ≤ 5000
   pub many : 5000 < count_before (e.until.0 + 1) begun
 
--- why a picture with these elements, and so many shapes in the whole trace, is not drawn
+-- why a picture with these elements, and this many shapes in the whole trace, is not drawn
 abbrev pub IsCrowded : Span → List Ticks → ℕ → PictureFault → Type 0
 IsCrowded shown begun all Memory = Unit {0}
 IsCrowded shown begun all (Crowded e) = IsExcess shown begun all e

@@ -5,11 +5,11 @@ use Rattle.std.specs.Prelude.{ℕ, List, [], ◌∷◌, true, false, flat_map, c
 abbrev pub is_allowed : ℕ → Bool
 is_allowed c = (c == 9) || (c == 10) || (c == 13) || (nat_le 32 c && not (c == 65534) && not (c == 65535))
 
--- a character that XML does not allow stands as the replacement character
+-- a character that XML does not allow is written as the replacement character
 abbrev pub shown : ℕ → ℕ
 shown c = cond (is_allowed c) c 65533
 
--- the bytes of a character: the five that XML gives a meaning stand as its entities
+-- the bytes of a character: the five that have a meaning in XML are written as their entities
 abbrev pub character_text : ℕ → List ℕ
 character_text c = cond (c == 38) (codes "&amp;")
     (cond (c == 60) (codes "&lt;")
@@ -28,11 +28,11 @@ begins [] text = true
 begins (b ∷ bs) [] = false
 begins (b ∷ bs) (c ∷ cs) = (b == c) && begins bs cs
 
--- behind an ampersand: the rest of one of the five entities
+-- after an ampersand: the rest of one of the five entities
 abbrev pub is_entity : List ℕ → Bool
 is_entity text = begins (codes "amp;") text || begins (codes "lt;") text || begins (codes "gt;") text || begins (codes "quot;") text || begins (codes "apos;") text
 
--- The bytes may stand between quotes and between tags: there is no `<`, `>`, `"` or `'`, and each `&` begins an entity.
+-- The bytes may be written between quotes and between tags: there is no `<`, `>`, `"` or `'`, and each `&` begins an entity.
 abbrev pub is_plain : List ℕ → Bool
 is_plain [] = true
 is_plain (c ∷ cs) = not (c == 60) && not (c == 62) && not (c == 34) && not (c == 39) && (not (c == 38) || is_entity cs) && is_plain cs

@@ -1,4 +1,4 @@
--- The words beside flags, where there is room.
+-- The words next to flags, where there is room.
 use Rattle.std.specs.Prelude.{ℕ, ◌+◌, Bool, true, false, ◌&&◌, ◌||◌, ◌==◌, nat_lt, if◌then◌else◌, List, [], ◌∷◌, ◌++◌, length, codes}
 use Rattle.std.specs.List.{list_any}
 use Rattle.apex_types.specs.CodeWords.{error_word}
@@ -16,7 +16,7 @@ use Rattle.trace_picture.specs.declared.shape.Owner.TheVariants as owner
 use Rattle.trace_picture.specs.declared.shape.Shape.{Shape}
 use Rattle.trace_picture.specs.declared.shape.Shape.TheVariants as shape
 
--- where the word of a flag ends: 13 pixels behind the flag, and 7.5 pixels for each character
+-- where the word of a flag ends: 13 pixels after the flag, and 7.5 pixels more for each character
 abbrev pub word_end : Axis → Flag → Length
 word_end axis f = behind (behind (tenths (place axis f.tick.0)) (tenths 130)) (times_of (tenths 75) (length (error_word f.error)))
 
@@ -40,7 +40,7 @@ is_same_owner owner.Module other = is_module other
 is_same_owner (owner.Partition place) other = is_partition place other
 is_same_owner (owner.Process place) other = is_process place other
 
--- another flag of the row stands where the word would stand
+-- another flag of the row is where the word would be
 abbrev pub is_in_way : Axis → Flag → Shape → Bool
 is_in_way axis f (shape.Flag g) = is_same_owner f.owner g.owner && nat_lt (place axis g.tick.0) (word_end axis f).0
 is_in_way axis f _ = false
@@ -53,7 +53,7 @@ word_beside axis rows f =
     in_row (row_of_owner rows f.owner)
     (λ top. text_element (codes "mode") (behind (tenths (place axis f.tick.0)) (tenths 130)) (before (behind top (flag_down f.owner)) (tenths 100)) (error_word f.error))
 
--- the word of an error beside its flag, if it ends on the axis and none of the later flags is in its way
+-- the word of an error next to its flag, if it ends on the axis and none of the later flags is in its way
 abbrev pub flag_word : Axis → Rows → Flag → List Shape → List ℕ
 flag_word axis rows f later = if nat_lt (1500 + axis.long) (word_end axis f).0 || is_one_in_way axis f later then [] else word_beside axis rows f
 

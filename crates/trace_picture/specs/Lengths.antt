@@ -6,7 +6,7 @@ use Rattle.trace_picture.specs.declared.length.Length.{Length}
 abbrev pub tenths : ℕ → Length
 tenths n = record { 0 = n }
 
--- the place `far` behind a place
+-- the place `far` after a place
 abbrev pub behind : Length → Length → Length
 behind place far = tenths (min (place.0 + far.0) (2 ^ 64 - 1))
 

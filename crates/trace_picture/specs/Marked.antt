@@ -36,7 +36,7 @@ bars_of_stays shown over = flat_map (bar_of_stay shown) over
 
 -- ---- messages
 
--- the place of the next message beside the others of its tick
+-- the place of the next message among those of its tick
 abbrev pub beside : ℕ → Option Way → ℕ
 beside t None = 0
 beside t (Some w) = if w.tick.0 == t then min (w.beside + 1) (2 ^ 64 - 1) else 0
@@ -49,7 +49,7 @@ is_port stop.Device = false
 is_port (stop.Channel name) = false
 is_port (stop.Port partition name) = true
 
--- a message that arrives is the one that left a port last in this tick or, without one, comes from outside
+-- a message that arrives is the last one that left a port in this tick or, if there is none, comes from outside
 abbrev pub is_under_way : ℕ → Option Way → Bool
 is_under_way t None = false
 is_under_way t (Some w) = (w.tick.0 == t) && is_port w.from
@@ -75,7 +75,7 @@ flag_at t error who response o = shape.Flag (record { tick = tick t; owner = o; 
 abbrev pub report_at : ℕ → ArrayVec ℤ → ℕ → Shape
 report_at t words process = shape.Report (record { tick = tick t; process = process; words = words })
 
--- ---- what a line shows beside states and modes
+-- ---- what a line shows in addition to states and modes
 
 abbrev pub one_of : {A : Type 0} → Option A → (A → Shape) → List Shape
 one_of None make = []

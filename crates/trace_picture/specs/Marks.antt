@@ -37,13 +37,13 @@ axis_text axis bottom =
     axis_line axis
     ++ (text_element (codes "process") (tenths 160) (tenths 410) (codes "tick") ++ flat_map (mark_text axis bottom) (multiples_in (step_of axis.span) axis.span))
 
--- something is drawn, and behind it the mark of each multiple of the step among the ticks of the axis, and no other
+-- something is drawn, and after it the mark of each multiple of the step among the ticks of the axis, and no other
 abbrev pub HasMarks : Axis → Length → ℕ → List ℕ → List ℕ → Type 0
 HasMarks axis bottom step before after = (front : List ℕ) × (after ≡ before ++ front ++ flat_map (mark_text axis bottom) (multiples_in step axis.span))
 
 -- ---- messages
 
--- The arrow of a message stands at its tick.
+-- The arrow of a message is at its tick.
 abbrev pub message_place : Axis → Message → Length
 message_place axis m = tenths (place axis m.tick.0)
 

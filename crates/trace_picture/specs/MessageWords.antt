@@ -1,4 +1,4 @@
--- The words beside messages, where there is room.
+-- The words next to messages, where there is room.
 use Rattle.std.specs.Prelude.{ℕ, ℤ, ◌+◌, Bool, false, not, ◌&&◌, ◌||◌, ◌==◌, nat_le, nat_lt, if◌then◌else◌, List, [], ◌∷◌, ◌++◌, length, Option, Some, None, codes}
 use Rattle.std.proofs.Math.Dec.{ltb}
 use Rattle.std.specs.Fmt.{signed_decimal}
@@ -26,7 +26,7 @@ abbrev pub numbers_text : List ℤ → List ℕ
 numbers_text [] = []
 numbers_text (first ∷ rest) = signed_decimal first ++ words_text rest
 
--- They begin 6 pixels behind the arrow. They stand above the row where it ends or, if it comes from below, at the foot of this row.
+-- They begin 6 pixels after the arrow. They are above the row where it ends or, if it comes from below, at the foot of this row.
 abbrev pub words_left : Axis → Message → Length
 words_left axis m = behind (message_place axis m) (tenths 60)
 
@@ -60,7 +60,7 @@ is_row top (Some other) = top.0 == other.0
 abbrev pub is_flag_within : Axis → Room → Flag → Bool
 is_flag_within axis r f = nat_lt (place axis f.tick.0) r.right.0 && nat_lt r.left.0 (word_end axis f).0
 
--- an arrow that leads through the row, or a flag of the row, stands in the room
+-- an arrow that leads through the row, or a flag of the row, is in the room
 abbrev pub takes_room : Axis → Rows → Room → Shape → Bool
 takes_room axis rows r (shape.Message m) = leads_through r.top (row_of_stop rows m.from) (row_of_stop rows m.to) && is_within r (message_place axis m)
 takes_room axis rows r (shape.Flag f) = is_row r.top (row_of_owner rows f.owner) && is_flag_within axis r f
@@ -84,12 +84,12 @@ words_between axis rows m earlier later (Some from) (Some to) = words_if_free ax
 words_between axis rows m earlier later (Some from) None = []
 words_between axis rows m earlier later None to = []
 
--- the words of a message stand beside its arrow if their room is free
+-- the words of a message are next to its arrow if their room is free
 abbrev pub words_of : Axis → Rows → Shape → List Shape → List Shape → List ℕ
 words_of axis rows (shape.Message m) earlier later = words_between axis rows m earlier later (row_of_stop rows m.from) (row_of_stop rows m.to)
 words_of axis rows _ earlier later = []
 
--- of each shape, behind the earlier ones
+-- of each shape that follows the earlier ones
 abbrev pub words_behind : Axis → Rows → List Shape → List Shape → List ℕ
 words_behind axis rows earlier [] = []
 words_behind axis rows earlier (x ∷ later) = words_of axis rows x earlier later ++ words_behind axis rows (earlier ++ x ∷ []) later

@@ -32,7 +32,7 @@ IsPicture text = (attributes : List Attribute) × ((inside : Inside) × (text �
 abbrev pub GoesOn : List ℕ → List ℕ → Type 0
 GoesOn before after = (more : List ℕ) × (after ≡ before ++ more)
 
--- one text stands in the other
+-- one text is part of the other
 abbrev pub HasWithin : List ℕ → List ℕ → Type 0
 HasWithin inner text = (front : List ℕ) × GoesOn (front ++ inner) text
 

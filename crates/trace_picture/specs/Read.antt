@@ -1,4 +1,4 @@
--- A picture behind all lines of a trace.
+-- A picture after all lines of a trace.
 use Rattle.std.specs.Prelude.{◌≡◌, List, [], ◌∷◌, Option, None}
 use Rattle.apex_types.specs.declared.event.Event.{Event}
 use Rattle.apex_types.specs.declared.identity.Ticks.{Ticks}
@@ -6,7 +6,7 @@ use Rattle.trace_picture.specs.Added.{IsAdded}
 use Rattle.trace_picture.specs.declared.picture.Picture.{Picture}
 use Rattle.trace_stays.specs.Shown.{shown_from}
 
--- these lines are added, one behind the other
+-- these lines are added, one after the other
 abbrev pub AreAdded : List Event → Picture → Picture → Type 0
 AreAdded [] old new = new ≡ old
 AreAdded (e ∷ es) old new = (between : Picture) × IsAdded e old between × AreAdded es between new

@@ -1,4 +1,4 @@
--- In whose row a shape stands.
+-- The row that a shape is in.
 use Rattle.std.specs.Prelude.{ℕ, Option, Some, None, List, [], slice_get}
 use Rattle.trace_picture.specs.declared.length.Length.{Length}
 use Rattle.trace_picture.specs.declared.rows.Rows.{Rows}

@@ -1,4 +1,4 @@
--- The text of the shapes of a picture: first the windows and the bars, then what stands on them, and the words beside messages and flags.
+-- The text of the shapes of a picture: first the windows and the bars, then what is on them, and the words next to messages and flags.
 use Rattle.std.specs.Prelude.{ℕ, List, [], ◌++◌, flat_map, Option, is_some}
 use Rattle.trace_picture.specs.Bars.{mode_text}
 use Rattle.trace_picture.specs.FlagWords.{words_text}

@@ -23,7 +23,7 @@ pattern_start id size turn =
 unfoldable pub pattern_text : (id class : List ℕ) → Length → (path turn : List ℕ) → List ℕ
 pattern_text id class size path turn = pattern_start id size turn ++ ink_text class path ++ end_text tag.Pattern
 
--- what stands at the end of arrows
+-- what is drawn at the end of arrows
 abbrev pub marker_start : (id : List ℕ) → List ℕ
 marker_start id =
     codes "<" ++ tag_name tag.Marker

@@ -1,4 +1,4 @@
--- What a browser tells where the pointer rests.
+-- What a browser shows where the pointer rests.
 use Rattle.std.specs.Prelude.{ℕ, ◌-◌, List, [], ◌++◌, Bool, true, false, Option, Some, None, codes, slice_get}
 use Rattle.std.specs.Fmt.{decimal}
 use Rattle.apex_types.specs.CodeWords.{action_word, error_word, level_of_response, level_word}
@@ -16,7 +16,7 @@ use Rattle.trace_stays.specs.declared.lanes.PartitionLane.{PartitionLane}
 use Rattle.trace_stays.specs.declared.lanes.ProcessLane.{ProcessLane}
 use Rattle.trace_stays.specs.declared.span.Span.{Span}
 
--- ---- names; empty where there is nobody
+-- ---- names; empty where there is no partition or process
 
 abbrev pub name_in : Option PartitionLane → List ℕ
 name_in None = []

@@ -1,4 +1,4 @@
--- The lanes of a trace behind one line more.
+-- The lanes of a trace after one more line.
 use Rattle.std.proofs.Common.{◌≡◌, ◌⊎◌, inl, inr, ℕ, zero, suc, ◌+◌, ◌<◌, ◌≤◌, Bool, true, false, List, [], ◌∷◌, ◌++◌, map, length, Option, Some, None, Result, Ok, Err, refl, sym, ap, subst, ◌∙◌, arith, append-nil, append_assoc}
 use Rattle.std.specs.Prelude.{◌==◌, if◌then◌else◌, IfOk, OnErr, slice_get, slice_set}
 use Rattle.std.proofs.lemmas.Bool.{and_from, and_parts, eq-eqb, eqb-true, false≢true}
@@ -99,7 +99,7 @@ map_place n test f (x ∷ xs) blind =
     ap (λ (b : Bool). if b then Some n else place_from (n + 1) test (map f xs)) (blind x)
     ∙ ap (λ (o : Option ℕ). if test x then Some n else o) (map_place (n + 1) test f xs blind)
 
--- ---- what stands at a place
+-- ---- what is at a place
 
 get_same : {A : Type 0} (k : ℕ) (f : A → A) (xs : List A) (x : A) → slice_get xs k ≡ Some x → slice_get (change_at k f xs) k ≡ Some (f x)
 get_same k f [] x h = cc
@@ -216,7 +216,7 @@ longer_within a b lanes h within place lane at = let low = within place lane at 
 pub within_longer : (old new : List PartitionLane) (lanes : List ProcessLane) → length old ≤ length new → AreWithin (length old) lanes → AreWithin (length new) lanes
 within_longer old new lanes h within = longer_within (length old) (length new) lanes h within
 
--- nobody is of a partition that was not there
+-- no process is of a partition that was not there
 nobody_of : (count : ℕ) (word : List ℕ) (lanes : List ProcessLane) → AreWithin count lanes → process_in (Some count) word lanes ≡ None
 nobody_of count word lanes within = by (process_in (Some count) word lanes) refl
   where
@@ -644,7 +644,7 @@ over_no_mode None k s t p = refl
 over_no_mode (Some j) k s t None = refl
 over_no_mode (Some j) k s t (Some lane) = no_states_at j k (stay_ended lane.watch.held (Some s) t)
 
--- nothing comes behind
+-- nothing is added
 and_none : {A : Type 0} (xs : List A) (o : Option A) → o ≡ None → xs ≡ xs ++ and_one o
 and_none xs o none = sym (append-nil xs) ∙ ap (λ p. xs ++ and_one p) (sym none)
 

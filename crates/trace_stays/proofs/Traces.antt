@@ -63,7 +63,7 @@ still_modes count (Some k) p es kept there = ap (λ (q : Option ℕ). mode_stays
 still_modes count None None es kept there = refl
 still_modes count None (Some k) es kept there = there k kept
 
--- the stays so far, the one that is over now, and the rest
+-- the stays so far, the stay that is over now, and the rest
 in_order : {A : Type 0} (new so_far now rest one : List A) → new ≡ so_far ++ one → now ≡ so_far → new ++ rest ≡ now ++ (one ++ rest)
 in_order new so_far now rest one ended same = ap (λ xs. xs ++ rest) (ended ∙ ap (λ xs. xs ++ one) (sym same)) ∙ append_assoc now one rest
 

@@ -1,4 +1,4 @@
--- The states of processes and the modes of partitions behind the lines of a trace.
+-- The states of processes and the modes of partitions after the lines of a trace.
 use Rattle.std.specs.Prelude.{◌≡◌, ◌⊎◌, ℕ, zero, suc, ◌+◌, ◌≤◌, Bool, true, false, ◌==◌, ◌&&◌, if◌then◌else◌, List, [], ◌∷◌, ◌++◌, length, Option, Some, None, slice_get}
 use Rattle.apex_types.specs.Line.{subject_text}
 use Rattle.apex_types.specs.declared.codes.Mode.{Mode}
@@ -46,7 +46,7 @@ stay_left_by mode.Idle held t = stay_ended held None t
 stay_left_by mode.ColdStart held t = stay_ended held None t
 stay_left_by mode.WarmStart held t = stay_ended held None t
 
--- the state that a process holds behind a line of its partition
+-- the state that a process holds after a line of its partition
 abbrev pub state_in : EventKind → ℕ → List ℕ → Option Held → Option Held
 state_in (event.State who state) t word held = if same (subject_text who) word then held_behind held (Some state) t else held
 state_in (event.Mode m) t word held = state_left m held
@@ -58,14 +58,14 @@ stay_in (event.State who state) t word held = if same (subject_text who) word th
 stay_in (event.Mode m) t word held = stay_left_by m held t
 stay_in _ t word held = None
 
--- the state that a process holds behind a line of this partition, and the stay that the line ends
+-- the state that a process holds after a line of this partition, and the stay that the line ends
 abbrev pub state_behind : Option (List ℕ) → EventKind → ℕ → List ℕ → List ℕ → Option Held → Option Held
 state_behind partition kind t name word held = if is_of name partition then state_in kind t word held else held
 
 abbrev pub stay_over : Option (List ℕ) → EventKind → ℕ → List ℕ → List ℕ → Option Held → Option Stay
 stay_over partition kind t name word held = if is_of name partition then stay_in kind t word held else None
 
--- the mode of a partition behind a line
+-- the mode of a partition after a line
 abbrev pub mode_in : EventKind → ℕ → Option HeldMode → Option HeldMode
 mode_in (event.Mode m) t held = mode_behind held m t
 mode_in _ t held = held
@@ -81,7 +81,7 @@ mode_stay_in _ t held = None
 abbrev pub mode_stay_over : Option (List ℕ) → EventKind → ℕ → List ℕ → Option HeldMode → Option ModeStay
 mode_stay_over partition kind t name held = if is_of name partition then mode_stay_in kind t held else None
 
--- ---- where a process and a partition stand
+-- ---- the places of a process and of a partition
 
 -- the place of the first of these that passes the test, where the first one has the place n
 unfoldable pub place_from : {A : Type 0} → ℕ → (A → Bool) → List A → Option ℕ
@@ -169,7 +169,7 @@ pub record AreThere (l : Lanes) (es : List Ended) : Type 0 where
   pub states : (place : ℕ) → length l.processes.items ≤ place → stays_at place es ≡ []
   pub modes : (place : ℕ) → length l.partitions.items ≤ place → mode_stays_at place es ≡ []
 
--- who has a place keeps it, and who gets one stands behind all that had one
+-- what has a place keeps it, and what gets a place comes after all that had one
 abbrev pub KeepsPlace : ℕ → Option ℕ → Option ℕ → Type 0
 KeepsPlace count (Some place) new = new ≡ Some place
 KeepsPlace count None None = Unit {0}
@@ -181,7 +181,7 @@ pub record AreInPlace (old new : Lanes) : Type 0 where
   pub processes : length old.processes.items ≤ length new.processes.items
   pub partitions : length old.partitions.items ≤ length new.partitions.items
 
--- Behind a line of this partition each process holds the state of the definition, and the stay that the line ends is the one that was added for it. So it is with
+-- After a line of this partition each process holds the state of the definition, and the stay added for it is the stay that the line ends. The same is true of
 -- the modes. Each keeps its place.
 pub record HasRead (partition : Option (List ℕ)) (kind : EventKind) (t : ℕ) (old new : Lanes) (before after : List Ended) : Type 0 where
   pub held : (name word : List ℕ) → held_by name word new ≡ state_behind partition kind t name word (held_by name word old)
@@ -195,7 +195,7 @@ pub record HasRead (partition : Option (List ℕ)) (kind : EventKind) (t : ℕ) 
 abbrev pub HasFollowed : Event → Lanes → Lanes → List Ended → List Ended → Type 0
 HasFollowed e old new before after = HasRead e.partition e.kind e.tick.0 old new before after
 
--- each process and each partition is as it was
+-- each process and each partition is unchanged
 pub record AreKept (old new : Lanes) : Type 0 where
   pub held : (name word : List ℕ) → held_by name word new ≡ held_by name word old
   pub mode : (name : List ℕ) → mode_by name new ≡ mode_by name old
@@ -209,7 +209,7 @@ new_partition name = record { name = name; watch = record { held = None } }
 abbrev pub new_process : ℕ → Subject → ProcessLane
 new_process partition who = record { partition = partition; who = who; watch = record { held = None } }
 
--- the partition stands at this place; it is the last one if it was not there
+-- the partition is at this place; it is the last one if it was not there
 abbrev pub HasPartition : List ℕ → List PartitionLane → List PartitionLane → ℕ → Type 0
 HasPartition name old new place = ((new ≡ old) × (partition_at name old ≡ Some place)) ⊎ ((partition_at name old ≡ None) × (new ≡ old ++ new_partition name ∷ []) × (place ≡ length old))
 

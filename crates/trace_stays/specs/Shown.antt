@@ -10,7 +10,7 @@ use Rattle.trace_stays.specs.declared.span.Span.{Span}
 abbrev pub shown_from : Ticks → Option Ticks → ShownTicks
 shown_from from to = record { from = from; to = to; behind = from }
 
--- whether a line of this tick stands before the end that is given
+-- whether a line of this tick is before the end that is given
 abbrev pub is_before_end : Option Ticks → ℕ → Bool
 is_before_end None t = true
 is_before_end (Some to) t = ltb t to.0

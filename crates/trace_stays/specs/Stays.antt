@@ -57,7 +57,7 @@ abbrev pub begins_at : Option Held → Option ProcessState → ℕ → ℕ
 begins_at None next t = t
 begins_at (Some held) next t = stay_until held next t
 
--- the state that a process holds behind such a line
+-- the state that a process holds after such a line
 abbrev pub held_behind : Option Held → Option ProcessState → ℕ → Option Held
 held_behind before None t = None
 held_behind before (Some s) t = Some (record { state = s; since = tick (begins_at before (Some s) t) })

@@ -1,4 +1,4 @@
--- The states of processes and the modes of partitions in a whole trace, by its lines alone.
+-- The states of processes and the modes of partitions in a whole trace, by its lines only.
 use Rattle.std.specs.Prelude.{◌≡◌, ℕ, List, [], ◌∷◌, ◌++◌, Option, None}
 use Rattle.apex_types.specs.declared.event.Event.{Event}
 use Rattle.trace_stays.specs.Following.{and_one, held_by, mode_after, mode_by, mode_stay_over, mode_stays_of, partition_at, process_at, state_behind, stay_over, stays_of}
@@ -12,7 +12,7 @@ use Rattle.trace_stays.specs.declared.stay.Stay.{Stay}
 
 -- ---- a process of a partition
 
--- the state that it holds behind a line, and behind these lines
+-- the state that it holds after a line, and after these lines
 abbrev pub with_line : Event → (name word : List ℕ) → Option Held → Option Held
 with_line e name word held = state_behind e.partition e.kind e.tick.0 name word held
 

@@ -137,7 +137,7 @@ read_front text front behind e f b h =
 pub no_feed : (text : List ℕ) (e : Event) (rest : List ℕ) → CanBeWritten e → text ≡ line_of e ++ rest → pieces_behind_marks 10 text ≡ [] → ⊥
 no_feed text e rest can is none = let f = at_front text e rest can is in let clash : pieces 10 rest ≡ [] = sym f.behind ∙ none in cc
 
--- the text behind the line at the front is the text behind the first line feed
+-- the text after the line at the front is the text after the first line feed
 pub same_rest : (text : List ℕ) (e : Event) (rest behind : List ℕ) → CanBeWritten e → text ≡ line_of e ++ rest → pieces_behind_marks 10 text ≡ pieces 10 behind → rest ≡ behind
 same_rest text e rest behind can is b = same_pieces rest behind (sym (at_front text e rest can is).behind ∙ b)
 
@@ -145,7 +145,7 @@ same_rest text e rest behind can is b = same_pieces rest behind (sym (at_front t
 pub read_again : (text front : List ℕ) (e : Event) (rest : List ℕ) → CanBeWritten e → text ≡ line_of e ++ rest → front ≡ piece 10 text → event_in front ≡ Some e
 read_again text front e rest can is f = ap event_in f ∙ (at_front text e rest can is).read
 
--- ---- a line alone
+-- ---- a single line
 
 alone : (line : List ℕ) (e : Event) → line_of e ≡ line → line ≡ line_of e ++ []
 alone line e is = sym is ∙ sym (append-nil (line_of e))

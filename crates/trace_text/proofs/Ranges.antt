@@ -36,7 +36,7 @@ from_front xs start end front =
     ap (λ (k : ℕ). slice_range xs k end) front
     ∙ (let whole : end - 0 ≡ end = omega arith in ap (λ (k : ℕ). take k xs) whole)
 
--- the bytes that were read stand behind those that were there
+-- the bytes that were read follow those that were there
 pub read_behind : (old new : List ℕ) (start end count : ℕ) → start ≡ 0 → take end new ≡ take end old → end + count ≤ length new → slice_range new start (end + count) ≡ slice_range old start end ++ take count (drop end new)
 read_behind old new start end count zero front fits =
     from_front new start (end + count) zero
@@ -46,7 +46,7 @@ read_behind old new start end count zero front fits =
 pub same_front : (old new : List ℕ) (start end : ℕ) → start ≡ 0 → take end new ≡ take end old → slice_range new start end ≡ slice_range old start end
 same_front old new start end zero front = from_front new start end zero ∙ front ∙ sym (from_front old start end zero)
 
--- the bytes that the reader gave stand behind those that were read ahead
+-- the bytes that the reader gave follow those that were read ahead
 pub read_ahead : (a b : Option (List ℕ)) (old new more : List ℕ) → Consumes a b more → new ≡ old ++ more → Keeps (prepend_known old a) (prepend_known new b)
 read_ahead None b old new more consumed is = tt
 read_ahead (Some xs) None old new more consumed is = absurd consumed

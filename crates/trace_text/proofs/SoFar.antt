@@ -13,7 +13,7 @@ abbrev pub last_tick : ℕ → List Event → ℕ
 last_tick before [] = before
 last_tick before (e ∷ es) = last_tick e.tick.0 es
 
--- these events were read, and this is the rest of the text, behind a line of that tick
+-- these events were read, and this is the rest of the text, after a line of that tick
 pub record IsReadSoFar (text : List ℕ) (before lines : ℕ) (rest : List ℕ) : Type 0 where
   pub read : List Event
   pub parts : text ≡ text_of read ++ rest
@@ -40,7 +40,7 @@ trace_last : (before : ℕ) (es : List Event) (e : Event) → IsTraceFrom before
 trace_last before [] e trace = (trace.0, trace.1)
 trace_last before (x ∷ es) e trace = trace_last x.tick.0 es e trace.2
 
--- the next event is read behind them
+-- the next event is read after them
 pub read_on : (text : List ℕ) (before lines : ℕ) (rest : List ℕ) (e : Event) (more : List ℕ) (so : IsReadSoFar text before lines rest) → IsNext before rest e more
     → (new : IsReadSoFar text e.tick.0 (lines + 1) more) × (new.read ≡ so.read ++ e ∷ [])
 read_on text before lines rest e more so next = (
@@ -97,7 +97,7 @@ no_trace text before lines rest events so some none whole =
     let g = rest_of 0 text so.read rest events so.trace so.parts whole in
     no_events before rest g.0 some none (subst (λ (b : ℕ). IsReadFrom b rest g.0) (sym so.last) g.1)
 
--- a line is some bytes, so what stands behind it is shorter
+-- a line has some bytes, so what follows it is shorter
 pub shorter : (before : ℕ) (text : List ℕ) (e : Event) (rest : List ℕ) → IsNext before text e rest → length rest < length text
 shorter before text e rest next = let long = ap length next.parts in let sum = length-append (line_of e) rest in omega (arith, long, sum)
 
@@ -107,7 +107,7 @@ next_read text before lines rest e more tick count so next noted =
     subst (λ (t : Ticks). IsReadSoFar text t.0 count more) (sym noted.0)
     (subst (λ (n : ℕ). IsReadSoFar text e.tick.0 n more) (sym noted.1) (one_more_read text before lines rest e more so next))
 
--- the answer if an error is passed on
+-- the result if an error is passed on
 pub passed_on : {A : Type 0} (answer : Result A TraceFault) (fault : TraceFault) (P : TraceFault → Type 0) → IsErr answer × IsErrAnd answer (λ e. e ≡ fault) → P fault → IfErr answer P
 passed_on (Ok x) fault P told fact = tt
 passed_on (Err e) fault P told fact = subst P (sym told.1) fact

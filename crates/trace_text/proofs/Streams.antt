@@ -25,7 +25,7 @@ take_free (suc n) (b ∷ bs) h = let p = and_parts (not (b == 10)) (is_free 10 b
 behind_of : (a b : List ℕ) (xs ys : List (List ℕ)) → a ∷ xs ≡ b ∷ ys → xs ≡ ys
 behind_of a b xs ys e = cc
 
--- bytes without a line feed have no piece behind one
+-- bytes without a line feed have no piece after one
 no_feed_free : (bytes : List ℕ) → is_free 10 bytes ≡ true → pieces_behind_marks 10 bytes ≡ []
 no_feed_free bytes h = let e = sole_piece 10 bytes h in cc
 
@@ -56,7 +56,7 @@ within bytes more e rest can is (inr (inr none)) =
     let whole = ap length is in
     omega (arith, whole, length-append bytes more, length-append (line_of e) rest, ap length none)
 
--- a line within the bytes that were read stands at their front
+-- a line within the bytes that were read is at their front
 pub at_their_front : (bytes more line rest : List ℕ) → bytes ++ more ≡ line ++ rest → length line ≤ length bytes → bytes ≡ line ++ drop (length line) bytes
 at_their_front bytes more line rest is short =
     let front : take (length line) bytes ≡ line = sym (take-append-le (length line) bytes more short) ∙ ap (take (length line)) is ∙ take-append_seam line rest in
@@ -64,7 +64,7 @@ at_their_front bytes more line rest is short =
 
 -- ---- what is known of the text that is left
 
--- the text behind the line is the last bytes
+-- the text after the line is the last bytes
 pub last_bytes : (bytes line rest : List ℕ) → bytes ≡ line ++ rest → drop (length bytes - length rest) bytes ≡ rest
 last_bytes bytes line rest is =
     let count : length bytes - length rest ≡ length line = omega (arith, ap length is, length-append line rest) in
@@ -109,6 +109,6 @@ pub sees : (bytes own : List ℕ) (behind : Option (List ℕ)) → bytes ≡ own
 sees bytes own behind same (inl feed) = inl (λ none. feed (ap (pieces_behind_marks 10) same ∙ none))
 sees bytes own behind same (inr long) = inr (inl (omega (arith, long, ap length same)))
 
--- the same line, in the same text behind the same tick
+-- the same line, in the same text after the same tick
 pub same_next : (a b : ℕ) (text other : List ℕ) (e : Event) (rest : List ℕ) → a ≡ b → text ≡ other → IsNext a text e rest → IsNext b other e rest
 same_next a b text other e rest tick same next = record { can = next.can; in_order = omega (arith, tick, next.in_order); parts = sym same ∙ next.parts }

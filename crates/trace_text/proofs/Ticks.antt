@@ -12,7 +12,7 @@ use Rattle.trace_text.specs.Reading.{tick_of, tick_with}
 use Rattle.text_lines.proofs.Pieces.{is_ink}
 use Rattle.trace_text.proofs.Spells.{Spells, same_some}
 
--- the number of these digits behind that number
+-- the value of that number followed by these digits
 abbrev value : ℕ → List ℕ → ℕ
 value v ds = fold (λ (n d : ℕ). n * 10 + (d - 48)) v ds
 
@@ -30,7 +30,7 @@ digit_low d h = let p = and_parts (nat_le 48 d) (nat_le d 57) h in (leb-true 48 
 tenth : (n k : ℕ) → n / 10 ^ suc k ≡ n / 10 ^ k / 10
 tenth n k = ap (λ (m : ℕ). n / m) (pow-suc 10 k) ∙ sym (div-div-eq-div-mul n (10 ^ k) 10)
 
--- the digits behind a number are below its unit
+-- the digits after a number are below its unit
 in_front : (ds : List ℕ) (v : ℕ) → list_all is_digit ds ≡ true → value v ds / 10 ^ length ds ≡ v
 in_front [] v h = omega arith
 in_front (d ∷ ds) v h =

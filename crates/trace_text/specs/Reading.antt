@@ -150,7 +150,7 @@ abbrev pub state_line : List (List ℕ) → Option EventKind
 state_line (who ∷ state ∷ []) = both event.State (subject_of who) (state_of state)
 state_line _ = None
 
--- behind the service stands its code
+-- the return code follows the service
 abbrev pub return_with : Option Subject → Option Service → Option ReturnCode → Option EventKind
 return_with (Some who) (Some service) (Some code) = Some (event.Return who service code)
 return_with _ _ _ = None
@@ -210,6 +210,6 @@ abbrev pub event_of : List (List ℕ) → Option Event
 event_of (tick ∷ partition ∷ kind) = event_with (tick_of tick) (partition_of partition) (kind_of kind)
 event_of _ = None
 
--- the event of a line without its line feed: its parts stand one space apart
+-- the event of a line without its line feed: its parts are one space apart
 abbrev pub event_in : List ℕ → Option Event
 event_in body = event_of (pieces space body)

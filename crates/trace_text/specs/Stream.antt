@@ -22,8 +22,8 @@ left remaining s = prepend_known (ahead_bytes s.ahead) (remaining s.reader)
 abbrev pub next_number : ℕ → ℕ
 next_number lines = min (lines + 1) (2 ^ 64 - 1)
 
--- if the text that is left is known, the line of this event stands at its front, and the rest is
--- left behind it
+-- if the text that is left is known, the line of this event is at its front, and the rest is
+-- left after it
 abbrev pub NextIn : ℕ → Option (List ℕ) → Event → Option (List ℕ) → Type 0
 NextIn before None e rest = Unit {0}
 NextIn before (Some text) e None = ⊥

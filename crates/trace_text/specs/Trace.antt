@@ -82,14 +82,14 @@ IsTraceFrom before (e ∷ es) = CanBeWritten e × (before ≤ e.tick.0) × IsTra
 abbrev pub IsTrace : List Event → Type 0
 IsTrace events = IsTraceFrom 0 events
 
--- the line of this event stands at the front of a text, behind a line of tick `before`, and this is
+-- the line of this event is at the front of a text, after a line of tick `before`, and this is
 -- the text that follows
 pub record IsNext (before : ℕ) (text : List ℕ) (e : Event) (rest : List ℕ) : Type 0 where
   pub can : CanBeWritten e
   pub in_order : before ≤ e.tick.0
   pub parts : text ≡ line_of e ++ rest
 
--- The events that a text is read as, behind a line of that tick: each line is that of the next one.
+-- The events that a text is read as, after a line of that tick: each line is that of the next event.
 abbrev pub IsReadFrom : ℕ → List ℕ → List Event → Type 0
 IsReadFrom before text [] = text ≡ []
 IsReadFrom before text (e ∷ es) = (rest : List ℕ) × IsNext before text e rest × IsReadFrom e.tick.0 rest es

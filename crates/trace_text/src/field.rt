@@ -73,7 +73,7 @@ pub fn name_of(text: &[u8]) -> Option<Name>
     Name::new(text)
 }
 
-/// The partition of this name; `-` stands for the module itself.
+/// The partition of this name; `-` means the module itself.
 pub fn partition_of(text: &[u8]) -> Option<Option<Name>>
     ensures { result ≡ meant.partition_of text.now }
 {

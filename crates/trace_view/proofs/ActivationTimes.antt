@@ -137,7 +137,7 @@ entered_run (Some state.Dormant) window turn t turns later =
     over_run t.activation (ended_at turn.ended turn.tick.0) t turns later refl
     ∙ ap (λ (x : List ℕ). with_times t.to_running (x ++ later)) (sym (dormant_next t.activation (ended_running turn.ended) turn.tick.0 turns))
 
--- the stay that is over leaves times and activations alone
+-- the stay that is over changes neither times nor activations
 ended-to_running : (window : Span) (ended : Option Stay) (t : Tally) → (with_ended window ended t).to_running ≡ t.to_running
 ended-to_running window None t = refl
 ended-to_running window (Some stay) t = refl

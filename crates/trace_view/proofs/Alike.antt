@@ -10,7 +10,7 @@ found_within [] k x e = absurd (cc)
 found_within (y ∷ ys) zero x e = omega arith
 found_within (y ∷ ys) (suc k) x e = let l = found_within ys k x e in omega (arith, l)
 
--- if none was found so far, and this one is not it, none is found up to this one
+-- if none was found so far, and the item here is not it, none is found up to here
 pub none_up_to : {A : Type 0} (P : A → Type 0) (items : List A) (place : ℕ) (here : A) → slice_get items place ≡ Some here → (P here → ⊥)
     → ((k : ℕ) (one : A) → k < place → slice_get items k ≡ Some one → P one → ⊥)
     → (k : ℕ) (one : A) → k < place + 1 → slice_get items k ≡ Some one → P one → ⊥

@@ -9,7 +9,7 @@ use Rattle.trace_stays.specs.declared.stay.Stay.{Stay}
 use Rattle.trace_view.specs.Counting.{ticks_in}
 use Rattle.trace_view.specs.Turns.{AreContiguous, StateLine, stays_in, stays_until, ticks_if, ticks_in_all, ticks_in_state}
 
--- a stay that is not behind its end begins before it
+-- stays that follow one another begin no later than they end
 pub in_order : (from until : ℕ) (stays : List Stay) → AreContiguous from stays until → from ≤ until
 in_order from until [] same = omega (arith, same)
 in_order from until (stay ∷ stays) (begins, below, rest) = omega (arith, below, in_order stay.span.until.0 until stays rest)

@@ -1,4 +1,4 @@
--- What the rows of processes show behind one line more.
+-- What the rows of processes show after one more line.
 use Rattle.std.proofs.Common.{◌≡◌, ◌≤◌, ℕ, zero, suc, ◌+◌, Bool, true, false, List, [], ◌∷◌, ◌++◌, length, Option, Some, None, Result, Ok, Err, refl, sym, take, ap, subst, ◌∙◌, arith}
 use Rattle.std.specs.Prelude.{◌==◌, ◌&&◌, ◌||◌, if◌then◌else◌, OnOk, slice_get, slice_set}
 use Rattle.std.proofs.lemmas.Bool.{and_from, and_parts, eq-eqb, false≢true}
@@ -26,7 +26,7 @@ use Rattle.trace_view.specs.declared.tally.Measured.{Measured}
 use Rattle.trace_view.specs.declared.tally.Measured.TheVariants as measure
 use Rattle.trace_view.specs.declared.tally.Tally.{Tally}
 
--- what holds behind a call that is done, from two facts of it
+-- what holds after a call that is done, from two facts about it
 pub both_ok : {T E P Q R : Type 0} (r : Result T E) → (P → Q → R) → OnOk r P → OnOk r Q → OnOk r R
 both_ok (Ok x) f p q = f p q
 both_ok (Err e) f p q = tt

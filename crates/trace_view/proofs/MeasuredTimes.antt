@@ -12,7 +12,7 @@ use Rattle.trace_view.specs.declared.tally.Tally.{Tally}
 use Rattle.trace_view.specs.declared.tally.Turn.{Turn}
 use Rattle.trace_view.proofs.ActivationTimes.{dormant_next, ended-activation, gone_end, next_end, next_run, none_next, open_end, open_end-cons, open_end-nil, open_run, open_run-cons, open_run-nil, preempted_end, preempted_next, ready_end, ready_next, waiting_next}
 
--- ---- the activation behind a turn
+-- ---- the activation after a turn
 
 abbrev kept_ready : Bool → Bool → Turn → Option Activation → Option Activation
 kept_ready true w turn o = o

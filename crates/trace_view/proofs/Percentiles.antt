@@ -162,7 +162,7 @@ reached_above w before (e ∷ es) k t above h is =
     go rest true found = let same = same_Some e.0 t found in omega (arith, above, same)
     go rest false found = rest found
 
--- so many are at most the time that is reached, and fewer are at most a lesser one
+-- enough times are at most the time that is reached, and too few are at most a smaller time
 reached_some : (w before : ℕ) (es : List (ℕ × ℕ)) (t : ℕ) → AreRising es → before + all_of es ≤ 2 ^ 64 - 1 → before * 100 < w → reached w before es ≡ Some t
     → (w ≤ 100 * (before + below t es)) × ((u : ℕ) → u < t → 100 * (before + below u es) < w)
 reached_some w before [] t h fits low is = absurd cc

@@ -32,7 +32,7 @@ use Rattle.trace_view.specs.declared.report.RouteTotal.{RouteTotal}
 use Rattle.trace_view.specs.declared.traffic.Passage.{Passage}
 use Rattle.trace_view.specs.declared.traffic.Traffic.{Traffic}
 
--- ---- lines behind the window
+-- ---- lines after the window
 
 outside_by : (a b : Bool) → b ≡ false → (a && b) ≡ false
 outside_by true b e = e
@@ -133,7 +133,7 @@ error_read name error response true partition (event.Arrive port words) old new 
 error_read name error response true partition (event.Lost port words) old new is = same_lines name error response old new is
 error_read name error response true partition (event.Out channel words) old new is = same_lines name error response old new is
 
--- each stands once
+-- each appears once
 
 has_none : (p : Option (List ℕ)) (e : ErrorKind) (r : Response) (xs : List ErrorTotal) → IsNoneOf p e r xs → HasNone p e r xs
 has_none p e r [] none = tt

@@ -2,7 +2,7 @@
 use Rattle.std.proofs.Common.{◌≡◌, ◌<◌, ◌≤◌, ◌+◌, ℕ, List, [], ◌∷◌, ◌++◌, length, drop, get_or, ap, sym, subst, ◌∙◌, append-nil, append_assoc}
 use Rattle.std.proofs.lemmas.List.{drop_all, drop_more}
 
--- the next item and those behind it; the items that the loop reads are those of the list
+-- the next item and those after it; the items that the loop reads are those of the list
 pub left : {X : Type 0} (xs items : List X) (i : ℕ) (x : X) → items ≡ xs → i < length items → x ≡ get_or items i x → drop i xs ≡ x ∷ drop (i + 1) xs
 left {X = X} xs items i x same some is =
     subst (λ (ys : List X). drop i ys ≡ x ∷ drop (i + 1) ys) same (drop_more items i x some ∙ ap (λ (y : X). y ∷ drop (i + 1) items) (sym is))

@@ -62,7 +62,7 @@ ended_bounded window (Some stay) t b = record {
       omega (arith, same, capped_le (ticks_for s t.ticks + ticks_if s stay.state (ticks_in window stay.span)));
 }
 
--- the state that begins leaves the ticks alone
+-- the state that begins does not change the ticks
 begun_if-ticks : (b : Bool) (turn : Turn) (t : Tally) → (begun_if b turn t).ticks ≡ t.ticks
 begun_if-ticks true turn t = refl
 begun_if-ticks false turn t = refl

@@ -32,7 +32,7 @@ unfoldable pub extent_cells : Extent → List Cell
 extent_cells e =
     cell.Number e.lines ∷ tick_cell e.first ∷ tick_cell e.last ∷ cell.Number e.window.from.0 ∷ cell.Number e.window.until.0 ∷ cell.Number (ticks_of e.window) ∷ []
 
--- the ticks in each state, and behind each its share
+-- the ticks in each state, each followed by its share
 unfoldable pub state_cells : StateTicks → ℕ → List Cell
 state_cells t all =
     cell.Number t.running ∷ share_cell t.running all ∷ cell.Number t.ready ∷ share_cell t.ready all
@@ -63,7 +63,7 @@ unfoldable pub condition_cells : Conditions → List Cell
 condition_cells c =
     cell.Number c.normal_start ∷ cell.Number c.partition_restart ∷ cell.Number c.hm_module_restart ∷ cell.Number c.hm_partition_restart ∷ []
 
--- two numbers, and behind each its share
+-- two numbers, each followed by its share
 unfoldable pub paired_cells : ℕ → ℕ → ℕ → List Cell
 paired_cells one other all = cell.Number one ∷ share_cell one all ∷ cell.Number other ∷ share_cell other all ∷ []
 

@@ -1,4 +1,4 @@
--- What the counts behind a line are: those of errors and of messages.
+-- What the counts after a line are: those of errors and of messages.
 use Rattle.std.specs.Prelude.{◌≡◌, ℕ, Bool, true, false, List, Option, Some, None}
 use Rattle.apex_types.specs.declared.event.EventKind.{EventKind}
 use Rattle.apex_types.specs.declared.event.EventKind.TheVariants as event

@@ -28,7 +28,7 @@ with_line_if false t e = e
 abbrev pub with_line : Ticks → Extent → Extent
 with_line t e = with_line_if (has_tick e.window t.0) t e
 
--- the end that is given; or else the tick behind the last line, and without lines the tick where it begins
+-- the end that is given; or else the tick after the last line, and without lines the tick where it begins
 abbrev pub closed_at : Option Ticks → Option Ticks → Ticks → Ticks
 closed_at (Some until) last from = until
 closed_at None (Some last) from = tick (behind last.0)
@@ -37,7 +37,7 @@ closed_at None None from = from
 abbrev pub closed : Option Ticks → Extent → Extent
 closed to e = record e { window = record { from = e.window.from; until = closed_at to e.last e.window.from } }
 
--- ---- all lines at once
+-- ---- all lines together
 
 -- the ticks of the lines that count
 abbrev pub counted_lines : Span → List Ticks → List Ticks
@@ -52,7 +52,7 @@ abbrev pub last_behind : Option Ticks → List Ticks → Option Ticks
 last_behind before [] = before
 last_behind before (t ∷ ts) = last_behind (Some t) ts
 
--- behind lines of these ticks
+-- after lines of these ticks
 abbrev pub extent_after : Extent → List Ticks → Extent
 extent_after e [] = e
 extent_after e (t ∷ ts) = extent_after (with_line t e) ts

@@ -33,7 +33,7 @@ abbrev pub with_mode_over : Span → Option ModeStay → ModeTicks → ModeTicks
 with_mode_over window None t = t
 with_mode_over window (Some stay) t = with_mode_stay window stay t
 
--- the starts behind a line MODE; it counts if its tick is in the window
+-- the starts after a line MODE; it counts if its tick is in the window
 abbrev pub starts_behind : Bool → Told → Mode → List ℕ → Starts → Starts
 starts_behind true told m name s = with_start (condition_for name told) m s
 starts_behind false told m name s = s
@@ -47,12 +47,12 @@ entered window told t m p = record {
   starts = starts_behind (has_tick window t.0) told m p.name p.starts;
 }
 
--- behind a line of its own
+-- after a line of this partition
 abbrev pub read_by : Span → Told → Ticks → EventKind → PartitionRow → PartitionRow
 read_by window told t (event.Mode m) p = entered window told t m p
 read_by window told t _ p = p
 
--- behind a line
+-- after a line
 abbrev pub partition_behind : Span → Told → Event → PartitionRow → PartitionRow
 partition_behind window told e p = if is_of p.name e.partition then read_by window told e.tick e.kind p else p
 
@@ -67,11 +67,11 @@ abbrev pub with_partition : Option (List ℕ) → List PartitionRow → List Par
 with_partition None ps = ps
 with_partition (Some name) ps = if has_row name ps then ps else ps ++ no_partition name ∷ []
 
--- behind a line that is read
+-- after a line that is read
 abbrev pub partitions_behind : Span → Told → Event → List PartitionRow → List PartitionRow
 partitions_behind window told e ps = map (partition_behind window told e) (with_partition e.partition ps)
 
--- behind a line
+-- after a line
 abbrev pub partitions_after : Span → Told → Event → List PartitionRow → List PartitionRow
 partitions_after window told e ps = if is_read window e.tick.0 then partitions_behind window told e ps else ps
 

@@ -44,7 +44,7 @@ AreTimes times entries = (kind : ℕ → Bool) → length (filter kind times) �
 abbrev pub all_of : List (ℕ × ℕ) → ℕ
 all_of entries = count_of (λ (s : ℕ). true) entries
 
--- how often this one was taken
+-- how often this time was taken
 abbrev pub often : ℕ → List (ℕ × ℕ) → ℕ
 often t entries = unwrap_or (lookup (is_at (nat_cmp t)) entries) 0
 
@@ -57,13 +57,13 @@ abbrev pub are_rising : List (ℕ × ℕ) → Bool
 are_rising [] = true
 are_rising (e ∷ es) = is_above e.0 es && are_rising es
 
--- the first time with which so many are taken, in hundredths
+-- the first time with which this many are taken, in hundredths
 abbrev pub reached : ℕ → ℕ → List (ℕ × ℕ) → Option ℕ
 reached wanted before [] = None
 reached wanted before (e ∷ es) =
     if nat_le wanted (min (before + e.1) (2 ^ 64 - 1) * 100) then Some e.0 else reached wanted (min (before + e.1) (2 ^ 64 - 1)) es
 
--- the percentile of so many times, which are taken as these entries say
+-- the percentile of this many times, taken as these entries say
 abbrev pub percentile_of : Percentile → ℕ → List (ℕ × ℕ) → Option ℕ
 percentile_of which taken entries = if taken == 0 then None else reached (percent_of which * taken) 0 entries
 

@@ -51,7 +51,7 @@ with_turn window next t p = record {
   times = and_measured (measured next (turn_of p.held next t) p.tally.activation) p.times;
 }
 
--- who has an answer, a missed deadline or an application message in such a line
+-- the subject of an answer, a missed deadline or an application message in such a line
 abbrev pub missed_by : ErrorKind → Option Subject → Option Subject
 missed_by error.DeadlineMissed who = who
 missed_by _ who = None
@@ -72,18 +72,18 @@ with_one (event.Error e who response) t = record t { deadlines_missed = capped (
 with_one (event.Report who words) t = record t { reports = capped (t.reports + 1) }
 with_one _ t = t
 
--- Behind a line of its partition. States are read in all lines; the rest counts in the window. With any mode but NORMAL the partition starts again, and its
+-- After a line of its partition. States are read in all lines; the rest counts in the window. With any mode but NORMAL the partition starts again, and its
 -- processes are gone.
 abbrev pub read_by : Span → Ticks → EventKind → List ℕ → Process → Process
 read_by window t (event.State who state) word p = if same (subject_text who) word then with_turn window (Some state) t p else p
 read_by window t (event.Mode m) word p = if starts_again m then with_turn window None t p else p
 read_by window t kind word p = if has_tick window t.0 && is_word word (counted_for kind) then record p { tally = with_one kind p.tally } else p
 
--- behind a line that is read
+-- after a line that is read
 abbrev pub process_behind : Span → Event → (name word : List ℕ) → Process → Process
 process_behind window e name word p = if is_of name e.partition then read_by window e.tick e.kind word p else p
 
--- behind a line
+-- after a line
 abbrev pub process_after : Span → Event → (name word : List ℕ) → Process → Process
 process_after window e name word p = if is_read window e.tick.0 then process_behind window e name word p else p
 
@@ -91,7 +91,7 @@ process_after window e name word p = if is_read window e.tick.0 then process_beh
 abbrev pub process_ended : Span → Process → Process
 process_ended window p = record p { tally = with_ended window (stay_left p.held window.until.0) p.tally }
 
--- which lines make a row: that of a state, and in the window that of an answer, a missed deadline or an application message
+-- which lines make a row: a line with a state, and in the window a line with an answer, a missed deadline or an application message
 abbrev pub maker : Bool → EventKind → Option Subject
 maker counts (event.State who state) = Some who
 maker counts kind = if counts then counted_for kind else None
@@ -111,7 +111,7 @@ pub record IsRowOf (p : Process) (row : ProcessRow) : Type 0 where
   pub to_running : AreTimes (running_times p.times) row.responses.to_running.counts.entries
   pub to_end : AreTimes (end_times p.times) row.responses.to_end.counts.entries
 
--- a row that has read: it is of the same process, and shows what is known behind it
+-- a row that has read: it is of the same process, and shows what is known afterwards
 pub record HasRead (f : Process → Process) (old new : ProcessRow) : Type 0 where
   pub partition : new.partition ≡ old.partition
   pub who : new.who ≡ old.who
@@ -137,12 +137,12 @@ IsShown p (Some row) = IsRowOf p row
 abbrev pub AreRowsOf : (List ℕ → List ℕ → Process) → List ProcessRow → Type 0
 AreRowsOf known rows = (name word : List ℕ) → IsShown (known name word) (row_at name word rows)
 
--- So they do behind a line that is read. A process has a row from the first line on that makes one.
+-- So they do after a line that is read. A process has a row from the first line on that makes one.
 pub record HaveRead (window : Span) (e : Event) (old new : List ProcessRow) : Type 0 where
   pub there : (name word : List ℕ) → is_there name word new ≡ (is_there name word old || makes_row window e name word)
   pub shown : (known : List ℕ → List ℕ → Process) → AreRowsOf known old → AreRowsOf (λ name word. process_behind window e name word (known name word)) new
 
--- and behind a line
+-- and after a line
 pub record HaveFollowed (window : Span) (e : Event) (old new : List ProcessRow) : Type 0 where
   pub there : (name word : List ℕ) → is_there name word new ≡ (is_there name word old || (is_read window e.tick.0 && makes_row window e name word))
   pub shown : (known : List ℕ → List ℕ → Process) → AreRowsOf known old → AreRowsOf (λ name word. process_after window e name word (known name word)) new

@@ -1,4 +1,4 @@
--- Why partitions start, as the lines of a trace tell it, and how starts are counted.
+-- Why partitions start, as the lines of a trace report it, and how starts are counted.
 use Rattle.std.specs.Prelude.{ℕ, ◌+◌, if◌then◌else◌, List, Option, Some, None}
 use Rattle.apex_types.specs.declared.codes.Mode.{Mode}
 use Rattle.apex_types.specs.declared.codes.Mode.TheVariants as mode
@@ -22,7 +22,7 @@ use Rattle.trace_view.specs.declared.conditions.Conditions.{Conditions}
 use Rattle.trace_view.specs.declared.starts.Starts.{Starts}
 use Rattle.trace_view.specs.declared.told.Told.{Told}
 
--- ---- what the lines tell
+-- ---- what the lines say
 
 -- SET_PARTITION_MODE starts the partition again
 abbrev pub told_by_service : Service → Option StartCondition
@@ -44,8 +44,8 @@ told_first = record { condition = Some condition.NormalStart; started = None }
 abbrev pub told_by : Option StartCondition → Told
 told_by condition = record { condition = condition; started = None }
 
--- A start is the line of its mode and that of INIT, which becomes READY. These leave what was told: with the module, and at its reset,
--- the partitions start one behind the other, each once.
+-- A start is the line of its mode and that of INIT, which becomes READY. These keep what was said: with the module, and at its reset,
+-- the partitions start one after another, each once.
 abbrev pub told_by_init : ProcessState → Told → Told
 told_by_init state.Ready told = told
 told_by_init state.Running told = told_by None
@@ -77,7 +77,7 @@ condition_for partition told = if is_same_partition told.started (Some partition
 
 -- ---- counts
 
--- one more start with this condition; one that no line tells counts in none
+-- one more start with this condition; a start whose condition no line gives counts in none
 abbrev pub with_condition : Option StartCondition → Conditions → Conditions
 with_condition None c = c
 with_condition (Some condition.NormalStart) c = record c { normal_start = capped (c.normal_start + 1) }

@@ -26,11 +26,11 @@ use Rattle.trace_view.specs.declared.report.RouteTotal.{RouteTotal}
 
 -- ---- rows
 
--- a dash stands for a number that is not there
+-- a dash marks a number that is not there
 abbrev pub shown : List Cell → List (List ℕ)
 shown cells = map (cell_text (codes "-")) cells
 
--- the names of a process, and the texts of cells behind them
+-- the names of a process, followed by the texts of cells
 abbrev pub process_row : ProcessTotal → List Cell → List (List ℕ)
 process_row p cells = (p.partition ∷ subject_text p.who ∷ []) ++ shown cells
 

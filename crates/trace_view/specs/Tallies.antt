@@ -34,7 +34,7 @@ ended_at (Some stay) t = stay.span.until.0
 abbrev pub has_tick : Span → ℕ → Bool
 has_tick window t = nat_le window.from.0 t && ltb t window.until.0
 
--- whether a line of this tick is read: those at the end of the window, and behind it, are not
+-- whether a line of this tick is read: those at the end of the window, and after it, are not
 abbrev pub is_read : Span → ℕ → Bool
 is_read window t = ltb t window.until.0
 
@@ -89,7 +89,7 @@ measured (Some state.Running) turn o = measured_run o turn.tick.0
 measured (Some state.Waiting) turn o = measured_end o (ended_at turn.ended turn.tick.0)
 measured (Some state.Dormant) turn o = measured_end o (ended_at turn.ended turn.tick.0)
 
--- ---- the numbers behind a turn
+-- ---- the numbers after a turn
 
 -- the changes by the state that begins; a process that is gone leaves its activation unmeasured
 abbrev pub entered : Option ProcessState → Span → Turn → Tally → Tally

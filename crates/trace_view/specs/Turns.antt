@@ -56,7 +56,7 @@ activations window [] = 0
 activations window (turn ∷ turns) = (if is_activation window turn then 1 else 0) + activations window turns
 
 -- The time from a READY line of this tick to the first RUNNING in these turns. A process that waits, is done or is
--- gone before that, or is READY anew without being preempted, has none.
+-- gone before that, or is READY again without being preempted, has none.
 abbrev pub first_running_if : Option ProcessState → Bool → ℕ → List ℕ → List ℕ
 first_running_if (Some state.Running) preempted time later = time ∷ []
 first_running_if (Some state.Waiting) preempted time later = []
@@ -75,7 +75,7 @@ times_to_running window [] = []
 times_to_running window (turn ∷ turns) = (if is_activation window turn then first_running turn.tick.0 turns else []) ++ times_to_running window turns
 
 -- The time from a READY line of this tick to the end of the last stay before WAITING or DORMANT in these turns. A
--- process that is gone, or READY anew without being preempted, has none.
+-- process that is gone, or READY again without being preempted, has none.
 abbrev pub first_end_if : Option ProcessState → Bool → ℕ → List ℕ → List ℕ
 first_end_if (Some state.Waiting) preempted time later = time ∷ []
 first_end_if (Some state.Dormant) preempted time later = time ∷ []
@@ -95,7 +95,7 @@ times_to_end window (turn ∷ turns) = (if is_activation window turn then first_
 
 -- ---- the numbers
 
--- the numbers behind these turns
+-- the numbers after these turns
 abbrev pub tally_after : Span → Tally → List Turn → Tally
 tally_after window t [] = t
 tally_after window t (turn ∷ turns) = tally_after window (turned window turn t) turns

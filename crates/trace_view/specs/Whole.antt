@@ -59,7 +59,7 @@ abbrev pub lines_of : Option (List ℕ) → ErrorKind → Response → List Erro
 lines_of name error response [] = 0
 lines_of name error response (one ∷ more) = (if is_alike name error response one.partition one.error one.response then one.lines else 0) + lines_of name error response more
 
--- each of them stands once
+-- each of them appears once
 abbrev pub HasNone : Option (List ℕ) → ErrorKind → Response → List ErrorTotal → Type 0
 HasNone name error response [] = Unit {0}
 HasNone name error response (one ∷ more) = (IsOf name error response one → ⊥) × HasNone name error response more
@@ -113,7 +113,7 @@ AreMessagesOf window events partitions rows =
 
 -- ---- partitions
 
--- a partition behind these lines, of which each may start it with the condition that the lines before it tell
+-- a partition after these lines, each of which may start it with the condition that the lines before it give
 abbrev pub partition_in : Span → Told → List Event → PartitionRow → PartitionRow
 partition_in window told [] p = p
 partition_in window told (e ∷ es) p = partition_in window (told_behind e told) es (if is_read window e.tick.0 then partition_behind window told e p else p)
@@ -135,7 +135,7 @@ pub record ArePartitionsOf (window closing : Span) (events : List Event) (partit
 
 -- ---- processes
 
--- a process behind these lines
+-- a process after these lines
 abbrev pub process_in : Span → List Event → (name word : List ℕ) → Process → Process
 process_in window [] name word p = p
 process_in window (e ∷ es) name word p = process_in window es name word (process_after window e name word p)

@@ -37,7 +37,7 @@ pub more_than_none : (n : ℕ) → with_more n 0 ≡ capped n
 more_than_none zero = omega arith
 more_than_none (suc n) = let e : 0 + suc n ≡ suc n = omega arith in ap capped e
 
--- ticks that are counted so many times
+-- ticks that are counted this many times
 pub counted_times : (b : Bool) (ticks times x : ℕ) → with_more (if_same b (capped (ticks * times))) x ≡ with_more (times * if_same b ticks) x
 counted_times true ticks times x = more_capped (ticks * times) x ∙ ap (λ (n : ℕ). with_more n x) (mul_comm ticks times)
 counted_times false ticks times x = let e : 0 ≡ times * 0 = omega arith in ap (λ (n : ℕ). with_more n x) e

@@ -4,7 +4,7 @@ use Rattle.trace_windows.specs.Counts.{if_same}
 use Rattle.trace_windows.specs.Uses.{is_same, one_if, ticks_used}
 use Rattle.trace_windows.specs.declared.usage.Use.{Use}
 
--- those of one part, and those behind it
+-- those of one part, and those after it
 pub two_parts : (used : ℕ → Use) (u : Use) (from a b : ℕ) → ticks_used used u from (a + b) ≡ ticks_used used u from a + ticks_used used u (from + a) b
 two_parts used u from a zero =
     let e : a + 0 ≡ a = omega arith in

@@ -8,7 +8,7 @@ use Rattle.trace_windows.specs.Uses.{ticks_used, use_at, use_from, use_if}
 use Rattle.trace_windows.specs.declared.usage.Use.{Use}
 use Rattle.trace_windows.proofs.Counting.{alike, two_parts}
 
--- those that stopped in the tick of the lines count for nothing behind it
+-- those that stopped in the tick of the lines count for nothing after it
 abbrev pub without_stops : Standing → Standing
 without_stops s = record s { stopped = [] }
 
@@ -30,7 +30,7 @@ apart zero b = inl (omega arith)
 apart (suc a) zero = inr (omega arith)
 apart (suc a) (suc b) = elim (apart a b) [ inl h ↦ inl (omega (arith, h)) | inr h ↦ inr (omega (arith, h)) ]
 
--- a tick of the lines that counts, and the ticks behind it
+-- a tick of the lines that counts, and the ticks after it
 from_now : (schedule : Schedule) (s : Standing) (u : Use) (rest : ℕ)
     → ticks_used (use_from schedule s) u s.now (1 + rest) ≡ ticks_used (use_at schedule s) u s.now 1 + ticks_used (use_at schedule (without_stops s)) u (s.now + 1) rest
 from_now schedule s u rest =

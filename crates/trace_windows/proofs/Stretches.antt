@@ -24,7 +24,7 @@ one_stretch used v times now ticks old new same more u =
     let all : ticks_used used u now (now + ticks - now) ≡ if_same (is_same v u) ticks = ap (ticks_used used u now) length_of ∙ all_alike used u v now ticks same in
     more u ∙ (counted_times (is_same v u) ticks times (ticks_for u old) ∙ ap (λ (n : ℕ). with_more (times * n) (ticks_for u old)) (sym all))
 
--- ---- stretches, one behind another
+-- ---- stretches, one after another
 
 pub nothing_yet : (used : ℕ → Use) (times from : ℕ) (rows : List Row) (u : Use) → ticks_for u rows ≡ with_more (times * ticks_used used u from (from - from)) (ticks_for u rows)
 nothing_yet used times from rows u =
@@ -123,7 +123,7 @@ pub frames_none : (schedule : Schedule) (s : Standing) (from until k frame : ℕ
 frames_none schedule s from until k frame old new is past none rest =
     no_frames schedule s from until k old new past none (subst (λ (f : ℕ). AddsTimes 1 (use_at schedule s) (from + k * f) until old new) is rest)
 
--- the first tick, and behind it the frames
+-- the first tick, and the frames after it
 pub passed_on : (old mid : Shares) (stops : List Stop) (a b end until : ℕ) (first_rows mid_rows new : List Row) → mid ≡ record old { counted = mid.counted } → stops ≡ []
     → a ≡ max old.tick.0 old.from.0 → b ≡ max (old.tick.0 + 1) mid.from.0 → end ≡ until → old.tick.0 < end
     → AddsTimes 1 (use_at (schedule_of old.schedule) (standing_of old)) a (old.tick.0 + 1) first_rows mid_rows

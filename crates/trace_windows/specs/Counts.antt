@@ -8,7 +8,7 @@ use Rattle.trace_windows.specs.declared.usage.Use.{Use}
 abbrev pub capped : ℕ → ℕ
 capped n = min n (2 ^ 64 - 1)
 
--- so many more
+-- this many more
 abbrev pub with_more : ℕ → ℕ → ℕ
 with_more zero x = x
 with_more (suc n) x = capped (x + suc n)
@@ -33,7 +33,7 @@ unfoldable pub all_ticks : List Row → ℕ
 all_ticks [] = 0
 all_ticks (r ∷ rs) = r.ticks + all_ticks rs
 
--- So many ticks more are counted in all.
+-- In all, `n` more ticks are counted.
 abbrev pub HasTotal : ℕ → List Row → List Row → Type 0
 HasTotal n old new = capped (all_ticks new) ≡ capped (all_ticks old + n)
 
@@ -41,7 +41,7 @@ abbrev pub if_same : Bool → ℕ → ℕ
 if_same true n = n
 if_same false n = 0
 
--- So many more ticks are counted for this use, and for no other.
+-- `n` more ticks are counted for this use, and none for any other.
 abbrev pub HasMore : Use → ℕ → List Row → List Row → Type 0
 HasMore used n old new = (u : Use) → ticks_for u new ≡ with_more (if_same (is_same used u) n) (ticks_for u old)
 
@@ -50,7 +50,7 @@ unfoldable pub row_from : ℕ → Use → List Row → Option ℕ
 row_from n used [] = None
 row_from n used (r ∷ rs) = if is_same r.used used then Some n else row_from (n + 1) used rs
 
--- so many ticks more in the row at a place
+-- `n` more ticks in the row at a place
 abbrev pub with_ticks : ℕ → Row → Row
 with_ticks n r = record r { ticks = capped (r.ticks + n) }
 

@@ -18,7 +18,7 @@ pub record Frames : Type 0 where
 abbrev pub at_first : Frames
 at_first = record { origin = 0; is_down = false }
 
--- ---- behind a line
+-- ---- after a line
 
 -- frames begin with the tick of a reset of the module, and end with a shutdown
 abbrev pub acted : Response → ℕ → Frames → Frames
@@ -39,7 +39,7 @@ abbrev pub owner_if : Bool → Option ℕ → Option ℕ
 owner_if true o = None
 owner_if false o = o
 
--- the partition in whose window a tick is; none behind a shutdown
+-- the partition in whose window a tick is; none after a shutdown
 abbrev pub owner_by : Schedule → Frames → ℕ → Option ℕ
 owner_by s f t = owner_if f.is_down (owner s (tick_from f.origin t))
 

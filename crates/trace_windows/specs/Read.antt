@@ -9,7 +9,7 @@ use Rattle.window_table.specs.Schedules.{schedule_of}
 abbrev pub frames_of : Windows → Frames
 frames_of w = record { origin = w.origin.0; is_down = w.is_down }
 
--- the first tick that is in no stretch yet, behind those before `t`
+-- the first tick that is in no stretch yet, after those before `t`
 abbrev pub next_behind : Windows → ℕ → ℕ
 next_behind w t = max w.next.0 (min t w.to.0)
 

@@ -8,7 +8,7 @@ use Rattle.trace_windows.specs.Uses.{ticks_used, use_from, use_of}
 use Rattle.trace_windows.specs.declared.counted.Row.{Row}
 use Rattle.trace_windows.specs.declared.usage.Use.{Use}
 
--- Each use has so many more ticks as the ticks from one on and before the other have it, each so many times.
+-- Each use gets `times` more ticks for each tick with this use from `from` on and before `until`.
 abbrev pub AddsTimes : (times : ℕ) → (ℕ → Use) → (from until : ℕ) → List Row → List Row → Type 0
 AddsTimes times used from until old new = (u : Use) → ticks_for u new ≡ with_more (times * ticks_used used u from (until - from)) (ticks_for u old)
 
@@ -19,7 +19,7 @@ Adds used from until old new = (u : Use) → ticks_for u new ≡ with_more (tick
 abbrev pub first : ℕ → Standing → ℕ
 first from s = max from s.now
 
--- The ticks before this one are counted, from the standing on.
+-- The ticks before `until` are counted, from `first from s` on.
 abbrev pub HasPassed : Schedule → (from : ℕ) → Standing → (until : ℕ) → List Row → List Row → Type 0
 HasPassed schedule from s until old new = Adds (use_from schedule s) (first from s) until old new
 

@@ -1,4 +1,4 @@
--- What a module does behind the lines of its trace.
+-- What a module does after the lines of its trace.
 use Rattle.std.specs.Prelude.{ℕ, ◌+◌, Bool, true, false, if◌then◌else◌, nat_lt, min, List, [], ◌∷◌, ◌++◌, map, Option, Some, None, slice_get, slice_set}
 use Rattle.apex_types.specs.Line.{subject_text}
 use Rattle.apex_types.specs.declared.codes.Mode.{Mode}
@@ -66,7 +66,7 @@ with_running place running owners = elim (slice_get owners place) [ None ↦ own
 abbrev pub in_run : ℕ → ℕ
 in_run t = min t MOST_TICKS
 
--- the ticks before this one are over
+-- the ticks before `t` are over
 abbrev pub passed_if : Bool → ℕ → Standing → Standing
 passed_if true t s = record s { stopped = []; now = t }
 passed_if false t s = s
@@ -132,11 +132,11 @@ abbrev pub with_kind : Option (List ℕ) → EventKind → Standing → Standing
 with_kind None kind s = with_module kind s
 with_kind (Some name) kind s = with_place kind (place_in name s.owners) s
 
--- behind one line more
+-- after one more line
 abbrev pub with_line : Event → Standing → Standing
 with_line e s = with_kind e.partition e.kind (passed (in_run e.tick.0) s)
 
--- ---- the standing of the code
+-- ---- the `Standing` of the code
 
 abbrev pub standing_of : Shares → Standing
 standing_of s = record { owners = s.owners.items; stopped = s.stopped.items; now = s.tick.0; origin = s.origin.0; is_down = s.is_down }

@@ -8,7 +8,7 @@ use Rattle.trace_windows.specs.declared.stretch.Stretch.{Stretch}
 abbrev pub owner_of : Stretch → Option ℕ
 owner_of s = option_map (λ p. p.0) s.owner
 
--- The stretches are the ticks from one on and before the other, one behind another, and each of them has one owner.
+-- The stretches are the ticks from `from` on and before `until`, one after another, and each of them has one owner.
 abbrev pub AreStretches : (ℕ → Option ℕ) → (from until : ℕ) → List Stretch → Type 0
 AreStretches owner from until [] = from ≡ until
 AreStretches owner from until (s ∷ ss) =

@@ -19,7 +19,7 @@ unfoldable pub last_from : Option Subject → ℕ → List Stop → Option Subje
 last_from found place [] = found
 last_from found place (s ∷ ss) = last_from (if s.place == place then Some s.who else found) place ss
 
--- The process that works in a tick of its partition: the one that is RUNNING behind the tick's lines or, without one, the
+-- The process that works in a tick of its partition: the process that is RUNNING after the tick's lines or, without one, the
 -- last that stopped in it.
 abbrev pub or_stopped : Option Subject → Option Subject → Option Subject
 or_stopped None other = other
@@ -58,7 +58,7 @@ use_from schedule s t = use_at schedule (passed t s) t
 
 -- ---- all ticks
 
--- in a tick of a run with these lines, from a standing on
+-- in a tick of a run with these lines, from `s` on
 abbrev pub use_of : Schedule → Standing → List Event → ℕ → Use
 use_of schedule s [] t = use_from schedule s t
 use_of schedule s (e ∷ es) t = if nat_lt t (in_run e.tick.0) then use_from schedule s t else use_of schedule (with_line e s) es t

@@ -164,7 +164,7 @@ between_next text left rest before lines counter tick count next e now fed low h
 pub between_waits : (text left : Option (List ℕ)) (before lines counter : ℕ) (next : Option Event) (now then : ℕ) (fed : List Event) → IsBetween text left before lines counter next now fed → IsInOrder then next → IsBetween text left before lines (counter + 1) next then fed
 between_waits text left before lines counter next now then fed h order = record { is_fed = h.is_fed; in_order = order; last = h.last; few = omega (arith, h.few) }
 
--- ---- what a stream answers
+-- ---- what a stream returns
 
 -- before anything is read, all is left
 pub at_start : {R : Type 0} (remaining : R → Option (List ℕ)) (s : TraceStream R) (reader : R) → s.reader ≡ reader → ahead_bytes s.ahead ≡ [] → left remaining s ≡ remaining reader
@@ -239,7 +239,7 @@ AreBetween text other left other_left p initial parts before lines other_before 
     × IsBetween text left before lines counter line now a
     × IsBetween other other_left other_before other_lines counter other_line now b)))
 
--- ---- what is told
+-- ---- what is reported
 
 -- where lines differ first, they are not the same
 differ : (before : List Event) (x y : Rest) (a b : List Event) → IsFirst before x y a b → a ≡ b → ⊥
@@ -252,12 +252,12 @@ differ before x y a b is same =
     not_other None h = h
     not_other (Some e) h = h refl
 
--- nothing is told: the lines are the same
+-- nothing is reported: the lines are the same
 pub told_none : (found : List Difference) (p : Option (String Global)) (a b : List Event) → AreDifferences found (asked p a) (asked p b) → length found ≡ 0 → AreToldBy Shown p a b
 told_none [] p a b are none = λ q. are q
 told_none (d ∷ ds) p a b are none = absurd cc
 
--- something is told: there is a partition with other lines
+-- something is reported: there is a partition with other lines
 pub told_some : (found : List Difference) (p : Option (String Global)) (a b : List Event) → AreDifferences found (asked p a) (asked p b) → (length found ≡ 0 → ⊥) → AreToldBy Found p a b
 told_some [] p a b are some = absurd (some refl)
 told_some (d ∷ ds) p a b are some =

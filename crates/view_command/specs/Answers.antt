@@ -34,7 +34,7 @@ IsUnread text ran name (Foreign partition) = Unit {0}
 IsUnread text ran name Memory = Unit {0}
 IsUnread text ran name _ = ⊥
 
--- The trace of this name, of a run of so many ticks if that is known, is not shown. A text that is not
+-- The trace of this name, of a run of `ran` ticks if that is known, is not shown. A text that is not
 -- opened is noted; a line is refused if it is the first that is no line of a trace there, or the first
 -- of a tick that the run did not have; only a whole trace is written, and that write failed.
 abbrev pub IsRefused : Option Contents → Option ℕ → List ℕ → State → State → Refusal → Type 0
@@ -72,7 +72,7 @@ IsRefusedOf texts entered before after r =
     IsRefused texts (ran_of entered) (trace_of entered) before after r ⊎ IsDiffRefused texts entered before after r
     ⊎ IsTableRefused texts (table_of entered) before after r
 
--- Both traces were read to their ends, if they were compared; else the trace was, with no line behind the end of its
+-- Both traces were read to their ends, if they were compared; else the trace was, with no line after the end of its
 -- run, and so was the module table, if one is asked for.
 abbrev pub AreTracesIn : Option Contents → Entered → Type 0
 AreTracesIn texts entered =
@@ -162,10 +162,10 @@ IsRefusedFor kinds entered texts before after r =
     ((kinds ≡ []) × IsRefusedOf texts entered before after r) ⊎ ((r ≡ Memory) × IsUntouched before after)
     ⊎ ((r ≡ Write) × AskForHelp kinds × HasFailed before.out after.out × (after.unopened ≡ before.unopened))
 
--- With 0 the trace was read to its end and shown, or help is, and standard error is as it was; with 1 the trace
+-- With 0 the trace was read to its end and shown, or help is, and standard error is unchanged; with 1 the trace
 -- is refused, and standard error has the line of the refusal, if it did not fail; with 2 the words are no command,
--- standard output is as it was, and what standard error took is flushed, if it did not fail; with 3 the trace was
--- read to its end and has what it may not have, and standard error is as it was.
+-- standard output is unchanged, and what standard error took is flushed, if it did not fail; with 3 the trace was
+-- read to its end and has what it may not have, and standard error is unchanged.
 pub record IsAnswer (kinds : Kinds) (entered : Entered) (texts : Option Contents) (before after : State) (old_err new_err : Seen) (status : ℕ) : Type 0 where
   pub range : status ≤ 3
   pub done : status ≡ 0 → IsShownOrHelp kinds entered texts before after × (new_err ≡ old_err)

@@ -50,7 +50,7 @@ abbrev pub second_behind : Side → Option Event → List Event → List Event
 second_behind s None b = b
 second_behind s (Some e) b = second_with s e b
 
--- ---- what is told by the status
+-- ---- what the status says
 
 -- the lines that are asked for are the same in each partition, or there is one where they are not
 abbrev pub AreToldBy : Outcome → Option (String Global) → List Event → List Event → Type 0

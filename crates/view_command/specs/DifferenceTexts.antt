@@ -19,7 +19,7 @@ heading None tick = codes "the module differs from tick " ++ (decimal tick ++ co
 abbrev pub line : List ℕ → Event → List ℕ
 line front e = front ++ line_of e
 
--- the lines before it, of which the latest stands last
+-- the lines before it, the latest of them last
 abbrev pub before : List Event → List ℕ
 before [] = []
 before (latest ∷ earlier) = before earlier ++ line (codes "  ") latest
@@ -37,7 +37,7 @@ difference d =
     heading d.partition (tick_of d.first.line d.second.line) ++ before d.before.items
     ++ rest (codes "- ") d.first.line ++ rest (codes "+ ") d.second.line ++ numbers d.first.lines d.second.lines
 
--- all differences, one behind the other
+-- all differences, one after the other
 abbrev pub report : List Difference → List ℕ
 report [] = []
 report (d ∷ ds) = difference d ++ report ds

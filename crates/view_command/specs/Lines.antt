@@ -6,7 +6,7 @@ use Rattle.window_table.specs.Answers.{number_of}
 use Rattle.view_command.specs.declared.refusal.Refusal.{Refusal}
 use Rattle.view_command.specs.declared.refusal.Refusal.TheVariants.{Open, Read, Line, Late, TooMany, Crowded, Table, Foreign, Memory, Write}
 
--- the name of a text in a line: `-` stands for the standard input
+-- the name of a text in a line: `-` means the standard input
 abbrev pub called : List ℕ → List ℕ
 called name = if bytes_eq name (codes "-") then codes "the standard input" else name
 

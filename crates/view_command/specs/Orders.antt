@@ -124,7 +124,7 @@ EndsBefore from (Some end) = end ≤ from
 abbrev pub AreNoTicks : Option (List ℕ) → Option (List ℕ) → Type 0
 AreNoTicks from end = EndsBefore (from_in from) (option_map number_in end)
 
--- for so many ticks no module runs
+-- no module runs for that number of ticks
 abbrev pub IsBeyond : Option ℕ → Type 0
 IsBeyond None = ⊥
 IsBeyond (Some ticks) = MOST_TICKS < ticks

@@ -1,4 +1,4 @@
--- The pages that the program writes of its own words.
+-- The pages that the program writes about its own words.
 use Rattle.std.specs.Prelude.{◌≡◌, ◌≤◌, ℕ, List}
 use Rattle.std.specs.Io.KnownBytes.{Appends}
 use Rattle.command_words.specs.Pages.{IsPageText}

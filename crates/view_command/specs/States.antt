@@ -10,6 +10,6 @@ pub record State : Type 0 where
 abbrev pub state : List (List ℕ) → Seen → State
 state unopened out = record { unopened = unopened; out = out }
 
--- no text was refused to be opened, and standard output is as it was
+-- no text failed to open, and standard output is unchanged
 abbrev pub IsUntouched : State → State → Type 0
 IsUntouched before after = (after.unopened ≡ before.unopened) × (after.out ≡ before.out)

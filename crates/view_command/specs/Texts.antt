@@ -55,7 +55,7 @@ IsTable text = (table : ModuleTable) × AnswersText text (Ok table)
 
 -- ---- the text of a name, if the texts are known
 
--- the text is a trace of a run of so many ticks, if that is known
+-- the text is a trace of a run of `ran` ticks, if that is known
 abbrev pub IsTraceIn : Option Contents → Option ℕ → List ℕ → Type 0
 IsTraceIn None ran name = Unit {0}
 IsTraceIn (Some texts) ran name = (text : List ℕ) × (texts name ≡ Some text) × (events : List Event) × IsReadAs text events × AreInRun ran events

@@ -10,14 +10,14 @@ use Rattle.wave_dump.specs.declared.change.Value.TheVariants as value
 use Rattle.wave_dump.specs.declared.variable.Variable.{Variable}
 use Rattle.wave_dump.specs.declared.variable.Variable.TheVariants as variable
 
--- A wire is 1 from the first tick of a stay on, and 0 from the tick behind its last on. A stay without a tick
+-- A wire is 1 from the first tick of a stay on, and 0 from the tick after its last on. A stay without a tick
 -- does not show.
 abbrev pub changes_of : Variable → Span → List Change
 changes_of v s =
     if nat_le s.until.0 s.from.0 then [] else
     record { tick = s.from; variable = v; value = value.High } ∷ record { tick = s.until; variable = v; value = value.Low } ∷ []
 
--- A name shows from the first tick of a stay on, and nothing from the tick behind its last on, if nothing else follows there.
+-- A name shows from the first tick of a stay on, and nothing from the tick after its last on, if nothing else follows there.
 abbrev pub names_of : Variable → Value → Span → List Change
 names_of v name s =
     if nat_le s.until.0 s.from.0 then [] else

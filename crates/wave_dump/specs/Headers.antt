@@ -178,7 +178,7 @@ first_values partitions processes names =
 unfoldable pub first_lines : List ℕ
 first_lines = codes "$version mbview $end\n$comment One time unit stands for a tick of the processor. $end\n$timescale 1 ns $end\n"
 
--- behind the variables, the first time
+-- after the variables, the first time
 unfoldable pub begin_time : ℕ → List ℕ
 begin_time from = codes "$enddefinitions $end\n#" ++ (decimal from ++ codes "\n")
 

@@ -33,7 +33,7 @@ pulse_of (event.State who state) = None
 pulse_of (event.Return who service code) = None
 pulse_of (event.Mode mode) = None
 
--- the scope in which it stands
+-- the scope that it is in
 abbrev pub group_of : Pulse → Group
 group_of (pulse.Move port) = group.Messages
 group_of (pulse.Arrive port) = group.Messages

@@ -76,7 +76,7 @@ IsTaken e old new = IsTakenIf (is_before_end old.shown.to e.tick.0) e old new
 
 -- ---- a trace
 
--- these lines, one behind the other
+-- these lines, one after another
 abbrev pub AreTaken : List Event → Dump → Dump → Type 0
 AreTaken [] old new = new ≡ old
 AreTaken (e ∷ es) old new = (between : Dump) × IsTaken e old between × AreTaken es between new
@@ -90,7 +90,7 @@ IsDumpOf from to events d = (first : Dump) × IsEmpty from to first × AreTaken 
 
 -- ---- the end
 
--- the changes behind the last line: those that were added, and those of the stays that are not over
+-- the changes after the last line: those that were added, and those of the stays that are not over
 abbrev pub all_changes : Dump → List Change
 all_changes d =
     d.changes.items

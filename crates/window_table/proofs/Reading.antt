@@ -1,4 +1,4 @@
--- Reading a list of tables one by one: the values that were read stand before those still to be
+-- Reading a list of tables one by one: the values that were read come before those still to be
 -- read.
 use Rattle.std.proofs.Common.{◌≡◌, ℕ, ℤ, false, cond, List, [], ◌∷◌, ◌++◌, length, map, Option, Some, None, Result, Ok, Err, is_ok, is_err, refl, sym, ap, ◌∙◌, append_assoc, ◌+◌, ◌≤◌, ◌<◌, drop, get_or, length-drop, arith}
 use Rattle.std.proofs.lemmas.List.{map-append, append-nil, drop_more}

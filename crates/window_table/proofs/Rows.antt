@@ -1,4 +1,4 @@
--- A loop over a slice that adds a row for each item, or refuses the first that breaks a rule: what is said of the rest from here, said of the rest behind one more item.
+-- A loop over a slice that adds a row for each item, or refuses the first that breaks a rule: what is said of the rest from here, said of the rest after one more item.
 use Rattle.std.proofs.Common.{◌≡◌, ℕ, ◌+◌, ◌<◌, ◌≤◌, Bool, true, false, cond, List, [], ◌∷◌, ◌++◌, length, map, drop, get_or, Option, None, Some, Result, Err, is_ok, is_err, refl, sym, ap, ◌∙◌, append_assoc, arith, is_none}
 use Rattle.std.proofs.lemmas.List.{at_drop_all, at_drop_more, append-nil, map-append}
 use Rattle.std.specs.Prelude.{◌||◌, if◌then◌else◌, ℤ, int_lt, nat_abs, option_map, unwrap_or, ◌+ℤ◌}
@@ -18,7 +18,7 @@ pub still_any : {X : Type 0} (p : X → Bool) (f : List X → Bool) (xs : List X
 still_any p f xs i d whole law some not before =
     before ∙ at_drop_more f xs i d some ∙ law (get_or xs i d) (drop (i + 1) xs) ∙ ap (λ (b : Bool). b || f (drop (i + 1) xs)) not
 
--- the row of one more item stands behind those so far
+-- the row of one more item comes after those so far
 pub one_more : {X Y : Type 0} (g : X → Y) (f : List X → List Y) (xs : List X) (i : ℕ) (d : X) (old new whole : List Y) → ((x : X) (ys : List X) → f (x ∷ ys) ≡ g x ∷ f ys)
     → i < length xs → new ≡ old ++ g (get_or xs i d) ∷ [] → whole ≡ old ++ f (drop i xs) → whole ≡ new ++ f (drop (i + 1) xs)
 one_more g f xs i d old new whole law some is before =
@@ -43,7 +43,7 @@ pub unless_same : {Y : Type 0} (b : Bool) (o : Option Y) (y x : Y) → o ≡ (if
 unless_same true o y x is some = let no : None ≡ Some x = sym is ∙ some in cc
 unless_same false o y x is some = let same : Some y ≡ Some x = sym is ∙ some in cc
 
--- the same for an item that is handed on as a value of its own
+-- the same for an item that is passed as a separate value
 pub still_any_item : {X : Type 0} (p : X → Bool) (f : List X → Bool) (xs : List X) (i : ℕ) (x : X) (whole : Bool) → ((y : X) (ys : List X) → f (y ∷ ys) ≡ (p y || f ys))
     → i < length xs → x ≡ get_or xs i x → p x ≡ false → whole ≡ f (drop i xs) → whole ≡ f (drop (i + 1) xs)
 still_any_item p f xs i x whole law some read not before = still_any p f xs i x whole law some (ap p (sym read) ∙ not) before
@@ -52,7 +52,7 @@ pub one_more_item : {X Y : Type 0} (g : X → Y) (f : List X → List Y) (xs : L
     → i < length xs → x ≡ get_or xs i x → new ≡ old ++ g x ∷ [] → whole ≡ old ++ f (drop i xs) → whole ≡ new ++ f (drop (i + 1) xs)
 one_more_item g f xs i x old new whole law some read is before = one_more g f xs i x old new whole law some (is ∙ ap (λ (y : _). old ++ g y ∷ []) read) before
 
--- behind an item that `p` does not find either, none is found
+-- after an item that `p` does not find either, none is found
 pub none_behind : {X : Type 0} (p : X → Bool) (f : List X → Bool) (xs : List X) (i : ℕ) → ((x : X) (ys : List X) → f (x ∷ ys) ≡ (p x || f ys)) → i < length xs → f (drop i xs) ≡ false
     → f (drop (i + 1) xs) ≡ false
 none_behind p f [] i law some before = absurd (omega (arith, some))
@@ -106,7 +106,7 @@ pub any_here : {X : Type 0} (p : X → Bool) (f : List X → Bool) (xs : List X)
 any_here p f xs i d whole law some here before =
     before ∙ at_drop_more f xs i d some ∙ law (get_or xs i d) (drop (i + 1) xs) ∙ ap (λ (b : Bool). b || f (drop (i + 1) xs)) here
 
--- behind the last item none is found, and all rows are built
+-- after the last item none is found, and all rows are built
 pub none_left : {X : Type 0} (f : List X → Bool) (xs : List X) (i : ℕ) (whole : Bool) → f [] ≡ false → length xs ≤ i → whole ≡ f (drop i xs) → whole ≡ false
 none_left f xs i whole nil all before = before ∙ at_drop_all f xs i all ∙ nil
 
@@ -131,7 +131,7 @@ pub any_here_item : {X : Type 0} (p : X → Bool) (f : List X → Bool) (xs : Li
     → i < length xs → x ≡ get_or xs i x → p x ≡ true → whole ≡ f (drop i xs) → whole ≡ true
 any_here_item p f xs i x whole law some read here before = any_here p f xs i x whole law some (ap p (sym read) ∙ here) before
 
--- the rows of one more item stand behind those so far
+-- the rows of one more item come after those so far
 pub some_more_item : {X Y : Type 0} (own : X → List Y) (f : List X → List Y) (xs : List X) (i : ℕ) (x : X) (old new whole : List Y) → ((y : X) (ys : List X) → f (y ∷ ys) ≡ own y ++ f ys)
     → i < length xs → x ≡ get_or xs i x → new ≡ old ++ own x → whole ≡ old ++ f (drop i xs) → whole ≡ new ++ f (drop (i + 1) xs)
 some_more_item own f xs i x old new whole law some read is before =

@@ -1,4 +1,4 @@
--- The relations between the answers of the code and a text.
+-- The relations between the results of the code and a text.
 use Rattle.std.specs.Prelude.{◌≡◌, ℕ, Bool, true, List, Option, Some, None, Result, Ok, Err}
 use Rattle.toml.specs.Data.{Members}
 use Rattle.module_meaning.specs.TableRules.{Refusal, verdict}
@@ -35,7 +35,7 @@ RefusesOverlap (Err fault.Memory) broken = Unit {0}
 RefusesOverlap (Err fault.Overlap) broken = broken ≡ true
 RefusesOverlap (Err _) broken = ⊥
 
--- The answer to a text: it is no document, the verdict on the document, or memory ran out.
+-- The result for a text: it is no document, the verdict on the document, or memory ran out.
 abbrev pub AnswersText : List ℕ → Result ModuleTable TableFault → Type 0
 AnswersText bytes (Err f) = IsRefused bytes f
 AnswersText bytes (Ok table) = (ms : Members) × IsDocument bytes ms × (verdict ms ≡ Ok (table_of table))

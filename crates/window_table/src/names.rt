@@ -1,4 +1,4 @@
-//! The names of a module table, and the numbers that they stand for.
+//! The names of a module table, and the numbers that they denote.
 
 ghost use Rattle.std.specs.Prelude.{◌≡◌, ◌≤◌, ◌||◌, ◌++◌, ◌∷◌, map, option_map, length, is_none};
 ghost use Rattle.std.specs.List.{list_any};

@@ -113,7 +113,7 @@ impl Schedule {
         before
     }
 
-    /// The same. It is found at once if the hint is this window or the one before.
+    /// The same. It is found directly if the hint is this window or the one before.
     #[tactic(auto, using(crate::proofs::Spans::is_the_first))]
     fn first_left_from(&self, hint: usize, place: Ticks) -> usize
         ensures { result ≡ first_left place.0 self.now.windows.items }

@@ -68,7 +68,7 @@ fn body_at(bytes: &[u8]) -> Result<(BodyRow, &[u8]), ImageFault>
     Ok((row, rest))
 }
 
-/// The duration that a word stands for; -1 stands for none.
+/// The duration that a word means; -1 means none.
 fn duration_of(word: i64) -> Option<Option<u64>>
     ensures { result ≡ duration_of word }
 {

@@ -17,7 +17,7 @@ ghost use Rattle.isolation.specs.Brought.{part};
 ghost use Rattle.isolation.specs.Slices.{Slice, machine_inputs, slice, slice_trace};
 ghost use Rattle.isolation.specs.SourceSlices.{source_inputs, source_slice, source_slice_trace};
 
-/// For each partition, the trace of an image shows the trace of that partition alone, from its
+/// For each partition, the trace of an image shows the trace of that partition run alone, from its
 /// slice of the image and from the inputs that the run brings it: whatever code the others run.
 pub fn part_is_alone()
     ensures { (image : Image) (text : List ℕ) (lines : List DeviceLine) (p : ℕ) (s : Slice) (n : ℕ)

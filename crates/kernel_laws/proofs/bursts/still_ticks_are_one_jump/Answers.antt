@@ -1,4 +1,3 @@
-use Rattle.machine_meaning.specs.MachineControl.{MachineControl}
 use Rattle.kernel_laws.proofs.Quiet.{jump}
 use Rattle.kernel_laws.proofs.bursts.still_ticks_are_one_jump.Goals as goal
 

@@ -1,6 +1,5 @@
-use Rattle.std.proofs.Common.{◌≡◌, ◌+◌, ◌∷◌, ◌∙◌, List, Option, Some, drop, sym, ap, rules}
+use Rattle.std.proofs.Common.{◌≡◌, ◌+◌, ◌∷◌, ◌∙◌, List, Some, drop, sym, ap, rules}
 use Rattle.std.proofs.lemmas.List.{drop_more}
-use Rattle.apex_types.specs.declared.identity.Moment.{Moment}
 use Rattle.isolation.specs.Alone.{takes_all}
 use Rattle.isolation.specs.declared.input.InputLine.{InputLine}
 use Rattle.partition.specs.Members.{member_of}

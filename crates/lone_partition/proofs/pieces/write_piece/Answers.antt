@@ -1,8 +1,8 @@
-use Rattle.std.proofs.Common.{rules, ◌≡◌, ◌≤◌, ◌-◌, ℕ, refl, subst, arith}
+use Rattle.std.proofs.Common.{rules, ◌≡◌, ◌-◌, subst, arith}
 use Rattle.partition.specs.Members.{member_of}
 use Rattle.lone_partition.specs.Outputs.{sent_of}
 use Rattle.lone_partition.specs.Pieces.{HasRun}
-use Rattle.lone_partition.proofs.Parts.{all_left, fewer_left, made_within}
+use Rattle.lone_partition.proofs.Parts.{all_left, fewer_left}
 use Rattle.lone_partition.proofs.pieces.write_piece.Goals as goal
 
 pub loop-left-init : goal.loop-left-init

@@ -3,13 +3,12 @@ use Rattle.apex_types.specs.Line.{text_of}
 use Rattle.apex_types.specs.declared.identity.At.{At}
 use Rattle.module_meaning.specs.Module.{first_tick, next_tick}
 use Rattle.kernel_meaning.specs.Windows.{at_tick}
-use Rattle.isolation.specs.Alone.{alone_from, tick_alone}
+use Rattle.isolation.specs.Alone.{alone_from}
 use Rattle.isolation.proofs.Isolated.{IsIn}
 use Rattle.partition.specs.Members.{member_of}
 use Rattle.lone_partition.specs.Around.{around}
 use Rattle.lone_partition.specs.Lines.{AreFrom, inputs_of, tick_of_input}
 use Rattle.lone_partition.specs.Outputs.{next_at, sent_of}
-use Rattle.lone_partition.specs.Written.{IsPathMade}
 use Rattle.lone_partition.proofs.Bursts.{none_made, runs_on}
 use Rattle.lone_partition.proofs.Outputs.{CompletesLines, all_lines_left, failed_sent}
 use Rattle.lone_partition.proofs.Traces.{goes_on, ends_down, nothing_left, tick_in}
@@ -30,7 +29,7 @@ loop-left-init g c =
       rest = subst (λ (a : At). CompletesLines whole (alone_from s c.args.inputs.now c.args.ticks (Some a) x) sent sent) first (all_lines_left whole sent);
     }
 
--- many ticks at once
+-- many ticks together
 pub loop-left-preserved-then-count-gt0 : goal.loop-left-preserved-then-count-gt0
 loop-left-preserved-then-count-gt0 g c =
     let i = c.loop-left.invariant in
@@ -57,7 +56,7 @@ loop-left-preserved-then-count-gt0 g c =
           (runs_on s c.loop-left.lines.now whole left n rest at x y old mid new same i.rest ran.1);
     }
 
--- one tick alone
+-- a single tick
 pub loop-left-preserved : goal.loop-left-preserved
 loop-left-preserved g c =
     let i = c.loop-left.invariant in

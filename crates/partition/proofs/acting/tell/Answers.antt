@@ -1,4 +1,4 @@
-use Rattle.std.proofs.Common.{rules, ◌≡◌, ◌∙◌, None, Some, ap, sym, arith}
+use Rattle.std.proofs.Common.{rules, ◌≡◌, ◌∙◌, None, Some, ap, arith}
 use Rattle.std.specs.Prelude.{slice_get}
 use Rattle.apex_types.specs.Output.{event_of}
 use Rattle.apex_types.specs.declared.event.EventKind.{EventKind}

@@ -4,7 +4,7 @@ use Rattle.std.proofs.lemmas.Option.{slice_get_cases}
 use Rattle.std.proofs.Math.Seq.{set-append_seam}
 use Rattle.sync_objects_base.proofs.messages.append.Goals as goal
 
--- The empty message is behind the others, and gets the words.
+-- The empty message comes after the others, and gets the words.
 pub returns-in-Some-clause-items : goal.returns-in-Some-clause-items
 returns-in-Some-clause-items c =
     let old = c.args.ring.now.items in

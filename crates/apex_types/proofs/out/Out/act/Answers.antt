@@ -5,7 +5,7 @@ use Rattle.apex_types.specs.declared.out.Act.{Act}
 use Rattle.apex_types.proofs.Outs.{action_asked, output}
 use Rattle.apex_types.proofs.out.Out.act.Goals as goal
 
--- The words are behind the others, and so each line and each action keeps its own.
+-- The words come after the others, and so each line and each action keeps its own.
 pub returns : goal.returns
 returns c =
     let old = c.self.inside in

@@ -6,7 +6,7 @@ use Rattle.apex_types.specs.declared.process.ActionKind.TheVariants as kind
 use Rattle.apex_types.proofs.Outs.{act_parts, action_asked, actions_count, lines_wider, output}
 use Rattle.apex_types.proofs.out.Out.reply.Goals as goal
 
--- The code and the outputs are behind the other words, and so each line and each action keeps its own.
+-- The code and the outputs come after the other words, and so each line and each action keeps its own.
 pub invariant_of-self : goal.invariant_of-self
 invariant_of-self c =
     let old = c.self.inside in

@@ -5,7 +5,7 @@ use Rattle.apex_types.specs.declared.out.Line.{Line}
 use Rattle.apex_types.proofs.Outs.{actions_wider, line_parts, line_told, lines_count, new_is_part, output}
 use Rattle.apex_types.proofs.out.Out.tell.Goals as goal
 
--- The words are behind the others, and so each line and each action keeps its own.
+-- The words come after the others, and so each line and each action keeps its own.
 pub invariant_of-self : goal.invariant_of-self
 invariant_of-self c =
     let old = c.self.inside in
