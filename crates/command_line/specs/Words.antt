@@ -22,22 +22,26 @@ check_app = with_rule (with_rule (explained_app (codes "check")) (word_rule (cod
 abbrev pub build_app : App
 build_app = with_rule (with_rule (with_rule (explained_app (codes "build")) (word_rule (codes "TABLE"))) (word_rule (codes "IMAGE"))) (words_rule (codes "SOURCE"))
 
+-- a command that may report how far it is
+abbrev pub watched_app : List ℕ → App
+watched_app name = with_rule (explained_app name) (flag_rule (codes "progress"))
+
 -- with the words of a line that the run waits for
 abbrev pub run_flags_app : App
-run_flags_app = with_rule (with_rule (explained_app (codes "run")) (flag_rule (codes "progress"))) (sequence_rule (codes "until"))
+run_flags_app = with_rule (watched_app (codes "run")) (sequence_rule (codes "until"))
 
 abbrev pub run_app : App
 run_app = with_rule (with_rule (with_rule run_flags_app (word_rule (codes "IMAGE"))) (word_rule (codes "DEVICES"))) (word_rule (codes "TICKS"))
 
 -- a command on one partition of an image
-abbrev pub partition_app : List ℕ → App
-partition_app name = with_rule (with_rule (explained_app name) (word_rule (codes "IMAGE"))) (word_rule (codes "PARTITION"))
+abbrev pub partition_app : App → App
+partition_app app = with_rule (with_rule app (word_rule (codes "IMAGE"))) (word_rule (codes "PARTITION"))
 
 abbrev pub replay_app : App
-replay_app = with_rule (with_rule (partition_app (codes "replay")) (word_rule (codes "INPUTS"))) (word_rule (codes "TICKS"))
+replay_app = with_rule (with_rule (partition_app (explained_app (codes "replay"))) (word_rule (codes "INPUTS"))) (word_rule (codes "TICKS"))
 
 abbrev pub inputs_app : App
-inputs_app = with_rule (with_rule (partition_app (codes "inputs")) (word_rule (codes "DEVICES"))) (word_rule (codes "TICKS"))
+inputs_app = with_rule (with_rule (partition_app (watched_app (codes "inputs"))) (word_rule (codes "DEVICES"))) (word_rule (codes "TICKS"))
 
 abbrev pub cost_app : App
 cost_app = with_rule (with_rule (explained_app (codes "cost")) (word_rule (codes "TABLE"))) (words_rule (codes "SOURCE"))

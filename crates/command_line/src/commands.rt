@@ -219,12 +219,12 @@ fn obey_order<F: Files, O: Stream, W: Watch>(
             inputs,
             ticks,
         } => replay(alloc, image, partition, inputs, ticks, files, out, note),
-        Order::Inputs {
-            image,
-            partition,
-            devices,
-            ticks,
-        } => inputs(alloc, image, partition, devices, ticks, files, out, note),
+        Order::Inputs { words, is_watched } => {
+            if is_watched {
+                watch.begin();
+            }
+            inputs(alloc, words, files, out, watch, note)
+        }
         Order::Cost { table, sources } => usual(cost(alloc, table, sources, files, out, note)),
         Order::Dis { image } => usual(dis(alloc, image, files, out, note)),
         Order::Upgrade { old, new } => usual(upgrade(alloc, old, new, files, out, note)),

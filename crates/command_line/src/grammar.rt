@@ -50,10 +50,7 @@ const RUN: CommandRow = CommandRow {
     arguments: &[
         EXPLAIN,
         EXPLAIN_JSON,
-        Argument::Flag {
-            name: "progress",
-            help: "Tells once a second on standard error how far the run is",
-        },
+        PROGRESS,
         Argument::Sequence {
             name: "until",
             value: "WORD",
@@ -89,7 +86,15 @@ const INPUTS: CommandRow = CommandRow {
     name: "inputs",
     about: "Runs an image and writes what comes to one partition, as a replay text",
     example: "Example: mb inputs module.image b devices.txt 1000",
-    arguments: &[EXPLAIN, EXPLAIN_JSON, IMAGE, PARTITION, DEVICES, TICKS],
+    arguments: &[
+        EXPLAIN,
+        EXPLAIN_JSON,
+        PROGRESS,
+        IMAGE,
+        PARTITION,
+        DEVICES,
+        TICKS,
+    ],
 };
 
 const COST: CommandRow = CommandRow {
@@ -162,6 +167,11 @@ const EXPLAIN: Argument = Argument::Flag {
 const EXPLAIN_JSON: Argument = Argument::Flag {
     name: "explain-json",
     help: "The same as --explain=json: explains it in JSON objects, for editors",
+};
+
+const PROGRESS: Argument = Argument::Flag {
+    name: "progress",
+    help: "Tells once a second on standard error how far the run is",
 };
 
 const TABLE: Argument = Argument::Word {

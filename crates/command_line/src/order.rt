@@ -4,13 +4,22 @@ ghost use Rattle.std.specs.Prelude.{◌≡◌, map};
 ghost use Rattle.clap.specs.Matches.{found_of};
 ghost use Rattle.clap.specs.Simple.{subcommand_rows_of};
 ghost use Rattle.clap.specs.Walk.{rows_of};
-ghost use Rattle.command_line.specs.Meant.{meant};
+ghost use Rattle.command_line.specs.Meant.{inputs_meant, meant};
 ghost use Rattle.command_line.specs.Orders as spec;
 ghost use Rattle.command_words.specs.Found.{words_at};
 
 use crate::form::Form;
 use clap::ArgMatches;
 use command_words::word;
+
+/// The words of `mb inputs`: three names, and how many ticks are made.
+#[derive(Clone, Copy)]
+pub struct InputsWords<'a> {
+    pub image: &'a str,
+    pub partition: &'a str,
+    pub devices: &'a str,
+    pub ticks: &'a str,
+}
 
 /// What the words ask for: a command with the words that were found for it.
 #[derive(Clone, Copy)]
@@ -40,10 +49,8 @@ pub enum Order<'a> {
         ticks: &'a str,
     },
     Inputs {
-        image: &'a str,
-        partition: &'a str,
-        devices: &'a str,
-        ticks: &'a str,
+        words: InputsWords<'a>,
+        is_watched: bool,
     },
     Cost {
         table: &'a str,
@@ -105,10 +112,8 @@ fn order_named<'a, 'w: 'a>(name: &str, found: &'a ArgMatches<'w>) -> Order<'a>
             ticks: word(found, "TICKS"),
         },
         "inputs" => Order::Inputs {
-            image: word(found, "IMAGE"),
-            partition: word(found, "PARTITION"),
-            devices: word(found, "DEVICES"),
-            ticks: word(found, "TICKS"),
+            words: inputs_words(found),
+            is_watched: is_flagged(found, "progress"),
         },
         "cost" => Order::Cost {
             table: word(found, "TABLE"),
@@ -131,6 +136,18 @@ fn order_named<'a, 'w: 'a>(name: &str, found: &'a ArgMatches<'w>) -> Order<'a>
             sources: words(found, "SOURCE"),
         },
         _ => Order::First,
+    }
+}
+
+/// The words of `mb inputs`.
+fn inputs_words<'a, 'w: 'a>(found: &'a ArgMatches<'w>) -> InputsWords<'a>
+    ensures { inputs_meant result ≡ spec.inputs_of (rows_of (found_of found.now)) }
+{
+    InputsWords {
+        image: word(found, "IMAGE"),
+        partition: word(found, "PARTITION"),
+        devices: word(found, "DEVICES"),
+        ticks: word(found, "TICKS"),
     }
 }
 

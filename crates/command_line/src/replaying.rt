@@ -5,7 +5,8 @@ ghost use Rattle.machine_meaning.specs.ImageReading.{image_at};
 ghost use Rattle.module.specs.Replays.{Replays};
 ghost use Rattle.module.specs.Telling.{Tells};
 ghost use Rattle.command_line.specs.Done.{AreInputsDone, IsDoneWith, IsReplayDone};
-ghost use Rattle.command_line.specs.Orders.{Inputs, Replay};
+ghost use Rattle.command_line.specs.Meant.{inputs_meant};
+ghost use Rattle.command_line.specs.Orders.{Replay};
 ghost use Rattle.command_line.specs.Refusals.{AreInputsRefused, HasFailedBy, HasFailedByInputs, IsFailure, IsReplayRefused};
 ghost use Rattle.command_line.specs.States.{state};
 ghost use Rattle.command_line.specs.Told.{IsOfFailed, IsOfFailedFile};
@@ -13,11 +14,12 @@ ghost use Rattle.streams.specs.States.{IsFlushed, seen};
 
 use crate::explaining::{Note, RunFiles};
 use crate::grammar::bad_ticks;
+use crate::order::InputsWords;
 use crate::outcome::Outcome;
 use crate::reading::read_as;
 use crate::refusal::Refusal;
 use command_words::{Failure, number_of};
-use module::{InputsFault, RunFault};
+use module::{InputsFault, RunFault, WantedInputs, Watch};
 use std::alloc::Global;
 use streams::{Files, Stream};
 use text_beginnings::TextKind;
@@ -122,87 +124,85 @@ fn trace_alone<O: Stream>(
     traced
 }
 
-/// Writes the inputs that a run of an image brings a partition in the ticks of a word.
-pub fn inputs<F: Files, O: Stream>(
+/// Writes the inputs that a run of an image brings a partition in the ticks of a word, and reports
+/// to a watcher how far the run is.
+pub fn inputs<F: Files, O: Stream, W: Watch>(
     alloc: Global,
-    image: &str,
-    partition: &str,
-    devices: &str,
-    ticks: &str,
+    words: InputsWords<'_>,
     files: &mut F,
     out: &mut O,
+    watch: &mut W,
     note: &mut Note,
 ) -> Result<Outcome, Failure<Refusal>>
     requires { O.failures out.old < 2 ^ 64 - 1 }
     ensures done { IfOk result
         (λ outcome.
-        IsDoneWith outcome (Inputs image.now partition.now devices.now ticks.now)
+        IsDoneWith outcome (inputs_meant words.entry)
         (state (F.contents files.old) (seen O.taken O.failures O.is_flushed out.old))
         (state (F.contents files.new) (seen O.taken O.failures O.is_flushed out.new))) }
     ensures flushed { OnOk result
         (IsFlushed (seen O.taken O.failures O.is_flushed out.old)
         (seen O.taken O.failures O.is_flushed out.new)) }
     ensures failed { IfErr result
-        (λ f. IsFailure (Inputs image.now partition.now devices.now ticks.now)
+        (λ f. IsFailure (inputs_meant words.entry)
         (state (F.contents files.old) (seen O.taken O.failures O.is_flushed out.old))
         (state (F.contents files.new) (seen O.taken O.failures O.is_flushed out.new)) f) }
     ensures noted { OnOk result (F.failed files.new ≡ F.failed files.old) }
     ensures named { IfErr result (λ f. IsOfFailedFile (F.failed files.old) (F.failed files.new) f) }
 {
-    let Some(number) = number_of(ticks) else {
-        return Err(Failure::Usage(bad_ticks(alloc, "inputs", ticks)?));
+    let Some(number) = number_of(words.ticks) else {
+        return Err(Failure::Usage(bad_ticks(alloc, "inputs", words.ticks)?));
     };
-    inputs_named(alloc, image, partition, devices, number, files, out, note)?;
+    inputs_named(alloc, words, number, files, out, watch, note)?;
     Ok(Outcome::Usual)
 }
 
 /// Writes the inputs that `ticks` ticks of an image bring a partition.
-fn inputs_named<F: Files, O: Stream>(
+fn inputs_named<F: Files, O: Stream, W: Watch>(
     alloc: Global,
-    image: &str,
-    partition: &str,
-    devices: &str,
+    words: InputsWords<'_>,
     ticks: u64,
     files: &mut F,
     out: &mut O,
+    watch: &mut W,
     note: &mut Note,
 ) -> Result<(), Refusal>
     requires { O.failures out.old < 2 ^ 64 - 1 }
     ensures done { OnOk result
-        (AreInputsDone image.now partition.now devices.now ticks
+        (AreInputsDone words.entry.image.now words.entry.partition.now words.entry.devices.now ticks
         (state (F.contents files.old) (seen O.taken O.failures O.is_flushed out.old))
         (state (F.contents files.new) (seen O.taken O.failures O.is_flushed out.new))) }
     ensures flushed { OnOk result
         (IsFlushed (seen O.taken O.failures O.is_flushed out.old)
         (seen O.taken O.failures O.is_flushed out.new)) }
     ensures refused { IfErr result
-        (λ r. AreInputsRefused image.now partition.now devices.now ticks
+        (λ r. AreInputsRefused words.entry.image.now words.entry.partition.now words.entry.devices.now ticks
         (state (F.contents files.old) (seen O.taken O.failures O.is_flushed out.old))
         (state (F.contents files.new) (seen O.taken O.failures O.is_flushed out.new)) r) }
     ensures noted { OnOk result (F.failed files.new ≡ F.failed files.old) }
     ensures named { IfErr result (λ r. IsOfFailed (F.failed files.old) (F.failed files.new) r) }
 {
-    let (image_name, text_name) = (image, devices);
-    let image = read_as(alloc, TextKind::Image, image, files)?;
-    let devices = read_as(alloc, TextKind::Inputs, devices, files)?;
+    let image = read_as(alloc, TextKind::Image, words.image, files)?;
+    let devices = read_as(alloc, TextKind::Inputs, words.devices, files)?;
     let run_files = RunFiles {
-        image_name,
+        image_name: words.image,
         image: image.as_slice(),
-        text_name,
+        text_name: words.devices,
         text: devices.as_slice(),
     };
-    tell_inputs(alloc, run_files, partition, ticks, out, note)?;
+    tell_inputs(alloc, run_files, words.partition, ticks, out, watch, note)?;
     Ok(out.flush()?)
 }
 
 /// Writes the inputs that a run of an image brings a partition, as a replay text. A refusal of the
 /// image or of the device text is explained in `note`.
-fn tell_inputs<O: Stream>(
+fn tell_inputs<O: Stream, W: Watch>(
     alloc: Global,
     files: RunFiles<'_>,
     partition: &str,
     ticks: u64,
     out: &mut O,
+    watch: &mut W,
     note: &mut Note,
 ) -> Result<(), InputsFault>
     requires { O.failures out.old < 2 ^ 64 - 1 }
@@ -213,7 +213,12 @@ fn tell_inputs<O: Stream>(
         (λ f. HasFailedByInputs f (seen O.taken O.failures O.is_flushed out.old)
         (seen O.taken O.failures O.is_flushed out.new)) }
 {
-    let told = module::inputs(alloc, files.image, partition, files.text, ticks, out);
+    let wanted = WantedInputs {
+        partition,
+        devices: files.text,
+        ticks,
+    };
+    let told = module::inputs_watched(alloc, files.image, wanted, out, watch);
     if let Err(fault) = &told {
         note.explain_inputs(alloc, files, fault);
     }

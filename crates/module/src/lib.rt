@@ -40,7 +40,7 @@ pub use load_fault::LoadFault;
 pub use machine::{Machine, ticks_isolate_the_partitions, ticks_make_the_trace};
 pub use replaying::replay;
 pub use running::{build_and_run, run, run_watched};
-pub use telling::inputs;
+pub use telling::{WantedInputs, inputs, inputs_watched};
 pub use ticks::split_tick;
 pub use upgrading::upgrade;
 pub use watch::{Unwatched, Watch};

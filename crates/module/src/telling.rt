@@ -19,14 +19,26 @@ use crate::member::Module;
 use crate::naming::numbered;
 use crate::pieces::{at_most, until_line};
 use crate::ticks::split_tick;
+use crate::watch::{Unwatched, Watch};
 use crate::watching::Forgetful;
 use apex_types::limits::MOST_TICKS;
-use apex_types::{DeviceLine, PartitionId, Sink, TraceBuffer};
+use apex_types::{DeviceLine, PartitionId, Sink, Ticks, TraceBuffer};
 use image::{Image, load_image};
 use lone_partition::Output;
 use module_base::{read_devices, write_inputs};
 use partition_base::PartitionProcessor;
 use std::alloc::Global;
+
+/// The steps between two reports to a watcher; a step is a tick, or a jump over quiet ones.
+const STEPS_BETWEEN_REPORTS: u32 = 1 << 12;
+
+/// Which inputs are wanted: those of one partition, in a run with a device text.
+#[derive(Clone, Copy)]
+pub struct WantedInputs<'a> {
+    pub partition: &'a str,
+    pub devices: &'a [u8],
+    pub ticks: u64,
+}
 
 /// Runs the image for `ticks` ticks with the device text, and writes the inputs that one of its
 /// partitions gets from outside, tick by tick, as a replay text: the messages that reach its ports,
@@ -57,53 +69,92 @@ pub fn inputs<S: Sink>(
     ensures quiet { IfErr result
         (λ fault. fault ≢ InputsFault.Write → S.failures sink.new ≡ S.failures sink.old) }
 {
-    if ticks > MOST_TICKS {
-        return Err(InputsFault::Ticks);
-    }
-    let image = load_image(alloc, image)?;
-    let Some(number) = numbered(&image, partition) else {
-        return Err(InputsFault::Partition);
+    let wanted = WantedInputs {
+        partition,
+        devices,
+        ticks,
     };
-    tell_numbered(alloc, image, number, devices, ticks, sink)
+    inputs_watched(alloc, image, wanted, sink, &mut Unwatched)
 }
 
-/// The same for the partition with this number.
-fn tell_numbered<S: Sink>(
+/// Writes the inputs as [`inputs`] does, and reports to a watcher how far the run is.
+///
+/// # Errors
+///
+/// Those of [`inputs`].
+pub fn inputs_watched<S: Sink, W: Watch>(
     alloc: Global,
-    image: Image,
-    number: PartitionId,
-    devices: &[u8],
-    ticks: u64,
+    image: &[u8],
+    wanted: WantedInputs<'_>,
     sink: &mut S,
+    watch: &mut W,
 ) -> Result<(), InputsFault>
-    requires ticks { ticks ≤ MOST_TICKS }
-    requires there { 0 < number.0 }
-    requires within { number.0 ≤ length image.partitions.items }
-    requires failures { S.failures sink.old < 2 ^ 64 - 1 }
-    ensures told { (s : Slice) → slice (image_of image) number.0 ≡ Some s
-        → TellsSlice (image_of image) s devices.now ticks (S.taken sink.old) (S.taken sink.new)
-        result }
+    requires { S.failures sink.old < 2 ^ 64 - 1 }
+    ensures text { Tells (image_at image.now) wanted.entry.partition.now wanted.entry.devices.now
+        wanted.entry.ticks (S.taken sink.old) (S.taken sink.new) result }
     ensures ok { OnOk result (S.failures sink.new ≡ S.failures sink.old) }
     ensures write { IsErrOf result InputsFault.Write
         → S.failures sink.new ≡ S.failures sink.old + 1 }
     ensures quiet { IfErr result
         (λ fault. fault ≢ InputsFault.Write → S.failures sink.new ≡ S.failures sink.old) }
 {
-    let lines = read_devices(alloc, &image, devices)?;
+    if wanted.ticks > MOST_TICKS {
+        return Err(InputsFault::Ticks);
+    }
+    let image = load_image(alloc, image)?;
+    let Some(number) = numbered(&image, wanted.partition) else {
+        return Err(InputsFault::Partition);
+    };
+    tell_numbered(alloc, image, number, wanted, sink, watch)
+}
+
+/// The same for the partition with this number.
+fn tell_numbered<S: Sink, W: Watch>(
+    alloc: Global,
+    image: Image,
+    number: PartitionId,
+    wanted: WantedInputs<'_>,
+    sink: &mut S,
+    watch: &mut W,
+) -> Result<(), InputsFault>
+    requires ticks { wanted.entry.ticks ≤ MOST_TICKS }
+    requires there { 0 < number.0 }
+    requires within { number.0 ≤ length image.partitions.items }
+    requires failures { S.failures sink.old < 2 ^ 64 - 1 }
+    ensures told { (s : Slice) → slice (image_of image) number.0 ≡ Some s
+        → TellsSlice (image_of image) s wanted.entry.devices.now wanted.entry.ticks (S.taken sink.old)
+        (S.taken sink.new) result }
+    ensures ok { OnOk result (S.failures sink.new ≡ S.failures sink.old) }
+    ensures write { IsErrOf result InputsFault.Write
+        → S.failures sink.new ≡ S.failures sink.old + 1 }
+    ensures quiet { IfErr result
+        (λ fault. fault ≢ InputsFault.Write → S.failures sink.new ≡ S.failures sink.old) }
+{
+    let lines = read_devices(alloc, &image, wanted.devices)?;
     let mut module = Module::load(alloc, image)?;
-    let inputs = collect(alloc, &mut module, &lines, ticks, number)?;
+    let inputs = collect(alloc, &mut module, &lines, wanted.ticks, number, watch)?;
     let item = &module.image.partitions[usize::from(number.0) - 1];
     write_inputs(&item.row, &inputs.lines, sink)?;
     Ok(())
 }
 
+/// Counts a step of a run that is at this tick of `ticks`; after the most untold ones it is reported.
+fn one_more<W: Watch>(steps: u32, now: Ticks, ticks: u64, watch: &mut W) -> u32 {
+    if steps < STEPS_BETWEEN_REPORTS {
+        return steps + 1;
+    }
+    watch.reached(now.0, ticks);
+    0
+}
+
 /// Collects the inputs that `ticks` ticks with these device lines bring the watched partition.
-pub fn collect(
+fn collect<W: Watch>(
     alloc: Global,
     running: &mut Module<PartitionProcessor>,
     devices: &[DeviceLine],
     ticks: u64,
     watched: PartitionId,
+    watch: &mut W,
 ) -> Result<Collected, InputsFault>
     requires ticks { ticks ≤ MOST_TICKS }
     requires fresh { standing_of machine running.old
@@ -123,7 +174,9 @@ pub fn collect(
     let mut inputs = Collected::new(alloc);
     let mut left = ticks;
     let mut lines = devices;
+    let mut steps = 0;
     while left > 0 && running.origin.is_some() {
+        steps = one_more(steps, running.now, ticks, watch);
         let quiet = until_line(lines, running.now, at_most(left, u32::MAX));
         let count = running.skip_still(quiet);
         if count > 0 {

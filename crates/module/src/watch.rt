@@ -5,7 +5,8 @@ pub trait Watch {
     /// From now on reports are wanted.
     fn begin(&mut self);
 
-    /// `made` ticks of the run have run: called at least once in 2^20 ticks that run.
+    /// `made` ticks of the run have run: called at least once in 2^20 ticks in which something
+    /// happens.
     fn reached(&mut self, made: u64, ticks: u64);
 }
 

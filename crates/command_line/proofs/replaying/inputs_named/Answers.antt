@@ -11,17 +11,17 @@ use Rattle.command_line.proofs.replaying.inputs_named.Goals as goal
 pub returns-in_err-tell_inputs-clause-refused : goal.returns-in_err-tell_inputs-clause-refused
 returns-in_err-tell_inputs-clause-refused g c =
     let files = g.F.Files.contents c.args.files.now in
-    let given = given_from files (g.F.Files.contents c.read_as.new.files) c.args.image.now c.args.devices.now c.in_ok-image.image.items c.in_ok-devices.devices.items c.as_slice.result.now c.as_slice-2.result.now
+    let given = given_from files (g.F.Files.contents c.read_as.new.files) c.args.words.image.now c.args.words.devices.now c.in_ok-image.image.items c.in_ok-devices.devices.items c.as_slice.result.now c.as_slice-2.result.now
     c.in_ok-image.ensures.unchanged c.as_slice.ensures.value c.as_slice-2.ensures.value c.in_ok-image.ensures.held c.in_ok-devices.ensures.held in
     let same = c.in_ok-devices.ensures.unchanged ∙ c.in_ok-image.ensures.unchanged in
     told_as _ (Inputs c.in_err-tell_inputs.field-0.0) c.from_residual-in_err-tell_inputs.result c.from_residual-in_err-tell_inputs.ensures
-    (c.in_err-tell_inputs.ensures.failed, same, given.given, inputs_of_whole given c.args.partition.now c.args.ticks (g.O.Sink.taken c.args.out.now) (g.O.Sink.taken c.tell_inputs.new.out) (Err c.in_err-tell_inputs.field-0.0) c.in_err-tell_inputs.ensures.told)
+    (c.in_err-tell_inputs.ensures.failed, same, given.given, inputs_of_whole given c.args.words.partition.now c.args.ticks (g.O.Sink.taken c.args.out.now) (g.O.Sink.taken c.tell_inputs.new.out) (Err c.in_err-tell_inputs.field-0.0) c.in_err-tell_inputs.ensures.told)
 
 pub returns-in_err-flush-clause-refused : goal.returns-in_err-flush-clause-refused
 returns-in_err-flush-clause-refused g c =
     let taken = g.O.Sink.taken in
     let files = g.F.Files.contents c.args.files.now in
-    let given = given_from files (g.F.Files.contents c.read_as.new.files) c.args.image.now c.args.devices.now c.in_ok-image.image.items c.in_ok-devices.devices.items c.as_slice.result.now c.as_slice-2.result.now
+    let given = given_from files (g.F.Files.contents c.read_as.new.files) c.args.words.image.now c.args.words.devices.now c.in_ok-image.image.items c.in_ok-devices.devices.items c.as_slice.result.now c.as_slice-2.result.now
     c.in_ok-image.ensures.unchanged c.as_slice.ensures.value c.as_slice-2.ensures.value c.in_ok-image.ensures.held c.in_ok-devices.ensures.held in
     let same = c.in_ok-devices.ensures.unchanged ∙ c.in_ok-image.ensures.unchanged in
     told_as _ Write c.from_residual-in_err-flush.result c.from_residual-in_err-flush.ensures (
@@ -29,7 +29,7 @@ returns-in_err-flush-clause-refused g c =
       (
         same,
         given.given,
-        inputs_of_whole given c.args.partition.now c.args.ticks (taken c.args.out.now) (taken c.flush.new.self) is_ok (kept_inputs (image_at c.as_slice.result.now) c.args.partition.now c.as_slice-2.result.now c.args.ticks (taken c.args.out.now) (taken c.tell_inputs.new.out) (taken c.flush.new.self) c.in_ok-tell_inputs.ensures.told c.in_err-flush.ensures.kept),
+        inputs_of_whole given c.args.words.partition.now c.args.ticks (taken c.args.out.now) (taken c.flush.new.self) is_ok (kept_inputs (image_at c.as_slice.result.now) c.args.words.partition.now c.as_slice-2.result.now c.args.ticks (taken c.args.out.now) (taken c.tell_inputs.new.out) (taken c.flush.new.self) c.in_ok-tell_inputs.ensures.told c.in_err-flush.ensures.kept),
       ),
     )
 
@@ -37,10 +37,10 @@ pub returns-clause-done : goal.returns-clause-done
 returns-clause-done g c =
     let taken = g.O.Sink.taken in
     let files = g.F.Files.contents c.args.files.now in
-    let given = given_from files (g.F.Files.contents c.read_as.new.files) c.args.image.now c.args.devices.now c.in_ok-image.image.items c.in_ok-devices.devices.items c.as_slice.result.now c.as_slice-2.result.now
+    let given = given_from files (g.F.Files.contents c.read_as.new.files) c.args.words.image.now c.args.words.devices.now c.in_ok-image.image.items c.in_ok-devices.devices.items c.as_slice.result.now c.as_slice-2.result.now
     c.in_ok-image.ensures.unchanged c.as_slice.ensures.value c.as_slice-2.ensures.value c.in_ok-image.ensures.held c.in_ok-devices.ensures.held in
     let same = c.in_ok-devices.ensures.unchanged ∙ c.in_ok-image.ensures.unchanged in (
       same,
       given.given,
-      inputs_of_whole given c.args.partition.now c.args.ticks (taken c.args.out.now) (taken c.flush.new.self) is_ok (kept_inputs (image_at c.as_slice.result.now) c.args.partition.now c.as_slice-2.result.now c.args.ticks (taken c.args.out.now) (taken c.tell_inputs.new.out) (taken c.flush.new.self) c.in_ok-tell_inputs.ensures.told c.in_ok-flush.ensures.kept),
+      inputs_of_whole given c.args.words.partition.now c.args.ticks (taken c.args.out.now) (taken c.flush.new.self) is_ok (kept_inputs (image_at c.as_slice.result.now) c.args.words.partition.now c.as_slice-2.result.now c.args.ticks (taken c.args.out.now) (taken c.tell_inputs.new.out) (taken c.flush.new.self) c.in_ok-tell_inputs.ensures.told c.in_ok-flush.ensures.kept),
     )

@@ -5,12 +5,12 @@ use Rattle.machine_meaning.specs.ImageReading.{image_at}
 use Rattle.image.specs.Views.{image_of}
 use Rattle.isolation.specs.Replays.{numbered}
 use Rattle.module.proofs.Told.{told}
-use Rattle.module.proofs.telling.inputs.Goals as goal
+use Rattle.module.proofs.telling.inputs_watched.Goals as goal
 
 pub returns-clause-text : goal.returns-clause-text
 returns-clause-text g c =
     let loaded = image_of c.in_ok-image.image in
-    let name = c.args.partition.now in
-    let few : c.args.ticks ≤ MOST_TICKS = search rules in
+    let name = c.args.wanted.partition.now in
+    let few : c.args.wanted.ticks ≤ MOST_TICKS = search rules in
     let number : Some c.in-Some.number.0 ≡ option_map (λ (f : ℕ × Item). f.0) (numbered loaded name) = search rules in
-    told (image_at c.args.image.now) loaded name c.args.devices.now c.args.ticks c.in-Some.number.0 _ _ c.tell_numbered.result c.in_ok-image.ensures few number c.tell_numbered.ensures.told
+    told (image_at c.args.image.now) loaded name c.args.wanted.devices.now c.args.wanted.ticks c.in-Some.number.0 _ _ c.tell_numbered.result c.in_ok-image.ensures few number c.tell_numbered.ensures.told
