@@ -148,7 +148,7 @@ fn one_more<W: Watch>(steps: u32, now: Ticks, ticks: u64, watch: &mut W) -> u32 
 }
 
 /// Collects the inputs that `ticks` ticks with these device lines bring the watched partition.
-fn collect<W: Watch>(
+pub fn collect<W: Watch>(
     alloc: Global,
     running: &mut Module<PartitionProcessor>,
     devices: &[DeviceLine],
