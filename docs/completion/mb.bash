@@ -7,7 +7,7 @@ _mb() {
         build) options=' --explain --explain-json -h --help' ;;
         run) options=' --explain --explain-json --progress --until -h --help' ;;
         replay) options=' --explain --explain-json -h --help' ;;
-        inputs) options=' --explain --explain-json -h --help' ;;
+        inputs) options=' --explain --explain-json --progress -h --help' ;;
         cost) options=' --explain --explain-json -h --help' ;;
         dis) options=' --explain --explain-json -h --help' ;;
         upgrade) options=' --explain --explain-json -h --help' ;;
