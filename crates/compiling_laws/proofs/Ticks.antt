@@ -92,9 +92,6 @@ module _ (costs : Costs) (code : Code) (program : Program) (rs : List RoutineRow
   abbrev here : List ℤ
   here = base k.laid c.slots
 
-  abbrev room_to : ℕ → Type 0
-  room_to n = n ≤ c.stack
-
   stacked : (vs : List ℤ) → c.values ≡ vs → m.stack ≡ here ++ onto vs k.junk
   stacked vs e = k.stack ∙ ap (λ ws. here ++ onto ws k.junk) e
 

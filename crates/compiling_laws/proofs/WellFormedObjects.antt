@@ -347,16 +347,3 @@ kind_words (written.Buffer words messages discipline) h = tt
 kind_words (written.Blackboard words) h = tt
 kind_words written.Port h = tt
 kind_words (written.Procedure parameters body) h = tt
-
-declared_words : (ds : List written.Declaration) → AllByRecursion (λ (d : written.Declaration). HasWords d.kind) ds → AllByRecursion (FitsSigned w64) (flat_map (λ (d : written.Declaration). words_of d.kind) ds)
-declared_words [] h = tt
-declared_words (d ∷ ds) h = each_append (FitsSigned w64) (words_of d.kind) _ (kind_words d.kind h.0) (declared_words ds h.1)
-
-each_everywhere : {A : Type 0} (P : A → Type 0) (xs : List A) → AllByRecursion P xs → All P xs
-each_everywhere P [] a k d h = absurd (omega arith)
-each_everywhere P (x ∷ xs) a zero d h = a.0
-each_everywhere P (x ∷ xs) a (suc k) d h = each_everywhere P xs a.1 k d (omega arith)
-
--- the data of a program whose numbers are read from a text
-pub initial_words : (ports : List PortRow) (p : written.Program) → AreWords p → All (FitsSigned w64) (resolve ports p).initial
-initial_words ports p h = each_everywhere (FitsSigned w64) _ (declared_words p.declarations h)

@@ -28,7 +28,7 @@ use Rattle.pal_meaning.specs.Resolve.{no_counts, Entry, find, declaration_entrie
 use Rattle.pal_meaning.specs.WellFormed.{verdict, names_hold, limits_hold, periods_hold, are_new, is_between, keeps_period, keeps_stack_body, keeps_process, keeps_handler, keeps_counts, keeps_declaration, is_written_multiple}
 use Rattle.compiling_laws.proofs.Sizes.{code_size}
 use Rattle.compiling_laws.proofs.WellFormedFits.{accepted, keeps_within, well_formed_fits}
-use Rattle.compiling_laws.proofs.WellFormedObjects.{one_or_none, each_option, all_totals, objects_lawful, AreWords, initial_words}
+use Rattle.compiling_laws.proofs.WellFormedObjects.{one_or_none, each_option, all_totals, objects_lawful}
 use Rattle.machine_meaning.proofs.Beside.{each_beside}
 
 count_small : (limit n : ℕ) → count_within limit n ≤ limit
@@ -257,9 +257,3 @@ accepted_section ports period p r h small words =
     let back = sym a.is in
     subst (λ (q : program.Program). IsSection third_limits period (section_of q)) a.is
     (section_lawful ports period p a.names a.limits a.periods (subst (λ (q : program.Program). All (FitsSigned w64) q.initial) back words) (subst Fits back fits))
-
--- the same if the first values in the tree are numbers as a text gives them
-pub well_formed_section : (ports : List PortRow) (period : ℕ) (p : written.Program) (r : program.Program) → AreWords p → verdict ports period p ≡ Ok r → size_of r ≤ MOST_INSTRUCTIONS → IsSection third_limits period (section_of r)
-well_formed_section ports period p r words h small =
-    let a = accepted ports period p r h in
-    accepted_section ports period p r h small (subst (λ (q : program.Program). All (FitsSigned w64) q.initial) a.is (initial_words ports p words))

@@ -144,10 +144,6 @@ pub levels_nothing : (n k : ℕ) → AreLevels k (replicate n [])
 levels_nothing zero k = tt
 levels_nothing (suc n) k = (tt, levels_nothing n (suc k))
 
-pub in_order_nothing : (n : ℕ) → in_order (replicate n []) ≡ []
-in_order_nothing zero = refl
-in_order_nothing (suc n) = in_order_nothing n
-
 pub length_nothing : (n : ℕ) → length {A = List Entry} (replicate n []) ≡ n
 length_nothing zero = refl
 length_nothing (suc n) = omega (arith, length_nothing n)

@@ -52,7 +52,3 @@ fewer_left s lines number most left m at now x y z old mid new few is_now within
     let ran = run_piece s lines left number m there y z mid new (within_left s lines at.origin.0 at.now.0 number most left few within) (subst (λ (a : At). HasAdvancedWritten a left y z mid new m) is_now h) in
     let count : most - left + m ≡ most - (left - m) = let some = ran.0 in omega (arith, few, some) in
     subst (λ n. HasRun s lines n at x z old new) count (run_more s lines (most - left) m at x y z old mid new made ran.1)
-
--- the number of ticks is at most k
-pub made_within : {C : Type 0} (at : At) (k n : ℕ) (x y : Member C) (old new : Sent) → HasAdvancedWritten at k x y old new n → n ≤ k
-made_within at k n x y old new h = h.0

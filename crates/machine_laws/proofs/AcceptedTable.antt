@@ -1,7 +1,7 @@
 -- An accepted module table is within the limits of an image.
 use Rattle.std.proofs.Common.{◌≡◌, ℕ, suc, ◌+◌, ◌-◌, ◌≤◌, ◌<◌, ◌^◌, ℤ, pos, negsuc, nat_abs, Bool, true, false, not, cond, List, [], ◌∷◌, ◌++◌, length, map, Option, Some, None, Result, Ok, Err, refl, sym, ap, ◌∙◌, subst, arith, length-append}
 use Rattle.std.specs.Prelude.{◌||◌, ◌==◌, ◌+ℤ◌, slice_get, nat_lt, int_lt, bytes_eq, is_none, codes, unwrap_or}
-use Rattle.std.specs.List.{list_any, AllByRecursion, All}
+use Rattle.std.specs.List.{list_any, AllByRecursion}
 use Rattle.std.proofs.lemmas.Bool.{not-false, ltb-false, or_parts, or_from, and_left, ne_eqb}
 use Rattle.std.proofs.lemmas.List.{length-map}
 use Rattle.std.proofs.lemmas.List.Folds.{list_any-append}
@@ -20,7 +20,7 @@ use Rattle.module_meaning.specs.TableRules.{same, KindText, Sampling, Queuing, P
 use Rattle.kernel_meaning.specs.Windows.{Schedule}
 use Rattle.machine_meaning.specs.ImageReading.{last_end, end_of as image_end}
 use Rattle.machine_meaning.specs.ImageLimits.{IsFrom, EachBeside, IsPortKind, IsPort, IsSection, IsItem, IsWindow, IsEnd, IsChannel, IsWithinLimits}
-use Rattle.machine_meaning.proofs.Beside.{at_seam, each_beside, each_at}
+use Rattle.machine_meaning.proofs.Beside.{at_seam, each_beside}
 use Rattle.kernel_laws.proofs.WindowOrder.{AreInOrder}
 use Rattle.kernel_laws.proofs.TableWindows.{window_keeps, windows_in_order}
 
@@ -358,12 +358,6 @@ table_limits text t items a rows sections =
     let back = sym a.is in
     subst (λ (x : Table). IsWithinLimits (image_of x items) × HaveRoom x) a.is
     (text_limits text items a.limits a.names a.apart (subst (λ (x : Table). map (λ (it : Item). it.partition) items ≡ x.partitions) back rows) sections)
-
--- An accepted table whose partitions have become lawful sections is within the limits of an image.
-pub accepted_limits : (ms : Members) (t : Table) (items : List Item) → verdict ms ≡ Ok t → map (λ (it : Item). it.partition) items ≡ t.partitions → All (λ (it : Item). IsSection third_limits it.partition.period it.section) items → IsWithinLimits (image_of t items)
-accepted_limits ms t items h rows sections =
-    let a = accepted_table ms t h in
-    (table_limits a.0 t items a.1 rows (each_at _ items sections)).0
 
 -- ---- the partitions of windows
 

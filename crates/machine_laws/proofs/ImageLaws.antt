@@ -118,8 +118,3 @@ ok_read x = Ok x
 
 both_read : (one other : Image) (rest : List ℕ) → ok_read (other, []) ≡ ok_read (one, rest) → (one ≡ other) × (rest ≡ [])
 both_read one other rest e = let i = ok_is (other, []) (one, rest) e in (ap (λ (y : Image × List ℕ). y.0) (sym i), ap (λ (y : Image × List ℕ). y.1) (sym i))
-
--- no spelling begins another
-pub none_begins_another : (one other : Image) (rest : List ℕ) → IsLawful one → IsLawful other → spelling other ≡ spelling one ++ rest → (one ≡ other) × (rest ≡ [])
-none_begins_another one other rest a b e =
-    both_read one other rest (sym (fields_reads.again other [] b.limits) ∙ ap fields_at (append-nil (spelling other) ∙ e) ∙ fields_reads.again one rest a.limits)

@@ -1,5 +1,5 @@
 -- Programs that are compiled one after the other.
-use Rattle.std.proofs.Common.{◌≡◌, ℕ, zero, suc, ◌+◌, ◌≤◌, ◌<◌, Bool, true, false, List, [], ◌∷◌, ◌++◌, length, map, take, Some, None, All, FitsSigned, w64, refl, sym, ap, subst, ◌∙◌, arith, length-append}
+use Rattle.std.proofs.Common.{◌≡◌, ℕ, zero, suc, ◌+◌, ◌≤◌, Bool, true, false, List, [], ◌∷◌, ◌++◌, length, map, take, Some, None, All, FitsSigned, w64, refl, sym, ap, subst, ◌∙◌, arith, length-append}
 use Rattle.std.specs.Prelude.{slice_get, nat_lt, min, if◌then◌else◌, ◌||◌}
 use Rattle.std.specs.List.{list_any}
 use Rattle.std.proofs.lemmas.Bool.{ltb-true, ltb-false, lt-ltb, le-ltb}
@@ -26,9 +26,6 @@ use Rattle.module.specs.Built.{built_item, built_items, IsCoded, AreCoded, AreCo
 
 pub short_enough : (p : Program) → is_too_long p ≡ false → size_of p ≤ MOST_INSTRUCTIONS
 short_enough p h = ltb-false MOST_INSTRUCTIONS (size_of p) h
-
-pub not_too_long : (p : Program) → is_too_long p ≡ false → MOST_INSTRUCTIONS < size_of p → ⊥
-not_too_long p h long = let short = short_enough p h in omega (arith, long, short)
 
 pub none_too_long : (rows : List Partition) (ps : List Program) → length ps ≡ length rows → first_too_long rows ps ≡ None → list_any is_too_long ps ≡ false
 none_too_long rows [] count h = refl

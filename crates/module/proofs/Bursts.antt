@@ -180,12 +180,6 @@ run_still plan lines k t origin s sent here from begun order still =
     let all : k ≤ k = omega arith in
     (all, refl, record { told = []; leads = lift plan lines k t origin s [] s.members here from (leads_still plan lines k t origin s.members begun order still); sent = nothing_sent sent })
 
-pub skip_nothing : {C : Type 0} (plan : Plan) (lines : List DeviceLine) (k : ℕ) (s : Standing C) → HasSkippedSome plan lines k s s 0
-skip_nothing plan lines k s =
-    let none : 0 ≤ k = omega arith in
-    let same : s.now ≡ s.now + 0 = omega arith in
-    (none, same, leads_nowhere plan lines s)
-
 pub skip_ticks : {C : Type 0} (plan : Plan) (lines : List DeviceLine) (k n t origin : ℕ) (s : Standing C) → t ≡ s.now → s.origin ≡ Some origin → n ≤ k
     → 0 < t → AreFrom (t + n) lines → AreStill origin t (t + n) s.members
     → HasSkippedSome plan lines k s (record { members = s.members; now = s.now + n; origin = s.origin }) n

@@ -8,7 +8,7 @@ use Rattle.apex_types.specs.declared.identity.PartitionId.{PartitionId}
 use Rattle.apex_types.specs.declared.row.ChannelEnd.{ChannelEnd}
 use Rattle.apex_types.specs.declared.row.ChannelEnd.TheVariants as ends
 use Rattle.module_meaning.specs.Table.{Channel, at_number}
-use Rattle.module_meaning.specs.Module.{Plan, channel_from}
+use Rattle.module_meaning.specs.Module.{Plan}
 use Rattle.kernel_meaning.specs.Partition.{messages_to_move}
 use Rattle.kernel_meaning.specs.Objects.{Port, is_source}
 use Rattle.isolation.specs.declared.input.Input.{Input}
@@ -77,12 +77,6 @@ pub both_collected : {X : Type 0} (tick : ℕ) (a b : List Input) (old mid new :
 both_collected tick a b old mid new (Ok x) first h = is_over {now = []} refl (goes_on b [] (sym (append-nil b)) (goes_on a b refl (begins tick (a ++ b) old) first) h)
 both_collected tick a b old mid new (Err f) first h = no_room_left b [] f (sym (append-nil b)) (goes_on a b refl (begins tick (a ++ b) old) first) h
 
--- without room for the first of two
-pub first_no_room : (a b : List Input) (old : List InputLine) (f : InputsFault) → HasNoRoom (length old + length a) f → HasNoRoom (length old + length (a ++ b)) f
-first_no_room a b old f h =
-    let all = length-append a b in
-    no_room_for_more (length old + length a) (length old + length (a ++ b)) f (omega (arith, all)) h
-
 -- ---- the parts
 
 either_end : (b : Bool) (i : Input) (rest : List Input) → (if b then i ∷ rest else rest) ≡ (if b then i ∷ [] else []) ++ rest
@@ -141,30 +135,6 @@ so_many_held (Some x) count e = source (is_source x) e
     source : (b : Bool) → Some count ≡ (if b then Some (length x.messages) else None) → count ≡ length x.messages
     source true h = same_Some count (length x.messages) h
     source false h = absurd (none-some count (sym h))
-
-pub port_brings : (channels : List Channel) (p : ℕ) (q : PartitionId) (number : ℕ) (o : Option Port) (count : ℕ) → Some count ≡ messages_to_move o
-    → held_found channels p q number o ≡ messages_bring p (channel_from channels q (record { 0 = number })) (held_messages o)
-port_brings channels p q number None count e = refl
-port_brings channels p q number (Some x) count e = source (is_source x) e
-  where
-    all : List Input
-    all = messages_bring p (channel_from channels q (record { 0 = number })) x.messages
-
-    source : (b : Bool) → Some count ≡ (if b then Some (length x.messages) else None) → (if b then all else []) ≡ all
-    source true h = refl
-    source false h = absurd (none-some count (sym h))
-
--- a port that has none to move brings nothing
-pub no_port_to_move : (channels : List Channel) (p : ℕ) (q : PartitionId) (number : ℕ) (o : Option Port) → None ≡ messages_to_move o → held_found channels p q number o ≡ []
-no_port_to_move channels p q number None e = refl
-no_port_to_move channels p q number (Some x) e = source (is_source x) e
-  where
-    all : List Input
-    all = messages_bring p (channel_from channels q (record { 0 = number })) x.messages
-
-    source : (b : Bool) → None ≡ (if b then Some (length x.messages) else None) → (if b then all else []) ≡ []
-    source true h = absurd (none-some (length x.messages) h)
-    source false h = refl
 
 -- ---- the ports of a partition
 

@@ -1,5 +1,5 @@
 -- The costs of programs, one after the other.
-use Rattle.std.proofs.Common.{◌≡◌, ℕ, ◌+◌, ◌<◌, List, [], ◌∷◌, ◌++◌, length, map, take, get_or, Option, Some, None, Result, Ok, Err, IfOk, refl, sym, ap, ◌∙◌, arith}
+use Rattle.std.proofs.Common.{◌≡◌, ℕ, ◌+◌, ◌<◌, List, [], ◌∷◌, ◌++◌, length, map, take, get_or, Option, Some, None, refl, sym, ap, ◌∙◌, arith}
 use Rattle.std.specs.Option.{option_map}
 use Rattle.std.proofs.lemmas.List.{map-append, take_more}
 use Rattle.apex_types.specs.declared.cost.Costs.{Costs}
@@ -16,7 +16,7 @@ use Rattle.pal.specs.declared.report.BodyCost.{BodyCost}
 use Rattle.window_table.specs.declared.table.PartitionRow.{PartitionRow}
 use Rattle.module_meaning.specs.Accepted.{IsTable}
 use Rattle.module.specs.Building.{AreSourceRefusals, IsTableRefusal}
-use Rattle.module.specs.Costs.{AreCosted, AreCosts, AreCostsOf, IsCosted, IsCostOf, IsCostRefusal, IsCostRefusedWith, cost_of_process, costs_of_handler, costs_of_procedures, costs_of_program}
+use Rattle.module.specs.Costs.{AreCosted, AreCostsOf, IsCosted, IsCostOf, IsCostRefusal, IsCostRefusedWith, cost_of_process, costs_of_handler, costs_of_procedures, costs_of_program}
 use Rattle.module.specs.Sources.{AreSources, IsSource}
 use Rattle.pal_base.specs.declared.checked.Checked.{Checked}
 use Rattle.module.specs.declared.costing.PartitionCosts.{PartitionCosts}
@@ -90,11 +90,6 @@ pub one_fewer : {A B : Type 0} (rows : List A) (place : ℕ) (source : B) (left 
 one_fewer rows place source left rest split all = omega (arith, ap length split)
 
 -- ---- a module
-
-pub are_costs : {A : Type 0} (items : A → List PartitionCosts) (table : List ℕ) (sources : List (List ℕ)) (t : Table) (answer : Result A BuildFault)
-    → IsTable table t → IfOk answer (λ x. AreCosted t.costs t.partitions sources (items x)) → IfOk answer (λ x. AreCosts table sources (items x))
-are_costs items table sources t (Ok x) is h = record { rows = t; accepted = is; costed = h }
-are_costs items table sources t (Err f) is h = tt
 
 pub table_not_costed : (table : List ℕ) (sources : List (List ℕ)) (f : BuildFault) → IsTableRefusal table f → IsCostRefusal table sources f
 table_not_costed table sources (fault.Table f) h = h

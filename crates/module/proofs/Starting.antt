@@ -21,10 +21,6 @@ module _ (at : At) (reason : StartCondition) where
   abbrev pub started_to : {C : Type 0} → ℕ → List (Member C) → List (Member C)
   started_to n xs = map (started_member at reason) (take n xs) ++ drop n xs
 
-  pub all_started : {C : Type 0} (xs : List (Member C)) → started_to (length xs) xs ≡ map (started_member at reason) xs
-  all_started [] = refl
-  all_started (x ∷ xs) = ap (λ l. started_member at reason x ∷ l) (all_started xs)
-
   pub none_left : {C : Type 0} (xs : List (Member C)) → flat_map (start_lines at reason) (drop (length xs) xs) ≡ []
   none_left [] = refl
   none_left (x ∷ xs) = none_left xs

@@ -60,9 +60,6 @@ ends_down {c = c} {old = old} {new = new} rest {members = members} split h =
 pub record CompletesCourse {C : Type 0} (whole rest : Course C) (old now : Sent) : Type 0 where
   pub ends : (answer : Option At) (members : List (Member C)) (new : Sent) → IsCourse rest answer members now new → IsCourse whole answer members old new
 
-pub course_starts_out : {C : Type 0} (whole : Course C) (s : Sent) → CompletesCourse whole whole s s
-course_starts_out whole s = record { ends = λ answer members new h. h }
-
 -- one more part
 pub runs_on : {C : Type 0} {whole now c : Course C} {old mid new : Sent} (rest : At → List (Member C) → Course C) (at : At) (members : List (Member C))
     → now ≡ then_runs c rest → Some at ≡ c.at → CompletesCourse whole now old mid → IsMade (done_in c) members mid new → CompletesCourse whole (rest at members) old new

@@ -1,11 +1,9 @@
 -- The facts that the type of an image gives about its numbers and its partitions' rows.
-use Rattle.std.proofs.Common.{◌≡◌, ℕ, zero, suc, ℤ, ◌<◌, ◌≤◌, Bool, true, false, cond, List, [], ◌∷◌, ◌++◌, length, map, get_or, Option, Some, refl, sym, ap, subst, ◌∙◌, arith}
+use Rattle.std.proofs.Common.{◌≡◌, ℕ, zero, suc, ℤ, ◌<◌, ◌≤◌, Bool, true, false, cond, List, [], ◌∷◌, ◌++◌, length, map, get_or, Option, Some, refl, sym, ap, ◌∙◌, arith}
 use Rattle.std.specs.Prelude.{slice_get, option_map, nat_le}
-use Rattle.std.specs.List.{AllByRecursion}
 use Rattle.std.proofs.lemmas.Bool.{lt-leb, leb-false}
 use Rattle.std.proofs.lemmas.List.{length-map}
-use Rattle.std.proofs.lemmas.List.Elements.{All-from_recursion}
-use Rattle.std.proofs.lemmas.Option.{none-some, same_Some, slice_get_read, slice_get_past, slice_get-map}
+use Rattle.std.proofs.lemmas.Option.{none-some, same_Some, slice_get_read, slice_get_past}
 use Rattle.arrayvec.specs.ArrayVec.{ArrayVec}
 use Rattle.apex_types.specs.Versions.{third_limits}
 use Rattle.apex_types.specs.Places.{place_of_number}
@@ -20,13 +18,12 @@ use Rattle.module_meaning.specs.DeviceText.{words_of_port, words_of_partition, w
 use Rattle.machine_meaning.specs.Image as meant
 use Rattle.module_meaning.specs.Table.{Partition, at_number}
 use Rattle.machine_meaning.specs.Image.{Item}
-use Rattle.machine_meaning.specs.ImageLimits.{EachBeside, IsPort, IsItem, IsLawful}
+use Rattle.machine_meaning.specs.ImageLimits.{EachBeside, IsPort, IsItem}
 use Rattle.kernel_meaning.specs.Step.{message}
 use Rattle.image.specs.Items.{item_of, items_of, partition_of, channel_of}
 use Rattle.image.specs.Views.{image_of}
 use Rattle.image.specs.declared.item.PartitionItem.{PartitionItem}
 use Rattle.image.specs.declared.value.Image.{Image}
-use Rattle.module_base.specs.Rows.{HasPorts}
 use Rattle.module_base.specs.Seen.{fitting}
 use Rattle.module_base.specs.declared.line.MessageWords.TheVariants as held
 use Rattle.module_base.specs.Views.{rows_in}
@@ -104,27 +101,3 @@ long_message image ends ws e =
 -- so are they for a port of at most 16
 pub long_arrival : (most : ℕ) (ws : List ℤ) → most ≤ MOST_WORDS → held.TooMany ≡ fitting ws → nat_le (length ws) most ≡ false
 long_arrival most ws few e = lt-leb (length ws) most (omega (arith, few, leb-false (length ws) MOST_WORDS (cut (nat_le (length ws) MOST_WORDS) (message ws) e)))
-
--- ---- the ports of a row
-few_words_each : (before ports : List PortRow) → EachBeside (IsPort third_limits) before ports → AllByRecursion (λ (x : PortRow). x.words ≤ MOST_WORDS) ports
-few_words_each before [] h = tt
-few_words_each before (p ∷ ports) h = (h.0.words.most, few_words_each (before ++ p ∷ []) ports h.1)
-
-ports_of_item : (frame : ℕ) (before items : List Item) (n : ℕ) (it : Item) → EachBeside (IsItem third_limits frame) before items → slice_get items n ≡ Some it → HasPorts it.partition
-ports_of_item frame before [] n it h e = absurd cc
-ports_of_item frame before (x ∷ items) zero it h e =
-    let is : x ≡ it = same_Some x it e in
-    subst (λ (y : Item). HasPorts y.partition) is (record {
-      count = h.0.partition.port_count.most;
-      words = All-from_recursion (λ (y : PortRow). y.words ≤ MOST_WORDS) x.partition.ports (few_words_each [] x.partition.ports h.0.partition.ports);
-    })
-ports_of_item frame before (x ∷ items) (suc n) it h e = ports_of_item frame (before ++ x ∷ []) items n it h.1 e
-
--- the row of each partition of a lawful image has its ports
-pub lawful_ports : (image : meant.Image) (n : ℕ) (it : Item) → IsLawful image → slice_get image.items n ≡ Some it → HasPorts it.partition
-lawful_ports image n it lawful e = ports_of_item image.schedule.frame [] image.items n it (items_widened image lawful.limits) e
-
--- and so has the row of each partition of an image in the code
-pub row_ports : (image : Image) (n : ℕ) (it : PartitionItem) → slice_get image.partitions.items n ≡ Some it → HasPorts (partition_of it.row)
-row_ports image n it e =
-    lawful_ports (image_of image) n (item_of it) image.lawful (slice_get-map item_of image.partitions.items n ∙ ap (option_map item_of) e)

@@ -19,9 +19,6 @@ read_on kept is_long None = None
 read_on kept true (Some ws) = Some held.TooMany
 read_on kept false (Some ws) = Some (fitting (kept ++ ws))
 
-pub read_on_none : (kept : List ℤ) (is_long : Bool) → read_on kept is_long None ≡ None
-read_on_none kept is_long = refl
-
 pub read_on_kept : (kept : List ℤ) (is_long : Bool) (w : ℤ) (rest : Option (List ℤ)) → read_on kept is_long (put_word (Some w) rest) ≡ read_on (kept ++ w ∷ []) is_long rest
 read_on_kept kept is_long w None = refl
 read_on_kept kept true w (Some ws) = refl
