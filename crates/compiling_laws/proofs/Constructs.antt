@@ -1,13 +1,7 @@
 -- A list of parts unfolds into its simple constructs, each once; their costs are the counted ones.
-use Rattle.std.proofs.Common.{◌≡◌, pos, List, [], ◌∷◌, ◌++◌, map, refl, sym, ap, ◌∙◌, append_assoc}
+use Rattle.compiling_laws.proofs.Prelude.{◌≡◌, pos, List, ◌∷◌, ◌++◌, map, refl, sym, ap, ◌∙◌, append_assoc, Costs, Place, Procedure, Body, Expr, Links, Exprs, Stmt, Block, Literal, Read, Element, Unary, Chain, Apply, NoLink, MoreLinks, NoExpr, MoreExprs, Assign, AssignElement, If, IfElse, While, Work, Return, CallService, NoStmt, MoreStmts, Part, Evaluate, Execute, Do, Simple, Value, ReadElement, OperateOne, OperateTwo, Open, WriteScalar, WriteElement, Choose, ChooseElse, Repeat, ReturnValue, Ask, EndBody, Front, links_then, exprs_then, block_then, targets_then, front_of_expr, front_of_exprs, front_of_stmt, front_of, cost_of_simple, parts_of_body, parts_of_procedure, costs_of_expr, costs_of_links, costs_of_exprs, costs_of_stmt, costs_of_block, costs_of_procedure, costs_of_body}
+use Rattle.std.proofs.Common.{[]}
 use Rattle.std.proofs.lemmas.List.{map-append}
-use Rattle.apex_types.specs.declared.cost.Costs.{Costs}
-use Rattle.apex_types.specs.declared.place.Place.{Place}
-use Rattle.pal_meaning.specs.Program.{Procedure, Body, Expr, Links, Exprs, Stmt, Block}
-use Rattle.pal_meaning.specs.Program.{Literal, Read, Element, Unary, Chain, Apply, NoLink, MoreLinks, NoExpr, MoreExprs}
-use Rattle.pal_meaning.specs.Program.{Assign, AssignElement, If, IfElse, While, Work, Return, CallService, NoStmt, MoreStmts}
-use Rattle.pal_meaning.specs.SourceControl.{Part, Evaluate, Execute, Do, Simple, Value, ReadElement, OperateOne, OperateTwo, Open, WriteScalar, WriteElement, Choose, ChooseElse, Repeat, ReturnValue, Ask, EndBody, Front, links_then, exprs_then, block_then, targets_then, front_of_expr, front_of_exprs, front_of_stmt, front_of, cost_of_simple, parts_of_body, parts_of_procedure}
-use Rattle.pal_meaning.specs.BodyCosts.{costs_of_expr, costs_of_links, costs_of_exprs, costs_of_stmt, costs_of_block, costs_of_procedure, costs_of_body}
 use Rattle.compiling_laws.specs.Constructs.{constructs_of_expr, constructs_of_links, constructs_of_exprs, constructs_of_stmt, constructs_of_block, with_held, constructs_of}
 
 links_constructs : (ls : Links) (r : List Part) → constructs_of (links_then ls r) ≡ constructs_of_links ls ++ constructs_of r

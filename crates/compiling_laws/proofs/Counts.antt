@@ -1,14 +1,6 @@
 -- Each construct has one cost, so there are as many costs as constructs.
-use Rattle.std.proofs.Common.{◌≡◌, [], ◌∷◌, ◌++◌, length, map, refl, arith, length-append}
-use Rattle.std.proofs.lemmas.List.{length-map}
-use Rattle.apex_types.specs.declared.cost.Costs.{Costs}
-use Rattle.apex_types.specs.Costs.{cost_of_binary}
-use Rattle.apex_types.specs.ServiceShape.{cost_of_service}
-use Rattle.pal_meaning.specs.Program.{Procedure, Body, Expr, Links, Exprs, Stmt, Block}
-use Rattle.pal_meaning.specs.Program.{Literal, Read, Element, Unary, Chain, Apply, NoLink, MoreLinks, NoExpr, MoreExprs}
-use Rattle.pal_meaning.specs.Program.{Assign, AssignElement, If, IfElse, While, Work, Return, CallService, NoStmt, MoreStmts}
-use Rattle.pal_meaning.specs.Program.{size_of_expr, size_of_links, size_of_exprs, size_of_stmt, size_of_block, size_of_procedure, size_of_body}
-use Rattle.pal_meaning.specs.BodyCosts.{costs_of_expr, costs_of_links, costs_of_exprs, costs_of_stmt, costs_of_block, costs_of_procedure, costs_of_body}
+use Rattle.compiling_laws.proofs.Prelude.{◌≡◌, ◌∷◌, ◌++◌, length, map, refl, length-append, length-map, Costs, cost_of_binary, cost_of_service, Procedure, Body, Expr, Links, Exprs, Stmt, Block, Literal, Read, Element, Unary, Chain, Apply, NoLink, MoreLinks, NoExpr, MoreExprs, Assign, AssignElement, If, IfElse, While, Work, Return, CallService, NoStmt, MoreStmts, size_of_expr, size_of_links, size_of_exprs, size_of_stmt, size_of_block, size_of_procedure, size_of_body, costs_of_expr, costs_of_links, costs_of_exprs, costs_of_stmt, costs_of_block, costs_of_procedure, costs_of_body}
+use Rattle.std.proofs.Common.{[], arith}
 
 module _ (costs : Costs) where
   mutual

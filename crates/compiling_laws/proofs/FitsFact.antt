@@ -2,12 +2,7 @@
 use Rattle.std.specs.Prelude.{◌≡◌, ℕ, Bool, List, [], ◌∷◌, Option, Some, None, length}
 use Rattle.std.specs.Coded.{×_prop, Unit-prop, Coded-set, coded_option, coded_ℕ, coded_bool}
 use Rattle.std.proofs.Props.{props}
-use Rattle.apex_types.specs.declared.place.Place.{Place}
-use Rattle.apex_types.specs.declared.place.Place.TheVariants.{Data, Slot}
-use Rattle.pal_meaning.specs.Program.{Program, Procedure, Body, Expr, Links, Exprs, Stmt, Block}
-use Rattle.pal_meaning.specs.Program.{Literal, Read, Element, Unary, Chain, Apply, NoLink, MoreLinks, NoExpr, MoreExprs}
-use Rattle.pal_meaning.specs.Program.{Assign, AssignElement, If, IfElse, While, Work, Return, CallService, NoStmt, MoreStmts}
-use Rattle.compiling_laws.specs.Fits.{Fits, FitsBody, FitsHandler, FitsProcedure, FitsExpr, FitsLinks, FitsExprs, FitsStmt, FitsBlock, IsWork, IsPlaceWithin, ArePlacesWithin, HasParameters}
+use Rattle.compiling_laws.proofs.Prelude.{Place, Data, Slot, Program, Procedure, Body, Expr, Links, Exprs, Stmt, Block, Literal, Read, Element, Unary, Chain, Apply, NoLink, MoreLinks, NoExpr, MoreExprs, Assign, AssignElement, If, IfElse, While, Work, Return, CallService, NoStmt, MoreStmts, Fits, FitsBody, FitsHandler, FitsProcedure, FitsExpr, FitsLinks, FitsExprs, FitsStmt, FitsBlock, IsWork, IsPlaceWithin, ArePlacesWithin, HasParameters}
 
 place_prop : (n : ℕ) (place : Place) → IsProp (IsPlaceWithin n place)
 place_prop n (Data x) = Unit-prop

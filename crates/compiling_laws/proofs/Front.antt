@@ -1,18 +1,9 @@
 -- If the code does the parts that are left, it also does them after the front construct is
 -- unfolded.
-use Rattle.std.proofs.Common.{◌≡◌, ℕ, ◌+◌, ◌-◌, ◌≤◌, ◌<◌, List, [], ◌∷◌, ◌++◌, length, map, Option, Some, None, refl, subst, arith, length-append}
-use Rattle.std.specs.Prelude.{option_map, slice_get}
+use Rattle.compiling_laws.proofs.Prelude.{◌≡◌, ℕ, ◌+◌, ◌-◌, ◌≤◌, ◌<◌, List, ◌∷◌, ◌++◌, length, map, Option, Some, None, refl, subst, length-append, option_map, slice_get, Place, Procedure, Expr, Links, Exprs, Stmt, Block, Literal, Read, Element, Unary, Chain, Apply, NoLink, MoreLinks, NoExpr, MoreExprs, Assign, AssignElement, If, IfElse, While, Work, Return, CallService, NoStmt, MoreStmts, number_of, argument_words, answer_words, size_of_expr, size_of_links, size_of_exprs, size_of_stmt, size_of_block, operands_of_expr, operands_of_links, operands_of_exprs, operands_of_stmt, operands_of_block, count_of, FitsLinks, FitsExprs, ArePlacesWithin, store, expr_code, links_code, exprs_code, stmt_code, block_code, Part, Evaluate, Execute, Do, Simple, ReadElement, OperateOne, Open, WriteScalar, WriteElement, Choose, ChooseElse, Repeat, ReturnValue, Ask, Front, links_then, exprs_then, block_then, targets_then, front_of_expr, front_of_exprs, front_of_stmt, front_of, Code, HasAt, Limits, Goes}
+use Rattle.std.proofs.Common.{[], arith}
 use Rattle.apex_types.specs.declared.instruction.Instr.TheVariants as instr
-use Rattle.apex_types.specs.declared.place.Place.{Place}
-use Rattle.pal_meaning.specs.Program.{Procedure, Expr, Links, Exprs, Stmt, Block}
-use Rattle.pal_meaning.specs.Program.{Literal, Read, Element, Unary, Chain, Apply, NoLink, MoreLinks, NoExpr, MoreExprs}
-use Rattle.pal_meaning.specs.Program.{Assign, AssignElement, If, IfElse, While, Work, Return, CallService, NoStmt, MoreStmts}
-use Rattle.apex_types.specs.ServiceShape.{number_of, argument_words, answer_words}
-use Rattle.pal_meaning.specs.Program.{size_of_expr, size_of_links, size_of_exprs, size_of_stmt, size_of_block, operands_of_expr, operands_of_links, operands_of_exprs, operands_of_stmt, operands_of_block}
-use Rattle.compiling_laws.specs.Fits.{count_of, FitsLinks, FitsExprs, ArePlacesWithin}
-use Rattle.compiling_laws.specs.CompiledCode.{store, expr_code, links_code, exprs_code, stmt_code, block_code}
-use Rattle.pal_meaning.specs.SourceControl.{Part, Evaluate, Execute, Do, Simple, ReadElement, OperateOne, Open, WriteScalar, WriteElement, Choose, ChooseElse, Repeat, ReturnValue, Ask, Front, links_then, exprs_then, block_then, targets_then, front_of_expr, front_of_exprs, front_of_stmt, front_of}
-use Rattle.compiling_laws.specs.Related.{Code, HasAt, Limits, ExprAt, StmtAt, BlockAt, Goes}
+use Rattle.compiling_laws.specs.Related.{ExprAt, StmtAt, BlockAt}
 use Rattle.compiling_laws.proofs.Sizes.{expr_size, exprs_size, stmt_size, block_size}
 use Rattle.compiling_laws.proofs.Placed.{has_front, has_back}
 

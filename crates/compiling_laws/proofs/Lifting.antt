@@ -1,7 +1,7 @@
 -- Engines that cannot be distinguished give equal traces. Nothing here looks into a service.
-use Rattle.std.proofs.Common.{◌≡◌, ℕ, zero, suc, ◌+◌, ℤ, List, [], ◌∷◌, ◌++◌, length, Option, Some, None, map, refl, sym, ap, subst, ◌∙◌}
+use Rattle.compiling_laws.proofs.Prelude.{◌≡◌, ℕ, suc, ◌+◌, ℤ, List, ◌∷◌, ◌++◌, length, Option, Some, None, map, refl, sym, ap, subst, ◌∙◌, slice_get, slice_set, option_map, Runner, Ticked, Asks, Simulates}
+use Rattle.std.proofs.Common.{zero, []}
 use Rattle.arrayvec.specs.ArrayVec.{ArrayVec}
-use Rattle.std.specs.Prelude.{slice_get, slice_set, option_map}
 use Rattle.std.specs.List.{flat_map}
 use Rattle.apex_types.specs.Runners.{place_of}
 use Rattle.apex_types.specs.declared.event.Event.{Event}
@@ -22,11 +22,9 @@ use Rattle.apex_types.specs.declared.row.ChannelEnd.TheVariants as ends
 use Rattle.kernel_meaning.specs.PortServices as arrival
 use Rattle.module_meaning.specs.Table.{Channel, at_number}
 use Rattle.kernel_meaning.specs.Objects.{Port, port_at}
-use Rattle.apex_types.specs.declared.identity.Runner.{Runner}
 use Rattle.apex_types.specs.Runners.{Action}
 use Rattle.apex_types.specs.Runners as action
-use Rattle.engine_meaning.specs.Engine.{Engine, Ticked, Asks}
-use Rattle.engine_meaning.specs.Simulates.{Simulates}
+use Rattle.engine_meaning.specs.Engine.{Engine}
 use Rattle.kernel_meaning.specs.Kernel.{Kernel, of_processes, of_ports, of_ports_alone, with_ports}
 use Rattle.kernel_meaning.specs.HealthServices.{breaks, then_clears}
 use Rattle.kernel_meaning.specs.PartitionServices.{clears}

@@ -1,13 +1,8 @@
 -- The number of operands that wait together is at most the number of instructions, plus six for the
 -- words of a reply.
-use Rattle.std.proofs.Common.{◌+◌, ◌≤◌, arith}
-use Rattle.apex_types.specs.declared.service.Service.{Service}
+use Rattle.compiling_laws.proofs.Prelude.{◌+◌, ◌≤◌, Service, answer_words, Expr, Links, Exprs, Stmt, Block, Literal, Read, Element, Unary, Chain, Apply, NoLink, MoreLinks, NoExpr, MoreExprs, Assign, AssignElement, If, IfElse, While, Work, Return, CallService, NoStmt, MoreStmts, size_of_expr, size_of_links, size_of_exprs, size_of_stmt, size_of_block, operands_of_expr, operands_of_links, operands_of_exprs, operands_of_stmt, operands_of_block}
+use Rattle.std.proofs.Common.{arith}
 use Rattle.apex_types.specs.declared.service.Service.TheVariants as service
-use Rattle.apex_types.specs.ServiceShape.{answer_words}
-use Rattle.pal_meaning.specs.Program.{Expr, Links, Exprs, Stmt, Block}
-use Rattle.pal_meaning.specs.Program.{Literal, Read, Element, Unary, Chain, Apply, NoLink, MoreLinks, NoExpr, MoreExprs}
-use Rattle.pal_meaning.specs.Program.{Assign, AssignElement, If, IfElse, While, Work, Return, CallService, NoStmt, MoreStmts}
-use Rattle.pal_meaning.specs.Program.{size_of_expr, size_of_links, size_of_exprs, size_of_stmt, size_of_block, operands_of_expr, operands_of_links, operands_of_exprs, operands_of_stmt, operands_of_block}
 
 answer_few : (s : Service) → answer_words s ≤ 7
 answer_few service.GetPartitionStatus = omega arith

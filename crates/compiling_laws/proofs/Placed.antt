@@ -1,8 +1,6 @@
 -- Instructions that follow one another.
-use Rattle.std.proofs.Common.{◌≡◌, ℕ, ◌+◌, List, [], ◌∷◌, ◌++◌, length, Option, Some, refl, subst, arith, map, append_assoc, length-append}
-use Rattle.std.specs.Prelude.{slice_get}
-use Rattle.apex_types.specs.declared.instruction.Instr.{Instr}
-use Rattle.compiling_laws.specs.Related.{Code, HasAt}
+use Rattle.compiling_laws.proofs.Prelude.{◌≡◌, ℕ, ◌+◌, List, ◌∷◌, ◌++◌, length, Option, Some, refl, subst, map, append_assoc, length-append, slice_get, Instr, Code, HasAt}
+use Rattle.std.proofs.Common.{[], arith}
 
 pub has_front : (code : Code) (pc : ℕ) (xs ys : List Instr) → HasAt code pc (xs ++ ys) → HasAt code pc xs
 has_front code pc [] ys h = tt

@@ -1,31 +1,19 @@
 -- The sizes, costs and frames of a program's bodies have 64 bits, if the program has a text.
-use Rattle.std.proofs.Common.{◌≡◌, ℕ, ◌*◌, ◌≤◌, List, [], ◌∷◌, ◌++◌, length, map, Option, Some, None, Ok, refl, sym, subst, arith, length-append}
-use Rattle.std.specs.Prelude.{nat_le, filter_map, option_map}
-use Rattle.std.specs.List.{cons_option, sum, sum_by}
-use Rattle.std.proofs.lemmas.Bool.{and_parts, cond_both, leb-true}
-use Rattle.std.proofs.lemmas.List.Sums.{sum_by-append, sum_by-cons}
-use Rattle.apex_types.specs.declared.cost.Costs.{Costs}
+use Rattle.compiling_laws.proofs.Prelude.{◌≡◌, ℕ, ◌*◌, ◌≤◌, List, ◌∷◌, ◌++◌, length, map, Option, Some, None, Ok, refl, sym, subst, length-append, nat_le, filter_map, option_map, cons_option, sum_by, and_parts, cond_both, leb-true, sum_by-cons, Costs, MOST_LOCALS, MOST_PARAMETERS, MOST_WORK_TICKS, BinaryOperator, Place, PortRow, Service, arguments_of, cost_of_service, cost_of_binary, size_of_procedure, size_of_body, size_of_handler, size_of_process, size_of, costs_of_expr, costs_of_links, costs_of_exprs, costs_of_stmt, costs_of_block, costs_of_procedure, costs_of_body, words_of, Entry, Scope, place_of, within, count_within, resolve_expr, resolve_arguments, resolve_stmt, resolve_block, resolve_body_block, scope_of, own_entries, resolve_body, resolve_stack_body, resolve_process, procedure_of, resolve, verdict}
+use Rattle.std.proofs.Common.{[], arith}
+use Rattle.std.specs.List.{sum}
+use Rattle.std.proofs.lemmas.List.Sums.{sum_by-append}
 use Rattle.apex_types.specs.declared.cost.TickCost.{TickCost}
-use Rattle.apex_types.specs.declared.limits.TheConstants.{MOST_COST, MOST_LOCALS, MOST_PARAMETERS, MOST_SOURCE_BYTES, MOST_WORK_TICKS}
-use Rattle.apex_types.specs.declared.instruction.BinaryOperator.{BinaryOperator}
+use Rattle.apex_types.specs.declared.limits.TheConstants.{MOST_COST, MOST_SOURCE_BYTES}
 use Rattle.apex_types.specs.declared.instruction.BinaryOperator.TheVariants.{Add, Subtract, Multiply, Divide, Remainder}
-use Rattle.apex_types.specs.declared.place.Place.{Place}
-use Rattle.apex_types.specs.declared.row.PortRow.{PortRow}
-use Rattle.apex_types.specs.declared.service.Service.{Service}
 use Rattle.apex_types.specs.declared.shape.ServiceClass.{ServiceClass}
 use Rattle.apex_types.specs.declared.shape.ServiceClass.TheVariants.{Creation, WithArray, Other}
 use Rattle.apex_types.specs.ServiceShape.{class_of, cost_of_class}
 use Rattle.pal_meaning.specs.Program as program
 use Rattle.pal_meaning.specs.Syntax as written
-use Rattle.apex_types.specs.ServiceShape.{arguments_of, cost_of_service}
-use Rattle.apex_types.specs.Costs.{cost_of_binary}
 use Rattle.compiling_laws.specs.Bounds.{IsBodyHeld, IsProcedureHeld, IsHandlerHeld, AreProcessesHeld, AreProceduresHeld, AreCostsHeld}
-use Rattle.pal_meaning.specs.Program.{size_of_procedure, size_of_body, size_of_handler, size_of_process, size_of}
-use Rattle.pal_meaning.specs.BodyCosts.{costs_of_expr, costs_of_links, costs_of_exprs, costs_of_stmt, costs_of_block, costs_of_procedure, costs_of_body}
 use Rattle.pal_meaning.specs.Grammar.{IsWritten}
-use Rattle.pal_meaning.specs.Grammar.{words_of}
-use Rattle.pal_meaning.specs.Resolve.{Entry, Scope, place_of, within, count_within, resolve_expr, resolve_arguments, resolve_stmt, resolve_block, resolve_body_block, scope_of, own_entries, resolve_body, resolve_stack_body, resolve_process, procedure_of, declared_entries, resolve}
-use Rattle.pal_meaning.specs.WellFormed.{verdict}
+use Rattle.pal_meaning.specs.Resolve.{declared_entries}
 use Rattle.compiling_laws.proofs.Counts.{procedure_counts, body_counts}
 use Rattle.compiling_laws.proofs.Operands.{block_operands}
 use Rattle.compiling_laws.proofs.ProgramSizes.{text_few}

@@ -1,21 +1,14 @@
 -- A program has at most twice as many constructs as it has words: an array passed to a service is
 -- one word and two constructs.
-use Rattle.std.proofs.Common.{◌≡◌, ℕ, zero, suc, ◌+◌, ◌*◌, ◌≤◌, ◌<◌, Bool, true, false, cond, List, [], ◌∷◌, ◌++◌, length, map, pos, Option, Some, None, ap, arith}
-use Rattle.std.specs.Prelude.{codes, filter_map, option_map}
-use Rattle.std.specs.List.{cons_option, sum_by}
-use Rattle.std.proofs.lemmas.List.{length-map}
-use Rattle.std.proofs.lemmas.List.Sums.{sum_by-cons}
-use Rattle.apex_types.specs.declared.limits.TheConstants.{MOST_LOCALS, MOST_PARAMETERS}
-use Rattle.apex_types.specs.declared.shape.ArgumentKind.{ArgumentKind}
+use Rattle.compiling_laws.proofs.Prelude.{◌≡◌, ℕ, suc, ◌+◌, ◌*◌, ◌≤◌, ◌<◌, Bool, true, false, cond, List, ◌∷◌, ◌++◌, length, map, pos, Option, Some, None, ap, filter_map, option_map, cons_option, sum_by, length-map, sum_by-cons, MOST_LOCALS, MOST_PARAMETERS, ArgumentKind, PortRow, arguments_of, size_of_expr, size_of_links, size_of_exprs, size_of_stmt, size_of_block, size_of_procedure, size_of_body, size_of_handler, size_of_process, size_of, words_of, Entry, Scope, place_of, count_within, resolve_expr, resolve_links, resolve_exprs, resolve_argument, resolve_arguments, resolve_stmt, resolve_block, resolve_body_block, scope_of, own_entries, resolve_body, resolve_stack_body, resolve_process, procedure_of, resolve}
+use Rattle.std.proofs.Common.{zero, [], arith}
+use Rattle.std.specs.Prelude.{codes}
 use Rattle.apex_types.specs.declared.shape.ArgumentKind.TheVariants as argument
-use Rattle.apex_types.specs.declared.row.PortRow.{PortRow}
 use Rattle.pal_meaning.specs.Program as program
 use Rattle.pal_meaning.specs.Syntax as written
-use Rattle.apex_types.specs.ServiceShape.{arguments_of}
-use Rattle.pal_meaning.specs.Program.{size_of_expr, size_of_links, size_of_exprs, size_of_stmt, size_of_block, size_of_procedure, size_of_body, size_of_handler, size_of_process, size_of}
 use Rattle.pal_meaning.specs.Grammar.{integer_words, all_words, next_name, names_words, targets_words, comma, expr_words, links_words, arguments_words, stmt_words, block_words, local_words, body_words, kind_words, declaration_words, stack_body_words, handler_words, process_words, program_words}
-use Rattle.pal_meaning.specs.Grammar.{Word, Number, Mark, behind_blanks, word_at, words_within, words_from, words_of}
-use Rattle.pal_meaning.specs.Resolve.{Entry, Scope, place_of, array_place_of, array_size_of, named, count_within, resolve_expr, resolve_links, resolve_exprs, resolve_argument, resolve_arguments, resolve_stmt, resolve_block, resolve_body_block, scope_of, own_entries, resolve_body, resolve_stack_body, resolve_process, procedure_of, declared_entries, resolve}
+use Rattle.pal_meaning.specs.Grammar.{Word, Number, Mark, behind_blanks, word_at, words_within, words_from}
+use Rattle.pal_meaning.specs.Resolve.{array_place_of, array_size_of, named, declared_entries}
 use Rattle.pal_laws.proofs.WordsOf.{blanks_shorter}
 
 -- ---- words before others

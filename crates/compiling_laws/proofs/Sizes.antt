@@ -1,15 +1,7 @@
 -- Each construct has the number of instructions that its size says.
-use Rattle.std.proofs.Common.{◌≡◌, ℕ, pos, ◌+◌, List, [], ◌∷◌, ◌++◌, length, map, Option, Some, None, refl, arith, length-append}
-use Rattle.std.specs.List.{sum_by}
-use Rattle.std.proofs.lemmas.List.{length-map}
-use Rattle.std.proofs.lemmas.List.Sums.{sum_by-cons}
+use Rattle.compiling_laws.proofs.Prelude.{◌≡◌, ℕ, pos, ◌+◌, List, ◌∷◌, ◌++◌, length, map, Option, Some, None, refl, length-append, sum_by, length-map, sum_by-cons, Program, Procedure, Body, Process, Expr, Links, Exprs, Stmt, Block, Literal, Read, Element, Unary, Chain, Apply, NoLink, MoreLinks, NoExpr, MoreExprs, Assign, AssignElement, If, IfElse, While, Work, Return, CallService, NoStmt, MoreStmts, number_of, size_of_expr, size_of_links, size_of_exprs, size_of_stmt, size_of_block, size_of_procedure, size_of_body, size_of_handler, size_of_process, size_of, store, expr_code, links_code, exprs_code, stmt_code, block_code, procedure_code, body_code, handler_code, processes_code, procedures_code, slots_of, code_of, handler_place, processes_place, procedures_place}
+use Rattle.std.proofs.Common.{[], arith}
 use Rattle.apex_types.specs.declared.instruction.Instr.TheVariants as instr
-use Rattle.pal_meaning.specs.Program.{Program, Procedure, Body, Process, Expr, Links, Exprs, Stmt, Block}
-use Rattle.pal_meaning.specs.Program.{Literal, Read, Element, Unary, Chain, Apply, NoLink, MoreLinks, NoExpr, MoreExprs}
-use Rattle.pal_meaning.specs.Program.{Assign, AssignElement, If, IfElse, While, Work, Return, CallService, NoStmt, MoreStmts}
-use Rattle.apex_types.specs.ServiceShape.{number_of}
-use Rattle.pal_meaning.specs.Program.{size_of_expr, size_of_links, size_of_exprs, size_of_stmt, size_of_block, size_of_procedure, size_of_body, size_of_handler, size_of_process, size_of}
-use Rattle.compiling_laws.specs.CompiledCode.{store, expr_code, links_code, exprs_code, stmt_code, block_code, procedure_code, body_code, handler_code, processes_code, procedures_code, slots_of, code_of, handler_place, processes_place, procedures_place}
 
 mutual
   pub expr_size : (e : Expr) → length (expr_code e) ≡ size_of_expr e

@@ -1,11 +1,7 @@
 -- The words of a stack: what lies below, then the values, the last one on top.
-use Rattle.std.proofs.Common.{◌≡◌, ℕ, zero, suc, ◌+◌, ◌-◌, ◌≤◌, ◌<◌, ℤ, pos, List, [], ◌∷◌, ◌++◌, length, take, drop, reverse, refl, sym, ap, ◌∙◌, arith, append_assoc, length-append}
-use Rattle.std.specs.Prelude.{slice_get, slice_set}
+use Rattle.compiling_laws.proofs.Prelude.{◌≡◌, ℕ, suc, ◌+◌, ◌-◌, ◌≤◌, ◌<◌, ℤ, pos, List, ◌∷◌, ◌++◌, length, take, drop, reverse, refl, sym, ap, ◌∙◌, append_assoc, length-append, slice_get, slice_set, taken, Laid, calls_of, onto, saved, below, put_words, word, pushed, popped}
+use Rattle.std.proofs.Common.{zero, [], arith}
 use Rattle.std.proofs.Math.Seq.{set-append_seam, get_or-append_seam}
-use Rattle.pal_meaning.specs.SourceControl.{taken}
-use Rattle.compiling_laws.specs.Related.{Laid, calls_of, onto, saved, below}
-use Rattle.engine_meaning.specs.Operators.{put_words}
-use Rattle.machine_meaning.specs.MachineControl.{word, pushed, popped}
 
 pub onto_length : (ws r : List ℤ) → length (onto ws r) ≡ length ws + length r
 onto_length [] r = omega arith

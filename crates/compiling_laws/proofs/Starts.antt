@@ -1,25 +1,16 @@
 -- The code of a program contains its bodies, and a started body is the same on both sides.
-use Rattle.std.proofs.Common.{◌≡◌, ℕ, zero, suc, ◌+◌, ◌-◌, ◌≤◌, ◌<◌, pos, false, List, [], ◌∷◌, ◌++◌, length, map, replicate, Option, Some, None, refl, sym, ap, ◌∙◌, subst, arith, length-append, max}
-use Rattle.std.specs.Prelude.{slice_get, get_or}
+use Rattle.compiling_laws.proofs.Prelude.{◌≡◌, ℕ, suc, ◌+◌, ◌-◌, ◌≤◌, ◌<◌, pos, false, List, ◌∷◌, ◌++◌, length, map, replicate, Option, Some, None, refl, sym, ap, ◌∙◌, subst, length-append, max, slice_get, length-map, length-replicate, MOST_INSTRUCTIONS, Costs, RoutineRow, Runner, Program, Procedure, Body, Process, size_of, size_of_block, size_of_process, size_of_procedure, operands_of_block, Fits, FitsBody, FitsHandler, FitsProcedure, block_code, body_code, handler_code, processes_code, procedure_code, procedures_code, slots_of, code_of, handler_place, processes_place, procedures_place, body_row, routine_row, routine_rows, process_rows, section_of, Do, Value, ReturnValue, EndBody, parts_of_procedure, parts_of_body, Simulates, Code, HasAt, Limits, Goes, Keeps}
+use Rattle.std.proofs.Common.{zero, [], arith}
+use Rattle.std.specs.Prelude.{get_or}
 use Rattle.std.specs.Option.{option_map}
-use Rattle.std.proofs.lemmas.List.{length-map, length-replicate}
-use Rattle.apex_types.specs.declared.limits.TheConstants.{MOST_INSTRUCTIONS}
-use Rattle.apex_types.specs.declared.cost.Costs.{Costs}
 use Rattle.apex_types.specs.declared.instruction.Instr.TheVariants as instr
-use Rattle.apex_types.specs.declared.row.RoutineRow.{RoutineRow}
 use Rattle.apex_types.specs.declared.row.BodyRow.{BodyRow}
-use Rattle.apex_types.specs.declared.identity.Runner.{Runner}
 use Rattle.apex_types.specs.declared.identity.Runner.TheVariants as runner
-use Rattle.pal_meaning.specs.Program.{Program, Procedure, Body, Process}
-use Rattle.pal_meaning.specs.Program.{size_of, size_of_block, size_of_process, size_of_procedure, operands_of_block}
-use Rattle.compiling_laws.specs.Fits.{Fits, FitsBody, FitsHandler, FitsProcedure}
-use Rattle.compiling_laws.specs.CompiledCode.{block_code, body_code, handler_code, processes_code, procedure_code, procedures_code, slots_of, code_of, handler_place, processes_place, procedures_place, body_row, routine_row, routine_rows, process_rows, section_of}
-use Rattle.pal_meaning.specs.SourceControl.{Do, Value, ReturnValue, EndBody, parts_of_procedure, parts_of_body, source_start, source_body, body_of_process, source_engine}
+use Rattle.pal_meaning.specs.SourceControl.{source_start, source_body, body_of_process, source_engine}
 use Rattle.engine_meaning.specs.Engine.{or_init}
 use Rattle.machine_meaning.specs.MachineControl.{machine_start, machine_engine}
-use Rattle.engine_meaning.specs.Simulates.{Simulates}
 use Rattle.machine_meaning.specs.Instructions.{reading}
-use Rattle.compiling_laws.specs.Related.{Code, HasAt, Limits, Goes, Keeps, row_of_process, body_row_at, CompiledCorrectly}
+use Rattle.compiling_laws.specs.Related.{row_of_process, body_row_at, CompiledCorrectly}
 use Rattle.compiling_laws.proofs.Sizes.{block_size, body_size, handler_size, processes_size, procedure_size, code_size}
 use Rattle.compiling_laws.proofs.Placed.{has_front, has_back, has_list}
 use Rattle.compiling_laws.proofs.Front.{block_goes}

@@ -1,38 +1,27 @@
 -- Each tick and each reply keeps the relation.
-use Rattle.std.proofs.Common.{◌≡◌, ◌≢◌, ℕ, zero, suc, ◌+◌, ◌-◌, ◌≤◌, ◌<◌, ◌&&◌, ℤ, pos, Bool, true, false, List, [], ◌∷◌, ◌++◌, length, take, drop, reverse, replicate, Option, Some, None, refl, sym, ap, ◌∙◌, subst, arith, append_assoc, length-append, max, nat_lt, nat_le, nat_eq}
-use Rattle.std.specs.Prelude.{slice_get, slice_set, if◌then◌else◌}
-use Rattle.std.proofs.lemmas.Bool.{lt-ltb, le-ltb, le-leb, leb-true, leb-false, eqb-true, eq-eqb, ne_eqb}
-use Rattle.std.proofs.lemmas.List.{set-append_left, length-set, length-drop, length-take-le, length-replicate}
+use Rattle.compiling_laws.proofs.Prelude.{◌≡◌, ℕ, suc, ◌+◌, ◌-◌, ◌≤◌, ◌<◌, ℤ, pos, Bool, true, false, List, ◌∷◌, ◌++◌, length, take, drop, reverse, replicate, Option, Some, None, refl, sym, ap, ◌∙◌, subst, append_assoc, length-append, max, nat_eq, slice_get, slice_set, lt-ltb, le-leb, leb-true, eqb-true, length-replicate, MOST_INSTRUCTIONS, MOST_WORK_TICKS, Costs, Instr, BinaryOperator, Place, Data, Slot, Service, RoutineRow, Program, Procedure, Expr, Block, While, number_of, argument_words, answer_words, size_of_block, size_of_stmt, operands_of_block, Asks, Ticked, IsWork, store, slots_of, Part, Evaluate, Execute, Do, Simple, Value, ReadElement, OperateOne, OperateTwo, Open, WriteScalar, WriteElement, Choose, ChooseElse, Repeat, ReturnValue, Ask, EndBody, Front, front_of, cost_of_simple, taken, parts_of_procedure, block_then, put_words, word, pushed, popped, Code, Limits, Goes, Laid, calls_of, onto, saved, below, Keeps}
+use Rattle.std.proofs.Common.{◌≢◌, zero, ◌&&◌, [], arith, nat_lt, nat_le}
+use Rattle.std.specs.Prelude.{if◌then◌else◌}
+use Rattle.std.proofs.lemmas.Bool.{le-ltb, leb-false, eq-eqb, ne_eqb}
+use Rattle.std.proofs.lemmas.List.{set-append_left, length-set, length-drop, length-take-le}
 use Rattle.std.proofs.lemmas.Option.{slice_get_within}
-use Rattle.apex_types.specs.declared.limits.TheConstants.{MOST_INSTRUCTIONS, MOST_WORK_TICKS}
 use Rattle.apex_types.specs.declared.codes.ErrorKind.{ErrorKind}
 use Rattle.apex_types.specs.declared.codes.ErrorKind.TheVariants as error
-use Rattle.apex_types.specs.declared.cost.Costs.{Costs}
-use Rattle.apex_types.specs.declared.instruction.Instr.{Instr}
 use Rattle.apex_types.specs.declared.instruction.Instr.TheVariants as instr
-use Rattle.apex_types.specs.declared.instruction.BinaryOperator.{BinaryOperator}
 use Rattle.apex_types.specs.declared.instruction.UnaryOperator.{UnaryOperator}
-use Rattle.apex_types.specs.declared.place.Place.{Place}
-use Rattle.apex_types.specs.declared.place.Place.TheVariants.{Data, Slot}
-use Rattle.apex_types.specs.declared.service.Service.{Service}
-use Rattle.apex_types.specs.declared.row.RoutineRow.{RoutineRow}
-use Rattle.pal_meaning.specs.Program.{Program, Procedure, Expr, Block, While}
-use Rattle.apex_types.specs.ServiceShape.{number_of, argument_words, answer_words}
 use Rattle.apex_types.specs.ServiceCalls.{call_of, array_of}
 use Rattle.engine_meaning.specs.Operators.{has_array_within}
 use Rattle.engine_meaning.specs.Operators.{apply_binary, apply_unary, is_zero, element_at}
-use Rattle.pal_meaning.specs.Program.{size_of_block, size_of_stmt, operands_of_block, frame_of_procedure}
+use Rattle.pal_meaning.specs.Program.{frame_of_procedure}
 use Rattle.machine_meaning.specs.Instructions.{cost_of, is_work, cost_of_work}
-use Rattle.engine_meaning.specs.Engine.{Asks, Nothing, Calls, Faults, Ends, Ticked}
+use Rattle.engine_meaning.specs.Engine.{Nothing, Calls, Faults, Ends}
 use Rattle.engine_meaning.specs.Simulates.{SameTick}
-use Rattle.compiling_laws.specs.Fits.{IsWork}
-use Rattle.compiling_laws.specs.CompiledCode.{load, store, slots_of}
+use Rattle.compiling_laws.specs.CompiledCode.{load}
 use Rattle.pal_meaning.specs.SourceControl as source
-use Rattle.pal_meaning.specs.SourceControl.{SourceControl, OpenCall, Part, Evaluate, Execute, Do, Simple, Value, ReadScalar, ReadElement, OperateOne, OperateTwo, Open, WriteScalar, WriteElement, Choose, ChooseElse, Repeat, Leave, GoBack, Spend, ReturnValue, Ask, EndBody, Front, front, front_of, cost_of_simple, taken, moves, stays, value_or, writes, writes_slot, write_at, effect, tick_at, tick_awaiting, source_tick, source_reply, opens, parts_of_procedure, block_then, asks_service}
+use Rattle.pal_meaning.specs.SourceControl.{SourceControl, OpenCall, ReadScalar, Leave, GoBack, Spend, front, moves, stays, value_or, writes, writes_slot, write_at, effect, tick_at, tick_awaiting, source_tick, source_reply, opens, asks_service}
 use Rattle.machine_meaning.specs.MachineControl as machine
-use Rattle.engine_meaning.specs.Operators.{put_words}
-use Rattle.machine_meaning.specs.MachineControl.{MachineControl, Effect, asks_only, refuses, word, top, below_top, with_operands, pushes, pushes_or, element_word, stored, stored_element, changes_data, changes_stack, enters_at, enters, code_limit, saved_within, pushed, popped, arguments, calls_numbered, executes, spends, fetched, machine_tick, machine_reply}
-use Rattle.compiling_laws.specs.Related.{Code, Fetches, Limits, Goes, Laid, calls_of, onto, saved, below, HasCaller, InProgress, Waiting, Keeps}
+use Rattle.machine_meaning.specs.MachineControl.{MachineControl, Effect, asks_only, refuses, top, below_top, with_operands, pushes, pushes_or, element_word, stored, stored_element, changes_data, changes_stack, enters_at, enters, code_limit, saved_within, arguments, calls_numbered, executes, spends, fetched, machine_tick, machine_reply}
+use Rattle.compiling_laws.specs.Related.{Fetches, HasCaller, InProgress, Waiting}
 use Rattle.apex_types.proofs.Numbers.{service_of_number}
 use Rattle.compiling_laws.proofs.Front.{unfolded, moved, block_goes, front_goes}
 use Rattle.compiling_laws.proofs.Stack.{onto_length, onto_split, onto_parts, word_at_top, set_at_top, get_within, set_within, put_over, pushed_onto, popped_values, onto_reverse, base, base_length, below_length}

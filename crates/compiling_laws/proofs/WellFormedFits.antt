@@ -1,23 +1,14 @@
 -- A program that the verdict accepts fits the compiler.
-use Rattle.std.proofs.Common.{◌≡◌, ℕ, zero, suc, ◌+◌, ◌≤◌, ◌<◌, Bool, true, false, not, cond, nat_eq, List, [], ◌∷◌, ◌++◌, length, map, Option, Some, None, Result, Ok, Err, refl, sym, ap, ◌∙◌, subst, arith, append_assoc, length-append}
-use Rattle.std.specs.Prelude.{slice_get, nat_le, nat_lt, filter_map, option_map, unwrap_or, bytes_eq}
-use Rattle.std.specs.List.{list_all, cons_option, sum_by}
-use Rattle.std.proofs.lemmas.Bool.{and_parts, leb-true, eqb-true, cond_both, cond-true, le-leb}
-use Rattle.std.proofs.lemmas.List.{length-map}
-use Rattle.std.proofs.lemmas.List.Sums.{sum_by-cons}
-use Rattle.apex_types.specs.declared.limits.TheConstants.{LEAST_STACK_WORDS, MOST_INSTRUCTIONS, MOST_LOCALS, MOST_PARAMETERS, MOST_PROCEDURES, MOST_PROCESSES, MOST_STACK_WORDS, MOST_WORK_TICKS}
-use Rattle.apex_types.specs.declared.denotation.Denotation.{Denotation}
+use Rattle.compiling_laws.proofs.Prelude.{◌≡◌, ℕ, suc, ◌+◌, ◌≤◌, ◌<◌, Bool, true, false, cond, nat_eq, List, ◌∷◌, ◌++◌, length, map, Option, Some, None, Ok, refl, sym, ap, ◌∙◌, subst, append_assoc, length-append, slice_get, nat_le, nat_lt, filter_map, option_map, unwrap_or, bytes_eq, list_all, cons_option, sum_by, and_parts, leb-true, eqb-true, cond_both, cond-true, le-leb, length-map, sum_by-cons, LEAST_STACK_WORDS, MOST_INSTRUCTIONS, MOST_LOCALS, MOST_PARAMETERS, MOST_PROCEDURES, MOST_PROCESSES, MOST_STACK_WORDS, MOST_WORK_TICKS, Denotation, ArgumentKind, PortRow, size_of, arguments_of, answer_words, Counts, no_counts, counted, after, Entry, find, declaration_entries, process_entries, own_entries, Scope, scope_of, place_of, within, count_within, resolve_expr, resolve_links, resolve_exprs, resolve_argument, resolve_arguments, resolve_stmt, resolve_block, resolve_body_block, resolve_body, resolve_stack_body, resolve_process, procedure_of, resolve, verdict, names_hold, limits_hold, periods_hold, is_between, keeps_stack_body, keeps_kind, keeps_declaration, keeps_process, keeps_counts, keeps_handler, Fits, FitsBody, FitsHandler, FitsProcedure, FitsExpr, FitsLinks, FitsExprs, FitsStmt, FitsBlock, IsWork, IsPlaceWithin, ArePlacesWithin, HasParameters, count_of}
+use Rattle.std.proofs.Common.{zero, not, [], Result, Err, arith}
 use Rattle.apex_types.specs.declared.denotation.Denotation.TheVariants as denotation
-use Rattle.apex_types.specs.declared.shape.ArgumentKind.{ArgumentKind}
 use Rattle.apex_types.specs.declared.shape.ArgumentKind.TheVariants as argument
-use Rattle.apex_types.specs.declared.row.PortRow.{PortRow}
 use Rattle.pal_meaning.specs.Program as program
 use Rattle.pal_meaning.specs.Syntax as written
-use Rattle.pal_meaning.specs.Program.{size_of, frame_of_body}
-use Rattle.apex_types.specs.ServiceShape.{arguments_of, words_of_kind, answer_words}
-use Rattle.pal_meaning.specs.Resolve.{Counts, no_counts, counted, after, Entry, find, declared_meaning, declaration_entries, process_entries, declared_entries, slot, own_entries, Scope, or_else, scope_of, place_of, procedure_number_of, within, count_within, resolve_expr, resolve_links, resolve_exprs, resolve_argument, resolve_arguments, resolve_stmt, resolve_block, resolve_body_block, resolve_body, resolve_stack_body, resolve_process, procedure_of, resolve}
-use Rattle.pal_meaning.specs.WellFormed.{verdict, names_hold, kinds_hold, limits_hold, periods_hold, holds_of_handler, holds_of_procedure, is_procedure, expr_count, fits_expr, fits_links, fits_exprs, fits_argument, fits_arguments, fits_stmt, fits_block, kinds_hold_in_body, is_between, keeps_stmt, keeps_block, keeps_body, fits_stack, keeps_stack_body, keeps_kind, keeps_declaration, keeps_process, keeps_counts, keeps_handler}
-use Rattle.compiling_laws.specs.Fits.{Fits, FitsBody, FitsHandler, FitsProcedure, FitsExpr, FitsLinks, FitsExprs, FitsStmt, FitsBlock, IsWork, IsPlaceWithin, ArePlacesWithin, HasParameters, count_of}
+use Rattle.pal_meaning.specs.Program.{frame_of_body}
+use Rattle.apex_types.specs.ServiceShape.{words_of_kind}
+use Rattle.pal_meaning.specs.Resolve.{declared_meaning, declared_entries, slot, or_else, procedure_number_of}
+use Rattle.pal_meaning.specs.WellFormed.{kinds_hold, holds_of_handler, holds_of_procedure, is_procedure, expr_count, fits_expr, fits_links, fits_exprs, fits_argument, fits_arguments, fits_stmt, fits_block, kinds_hold_in_body, keeps_stmt, keeps_block, keeps_body, fits_stack}
 use Rattle.machine_meaning.proofs.Beside.{at_seam}
 
 -- ---- the verdict

@@ -1,25 +1,18 @@
 -- The data and the objects of an accepted program are within the limits of an image.
-use Rattle.std.proofs.Common.{◌≡◌, ℕ, zero, suc, ◌+◌, ◌-◌, ◌≤◌, ◌^◌, pos, negsuc, Bool, true, false, cond, List, [], ◌∷◌, ◌++◌, length, map, replicate, Option, Some, None, refl, sym, ap, subst, arith, length-append}
-use Rattle.std.specs.Prelude.{nat_le, filter_map, flat_map, unwrap_or, FitsSigned, ◌-ℤ◌}
-use Rattle.std.specs.Int.{w64}
-use Rattle.std.specs.List.{list_all, cons_option, AllByRecursion, All}
-use Rattle.std.proofs.lemmas.Bool.{and_parts, leb-true, cond-true, cond_both, le-leb}
+use Rattle.compiling_laws.proofs.Prelude.{◌≡◌, ℕ, suc, ◌+◌, ◌-◌, ◌≤◌, ◌^◌, pos, Bool, true, false, cond, List, ◌∷◌, ◌++◌, length, map, replicate, Option, Some, None, refl, sym, ap, subst, length-append, nat_le, filter_map, unwrap_or, FitsSigned, w64, list_all, cons_option, AllByRecursion, All, and_parts, leb-true, cond-true, cond_both, le-leb, length-map, length-replicate, third_limits, MOST_PROCEDURES, is_name, PortRow, section_of, Counts, no_counts, counted, after, Entry, within, procedure_of, resolve, is_between, keeps_kind, keeps_declaration, keeps_counts, each_beside}
+use Rattle.std.proofs.Common.{zero, negsuc, [], arith}
+use Rattle.std.specs.Prelude.{flat_map, ◌-ℤ◌}
 use Rattle.std.proofs.lemmas.Int.{ints}
 use Rattle.std.proofs.lemmas.Option.{cond_some}
-use Rattle.std.proofs.lemmas.List.{length-map, length-replicate}
-use Rattle.apex_types.specs.Versions.{third_limits}
-use Rattle.apex_types.specs.declared.limits.TheConstants.{MOST_DATA_WORDS, MOST_DEPTH, MOST_OBJECTS, MOST_PORTS, MOST_PROCEDURES, MOST_SEMAPHORE_VALUE, MOST_WORDS}
-use Rattle.apex_types.specs.NameText.{is_name}
+use Rattle.apex_types.specs.declared.limits.TheConstants.{MOST_DATA_WORDS, MOST_DEPTH, MOST_OBJECTS, MOST_PORTS, MOST_SEMAPHORE_VALUE, MOST_WORDS}
 use Rattle.apex_types.specs.declared.row.SemaphoreRow.{SemaphoreRow}
-use Rattle.apex_types.specs.declared.row.PortRow.{PortRow}
 use Rattle.pal_meaning.specs.Syntax as written
-use Rattle.compiling_laws.specs.CompiledCode.{section_of}
 use Rattle.machine_meaning.specs.ImageSpelling.{objects_in}
 use Rattle.machine_meaning.specs.ImageLimits.{IsFrom, IsSemaphore, IsBuffer, IsBlackboard, AreObjects}
-use Rattle.pal_meaning.specs.Resolve.{Counts, no_counts, counted, after, Entry, declared_entries, value_or_zero, signed_word, within, array_words, words_of, semaphore_of, buffer_of, blackboard_of, procedure_of, counts_of, resolve}
-use Rattle.pal_meaning.specs.WellFormed.{is_between, value_at_most, keeps_kind, keeps_declaration, keeps_counts}
+use Rattle.pal_meaning.specs.Resolve.{declared_entries, value_or_zero, signed_word, array_words, words_of, semaphore_of, buffer_of, blackboard_of, counts_of}
+use Rattle.pal_meaning.specs.WellFormed.{value_at_most}
 use Rattle.compiling_laws.proofs.WellFormedFits.{counts_next, mapped_some, keeps_within}
-use Rattle.machine_meaning.proofs.Beside.{each_at, each_beside}
+use Rattle.machine_meaning.proofs.Beside.{each_at}
 
 -- ---- lists
 

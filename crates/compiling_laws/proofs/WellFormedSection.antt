@@ -1,35 +1,24 @@
 -- The section of an accepted program is lawful in an image.
-use Rattle.std.proofs.Common.{◌≡◌, ℕ, suc, ◌+◌, ◌%◌, ◌≤◌, ◌^◌, Bool, true, false, cond, nat_eq, List, [], ◌∷◌, ◌++◌, length, map, Option, Some, None, Ok, refl, sym, ap, ◌∙◌, subst, arith, append_assoc}
-use Rattle.std.specs.Prelude.{slice_get, nat_le, nat_lt, filter_map, option_map, bytes_eq, is_some, FitsSigned}
-use Rattle.std.specs.Int.{w64}
-use Rattle.std.specs.List.{list_all, sum_by, AllByRecursion, All}
-use Rattle.std.proofs.lemmas.Bool.{and_parts, and_from, not-true, or_from, leb-true, cond_both, cond-true, lt-ltb}
-use Rattle.std.proofs.lemmas.List.{length-map, append-nil}
-use Rattle.std.proofs.lemmas.List.Sums.{sum_by-cons}
+use Rattle.compiling_laws.proofs.Prelude.{◌≡◌, ℕ, suc, ◌+◌, ◌≤◌, ◌^◌, Bool, true, false, cond, nat_eq, List, ◌∷◌, ◌++◌, length, map, Option, Some, None, Ok, refl, sym, ap, ◌∙◌, subst, append_assoc, slice_get, nat_le, nat_lt, filter_map, option_map, bytes_eq, FitsSigned, w64, list_all, sum_by, AllByRecursion, All, and_parts, leb-true, cond_both, cond-true, lt-ltb, length-map, sum_by-cons, third_limits, LEAST_STACK_WORDS, MOST_INSTRUCTIONS, MOST_LOCALS, MOST_PARAMETERS, MOST_PROCESSES, MOST_STACK_WORDS, is_name, Denotation, RoutineRow, PortRow, Instr, size_of, size_of_handler, size_of_process, size_of_procedure, code_of, handler_place, processes_place, procedures_place, body_row, process_rows, routine_row, routine_rows, section_of, Fits, FitsBody, FitsHandler, FitsProcedure, no_counts, Entry, find, declaration_entries, process_entries, within, count_within, resolve_body, resolve_stack_body, resolve_process, procedure_of, resolve, verdict, names_hold, limits_hold, periods_hold, is_between, keeps_stack_body, keeps_process, keeps_handler, keeps_counts, keeps_declaration, each_beside}
+use Rattle.std.proofs.Common.{◌%◌, [], arith}
+use Rattle.std.specs.Prelude.{is_some}
+use Rattle.std.proofs.lemmas.Bool.{and_from, not-true, or_from}
+use Rattle.std.proofs.lemmas.List.{append-nil}
 use Rattle.std.proofs.lemmas.List.Folds.{list_any-append}
-use Rattle.apex_types.specs.Versions.{third_limits}
-use Rattle.apex_types.specs.declared.limits.TheConstants.{GREATEST_PRIORITY, INSTRUCTION_BYTES, LEAST_STACK_WORDS, MOST_INSTRUCTIONS, MOST_LOCALS, MOST_PARAMETERS, MOST_PROCESSES, MOST_STACK_WORDS, MOST_TICKS}
-use Rattle.apex_types.specs.NameText.{is_name}
-use Rattle.apex_types.specs.declared.denotation.Denotation.{Denotation}
+use Rattle.apex_types.specs.declared.limits.TheConstants.{GREATEST_PRIORITY, INSTRUCTION_BYTES, MOST_TICKS}
 use Rattle.apex_types.specs.declared.row.ProcessRow.{ProcessRow}
-use Rattle.apex_types.specs.declared.row.RoutineRow.{RoutineRow}
-use Rattle.apex_types.specs.declared.row.PortRow.{PortRow}
-use Rattle.apex_types.specs.declared.instruction.Instr.{Instr}
 use Rattle.pal_meaning.specs.Program as program
 use Rattle.pal_meaning.specs.Syntax as written
-use Rattle.pal_meaning.specs.Program.{size_of, size_of_handler, size_of_process, size_of_procedure}
-use Rattle.compiling_laws.specs.CompiledCode.{code_of, handler_place, processes_place, procedures_place, body_row, process_row, process_rows, routine_row, routine_rows, section_of}
+use Rattle.compiling_laws.specs.CompiledCode.{process_row}
 use Rattle.machine_meaning.specs.Instructions.{bytes_of}
 use Rattle.machine_meaning.specs.ImageReading.{is_process, is_infinite_or_multiple, handler_enters}
 use Rattle.machine_meaning.specs.ImageSpelling.{bodies_in}
 use Rattle.machine_meaning.specs.ImageLimits.{EachBeside, IsRoutine, IsBody, IsDuration, IsProcess, IsHandler, AreBodies, IsCode, IsSection}
-use Rattle.compiling_laws.specs.Fits.{Fits, FitsBody, FitsHandler, FitsProcedure}
-use Rattle.pal_meaning.specs.Resolve.{no_counts, Entry, find, declaration_entries, process_entries, declared_entries, within, count_within, resolve_body, resolve_stack_body, resolve_process, procedure_of, resolve}
-use Rattle.pal_meaning.specs.WellFormed.{verdict, names_hold, limits_hold, periods_hold, are_new, is_between, keeps_period, keeps_stack_body, keeps_process, keeps_handler, keeps_counts, keeps_declaration, is_written_multiple}
+use Rattle.pal_meaning.specs.Resolve.{declared_entries}
+use Rattle.pal_meaning.specs.WellFormed.{are_new, keeps_period, is_written_multiple}
 use Rattle.compiling_laws.proofs.Sizes.{code_size}
 use Rattle.compiling_laws.proofs.WellFormedFits.{accepted, keeps_within, well_formed_fits}
 use Rattle.compiling_laws.proofs.WellFormedObjects.{one_or_none, each_option, all_totals, objects_lawful}
-use Rattle.machine_meaning.proofs.Beside.{each_beside}
 
 count_small : (limit n : ℕ) → count_within limit n ≤ limit
 count_small limit n = cond_both (nat_le n limit) n 0 (λ x. x ≤ limit) (λ e. leb-true n limit e) (λ e. omega arith)

@@ -1,14 +1,13 @@
 -- Each beginning of what ends within a field ends within a field, and one byte is the first with which no field is cut.
-use Rattle.std.proofs.Common.{arith, ◌≡◌, ℕ, zero, suc, ◌+◌, ◌<◌, ◌≤◌, Bool, true, false, cond, List, [], ◌∷◌, ◌++◌, length, take, Result, Ok, Err, refl, sym, ap, ◌∙◌, inl, inr}
-use Rattle.std.specs.Prelude.{nat_eq}
-use Rattle.std.proofs.lemmas.Bool.Decides.{leb_tells}
+use Rattle.finding_laws.proofs.Prelude.{◌≡◌, ℕ, suc, ◌+◌, ◌<◌, ◌≤◌, Bool, cond, ◌∷◌, ◌++◌, take, Result, Ok, Err, ◌∙◌, inr, nat_eq, leb_tells, Foreign, Limit, Order, Read, Trailing, Truncated}
+use Rattle.std.proofs.Common.{arith, zero, true, false, List, [], length, refl, sym, ap, inl}
 use Rattle.finding_laws.proofs.Steady.{Goes}
 use Rattle.finding_laws.proofs.SteadyImages.{fields_steady}
 use Rattle.finding_laws.specs.Once.{IsSeenOnce}
 use Rattle.image_findings.proofs.Cuts.{nothing_is_cut, whole_is_not_cut}
 use Rattle.image_findings.specs.Seen.{IsSeenAt, is_cut, is_truncated}
 use Rattle.machine_meaning.specs.Image.{Image}
-use Rattle.machine_meaning.specs.ImageReading.{Fault, Foreign, Limit, Order, Read, Trailing, Truncated, ◌>>=◌, fields_at, image_at, keeps_table_rules}
+use Rattle.machine_meaning.specs.ImageReading.{Fault, ◌>>=◌, fields_at, image_at, keeps_table_rules}
 
 -- what is read after the last field
 abbrev ends : Image × List ℕ → Result Image Fault

@@ -1,26 +1,14 @@
 -- A walk finds nothing if and only if nothing was found before it and each of its words is fine.
-use Rattle.std.proofs.Common.{◌≡◌, ℕ, ◌+◌, Bool, true, false, cond, ◌&&◌, List, [], ◌∷◌, ◌++◌, length, Option, Some, None, is_none, refl, sym, ap, ◌∙◌}
-use Rattle.std.specs.Prelude.{nat_lt}
-use Rattle.apex_types.specs.ServiceShape.{arguments_of}
-use Rattle.apex_types.specs.declared.limits.TheConstants.{GREATEST_PRIORITY, LEAST_STACK_WORDS, MOST_DEPTH, MOST_LOCALS, MOST_PARAMETERS, MOST_PROCESSES, MOST_SEMAPHORE_VALUE, MOST_STACK_WORDS, MOST_WORDS, MOST_WORK_TICKS}
-use Rattle.apex_types.specs.declared.shape.ArgumentKind.{ArgumentKind}
+use Rattle.finding_laws.proofs.Prelude.{◌≡◌, ℕ, ◌+◌, Bool, cond, ◌&&◌, ◌∷◌, ◌++◌, Option, Some, ◌∙◌, nat_lt, arguments_of, GREATEST_PRIORITY, LEAST_STACK_WORDS, MOST_DEPTH, MOST_LOCALS, MOST_PARAMETERS, MOST_PROCESSES, MOST_SEMAPHORE_VALUE, MOST_STACK_WORDS, MOST_WORDS, MOST_WORK_TICKS, ArgumentKind, Service, Refusal, expr_count, has_none, body_frame, held, procedure_frame, Judge, arguments_wrong, by_limit, capacity_wrong, frame_wrong, many_wrong, name_wrong, new_wrong, no_name_wrong, number_wrong, outside_wrong, period_wrong, return_wrong, targets_wrong, Entry, declaration_entry, own_entry, process_entry, Tally, counted, no_tally, tally_wrong, all_given, block, comma, expr, exprs, given, links, service_call, stmt, targets, used, State, What, Wrong, noted, pushed, step, Role}
+use Rattle.std.proofs.Common.{true, false, List, [], length, None, is_none, refl, sym, ap}
 use Rattle.apex_types.specs.declared.shape.ArgumentKind.TheVariants as argument
-use Rattle.apex_types.specs.declared.service.Service.{Service}
-use Rattle.pal_base.specs.declared.fault.Refusal.{Refusal}
 use Rattle.pal_meaning.specs.Lines.{from_word}
 use Rattle.pal_meaning.specs.Syntax as written
-use Rattle.pal_meaning.specs.WellFormed.{expr_count}
-use Rattle.finding_laws.specs.Found.{has_none}
 use Rattle.source_findings.specs.Bodies as walk
-use Rattle.source_findings.specs.Frames.{body_frame, held, procedure_frame}
-use Rattle.source_findings.specs.Judged.{Judge, arguments_wrong, by_limit, capacity_wrong, frame_wrong, many_wrong, name_wrong, new_wrong, no_name_wrong, number_wrong, outside_wrong, period_wrong, return_wrong, targets_wrong}
-use Rattle.source_findings.specs.Roles.{Entry, declaration_entry, own_entry, process_entry}
-use Rattle.source_findings.specs.Tally.{Tally, counted, no_tally, tally_wrong}
-use Rattle.source_findings.specs.Walk.{all_given, block, comma, element, expr, exprs, given, links, named, service_call, stmt, targets, used}
-use Rattle.source_findings.specs.What.{State, What, Wrong, judged, noted, pushed, step}
+use Rattle.source_findings.specs.Walk.{element, named}
+use Rattle.source_findings.specs.What.{judged}
 use Rattle.source_findings.specs.declared.finding.Many.TheVariants as many
 use Rattle.source_findings.specs.declared.finding.Thing.TheVariants as thing
-use Rattle.source_findings.specs.declared.roles.Role.{Role}
 use Rattle.source_findings.specs.declared.roles.Role.TheVariants as role
 
 abbrev pub clean : State → Bool

@@ -1,13 +1,9 @@
 -- A period offers a partition less than its duration if and only if one is found.
-use Rattle.std.proofs.Common.{◌≡◌, arith, ℕ, zero, suc, ◌+◌, ◌*◌, ◌/◌, ◌||◌, Bool, true, false, List, [], ◌∷◌, map, refl, sym, ap, ◌∙◌, inl, inr}
-use Rattle.std.proofs.lemmas.Bool.{cases_Bool}
-use Rattle.std.proofs.lemmas.List.Sums.{sum_by-cons}
-use Rattle.apex_types.specs.declared.row.WindowRow.{WindowRow}
+use Rattle.finding_laws.proofs.Prelude.{◌≡◌, ℕ, suc, ◌+◌, ◌||◌, Bool, ◌∷◌, ◌∙◌, inr, cases_Bool, sum_by-cons, WindowRow, ◌==◌, if◌then◌else◌, nat_abs, nat_lt, unwrap_or, has_short_period, PartitionText, TableText, WindowText, exceeds_limits, has_costs_outside, partition_number, partition_row, window_row, periods_there}
+use Rattle.std.proofs.Common.{arith, zero, ◌*◌, ◌/◌, true, false, List, [], map, refl, sym, ap, inl}
 use Rattle.std.specs.List.{list_any}
-use Rattle.std.specs.Prelude.{◌==◌, if◌then◌else◌, nat_abs, nat_lt, unwrap_or}
-use Rattle.module_meaning.specs.Table.{falls_short, falls_short_from, common, has_short_period, has_twice, offered}
-use Rattle.module_meaning.specs.TableRules.{PartitionText, TableText, WindowText, exceeds_counts, exceeds_limits, exceeds_partition, exceeds_rows, has_costs_outside, partition_number, partition_row, same, window_row}
-use Rattle.window_table.proofs.Rules.{periods_there}
+use Rattle.module_meaning.specs.Table.{falls_short, falls_short_from, common, has_twice, offered}
+use Rattle.module_meaning.specs.TableRules.{exceeds_counts, exceeds_partition, exceeds_rows, same}
 use Rattle.finding_laws.specs.Any.{has_any}
 use Rattle.finding_laws.proofs.Found.{or_first, or_second, two}
 use Rattle.finding_laws.proofs.Numbers.{AreNumbered, are_numbered, have_same_name}

@@ -1,24 +1,21 @@
 -- Ends of channels do not fit together if and only if such an end is found.
-use Rattle.std.proofs.Common.{◌≡◌, arith, ℕ, ◌+◌, ◌-◌, ℤ, pos, negsuc, nat_abs, ◌&&◌, ◌||◌, Bool, true, false, not, cond, List, [], ◌∷◌, ◌++◌, Option, Some, None, length, map, refl, sym, ap, ◌∙◌, codes, inl, inr}
-use Rattle.std.proofs.lemmas.Bool.{and_from, and_parts, and_right, cases_Bool, cases_order, le-ltb, lt-ltb, eq-eqb, eqb-false, eqb-true, false≢true, ne_eqb, not-false, or_from, or_left, or_right, true≢false}
-use Rattle.std.proofs.lemmas.Cmp.{and_equiv, nat_eq_equiv, nat_list_eq_equiv, on_equiv}
+use Rattle.finding_laws.proofs.Prelude.{◌≡◌, ℕ, ◌+◌, ◌-◌, ℤ, pos, ◌&&◌, ◌||◌, Bool, cond, ◌∷◌, ◌++◌, Option, Some, ◌∙◌, codes, inr, and_parts, and_right, cases_Bool, le-ltb, lt-ltb, eq-eqb, eqb-true, false≢true, or_left, or_right, true≢false, nat_list_eq_equiv, map-append, none-some, same_Some, ◌==◌, if◌then◌else◌, int_lt, nat_eq, slice_get, unwrap_or, is_name, MOST_WORDS, ChannelEnd, PortRow, ChannelText, KindText, PartitionText, PortText, Queuing, Sampling, TableText, exceeds_limits, has_costs_outside, has_unknown_end, is_outside, partition_row, is_device, Finding, is_among, Row}
+use Rattle.std.proofs.Common.{arith, negsuc, nat_abs, true, false, not, List, [], None, length, map, refl, sym, ap, inl}
+use Rattle.std.proofs.lemmas.Bool.{and_from, cases_order, eqb-false, ne_eqb, not-false, or_from}
+use Rattle.std.proofs.lemmas.Cmp.{and_equiv, nat_eq_equiv, on_equiv}
 use Rattle.std.specs.Cmp.{IsEquivalence}
-use Rattle.std.proofs.lemmas.List.{append_assoc, length-map, map-append}
+use Rattle.std.proofs.lemmas.List.{append_assoc, length-map}
 use Rattle.window_table.proofs.Rules.{ends_known}
-use Rattle.std.proofs.lemmas.Option.{none-some, same_Some, slice_get-map}
+use Rattle.std.proofs.lemmas.Option.{slice_get-map}
 use Rattle.std.specs.List.{list_any}
 use Rattle.std.specs.Ordering.{int_eq}
-use Rattle.std.specs.Prelude.{◌==◌, flat_map, if◌then◌else◌, int_lt, nat_eq, option_map, slice_get, unwrap_or}
-use Rattle.apex_types.specs.NameText.{is_name}
-use Rattle.apex_types.specs.declared.limits.TheConstants.{MOST_WORDS}
-use Rattle.apex_types.specs.declared.row.ChannelEnd.{ChannelEnd}
+use Rattle.std.specs.Prelude.{flat_map, option_map}
 use Rattle.apex_types.specs.declared.row.ChannelEnd.TheVariants as ends
 use Rattle.apex_types.specs.declared.row.PortKind.{PortKind}
 use Rattle.apex_types.specs.declared.row.PortKind.TheVariants as kinds
-use Rattle.apex_types.specs.declared.row.PortRow.{PortRow}
 use Rattle.module_meaning.specs.Table.{Partition, has_twice, is_source}
 use Rattle.module_meaning.specs.Table as table
-use Rattle.module_meaning.specs.TableRules.{ChannelText, KindText, PartitionText, PortText, Queuing, Sampling, TableText, end_of, exceeds_counts, exceeds_kind, exceeds_limits, exceeds_rows, has_costs_outside, exceeds_partition, exceeds_port, has_unknown_end, has_unknown_name, is_outside, kind_row, partition_row, port_row, same}
+use Rattle.module_meaning.specs.TableRules.{end_of, exceeds_counts, exceeds_kind, exceeds_rows, exceeds_partition, exceeds_port, has_unknown_name, kind_row, port_row, same}
 use Rattle.module_meaning.specs.TableRules as rule
 use Rattle.finding_laws.specs.Any.{has_any}
 use Rattle.finding_laws.proofs.Found.{any_if, any_unless, or_first, or_second, two}
@@ -26,11 +23,10 @@ use Rattle.finding_laws.proofs.Twice.{both_or}
 use Rattle.finding_laws.proofs.Numbers.{same_list}
 use Rattle.finding_laws.proofs.Places.{AreMet, Met, all_met, device, end_at, met_append, port}
 use Rattle.finding_laws.proofs.Twice.{behind_append, behind_none, or_swap, twice_behind}
-use Rattle.table_findings.specs.Ends.{End, destination, destination_end, destinations_from, destinations_twice, differ, direction, first_port, is_as, is_device, is_same_kind, itself, mixed, one_at, port_at, source_end, twice, twice_from}
+use Rattle.table_findings.specs.Ends.{End, destination, destination_end, destinations_from, destinations_twice, differ, direction, first_port, is_as, is_same_kind, itself, mixed, one_at, port_at, source_end, twice, twice_from}
 use Rattle.table_findings.specs.Ends as text
-use Rattle.table_findings.specs.Findings.{Finding, OtherKind, OtherWords, PortTwice, SamePartition, WrongDirection}
-use Rattle.table_findings.specs.Names.{channel_row as text_row, is_among}
-use Rattle.table_findings.specs.Subjects.{Row}
+use Rattle.table_findings.specs.Findings.{OtherKind, OtherWords, PortTwice, SamePartition, WrongDirection}
+use Rattle.table_findings.specs.Names.{channel_row as text_row}
 
 -- the end that a text names
 abbrev end : List PartitionText → List ℕ → ChannelEnd

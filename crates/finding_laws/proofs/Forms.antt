@@ -1,19 +1,13 @@
 -- A line has one of the forms if and only if nothing is wrong with its parts.
-use Rattle.std.proofs.Common.{◌≡◌, ℕ, ℤ, Bool, true, false, cond, List, [], ◌∷◌, Option, Some, None, length, refl, option_map, codes, sym, ap, ◌∙◌}
-use Rattle.std.specs.Prelude.{◌==◌}
-use Rattle.apex_types.specs.Line.{space}
-use Rattle.apex_types.specs.NameText.{is_name}
+use Rattle.finding_laws.proofs.Prelude.{◌≡◌, ℕ, ℤ, Bool, cond, ◌∷◌, Option, Some, option_map, codes, ◌∙◌, ◌==◌, space, is_name, MOST_TICKS, Written, WrittenLine, PartitionFault, ModuleFault, message_of, message_with, fault_of, line_with, piece, pieces_behind_marks, pieces, plain_number, put_word, word, line_by, written_by, form_wrong, mark_of, Part, parts, total, rule_of}
+use Rattle.std.proofs.Common.{true, false, List, [], None, length, refl, sym, ap}
 use Rattle.apex_types.specs.declared.device.DeviceFault.TheVariants as fault
-use Rattle.apex_types.specs.declared.limits.TheConstants.{MOST_TICKS}
 use Rattle.engine_meaning.specs.Digits.{same}
-use Rattle.module_meaning.specs.DeviceText.{Written, WrittenLine, PartitionFault, ModuleFault, message_of, message_with, fault_of, line_with, piece, pieces_behind_marks, pieces, plain_number, put_word, word, words}
-use Rattle.module_base.specs.TextLines.{line_by, line_by_pieces, written_by}
-use Rattle.image_findings.specs.Form.{blemish, event_wrong, fault_wrong, form_wrong, is_byte, last_of, message_wrong, more_wrong, part_or, parts_wrong, some_words_wrong, words_wrong, wrong, wrong_part}
-use Rattle.image_findings.specs.Names.{mark_of}
-use Rattle.image_findings.specs.Parts.{Part, parts, total}
+use Rattle.module_meaning.specs.DeviceText.{words}
+use Rattle.module_base.specs.TextLines.{line_by_pieces}
+use Rattle.image_findings.specs.Form.{blemish, event_wrong, fault_wrong, is_byte, last_of, message_wrong, more_wrong, part_or, parts_wrong, some_words_wrong, words_wrong, wrong, wrong_part}
 use Rattle.image_findings.specs.What.{What, Wrong, Carriage, Comment, Empty, NoTick, NoKind, NoName, NoWord, NoWords, More}
 use Rattle.image_findings.specs.declared.names.TextKind.{TextKind}
-use Rattle.finding_laws.specs.Rules.{rule_of}
 
 -- there is a form and nothing is wrong, or there is none, and what is wrong is the form
 abbrev pub IsFormed : {A : Type 0} → Option A → Option Wrong → Type 0

@@ -1,18 +1,13 @@
 -- A rule is broken if and only if there is a finding.
-use Rattle.std.proofs.Common.{◌≡◌, ◌≤◌, arith, ℕ, ℤ, pos, ◌+◌, ◌||◌, Bool, true, false, not, cond, List, [], ◌∷◌, ◌++◌, Option, Some, None, length, map, refl, sym, ap, ◌∙◌, codes}
-use Rattle.std.proofs.lemmas.Bool.{false≢true}
-use Rattle.window_table.proofs.Rules.{periods_there}
-use Rattle.module_meaning.specs.Table.{has_odd_period}
+use Rattle.finding_laws.proofs.Prelude.{◌≡◌, ◌≤◌, ℕ, ℤ, pos, ◌+◌, ◌||◌, Bool, cond, ◌∷◌, ◌++◌, Option, Some, ◌∙◌, codes, false≢true, periods_there, has_odd_period, ◌==◌, ◌%◌, int_lt, nat_abs, nat_lt, is_name, ChannelText, KindText, PartitionText, PortText, Queuing, Sampling, TableText, WindowText, is_outside, cost_keys, exceeds_limits, exceeds_times, has_costs_outside, has_many_ports, partition_row, MOST_CHANNELS, MOST_DEPTH, MOST_DESTINATIONS, MOST_FRAME_TICKS, MOST_PORTS, MOST_TICKS, MOST_WINDOWS, MOST_WORDS, AreFew, Finding, Row, Subject, Module}
+use Rattle.std.proofs.Common.{arith, true, false, not, List, [], None, length, map, refl, sym, ap}
 use Rattle.std.specs.List.{list_any}
-use Rattle.std.specs.Prelude.{◌==◌, ◌%◌, int_lt, nat_abs, nat_lt}
-use Rattle.apex_types.specs.NameText.{is_name}
-use Rattle.module_meaning.specs.TableRules.{ChannelText, KindText, PartitionText, PortText, Queuing, Sampling, TableText, WindowText, is_outside, is_outside_cost, cost_keys, exceeds_counts, exceeds_kind, exceeds_limits, exceeds_port, exceeds_partition, exceeds_rows, exceeds_times, exceeds_window, exceeds_channel, has_costs_outside, has_many_ports, is_count_outside, overlaps_after, partition_row}
-use Rattle.apex_types.specs.declared.limits.TheConstants.{MOST_CHANNELS, MOST_COST, MOST_DEPTH, MOST_DESTINATIONS, MOST_FRAME_TICKS, MOST_PARTITIONS, MOST_PORTS, MOST_TICKS, MOST_WINDOWS, MOST_WORDS}
-use Rattle.finding_laws.specs.Any.{AreFew, has_any}
-use Rattle.table_findings.specs.Findings.{Finding}
+use Rattle.module_meaning.specs.TableRules.{is_outside_cost, exceeds_counts, exceeds_kind, exceeds_port, exceeds_partition, exceeds_rows, exceeds_window, exceeds_channel, is_count_outside, overlaps_after}
+use Rattle.apex_types.specs.declared.limits.TheConstants.{MOST_COST, MOST_PARTITIONS}
+use Rattle.finding_laws.specs.Any.{has_any}
 use Rattle.table_findings.specs.Limits.{below, channel_at, partition_row as row_of_partition, port_at, channel_limits, channels_from, costs_at, costs_limits, count, counts, kind, limits, name, outside, partition_limits, partitions_from, port_limits, ports_from, sizes, times, window_limits, windows_from}
 use Rattle.table_findings.specs.Schedule.{early, late, partition_at, window_at, odd_period, odd_periods, odd_periods_from, overlaps_from, placed, window_end}
-use Rattle.table_findings.specs.Subjects.{Row, Subject, Costs, Module}
+use Rattle.table_findings.specs.Subjects.{Costs}
 
 pub any_append : (xs ys : List Finding) → has_any (xs ++ ys) ≡ has_any xs || has_any ys
 any_append [] ys = refl

@@ -1,24 +1,19 @@
 -- A health table or an action is wrong if and only if that is found.
-use Rattle.std.proofs.Common.{◌≡◌, ℕ, ℤ, ◌+◌, ◌&&◌, ◌||◌, Bool, true, false, not, List, [], ◌∷◌, ◌++◌, Option, Some, None, refl, sym, ap, ◌∙◌, codes}
-use Rattle.std.proofs.lemmas.Bool.{and_parts}
-use Rattle.std.proofs.lemmas.Option.{cond_some, none-some, same_Some}
+use Rattle.finding_laws.proofs.Prelude.{◌≡◌, ℕ, ℤ, ◌+◌, ◌&&◌, ◌||◌, Bool, ◌∷◌, ◌++◌, Option, Some, ◌∙◌, codes, and_parts, none-some, same_Some, if◌then◌else◌, is_none, Data, Items, Members, array, as_str, as_table, boolean, datetime, float, get_member, integer, is_sorted, items_are_sorted, member, members_are_sorted, string, table, ◌>>=◌, ChannelText, PartitionText, PortText, TableText, WindowText, array_at, has_unknown_action, integer_at, is_one_of, is_partition_key, is_table_key, optional_array_at, optional_costs, optional_table_at, table_at, text_at, Finding, NoWord, each, of_part, of_type, one, row_at, Row, Subject, Health, Module, Words}
+use Rattle.std.proofs.Common.{true, false, not, List, [], None, refl, sym, ap}
+use Rattle.std.proofs.lemmas.Option.{cond_some}
 use Rattle.std.specs.List.{list_any}
-use Rattle.std.specs.Prelude.{if◌then◌else◌, is_none}
-use Rattle.toml.specs.Data.{Data, Items, Members, array, as_str, as_table, boolean, datetime, float, get_member, integer, is_sorted, item, items_are_sorted, member, members_are_sorted, no_items, no_members, string, table}
-use Rattle.module_meaning.specs.Table.{◌>>=◌}
-use Rattle.module_meaning.specs.TableRules.{ChannelText, PartitionText, PortText, TableText, WindowText, action_at, array_at, has_only, has_texts_only, has_unknown_action, health_of, integer_at, is_error_name, is_one_of, is_partition_key, is_table_key, channel_of, module_action_of, optional_array_at, optional_costs, optional_table_at, port_of, window_of, partition_action_of, partition_of, same, table_at, table_text_of, tables_of, text_at}
+use Rattle.toml.specs.Data.{item, no_items, no_members}
+use Rattle.module_meaning.specs.TableRules.{action_at, has_only, has_texts_only, health_of, is_error_name, channel_of, module_action_of, port_of, window_of, partition_action_of, partition_of, same, table_text_of, tables_of}
 use Rattle.finding_laws.specs.Any.{has_any}
 use Rattle.finding_laws.proofs.Found.{any_unless, two}
 use Rattle.finding_laws.proofs.Keys.{any_member, array_sorted_at, at_key, by_keys, table_sorted, table_sorted_at}
 use Rattle.finding_laws.proofs.Ors.{all_of, any_or, any_same, either, reordered, the}
 use Rattle.finding_laws.proofs.Parts.{is_missing, part_any}
 use Rattle.table_findings.specs.Fields.{health_keys, words_of}
-use Rattle.table_findings.specs.Findings.{Finding, NoWord}
 use Rattle.table_findings.specs.Health.{action, actions, errors, health, partition}
-use Rattle.table_findings.specs.Shape.{each, items_at, of_part, of_type, one, row_at, word}
-use Rattle.table_findings.specs.Subjects.{Row, Subject, Health, Module}
+use Rattle.table_findings.specs.Shape.{items_at, word}
 use Rattle.table_findings.specs.declared.fields.Part.TheVariants as part
-use Rattle.table_findings.specs.declared.words.Words.{Words}
 use Rattle.table_findings.specs.declared.words.Words.TheVariants as words
 
 -- ---- actions

@@ -1,16 +1,12 @@
 -- The members of a table whose keys ascend, looked at one by one or by key.
-use Rattle.std.proofs.Common.{◌≡◌, arith, ℕ, ◌&&◌, ◌||◌, Bool, true, false, not, List, [], ◌∷◌, Option, Some, None, refl, sym, ap, ◌∙◌, inl, inr}
-use Rattle.std.proofs.Common.{Less, Equal, Greater, Ordering}
-use Rattle.std.proofs.lemmas.Bool.{and_parts, cases_Bool, false≢true}
+use Rattle.finding_laws.proofs.Prelude.{◌≡◌, ℕ, ◌&&◌, ◌||◌, Bool, ◌∷◌, Option, Some, ◌∙◌, inr, Less, Equal, Greater, Ordering, and_parts, cases_Bool, false≢true, nat_list_cmp_total, slice_cmp, is_lt, match_ordering, nat_cmp, Data, Items, Members, array, as_array, as_table, boolean, datetime, float, get_member, integer, is_before, is_sorted, items_are_sorted, member, members_are_sorted, string, table, none-some, same_Some, ◌>>=◌, array_at, is_one_of, table_at}
+use Rattle.std.proofs.Common.{arith, true, false, not, List, [], None, refl, sym, ap, inl}
 use Rattle.std.proofs.lemmas.Bool.Decides.{nat_tests}
-use Rattle.std.proofs.lemmas.Cmp.{nat_list_cmp_total, same_from_slice_cmp}
-use Rattle.std.specs.Cmp.Lexicographic.{slice_cmp}
+use Rattle.std.proofs.lemmas.Cmp.{same_from_slice_cmp}
 use Rattle.std.specs.List.{list_any}
-use Rattle.std.specs.Ordering.{is_eq, is_lt, match_ordering, nat_cmp}
-use Rattle.toml.specs.Data.{Data, Items, Members, array, as_array, as_table, boolean, datetime, float, get_member, integer, is_before, is_sorted, items_are_sorted, member, members_are_sorted, no_members, string, table}
-use Rattle.std.proofs.lemmas.Option.{none-some, same_Some}
-use Rattle.module_meaning.specs.Table.{◌>>=◌}
-use Rattle.module_meaning.specs.TableRules.{array_at, has_only, is_one_of, same, table_at}
+use Rattle.std.specs.Ordering.{is_eq}
+use Rattle.toml.specs.Data.{no_members}
+use Rattle.module_meaning.specs.TableRules.{has_only, same}
 use Rattle.finding_laws.proofs.Numbers.{same_list, same_symm}
 use Rattle.finding_laws.proofs.Twice.{both_or, or_swap}
 

@@ -1,14 +1,13 @@
 -- The bytes of a word that begins with a lower-case letter, and the word of these bytes.
-use Rattle.std.proofs.Common.{arith, ◌≡◌, ℕ, zero, suc, ◌+◌, ◌-◌, ◌≤◌, Bool, true, false, cond, ◌||◌, List, [], ◌∷◌, length, take, drop, Option, Some, None, refl, sym, ap, ◌∙◌, length-drop}
-use Rattle.std.specs.Prelude.{◌&&◌, find, nat_eq, not}
+use Rattle.finding_laws.proofs.Prelude.{◌≡◌, ℕ, suc, ◌+◌, ◌-◌, ◌≤◌, Bool, cond, ◌||◌, ◌∷◌, take, drop, Option, Some, ◌∙◌, nat_eq, list_all, Service, Number, ServiceWord, first_word}
+use Rattle.std.proofs.Common.{arith, zero, true, false, List, [], length, None, refl, sym, ap, length-drop}
+use Rattle.std.specs.Prelude.{◌&&◌, find, not}
 use Rattle.std.specs.Cmp.Lexicographic.{same_text}
-use Rattle.std.specs.List.{list_all, prefix_len, starts_with}
+use Rattle.std.specs.List.{prefix_len, starts_with}
 use Rattle.std.proofs.lemmas.List.Sums.{prefix_len-le-length}
-use Rattle.apex_types.specs.declared.service.Service.{Service}
 use Rattle.engine_meaning.specs.Digits.{front, is_digit, same}
-use Rattle.pal_meaning.specs.Grammar.{Word, Mark, Name, Number, ServiceWord, Stray, behind, grammar_words, in_name, in_service, is_lower, is_upper, lower_word, mark_or_name, service_or_stray, sign_or_stray, sign_word, signs, upper_word, within, word_at}
+use Rattle.pal_meaning.specs.Grammar.{Word, Mark, Name, Stray, behind, grammar_words, in_name, in_service, is_lower, is_upper, lower_word, mark_or_name, service_or_stray, sign_or_stray, sign_word, signs, upper_word, within, word_at}
 use Rattle.engine_meaning.specs.Digits.{decimal_value}
-use Rattle.source_findings.specs.Words.{first_word}
 
 -- a text begins with a lower-case letter
 abbrev pub is_small : List ℕ → Bool

@@ -1,3 +1,4 @@
+pub mod Prelude
 pub mod Durations
 pub mod Ends
 pub mod Found

@@ -1,20 +1,13 @@
 -- What a line of one of the forms means, and what is wrong with it.
-use Rattle.std.proofs.Common.{◌≡◌, ℕ, suc, ◌+◌, ◌<◌, ◌≤◌, ℤ, Bool, true, false, cond, List, [], ◌∷◌, Option, Some, None, Result, Ok, Err, length, refl, codes, sym, ap, subst, ◌∙◌, inl, inr, arith, map}
-use Rattle.std.specs.Prelude.{◌&&◌, nat_le, nat_lt, slice_get}
-use Rattle.std.proofs.lemmas.Bool.{le-leb, lt-leb}
-use Rattle.std.proofs.lemmas.Option.{slice_get_cases, same_Some}
-use Rattle.apex_types.specs.NameText.{is_name}
-use Rattle.apex_types.specs.declared.device.DeviceFault.{DeviceFault}
+use Rattle.finding_laws.proofs.Prelude.{◌≡◌, ℕ, suc, ◌+◌, ◌<◌, ◌≤◌, ℤ, Bool, cond, ◌∷◌, Option, Some, Result, Ok, Err, codes, subst, ◌∙◌, inr, nat_le, nat_lt, slice_get, le-leb, lt-leb, same_Some, is_name, DeviceFault, Message, ModuleFault, PartitionFault, Written, fault_of, is_room, message_of, message_with, put_word, word, written_by, or_else, Names, Receiver, mark_of, Part, parts, total, rule_in}
+use Rattle.std.proofs.Common.{true, false, List, [], None, length, refl, sym, ap, inl, arith, map}
+use Rattle.std.specs.Prelude.{◌&&◌}
+use Rattle.std.proofs.lemmas.Option.{slice_get_cases}
 use Rattle.apex_types.specs.declared.device.DeviceFault.TheVariants as fault
 use Rattle.engine_meaning.specs.Digits.{same}
-use Rattle.module_meaning.specs.DeviceText.{Message, ModuleFault, PartitionFault, Written, fault_of, is_room, message_of, message_with, put_word, word, words}
-use Rattle.module_base.specs.TextLines.{written_by}
-use Rattle.image_findings.specs.Form.{or_else}
+use Rattle.module_meaning.specs.DeviceText.{words}
 use Rattle.image_findings.specs.Naming as naming
-use Rattle.image_findings.specs.Names.{Names, Receiver, mark_of}
-use Rattle.image_findings.specs.Parts.{Part, parts, total}
 use Rattle.image_findings.specs.What.{UnknownPartition}
-use Rattle.finding_laws.specs.Rules.{rule_in}
 
 -- the rule that a message of this many words to a channel or port breaks
 abbrev pub receiver_rule : ℕ → ℕ → Option Receiver → Option DeviceFault

@@ -1,22 +1,18 @@
 -- A name is wrong if and only if one is found: one that appears twice, or names nothing.
-use Rattle.std.proofs.Common.{◌≡◌, arith, ℕ, ◌+◌, ◌&&◌, ◌||◌, Bool, true, false, not, List, [], ◌∷◌, ◌++◌, Option, Some, None, length, map, refl, sym, ap, ◌∙◌, append_assoc, inl, inr}
-use Rattle.std.proofs.lemmas.Bool.{cases_Bool, lt-ltb, le-ltb}
-use Rattle.std.proofs.lemmas.List.{length-append}
+use Rattle.finding_laws.proofs.Prelude.{◌≡◌, ℕ, ◌+◌, ◌&&◌, ◌||◌, Bool, ◌∷◌, ◌++◌, Option, Some, ◌∙◌, append_assoc, inr, cases_Bool, lt-ltb, le-ltb, length-append, nat_lt, is_none, if◌then◌else◌, ChannelEnd, ChannelText, PartitionText, TableText, WindowText, has_unknown_end, port_number, is_among, one, Row}
+use Rattle.std.proofs.Common.{arith, true, false, not, List, [], None, length, map, refl, sym, ap, inl}
 use Rattle.std.specs.List.{list_any}
-use Rattle.std.specs.Prelude.{codes, nat_lt, is_none, if◌then◌else◌}
-use Rattle.apex_types.specs.declared.row.ChannelEnd.{ChannelEnd}
+use Rattle.std.specs.Prelude.{codes}
 use Rattle.apex_types.specs.declared.row.ChannelEnd.TheVariants as ends
 use Rattle.module_meaning.specs.Table.{has_twice}
-use Rattle.module_meaning.specs.TableRules.{ChannelText, PartitionText, TableText, WindowText, end_of, has_same_names, has_unknown_end, has_unknown_name, is_unknown_window, number_from, port_from, port_number, same}
+use Rattle.module_meaning.specs.TableRules.{end_of, has_same_names, has_unknown_name, is_unknown_window, number_from, port_from, same}
 use Rattle.finding_laws.specs.Any.{has_any}
 use Rattle.finding_laws.proofs.Found.{any_unless, or_assoc, or_first, two}
 use Rattle.finding_laws.proofs.Twice.{behind_none, twice_behind}
 use Rattle.finding_laws.proofs.Numbers.{same_itself, same_symm}
 use Rattle.table_findings.specs.Findings.{SameName}
 use Rattle.table_findings.specs.Limits.{partition_row}
-use Rattle.table_findings.specs.Names.{Channels, Named, Partitions, Ports, channel_names, channel_row, destinations_of, ends_from, ends_of, first_same, is_among, is_end, names, partition_names, partition_of, partitions_of, port_names, repeated, same_from, same_names, same_ports_from, subject_in, unknown}
-use Rattle.table_findings.specs.Shape.{one}
-use Rattle.table_findings.specs.Subjects.{Row}
+use Rattle.table_findings.specs.Names.{Channels, Named, Partitions, Ports, channel_names, channel_row, destinations_of, ends_from, ends_of, first_same, is_end, names, partition_names, partition_of, partitions_of, port_names, repeated, same_from, same_names, same_ports_from, subject_in, unknown}
 
 -- ---- names that appear twice
 

@@ -1,12 +1,11 @@
 -- Where partitions differ in name, the number of a partition denotes its name.
-use Rattle.std.proofs.Common.{◌≡◌, ◌<◌, arith, ℕ, ◌+◌, Bool, true, false, eqb, List, [], ◌∷◌, ◌++◌, Some, length, refl, sym, ap, ◌∙◌, append_assoc}
-use Rattle.std.proofs.Common.{inl, inr, length-append}
-use Rattle.std.proofs.lemmas.Bool.{false≢true, and_parts, cases_Bool, eq-eqb, eqb-true, ne_eqb, or_parts}
-use Rattle.std.proofs.lemmas.Cmp.{nat_list_eq_equiv}
+use Rattle.finding_laws.proofs.Prelude.{◌≡◌, ◌<◌, ℕ, ◌+◌, Bool, eqb, ◌∷◌, ◌++◌, Some, ◌∙◌, append_assoc, inr, false≢true, and_parts, cases_Bool, eq-eqb, eqb-true, or_parts, nat_list_eq_equiv, ◌==◌, if◌then◌else◌, unwrap_or, PartitionText, partition_number}
+use Rattle.std.proofs.Common.{arith, true, false, List, [], length, refl, sym, ap}
+use Rattle.std.proofs.Common.{inl, length-append}
+use Rattle.std.proofs.lemmas.Bool.{ne_eqb}
 use Rattle.std.specs.List.{list_any}
-use Rattle.std.specs.Prelude.{◌==◌, if◌then◌else◌, unwrap_or}
 use Rattle.module_meaning.specs.Table.{has_twice}
-use Rattle.module_meaning.specs.TableRules.{PartitionText, number_from, partition_number, same}
+use Rattle.module_meaning.specs.TableRules.{number_from, same}
 
 abbrev pub is_of_name : List ℕ → PartitionText → Bool
 is_of_name name p = same p.name name

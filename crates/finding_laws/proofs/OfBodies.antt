@@ -1,17 +1,13 @@
 -- The word at which a body is found is the first of this body.
-use Rattle.std.proofs.Common.{arith, ◌≡◌, ℕ, zero, suc, ◌+◌, ◌≤◌, Bool, true, false, cond, List, [], ◌∷◌, ◌++◌, length, refl, sym, ap, ◌∙◌, subst, inl, inr}
+use Rattle.finding_laws.proofs.Prelude.{◌≡◌, ℕ, suc, ◌+◌, ◌≤◌, Bool, cond, ◌∷◌, ◌++◌, ◌∙◌, subst, inr, leb_tells, length-append, bytes_eq-Decides, words_from_more, words_of, first_word, next_word, BodyName}
+use Rattle.std.proofs.Common.{arith, zero, true, false, List, [], length, refl, sym, ap, inl}
 use Rattle.std.specs.Prelude.{◌&&◌, codes}
-use Rattle.std.proofs.lemmas.Bool.Decides.{leb_tells}
-use Rattle.std.proofs.lemmas.List.{length-append}
-use Rattle.std.proofs.lemmas.Slice.Eq.{bytes_eq-Decides}
-use Rattle.pal_laws.proofs.WordsOf.{blanks_shorter, words_from_more}
-use Rattle.pal_meaning.specs.Grammar.{Word, Mark, Name, behind_blanks, word_at, words_from, words_of, words_within}
+use Rattle.pal_laws.proofs.WordsOf.{blanks_shorter}
+use Rattle.pal_meaning.specs.Grammar.{Word, Mark, Name, behind_blanks, word_at, words_from, words_within}
 use Rattle.pal_meaning.specs.Lines.{from_word}
-use Rattle.source_findings.specs.Words.{first_word, next_word}
 use Rattle.finding_laws.proofs.Letters.{is_small, mark_bytes, name_bytes, same_word}
 use Rattle.finding_laws.proofs.Words.{next_from, word_here}
 use Rattle.source_findings.specs.Lengths.{begins, from_body, is_named, is_word}
-use Rattle.pal.specs.declared.report.BodyName.{BodyName}
 use Rattle.pal.specs.declared.report.BodyName.TheVariants as body
 
 -- ---- the words of a text

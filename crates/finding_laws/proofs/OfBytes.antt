@@ -1,16 +1,12 @@
 -- What is found in a text that is no source is said of its bytes.
-use Rattle.std.proofs.Common.{arith, ◌≡◌, ℕ, ◌+◌, ◌-◌, ◌<◌, Bool, true, false, cond, List, [], ◌∷◌, ◌++◌, length, Some, None, refl, sym, ap, ◌∙◌, inl, inr, subst, suc}
-use Rattle.std.proofs.lemmas.Bool.Decides.{leb_tells}
+use Rattle.finding_laws.proofs.Prelude.{◌≡◌, ℕ, ◌+◌, ◌-◌, ◌<◌, Bool, cond, ◌∷◌, ◌++◌, Some, ◌∙◌, inr, subst, suc, leb_tells, nat_lt, IsAscii, MOST_SOURCE_BYTES, IsText, has_none, is_above, or_too_long, strays, text_wrongs, NoAscii, What, Wrong, noted, pushed}
+use Rattle.std.proofs.Common.{arith, true, false, List, [], length, None, refl, sym, ap, inl}
 use Rattle.std.proofs.lemmas.List.{append_assoc}
-use Rattle.std.specs.Prelude.{◌&&◌, nat_lt, not}
-use Rattle.std.specs.Str.{IsAscii}
-use Rattle.apex_types.specs.declared.limits.TheConstants.{MOST_SOURCE_BYTES}
-use Rattle.pal_meaning.specs.Grammar.{IsText}
+use Rattle.std.specs.Prelude.{◌&&◌, not}
 use Rattle.finding_laws.proofs.OfTexts.{none_above}
 use Rattle.finding_laws.specs.Bytes.{AreOfBytes, IsSaidOfByte, ends_above}
-use Rattle.finding_laws.specs.Found.{has_none}
-use Rattle.source_findings.specs.Texts.{is_above, or_too_long, stray, strays, text_wrongs}
-use Rattle.source_findings.specs.What.{NoAscii, TooLong, What, Wrong, noted, pushed}
+use Rattle.source_findings.specs.Texts.{stray}
+use Rattle.source_findings.specs.What.{TooLong}
 
 ends_with : (front : List ℕ) (b : ℕ) → ends_above (front ++ b ∷ []) ≡ is_above b
 ends_with [] b = refl

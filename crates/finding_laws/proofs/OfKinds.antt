@@ -1,28 +1,16 @@
 -- The rule on kinds: nothing is found if and only if it holds.
 use Rattle.std.proofs.Math.Dec.{eqb-suc-suc, eqb-suc-zero, eqb-zero-suc}
-use Rattle.std.proofs.Common.{arith, ◌≡◌, ℕ, suc, ◌+◌, Bool, true, false, ◌&&◌, List, [], ◌∷◌, ◌++◌, length, map, Option, Some, None, is_none, refl, sym, ap, ◌∙◌}
-use Rattle.std.specs.List.{list_all}
-use Rattle.std.specs.Prelude.{nat_eq}
-use Rattle.apex_types.specs.ServiceShape.{answer_words, arguments_of}
-use Rattle.apex_types.specs.declared.denotation.Denotation.{Denotation}
+use Rattle.finding_laws.proofs.Prelude.{◌≡◌, ℕ, suc, ◌+◌, Bool, ◌&&◌, ◌∷◌, ◌++◌, Option, Some, ◌∙◌, list_all, nat_eq, answer_words, arguments_of, Denotation, PortRow, Service, ArgumentKind, Scope, own_entries, scope_of, expr_count, holds_of_handler, holds_of_procedure, kinds_hold, has_none, body_frame, held, Judge, frame_wrong, found_role, Entry, declaration_entry, own_entry, process_entry, Tally, tallied, no_tally, tally_wrong, Role}
+use Rattle.std.proofs.Common.{arith, true, false, List, [], length, map, None, is_none, refl, sym, ap}
 use Rattle.apex_types.specs.declared.denotation.Denotation.TheVariants as denotation
 use Rattle.apex_types.specs.declared.denotation.ObjectKind.{ObjectKind}
-use Rattle.apex_types.specs.declared.row.PortRow.{PortRow}
-use Rattle.apex_types.specs.declared.service.Service.{Service}
-use Rattle.apex_types.specs.declared.shape.ArgumentKind.{ArgumentKind}
 use Rattle.apex_types.specs.declared.shape.ArgumentKind.TheVariants as argument
 use Rattle.pal_base.specs.declared.fault.Refusal.TheVariants as rule
 use Rattle.pal_meaning.specs.Resolve as meant
-use Rattle.pal_meaning.specs.Resolve.{Scope, own_entries, scope_of}
 use Rattle.pal_meaning.specs.Syntax as written
-use Rattle.pal_meaning.specs.WellFormed.{expr_count, fits_argument, fits_arguments, fits_block, fits_expr, fits_exprs, fits_links, fits_stmt, holds_of_handler, holds_of_procedure, is_array, is_object, is_procedure, is_scalar, kinds_hold, kinds_hold_in_body}
-use Rattle.finding_laws.specs.Found.{has_none}
+use Rattle.pal_meaning.specs.WellFormed.{fits_argument, fits_arguments, fits_block, fits_expr, fits_exprs, fits_links, fits_stmt, is_array, is_object, is_procedure, is_scalar, kinds_hold_in_body}
 use Rattle.source_findings.specs.Bodies as walk
-use Rattle.source_findings.specs.Frames.{body_frame, held}
-use Rattle.source_findings.specs.Judged.{Judge, frame_wrong, meant as found_role}
-use Rattle.source_findings.specs.Roles.{Entry, declaration_entry, fits, own_entry, process_entry}
-use Rattle.source_findings.specs.Tally.{Tally, counted as tallied, no_tally, tally_wrong}
-use Rattle.source_findings.specs.declared.roles.Role.{Role}
+use Rattle.source_findings.specs.Roles.{fits}
 use Rattle.source_findings.specs.declared.roles.Role.TheVariants as role
 use Rattle.finding_laws.proofs.Clean.{and_assoc, and_true, fine_all_given, fine_block, fine_declarations, fine_expr, fine_exprs, fine_given, fine_handler, fine_links, fine_name, fine_own, fine_processes, fine_program, fine_row, fine_stack, fine_stmt, fine_targets, fine_words, none_found}
 use Rattle.finding_laws.proofs.OfNames.{and_false, both, found_unless}

@@ -1,24 +1,12 @@
 -- The length of a program: a body is found whenever there are more instructions than there may be.
-use Rattle.std.proofs.Common.{◌≡◌, ◌<◌, ℕ, ◌+◌, ◌-◌, Bool, true, false, cond, List, [], ◌∷◌, ◌++◌, map, Option, Some, None, refl, sym, ◌∙◌, ◌≤◌, arith, inl, inr}
-use Rattle.std.specs.List.{sum_by}
+use Rattle.finding_laws.proofs.Prelude.{◌≡◌, ◌<◌, ℕ, ◌+◌, ◌-◌, Bool, cond, ◌∷◌, ◌++◌, Option, Some, ◌∙◌, ◌≤◌, inr, sum_by, nat_le, nat_lt, ltb-false, ltb-true, leb_tells, sum_by-cons, Costs, MOST_INSTRUCTIONS, cost_of_body, cost_of_procedure, cost_of_process, body_of, process_of, program_of, Body, Procedure, Process, Program, has_none, length_wrongs, passing, wrongs_at}
+use Rattle.std.proofs.Common.{true, false, List, [], map, None, refl, sym, arith, inl}
 use Rattle.std.specs.Option.{option_map}
-use Rattle.std.specs.Prelude.{nat_le, nat_lt}
-use Rattle.std.proofs.lemmas.Bool.{ltb-false, ltb-true}
-use Rattle.std.proofs.lemmas.Bool.Decides.{leb_tells}
-use Rattle.std.proofs.lemmas.List.Sums.{sum_by-cons}
-use Rattle.apex_types.specs.declared.cost.Costs.{Costs}
-use Rattle.apex_types.specs.declared.limits.TheConstants.{MOST_INSTRUCTIONS}
-use Rattle.pal.specs.Costs.{cost_of_body, cost_of_handler, cost_of_procedure, cost_of_process, costs_of}
+use Rattle.pal.specs.Costs.{cost_of_handler, costs_of}
 use Rattle.pal.specs.declared.report.BodyCost.{BodyCost}
 use Rattle.pal.specs.declared.report.BodyName.TheVariants as name
-use Rattle.pal_base.specs.ProgramView.{body_of, procedure_of, process_of, program_of}
-use Rattle.pal_base.specs.declared.program.Body.{Body}
-use Rattle.pal_base.specs.declared.program.Procedure.{Procedure}
-use Rattle.pal_base.specs.declared.program.Process.{Process}
-use Rattle.pal_base.specs.declared.program.Program.{Program}
+use Rattle.pal_base.specs.ProgramView.{procedure_of}
 use Rattle.pal_meaning.specs.Program.{size_of, size_of_handler, size_of_procedure, size_of_process}
-use Rattle.finding_laws.specs.Found.{has_none}
-use Rattle.source_findings.specs.Lengths.{length_wrongs, passing, wrongs_at}
 
 abbrev total : List BodyCost → ℕ
 total [] = 0

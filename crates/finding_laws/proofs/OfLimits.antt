@@ -1,32 +1,20 @@
 -- The rule on limits: nothing is found if and only if it holds.
-use Rattle.std.proofs.Common.{arith, ◌≡◌, inl, inr, ℕ, ◌+◌, ◌≤◌, ◌<◌, max, Bool, true, false, cond, ◌&&◌, List, [], ◌∷◌, ◌++◌, length, Option, Some, None, is_some, is_none, option_map, refl, sym, ap, ◌∙◌}
-use Rattle.std.proofs.lemmas.Bool.{le-leb, leb-true, lt-leb}
-use Rattle.std.proofs.lemmas.Bool.Decides.{eqb_tells, leb_tells}
-use Rattle.std.specs.List.{list_all}
-use Rattle.std.specs.Prelude.{nat_eq, nat_le}
-use Rattle.apex_types.specs.NameText.{is_name}
-use Rattle.apex_types.specs.ServiceShape.{answer_words, arguments_of}
-use Rattle.apex_types.specs.declared.limits.TheConstants.{GREATEST_PRIORITY, LEAST_STACK_WORDS, MOST_DATA_WORDS, MOST_DEPTH, MOST_LOCALS, MOST_OBJECTS, MOST_PARAMETERS, MOST_PORTS, MOST_PROCEDURES, MOST_PROCESSES, MOST_SEMAPHORE_VALUE, MOST_STACK_WORDS, MOST_TICKS, MOST_WORDS, MOST_WORK_TICKS}
-use Rattle.apex_types.specs.declared.row.PortRow.{PortRow}
-use Rattle.apex_types.specs.declared.shape.ArgumentKind.{ArgumentKind}
+use Rattle.finding_laws.proofs.Prelude.{◌≡◌, inr, ℕ, ◌+◌, ◌≤◌, ◌<◌, max, Bool, cond, ◌&&◌, ◌∷◌, ◌++◌, Option, Some, is_some, option_map, ◌∙◌, le-leb, lt-leb, leb_tells, list_all, nat_eq, nat_le, is_name, answer_words, arguments_of, GREATEST_PRIORITY, LEAST_STACK_WORDS, MOST_DATA_WORDS, MOST_DEPTH, MOST_LOCALS, MOST_OBJECTS, MOST_PARAMETERS, MOST_PORTS, MOST_PROCEDURES, MOST_PROCESSES, MOST_SEMAPHORE_VALUE, MOST_STACK_WORDS, MOST_TICKS, MOST_WORDS, MOST_WORK_TICKS, PortRow, ArgumentKind, Counts, Scope, after, no_counts, own_entries, scope_of, expr_count, limits_hold, has_none, body_frame, held, procedure_frame, Judge, frame_wrong, many_wrong, no_time, number_wrong, outside_wrong, Entry, declaration_entry, own_entry, process_entry, Tally, counted, tally_wrong, Many, Thing, Role}
+use Rattle.std.proofs.Common.{arith, inl, true, false, List, [], length, None, is_none, refl, sym, ap}
+use Rattle.std.proofs.lemmas.Bool.{leb-true}
+use Rattle.std.proofs.lemmas.Bool.Decides.{eqb_tells}
 use Rattle.apex_types.specs.declared.shape.ArgumentKind.TheVariants as argument
 use Rattle.pal_base.specs.declared.fault.Refusal.TheVariants as rule
 use Rattle.pal_meaning.specs.Program as program
 use Rattle.pal_meaning.specs.Resolve as meant
-use Rattle.pal_meaning.specs.Resolve.{Counts, Scope, after, count_within, no_counts, own_entries, procedure_of, resolve_arguments, resolve_block, resolve_body, resolve_expr, resolve_exprs, resolve_links, resolve_stmt, scope_of, value_or_zero}
+use Rattle.pal_meaning.specs.Resolve.{count_within, procedure_of, resolve_arguments, resolve_block, resolve_body, resolve_expr, resolve_exprs, resolve_links, resolve_stmt, value_or_zero}
 use Rattle.pal_meaning.specs.Syntax as written
-use Rattle.pal_meaning.specs.WellFormed.{expr_count, fits_stack, is_between, is_time, is_word, keeps_block, keeps_body, keeps_counts, keeps_declaration, keeps_expr, keeps_exprs, keeps_handler, keeps_kind, keeps_links, keeps_process, keeps_stack_body, keeps_stmt, limits_hold, value_at_most}
-use Rattle.finding_laws.specs.Found.{has_none}
+use Rattle.pal_meaning.specs.WellFormed.{fits_stack, is_between, is_time, is_word, keeps_block, keeps_body, keeps_counts, keeps_declaration, keeps_expr, keeps_exprs, keeps_handler, keeps_kind, keeps_links, keeps_process, keeps_stack_body, keeps_stmt, value_at_most}
 use Rattle.source_findings.specs.Bodies as walk
-use Rattle.source_findings.specs.Frames.{arguments_operands, block_operands, body_frame, expr_operands, exprs_operands, held, links_operands, procedure_frame, stmt_operands}
-use Rattle.source_findings.specs.Judged.{Judge, frame_wrong, many_wrong, no_time, number_wrong, outside_wrong}
-use Rattle.source_findings.specs.Roles.{Entry, declaration_entry, declared_entries, own_entry, process_entry}
-use Rattle.source_findings.specs.Tally.{Tally, counted, tally_wrong}
-use Rattle.source_findings.specs.declared.finding.Many.{Many}
+use Rattle.source_findings.specs.Frames.{arguments_operands, block_operands, expr_operands, exprs_operands, links_operands, stmt_operands}
+use Rattle.source_findings.specs.Roles.{declared_entries}
 use Rattle.source_findings.specs.declared.finding.Many.TheVariants as many
-use Rattle.source_findings.specs.declared.finding.Thing.{Thing}
 use Rattle.source_findings.specs.declared.finding.Thing.TheVariants as thing
-use Rattle.source_findings.specs.declared.roles.Role.{Role}
 use Rattle.source_findings.specs.declared.roles.Role.TheVariants as role
 use Rattle.finding_laws.proofs.Clean.{and_assoc, and_true, fine_all_given, fine_block, fine_declarations, fine_expr, fine_exprs, fine_given, fine_handler, fine_links, fine_name, fine_named, fine_new, fine_own, fine_process, fine_processes, fine_row, fine_stack, fine_stmt, fine_targets, fine_words, none_found}
 use Rattle.finding_laws.proofs.OfNames.{and_false, both, found_unless}

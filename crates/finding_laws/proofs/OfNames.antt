@@ -1,29 +1,17 @@
 -- The rule on names: nothing is found if and only if it holds.
-use Rattle.std.proofs.Common.{◌≡◌, ℕ, ◌+◌, Bool, true, false, cond, not, ◌&&◌, List, [], ◌∷◌, ◌++◌, map, Option, Some, None, is_some, is_none, refl, sym, ap, ◌∙◌, append_assoc, append-nil}
-use Rattle.std.specs.List.{list_all}
+use Rattle.finding_laws.proofs.Prelude.{◌≡◌, ℕ, ◌+◌, Bool, cond, ◌&&◌, ◌∷◌, ◌++◌, Option, Some, is_some, ◌∙◌, append_assoc, append-nil, list_all, arguments_of, Denotation, MOST_PROCESSES, Slot, PortRow, ArgumentKind, Counts, Scope, declaration_entries, declared_meaning, find, no_counts, own_entries, process_entries, scope_of, expr_count, holds_of_handler, holds_of_procedure, names_hold, has_none, body_frame, held, Judge, frame_wrong, found_role, number_wrong, Entry, is_nothing, own_entry, role_of, Tally, tallied, no_tally, tally_wrong, What, Role}
+use Rattle.std.proofs.Common.{true, false, not, List, [], map, None, is_none, refl, sym, ap}
 use Rattle.std.specs.Option.{unwrap_or}
-use Rattle.apex_types.specs.ServiceShape.{arguments_of}
-use Rattle.apex_types.specs.declared.denotation.Denotation.{Denotation}
 use Rattle.apex_types.specs.declared.denotation.Denotation.TheVariants as denotation
 use Rattle.apex_types.specs.declared.denotation.ObjectKind.TheVariants as object
-use Rattle.apex_types.specs.declared.limits.TheConstants.{MOST_PROCESSES}
-use Rattle.apex_types.specs.declared.place.Place.TheVariants.{Slot}
-use Rattle.apex_types.specs.declared.row.PortRow.{PortRow}
-use Rattle.apex_types.specs.declared.shape.ArgumentKind.{ArgumentKind}
 use Rattle.apex_types.specs.declared.shape.ArgumentKind.TheVariants as argument
 use Rattle.pal_base.specs.declared.fault.Refusal.TheVariants as rule
 use Rattle.pal_meaning.specs.Resolve as meant
-use Rattle.pal_meaning.specs.Resolve.{Counts, Scope, counted, declaration_entries, declared_meaning, find, next, no_counts, own_entries, process_entries, scope_of, slot}
+use Rattle.pal_meaning.specs.Resolve.{counted, next, slot}
 use Rattle.pal_meaning.specs.Syntax as written
-use Rattle.pal_meaning.specs.WellFormed.{are_new, expr_count, holds_of_bodies, holds_of_handler, holds_of_procedure, knows_block, knows_expr, knows_exprs, knows_links, knows_stmt, names_hold, names_hold_in_body}
-use Rattle.finding_laws.specs.Found.{has_none}
+use Rattle.pal_meaning.specs.WellFormed.{are_new, holds_of_bodies, knows_block, knows_expr, knows_exprs, knows_links, knows_stmt, names_hold_in_body}
 use Rattle.source_findings.specs.Bodies as walk
-use Rattle.source_findings.specs.Frames.{body_frame, held}
-use Rattle.source_findings.specs.Judged.{Judge, frame_wrong, meant as found_role, number_wrong}
-use Rattle.source_findings.specs.Roles.{Entry, is_nothing, or_else, own_entry, role_of}
-use Rattle.source_findings.specs.Tally.{Tally, counted as tallied, no_tally, tally_wrong}
-use Rattle.source_findings.specs.What.{What}
-use Rattle.source_findings.specs.declared.roles.Role.{Role}
+use Rattle.source_findings.specs.Roles.{or_else}
 use Rattle.source_findings.specs.declared.roles.Role.TheVariants as role
 use Rattle.finding_laws.proofs.Clean.{and_assoc, and_true, fine_all_given, fine_block, fine_declarations, fine_expr, fine_exprs, fine_given, fine_handler, fine_links, fine_name, fine_named, fine_new, fine_own, fine_processes, fine_program, fine_row, fine_stack, fine_stmt, fine_targets, fine_words, none_found}
 use Rattle.finding_laws.proofs.OfRoles.{all_are, before_processes, declaration_is, declarations_are, in_scope, known, next_counts, one_more, own_are, own_both, role_as, same_role, to_role, unknown}

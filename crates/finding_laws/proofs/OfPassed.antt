@@ -1,32 +1,24 @@
 -- The body with which a program is too long is found at its first word.
-use Rattle.std.proofs.Common.{arith, ◌≡◌, ℕ, ◌+◌, ◌-◌, ◌<◌, ◌≤◌, Bool, true, false, cond, List, [], ◌∷◌, ◌++◌, length, map, Option, Some, None, Result, Ok, Err, refl, sym, ap, ◌∙◌}
-use Rattle.std.specs.List.{cons_option, sum_by}
+use Rattle.finding_laws.proofs.Prelude.{◌≡◌, ℕ, ◌+◌, ◌-◌, ◌<◌, ◌≤◌, Bool, cond, ◌∷◌, ◌++◌, Option, Some, Result, Ok, Err, ◌∙◌, sum_by, nat_lt, ltb-false, ltb-true, sum_by-cons, Costs, MOST_INSTRUCTIONS, PortRow, cost_of_body, cost_of_procedure, cost_of_process, body_of, process_of, program_of, Body, Procedure, Process, Program, all_words, declaration_words, kind_words, process_words, stack_body_words, words_of, kinds_hold, limits_hold, names_hold, periods_hold, length_wrongs, passing, wrongs_at}
+use Rattle.std.proofs.Common.{arith, true, false, List, [], length, map, None, refl, sym, ap}
+use Rattle.std.specs.List.{cons_option}
 use Rattle.std.specs.Option.{option_map}
-use Rattle.std.specs.Prelude.{codes, nat_lt, not}
-use Rattle.std.proofs.lemmas.Bool.{ltb-false, ltb-true}
+use Rattle.std.specs.Prelude.{codes, not}
 use Rattle.std.proofs.lemmas.List.{append_assoc}
-use Rattle.std.proofs.lemmas.List.Sums.{sum_by-append, sum_by-cons}
-use Rattle.apex_types.specs.declared.cost.Costs.{Costs}
-use Rattle.apex_types.specs.declared.limits.TheConstants.{MOST_INSTRUCTIONS}
-use Rattle.apex_types.specs.declared.row.PortRow.{PortRow}
-use Rattle.pal.specs.Costs.{cost_of_body, cost_of_handler, cost_of_procedure, cost_of_process, costs_of}
+use Rattle.std.proofs.lemmas.List.Sums.{sum_by-append}
+use Rattle.pal.specs.Costs.{cost_of_handler, costs_of}
 use Rattle.pal.specs.ProcedureNames.{name_if_procedure, names_of_procedures, procedure_names}
 use Rattle.pal.specs.declared.report.BodyCost.{BodyCost}
 use Rattle.pal.specs.declared.report.BodyName.TheVariants as body
-use Rattle.pal_base.specs.ProgramView.{body_of, process_of, program_of}
-use Rattle.pal_base.specs.declared.program.Body.{Body}
-use Rattle.pal_base.specs.declared.program.Procedure.{Procedure}
-use Rattle.pal_base.specs.declared.program.Process.{Process}
-use Rattle.pal_base.specs.declared.program.Program.{Program}
 use Rattle.pal_laws.proofs.Extended.{Extends, declaration_extends, handler_extends, process_extends, stack_body_extends}
-use Rattle.pal_meaning.specs.Grammar.{IsProgramOf, Word, all_words, declaration_words, handler_words, kind_words, process_words, program_words, stack_body_words, words_of}
+use Rattle.pal_meaning.specs.Grammar.{IsProgramOf, Word, handler_words, program_words}
 use Rattle.pal_meaning.specs.Program as resolved
 use Rattle.pal_meaning.specs.Resolve.{Entry, declared_entries, resolve, resolve_process, resolve_stack_body}
 use Rattle.pal_meaning.specs.Syntax as written
-use Rattle.pal_meaning.specs.WellFormed.{ByKind, ByLimit, ByName, ByPeriod, Refused, kinds_hold, limits_hold, names_hold, periods_hold, verdict}
+use Rattle.pal_meaning.specs.WellFormed.{ByKind, ByLimit, ByName, ByPeriod, Refused, verdict}
 use Rattle.finding_laws.proofs.OfBodies.{beginning_of, body_found}
 use Rattle.finding_laws.proofs.Owners.{body_there}
-use Rattle.source_findings.specs.Lengths.{left_at, length_wrongs, passing, wrongs_at}
+use Rattle.source_findings.specs.Lengths.{left_at}
 use Rattle.finding_laws.specs.Passed.{AreOfBodies, IsBodyAt}
 
 -- ---- each body begins among the words of the program

@@ -1,20 +1,12 @@
 -- The rule on periods: nothing is found if and only if it holds.
-use Rattle.std.proofs.Common.{◌≡◌, ℕ, ◌+◌, Bool, true, false, cond, ◌&&◌, List, [], ◌∷◌, ◌++◌, Option, Some, None, is_none, refl, sym, ◌∙◌}
-use Rattle.std.specs.List.{list_all}
-use Rattle.std.specs.Prelude.{◌%◌, nat_eq, nat_lt}
-use Rattle.apex_types.specs.ServiceShape.{arguments_of}
-use Rattle.apex_types.specs.declared.shape.ArgumentKind.{ArgumentKind}
+use Rattle.finding_laws.proofs.Prelude.{◌≡◌, ℕ, ◌+◌, Bool, cond, ◌&&◌, ◌∷◌, ◌++◌, Option, Some, ◌∙◌, list_all, ◌%◌, nat_eq, nat_lt, arguments_of, ArgumentKind, periods_hold, has_none, body_frame, held, Judge, frame_wrong, odd, Entry, declaration_entry, own_entry, process_entry, Tally, counted, no_tally, tally_wrong, Role}
+use Rattle.std.proofs.Common.{true, false, List, [], None, is_none, refl, sym}
 use Rattle.apex_types.specs.declared.shape.ArgumentKind.TheVariants as argument
 use Rattle.pal_base.specs.declared.fault.Refusal.TheVariants as rule
 use Rattle.pal_meaning.specs.Syntax as written
-use Rattle.pal_meaning.specs.WellFormed.{is_written_multiple, keeps_period, periods_hold}
-use Rattle.finding_laws.specs.Found.{has_none}
+use Rattle.pal_meaning.specs.WellFormed.{is_written_multiple, keeps_period}
 use Rattle.source_findings.specs.Bodies as walk
-use Rattle.source_findings.specs.Frames.{body_frame, held}
-use Rattle.source_findings.specs.Judged.{Judge, frame_wrong, odd}
-use Rattle.source_findings.specs.Roles.{Entry, declaration_entry, declared_entries, own_entry, process_entry}
-use Rattle.source_findings.specs.Tally.{Tally, counted, no_tally, tally_wrong}
-use Rattle.source_findings.specs.declared.roles.Role.{Role}
+use Rattle.source_findings.specs.Roles.{declared_entries}
 use Rattle.source_findings.specs.declared.roles.Role.TheVariants as role
 use Rattle.finding_laws.proofs.Clean.{fine_all_given, fine_block, fine_declarations, fine_expr, fine_exprs, fine_given, fine_handler, fine_links, fine_named, fine_own, fine_processes, fine_row, fine_stack, fine_stmt, fine_targets, fine_words, none_found}
 use Rattle.finding_laws.proofs.OfNames.{both, found_unless}

@@ -1,19 +1,13 @@
 -- The roles of the names of a program, by its entries with their meanings.
-use Rattle.std.proofs.Common.{◌≡◌, ℕ, ◌+◌, Bool, true, false, cond, not, List, [], ◌∷◌, ◌++◌, map, Option, Some, None, is_some, refl, sym, ap, ◌∙◌, append_assoc, append-nil}
+use Rattle.finding_laws.proofs.Prelude.{◌≡◌, ℕ, ◌+◌, Bool, cond, ◌∷◌, ◌++◌, Option, Some, is_some, ◌∙◌, append_assoc, append-nil, bytes_eq, map-append, Denotation, MOST_PROCESSES, Slot, PortRow, Counts, Scope, after, declaration_entries, declared_meaning, find, no_counts, own_entries, process_entries, scope_of, Entry, declaration_entry, is_nothing, own_entry, process_entry, role_of, Role}
+use Rattle.std.proofs.Common.{true, false, not, List, [], map, None, refl, sym, ap}
 use Rattle.std.specs.Option.{unwrap_or}
-use Rattle.std.specs.Str.{bytes_eq}
-use Rattle.std.proofs.lemmas.List.{map-append}
-use Rattle.apex_types.specs.declared.denotation.Denotation.{Denotation}
 use Rattle.apex_types.specs.declared.denotation.Denotation.TheVariants as denotation
-use Rattle.apex_types.specs.declared.limits.TheConstants.{MOST_PROCESSES}
-use Rattle.apex_types.specs.declared.place.Place.TheVariants.{Slot}
-use Rattle.apex_types.specs.declared.row.PortRow.{PortRow}
 use Rattle.pal_meaning.specs.Resolve as meant
-use Rattle.pal_meaning.specs.Resolve.{Counts, Scope, after, counted, declaration_entries, declared_meaning, find, no_counts, own_entries, process_entries, scope_of}
+use Rattle.pal_meaning.specs.Resolve.{counted}
 use Rattle.pal_meaning.specs.Syntax as written
 use Rattle.source_findings.specs.Bodies.{all_before, with_own}
-use Rattle.source_findings.specs.Roles.{Entry, declaration_entry, declared_entries, declared_role, entry, is_nothing, or_else, own_entry, process_entry, role_of}
-use Rattle.source_findings.specs.declared.roles.Role.{Role}
+use Rattle.source_findings.specs.Roles.{declared_entries, declared_role, entry, or_else}
 use Rattle.source_findings.specs.declared.roles.Role.TheVariants as role
 
 -- the role of a name with this meaning

@@ -1,23 +1,19 @@
 -- What is suggested may appear where the text leaves the grammar.
-use Rattle.std.proofs.Common.{◌≡◌, ℕ, Bool, true, false, cond, ◌||◌, List, [], ◌∷◌, ◌++◌, filter, length, map, take, Option, Some, None, refl, subst, sym}
-use Rattle.std.specs.Prelude.{nat_lt}
-use Rattle.std.proofs.lemmas.List.Elements.{Contains-append_left, Contains-append_right, Contains-push}
-use Rattle.std.proofs.lemmas.Slice.Eq.{bytes_eq-Decides}
-use Rattle.std.specs.List.{Contains, list_any}
+use Rattle.finding_laws.proofs.Prelude.{◌≡◌, ℕ, Bool, cond, ◌||◌, ◌∷◌, ◌++◌, take, Option, Some, subst, nat_lt, Contains-append_left, Contains-append_right, Contains-push, bytes_eq-Decides, Contains, Service, ServiceWord, words_of, first_word}
+use Rattle.std.proofs.Common.{true, false, List, [], filter, length, map, None, refl, sym}
+use Rattle.std.specs.List.{list_any}
 use Rattle.apex_types.specs.ServiceShape.{service_word, services}
-use Rattle.apex_types.specs.declared.service.Service.{Service}
 use Rattle.pal_base.specs.Marks.{mark_text}
 use Rattle.pal_base.specs.Next.{IsLookedFor, IsOf}
 use Rattle.pal_base.specs.declared.looking.LookedFor.{LookedFor}
 use Rattle.pal_base.specs.declared.looking.WordKind.{WordKind}
 use Rattle.pal_base.specs.declared.looking.WordKind.TheVariants as kind
 use Rattle.pal_meaning.specs.Beginning.{IsBeginning}
-use Rattle.pal_meaning.specs.Grammar.{Word, Mark, ServiceWord, words_of}
+use Rattle.pal_meaning.specs.Grammar.{Word, Mark}
 use Rattle.pal_meaning.specs.Lines.{from_word}
 use Rattle.finding_lines.specs.Nearest.{first_within, is_near_to_none, is_within, nearest, or_else}
 use Rattle.finding_laws.specs.Fitting.{MayBeWritten}
 use Rattle.source_findings.specs.Wanted.{candidates, is_among, is_same, is_spelled, may_stand, service_names, service_words, small_words, suggested}
-use Rattle.source_findings.specs.Words.{first_word}
 
 -- ---- what holds of each text in a list holds of the nearest
 

@@ -1,14 +1,8 @@
 -- In a text that is no source something is found.
-use Rattle.std.proofs.Common.{arith, ◌≡◌, ℕ, zero, suc, ◌≤◌, ◌<◌, Bool, true, false, cond, List, [], ◌∷◌, length, Option, Some, None, refl, sym, ◌∙◌, inl, inr}
-use Rattle.std.proofs.lemmas.Bool.Decides.{leb_tells}
+use Rattle.finding_laws.proofs.Prelude.{◌≡◌, ℕ, suc, ◌≤◌, ◌<◌, Bool, cond, ◌∷◌, Option, Some, ◌∙◌, inr, leb_tells, nat_lt, IsAscii, MOST_SOURCE_BYTES, IsText, has_none, is_above, or_too_long, strays, text_wrongs, NoAscii, What, Wrong, noted, pushed}
+use Rattle.std.proofs.Common.{arith, zero, true, false, List, [], length, None, refl, sym, inl}
 use Rattle.std.proofs.lemmas.Str.Ascii.{IsAscii-nil}
-use Rattle.std.specs.Prelude.{nat_lt}
-use Rattle.std.specs.Str.{IsAscii}
-use Rattle.apex_types.specs.declared.limits.TheConstants.{MOST_SOURCE_BYTES}
-use Rattle.pal_meaning.specs.Grammar.{IsText}
-use Rattle.finding_laws.specs.Found.{has_none}
-use Rattle.source_findings.specs.Texts.{is_above, or_too_long, stray, strays, text_wrongs, too_long}
-use Rattle.source_findings.specs.What.{NoAscii, What, Wrong, noted, pushed}
+use Rattle.source_findings.specs.Texts.{stray, too_long}
 
 ascii_front : (b : ℕ) (bs : List ℕ) → b < 128 → IsAscii bs → IsAscii (b ∷ bs)
 ascii_front b bs small h zero = small

@@ -1,7 +1,7 @@
 -- The same tests in another order, and twice or once, give the same result.
-use Rattle.std.proofs.Common.{◌≡◌, ℕ, ◌&&◌, ◌||◌, Bool, true, false, eqb, get_or, List, [], ◌∷◌, ◌++◌, refl, sym, ap, ◌∙◌, inl, inr}
-use Rattle.std.proofs.lemmas.Bool.{and_parts, eqb-true, false≢true, or_cases, or_left, or_right}
-use Rattle.std.proofs.lemmas.List.Folds.{list_any-append}
+use Rattle.finding_laws.proofs.Prelude.{◌≡◌, ℕ, ◌&&◌, ◌||◌, Bool, eqb, ◌∷◌, ◌++◌, ◌∙◌, inr, and_parts, eqb-true, false≢true, or_left, or_right, list_any-append}
+use Rattle.std.proofs.Common.{true, false, get_or, List, [], refl, sym, ap, inl}
+use Rattle.std.proofs.lemmas.Bool.{or_cases}
 use Rattle.std.specs.List.{list_any}
 use Rattle.finding_laws.proofs.Twice.{both_or, or_swap}
 

@@ -1,21 +1,17 @@
 -- Where the words of a program begin as a body of it does, they are those of this body.
-use Rattle.std.proofs.Common.{◌≡◌, ℕ, zero, suc, Bool, true, false, cond, List, [], ◌∷◌, ◌++◌, Option, Some, None, refl, sym, ap, ◌∙◌, subst}
+use Rattle.finding_laws.proofs.Prelude.{◌≡◌, ℕ, suc, Bool, cond, ◌∷◌, ◌++◌, Option, Some, ◌∙◌, subst, Contains, Contains-append_left, Contains-append_right, Contains-push, BodyName, words_from_more, Number, ServiceWord, all_words, declaration_words, kind_words, process_words, stack_body_words, words_of, next_word}
+use Rattle.std.proofs.Common.{zero, true, false, List, [], None, refl, sym, ap}
 use Rattle.std.specs.Prelude.{codes}
-use Rattle.std.specs.List.{Contains}
 use Rattle.std.proofs.lemmas.List.{append_assoc}
-use Rattle.std.proofs.lemmas.List.Elements.{Contains-append_left, Contains-append_right, Contains-push}
 use Rattle.engine_meaning.specs.Digits.{same}
-use Rattle.pal.specs.declared.report.BodyName.{BodyName}
 use Rattle.pal.specs.declared.report.BodyName.TheVariants as body
-use Rattle.pal_laws.proofs.WordsOf.{words_from_more}
-use Rattle.pal_meaning.specs.Grammar.{Word, Mark, Name, Number, ServiceWord, Stray, all_words, behind_blanks, declaration_words, handler_words, kind_words, process_words, program_words, stack_body_words, word_at, words_from, words_of}
+use Rattle.pal_meaning.specs.Grammar.{Word, Mark, Name, Stray, behind_blanks, handler_words, program_words, word_at, words_from}
 use Rattle.pal_meaning.specs.Lines.{from_word}
 use Rattle.pal_meaning.specs.Syntax as tree
 use Rattle.finding_laws.proofs.OfBodies.{beginning_of}
 use Rattle.finding_laws.proofs.Starts.{kind_starts, opens, process_starts, stack_body_starts, start_of, starts}
 use Rattle.finding_laws.proofs.Words.{next_from}
 use Rattle.finding_laws.specs.Passed.{IsBodyOf}
-use Rattle.source_findings.specs.Words.{next_word}
 
 -- ---- the first two of some words
 

@@ -1,17 +1,15 @@
 -- What is found at the keys of a part, and of what types its values are.
-use Rattle.std.proofs.Common.{◌≡◌, ℕ, ◌||◌, Bool, true, false, not, List, [], ◌∷◌, Option, Some, None, refl, sym, ap, ◌∙◌, codes}
-use Rattle.std.proofs.lemmas.Bool.{or_parts}
+use Rattle.finding_laws.proofs.Prelude.{◌≡◌, ℕ, ◌||◌, Bool, ◌∷◌, Option, Some, ◌∙◌, codes, or_parts, is_none, Data, Members, array, as_array, as_bool, as_integer, as_str, as_table, boolean, datetime, float, get_member, integer, member, members_are_sorted, string, table, is_one_of, keys, needed, of_part, of_type, one, Subject}
+use Rattle.std.proofs.Common.{true, false, not, List, [], None, refl, sym, ap}
 use Rattle.std.specs.List.{list_any}
-use Rattle.std.specs.Prelude.{is_none}
-use Rattle.toml.specs.Data.{Data, Members, array, as_array, as_bool, as_integer, as_str, as_table, boolean, datetime, float, get_member, integer, member, members_are_sorted, no_members, string, table}
-use Rattle.module_meaning.specs.TableRules.{has_only, is_one_of, same}
+use Rattle.toml.specs.Data.{no_members}
+use Rattle.module_meaning.specs.TableRules.{has_only, same}
 use Rattle.finding_laws.specs.Any.{has_any}
 use Rattle.finding_laws.proofs.Found.{any_if, two}
 use Rattle.finding_laws.proofs.Keys.{any_member, at_key, by_keys, or_unknown}
-use Rattle.table_findings.specs.Fields.{keys, needed, wanted}
+use Rattle.table_findings.specs.Fields.{wanted}
 use Rattle.table_findings.specs.Findings.{Unknown}
-use Rattle.table_findings.specs.Shape.{members, missing, of_part, of_type, one, one_member}
-use Rattle.table_findings.specs.Subjects.{Subject}
+use Rattle.table_findings.specs.Shape.{members, missing, one_member}
 use Rattle.table_findings.specs.declared.fields.Part.{Part}
 use Rattle.table_findings.specs.declared.fields.Part.TheVariants as part
 

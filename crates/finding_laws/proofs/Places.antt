@@ -1,16 +1,12 @@
 -- What an end of a channel names, as the rules and the findings see it: the device, or a port of the table.
-use Rattle.std.proofs.Common.{◌≡◌, ◌≤◌, arith, ℕ, suc, ◌+◌, ◌-◌, ◌||◌, true, false, not, eqb, List, [], ◌∷◌, ◌++◌, Some, None, refl, sym, ◌∙◌, codes, inl, inr, ℤ}
-use Rattle.std.proofs.lemmas.Bool.{and_left, and_right, cases_Bool, true≢false}
-use Rattle.std.proofs.lemmas.Cmp.{nat_list_eq_equiv}
+use Rattle.finding_laws.proofs.Prelude.{◌≡◌, ◌≤◌, ℕ, suc, ◌+◌, ◌-◌, ◌||◌, eqb, ◌∷◌, ◌++◌, Some, ◌∙◌, codes, inr, ℤ, and_left, and_right, cases_Bool, true≢false, nat_list_eq_equiv, is_none, slice_get, is_name, ChannelEnd, PartitionText, PortText, exceeds_times, has_many_ports, port_number, is_device}
+use Rattle.std.proofs.Common.{arith, true, false, not, List, [], None, refl, sym, inl}
 use Rattle.std.specs.List.{list_any}
-use Rattle.std.specs.Prelude.{is_none, slice_get}
-use Rattle.apex_types.specs.NameText.{is_name}
-use Rattle.apex_types.specs.declared.row.ChannelEnd.{ChannelEnd}
 use Rattle.apex_types.specs.declared.row.ChannelEnd.TheVariants as ends
-use Rattle.module_meaning.specs.TableRules.{PartitionText, PortText, end_of, exceeds_partition, exceeds_port, exceeds_times, has_many_ports, number_from, port_number, same}
+use Rattle.module_meaning.specs.TableRules.{end_of, exceeds_partition, exceeds_port, number_from, same}
 use Rattle.module_meaning.specs.TableRules as rule
 use Rattle.finding_laws.proofs.Found.{or_first, or_second}
-use Rattle.table_findings.specs.Ends.{is_device, port_at, port_from, port_named}
+use Rattle.table_findings.specs.Ends.{port_at, port_from, port_named}
 
 abbrev pub end_at : ℕ → ℕ → ChannelEnd
 end_at n k = ends.Port (record { 0 = n }) (record { 0 = k })

@@ -1,15 +1,13 @@
 -- A document that a rule refuses has a place where it breaks this rule.
-use Rattle.std.proofs.Common.{◌≡◌, ◌<◌, ◌≤◌, arith, ℕ, zero, suc, ℤ, ◌+◌, ◌||◌, Bool, true, false, List, [], ◌∷◌, Option, Some, None, length, refl, sym, ap, ◌∙◌, ◌⊎◌, inl, inr, ◌≢◌, codes, pos, subst, Result, Ok, Err}
-use Rattle.std.proofs.lemmas.Option.{none-some, same_Some}
-use Rattle.std.specs.Prelude.{if◌then◌else◌, is_none}
-use Rattle.toml.specs.Data.{Members, members_are_sorted}
-use Rattle.module_meaning.specs.Table.{Table, has_odd_period, has_short_period, has_wrong_ends, lacks_release, ◌>>=◌}
-use Rattle.module_meaning.specs.TableRules.{Refusal, TableText, array_at, channel_of, cost_keys, costs_of, exceeds_limits, has_only, has_same_names, has_unknown_action, has_unknown_name, integer_at, integers_at, is_cost_key, is_table_key, judge_table, judge_text, numbered, optional_array_at, optional_costs, optional_table_at, overlaps, partition_of, table_text_of, tables_of, text_at, verdict, window_of}
+use Rattle.finding_laws.proofs.Prelude.{◌≡◌, ◌<◌, ◌≤◌, ℕ, suc, ℤ, ◌+◌, ◌||◌, Bool, ◌∷◌, Option, Some, ◌∙◌, inr, codes, pos, subst, Result, Ok, Err, none-some, same_Some, if◌then◌else◌, is_none, Members, members_are_sorted, has_odd_period, has_short_period, lacks_release, ◌>>=◌, TableText, array_at, cost_keys, exceeds_limits, has_unknown_action, integer_at, is_cost_key, is_table_key, optional_array_at, optional_costs, optional_table_at, text_at, AreFew}
+use Rattle.std.proofs.Common.{arith, zero, true, false, List, [], None, length, refl, sym, ap, ◌⊎◌, inl, ◌≢◌}
+use Rattle.module_meaning.specs.Table.{Table, has_wrong_ends}
+use Rattle.module_meaning.specs.TableRules.{Refusal, channel_of, costs_of, has_only, has_same_names, has_unknown_name, integers_at, judge_table, judge_text, numbered, overlaps, partition_of, table_text_of, tables_of, verdict, window_of}
 use Rattle.module_meaning.specs.TableRules as rule
 use Rattle.window_table.specs.Refusals.{IsOf}
 use Rattle.window_table.specs.declared.fault.TableFault.{TableFault}
 use Rattle.window_table.specs.declared.fault.TableFault.TheVariants as fault
-use Rattle.finding_laws.specs.Any.{AreFew, has_any}
+use Rattle.finding_laws.specs.Any.{has_any}
 use Rattle.finding_laws.proofs.Durations.{short_periods_any}
 use Rattle.finding_laws.proofs.Ends.{ends_any}
 use Rattle.finding_laws.proofs.Found.{limits_any, odd_periods_any, or_first, or_second, overlaps_any}

@@ -1,9 +1,9 @@
 -- A partition has no release window if and only if one is found.
-use Rattle.std.proofs.Common.{◌≡◌, ℕ, ◌+◌, false, not, List, [], ◌∷◌, map, refl, sym, ap, ◌∙◌}
+use Rattle.finding_laws.proofs.Prelude.{◌≡◌, ℕ, ◌+◌, ◌∷◌, ◌∙◌, lacks_release, PartitionText, TableText, WindowText, partition_number, partition_row, window_row, ◌==◌, unwrap_or}
+use Rattle.std.proofs.Common.{false, not, List, [], map, refl, sym, ap}
 use Rattle.kernel_meaning.specs.Windows.{has_release}
-use Rattle.module_meaning.specs.Table.{has_twice, lacks_release, lacks_release_from}
-use Rattle.module_meaning.specs.TableRules.{PartitionText, TableText, WindowText, partition_number, partition_row, same, window_row}
-use Rattle.std.specs.Prelude.{◌==◌, unwrap_or}
+use Rattle.module_meaning.specs.Table.{has_twice, lacks_release_from}
+use Rattle.module_meaning.specs.TableRules.{same}
 use Rattle.finding_laws.specs.Any.{has_any}
 use Rattle.finding_laws.proofs.Found.{any_unless, two}
 use Rattle.finding_laws.proofs.Numbers.{AreNumbered, are_numbered, have_same_name}

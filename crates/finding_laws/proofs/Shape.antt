@@ -1,16 +1,11 @@
 -- A document is no table if and only if a wrong key, type or word is found.
-use Rattle.std.proofs.Common.{◌≡◌, ℕ, ℤ, ◌+◌, ◌&&◌, ◌||◌, Bool, true, false, not, List, [], ◌∷◌, ◌++◌, Option, Some, None, refl, sym, ap, ◌∙◌, codes, inl, inr}
-use Rattle.std.proofs.lemmas.Bool.{and_left, and_parts, and_right, cases_Bool, or_left, or_right}
-use Rattle.std.proofs.Common.{Less, Equal, Greater, Ordering}
-use Rattle.std.proofs.lemmas.Option.{none-some}
-use Rattle.std.specs.Cmp.Lexicographic.{slice_cmp}
-use Rattle.std.specs.Ordering.{match_ordering, nat_cmp}
+use Rattle.finding_laws.proofs.Prelude.{◌≡◌, ℕ, ℤ, ◌+◌, ◌&&◌, ◌||◌, Bool, ◌∷◌, ◌++◌, Option, Some, ◌∙◌, codes, inr, and_left, and_parts, and_right, cases_Bool, or_left, or_right, Less, Equal, Greater, Ordering, none-some, slice_cmp, match_ordering, nat_cmp, if◌then◌else◌, is_none, unwrap_or, Data, Items, Members, array, as_array, as_bool, as_integer, as_str, as_table, boolean, datetime, float, get_member, integer, is_sorted, items_are_sorted, member, members_are_sorted, string, table, ◌>>=◌, PortText, array_at, cost_keys, integer_at, is_cost_key, is_one_of, is_partition_key, is_table_key, optional_array_at, optional_costs, optional_table_at, table_at, text_at, keys, needed, Finding, NoWord, each, of_part, of_type, one, row_at, Row, Subject, Module, Health, Words}
+use Rattle.std.proofs.Common.{true, false, not, List, [], None, refl, sym, ap, inl}
 use Rattle.finding_laws.proofs.Numbers.{same_list}
 use Rattle.std.specs.List.{list_any}
-use Rattle.std.specs.Prelude.{if◌then◌else◌, is_none, is_some, unwrap_or}
-use Rattle.toml.specs.Data.{Data, Items, Members, array, as_array, as_bool, as_integer, as_str, as_table, boolean, datetime, float, get_member, integer, is_sorted, item, items_are_sorted, member, members_are_sorted, no_items, no_members, string, table}
-use Rattle.module_meaning.specs.Table.{◌>>=◌}
-use Rattle.module_meaning.specs.TableRules.{PortText, array_at, boolean_at, channel_of, cost_keys, costs_of, direction_of, discipline_of, has_only, has_texts_only, integer_at, integers_at, is_channel_key, is_cost_key, is_one_of, is_partition_key, is_queuing_key, is_sampling_key, is_table_key, is_window_key, kind_of, optional_array_at, optional_costs, optional_table_at, partition_of, port_of, queuing_of, same, sampling_of, table_at, table_text_of, tables_of, text_at, texts_of, window_of}
+use Rattle.std.specs.Prelude.{is_some}
+use Rattle.toml.specs.Data.{item, no_items, no_members}
+use Rattle.module_meaning.specs.TableRules.{boolean_at, channel_of, costs_of, direction_of, discipline_of, has_only, has_texts_only, integers_at, is_channel_key, is_queuing_key, is_sampling_key, is_window_key, kind_of, partition_of, port_of, queuing_of, same, sampling_of, table_text_of, tables_of, texts_of, window_of}
 use Rattle.finding_laws.specs.Any.{has_any}
 use Rattle.finding_laws.proofs.Found.{any_append, any_unless, two}
 use Rattle.finding_laws.proofs.Health.{none_if, none_then, word_any}
@@ -18,14 +13,12 @@ use Rattle.finding_laws.proofs.Keys.{or_false, same_cmp, array_sorted_at, at_key
 use Rattle.finding_laws.proofs.Ors.{all_of, answer, any_or, any_same, either, reordered, the}
 use Rattle.finding_laws.proofs.Parts.{is_array, is_boolean, is_integer, is_missing, is_table, is_text, is_wrong_member, part_any}
 use Rattle.finding_laws.proofs.Twice.{both_or}
-use Rattle.table_findings.specs.Fields.{keys, needed, words_of}
-use Rattle.table_findings.specs.Findings.{Finding, NoWord}
+use Rattle.table_findings.specs.Fields.{words_of}
 use Rattle.table_findings.specs.Shape as shape
-use Rattle.table_findings.specs.Shape.{each, items_at, of_part, of_type, one, row_at, unnamed, word}
-use Rattle.table_findings.specs.Subjects.{Row, Subject, Module, Costs, Partition, Health, Port, Window, Channel, Destination}
+use Rattle.table_findings.specs.Shape.{items_at, unnamed, word}
+use Rattle.table_findings.specs.Subjects.{Costs, Partition, Port, Window, Channel, Destination}
 use Rattle.table_findings.specs.declared.fields.Part.{Part}
 use Rattle.table_findings.specs.declared.fields.Part.TheVariants as part
-use Rattle.table_findings.specs.declared.words.Words.{Words}
 use Rattle.table_findings.specs.declared.words.Words.TheVariants as words
 
 -- ---- a value at a key

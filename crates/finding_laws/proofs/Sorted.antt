@@ -1,13 +1,11 @@
 -- The keys of each table of a TOML document ascend.
-use Rattle.std.proofs.Common.{◌≡◌, ℕ, zero, suc, ◌&&◌, Bool, true, false, List, [], ◌∷◌, ◌++◌, Option, Some, None, refl, sym, ap, ◌∙◌}
-use Rattle.std.proofs.Common.{Less, Equal, Greater, Ordering, option_map, option_and_then}
-use Rattle.std.proofs.lemmas.Bool.{and_from, and_parts}
-use Rattle.std.proofs.lemmas.Cmp.{nat_list_cmp_total}
-use Rattle.std.proofs.lemmas.Option.{none-some, same_Some}
-use Rattle.std.specs.Cmp.Lexicographic.{slice_cmp}
-use Rattle.std.specs.Prelude.{◌==◌, drop, if◌then◌else◌, length, slice_index}
-use Rattle.std.specs.Ordering.{is_lt, match_ordering, nat_cmp, ordering_reverse}
-use Rattle.toml.specs.Data.{Data, Items, Members, array, is_before, is_sorted, item, items_are_sorted, members_are_sorted, no_items, push_item, same_key, string, table}
+use Rattle.finding_laws.proofs.Prelude.{◌≡◌, ℕ, suc, ◌&&◌, Bool, ◌∷◌, ◌++◌, Option, Some, ◌∙◌, Less, Equal, Greater, Ordering, option_map, and_parts, nat_list_cmp_total, none-some, same_Some, slice_cmp, ◌==◌, if◌then◌else◌, is_lt, match_ordering, nat_cmp, Data, Items, Members, array, is_before, is_sorted, items_are_sorted, members_are_sorted, string, table}
+use Rattle.std.proofs.Common.{zero, true, false, List, [], None, refl, sym, ap}
+use Rattle.std.proofs.Common.{option_and_then}
+use Rattle.std.proofs.lemmas.Bool.{and_from}
+use Rattle.std.specs.Prelude.{drop, length, slice_index}
+use Rattle.std.specs.Ordering.{ordering_reverse}
+use Rattle.toml.specs.Data.{item, no_items, push_item, same_key}
 use Rattle.toml.specs.Tables.{Definition, Document, Edit, Node, Nodes, along_dots, along_header, array_table, at_found, at_key, by_dot, by_header, close, close_node, define, define_as, Expression, dot_node, dotted, get_node, header, header_node, implicit, insert, key_value, new_node, no_nodes, node, open_array, open_table, put, redefine, replace, std_table, value}
 use Rattle.toml.specs.Parse.{after_byte, after_element, atom, ends_line, expression, header_key, items, key_equals, keyval, line, lines, members, parse_document, read_map, scalar_data, skip_bom, val}
 use Rattle.toml_parser.specs.Strings.{Key, quoted, recursion_limit, starts_string}

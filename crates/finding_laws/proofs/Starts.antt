@@ -1,5 +1,6 @@
 -- Where the bodies of a program begin among its words: no other part of a program has the words that they begin with.
-use Rattle.std.proofs.Common.{◌≡◌, ℕ, Bool, true, false, cond, ◌||◌, List, [], ◌∷◌, Option, Some, None, refl, ap, ◌∙◌}
+use Rattle.finding_laws.proofs.Prelude.{◌≡◌, ℕ, Bool, cond, ◌||◌, ◌∷◌, Option, Some, ◌∙◌, Number, ServiceWord, all_words, arguments_words, block_words, body_words, expr_words, first_words, integer_words, kind_words, links_words, local_words, names_words, next_name, process_words, stack_body_words, stmt_words, targets_words, values_words}
+use Rattle.std.proofs.Common.{true, false, List, [], None, refl, ap}
 use Rattle.std.specs.Prelude.{codes}
 use Rattle.apex_types.specs.declared.codes.Discipline.{Discipline}
 use Rattle.apex_types.specs.declared.codes.Discipline.TheVariants as discipline
@@ -8,7 +9,7 @@ use Rattle.apex_types.specs.declared.instruction.BinaryOperator.TheVariants as b
 use Rattle.apex_types.specs.declared.instruction.UnaryOperator.{UnaryOperator}
 use Rattle.apex_types.specs.declared.instruction.UnaryOperator.TheVariants as unary
 use Rattle.engine_meaning.specs.Digits.{same}
-use Rattle.pal_meaning.specs.Grammar.{Word, Mark, Name, Number, ServiceWord, Stray, all_words, arguments_words, block_words, body_words, discipline_word, expr_words, first_words, integer_words, kind_words, links_words, local_words, names_words, next_name, operator_mark, process_words, sign_of, stack_body_words, stmt_words, targets_words, values_words}
+use Rattle.pal_meaning.specs.Grammar.{Word, Mark, Name, Stray, discipline_word, operator_mark, sign_of}
 use Rattle.pal_meaning.specs.Syntax as tree
 
 -- the first word of a body

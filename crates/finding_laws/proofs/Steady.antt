@@ -1,11 +1,10 @@
 -- A field that is read is read the same with any bytes after it, and a fault that is found is found again; only what ends within
 -- a field may be read differently.
-use Rattle.std.proofs.Common.{arith, ◌≡◌, ℕ, zero, suc, ◌≤◌, Bool, true, false, cond, List, [], ◌∷◌, ◌++◌, length, take, drop, Option, Some, None, Ok, Err, refl, sym, ap, ◌∙◌, subst}
-use Rattle.std.specs.Prelude.{◌||◌, nat_lt}
-use Rattle.std.specs.Int.{Width, w32, byte_len, from_le_bytes}
-use Rattle.std.proofs.lemmas.Bool.{ltb-false, ltb-true}
-use Rattle.std.proofs.lemmas.List.{length-append}
-use Rattle.machine_meaning.specs.ImageReading.{Truncated, Foreign, Limit, Order, Trailing, Read, ◌>>=◌, byte_at, bytes_at, choice_at, chosen, items_at, limited_at, list_at, number_at, small_at, within}
+use Rattle.finding_laws.proofs.Prelude.{◌≡◌, ℕ, suc, ◌≤◌, Bool, cond, ◌∷◌, ◌++◌, take, drop, Option, Some, Ok, Err, ◌∙◌, subst, nat_lt, w32, ltb-false, ltb-true, length-append, Truncated, Foreign, Limit, Order, Trailing, Read, number_at}
+use Rattle.std.proofs.Common.{arith, zero, true, false, List, [], length, None, refl, sym, ap}
+use Rattle.std.specs.Prelude.{◌||◌}
+use Rattle.std.specs.Int.{Width, byte_len, from_le_bytes}
+use Rattle.machine_meaning.specs.ImageReading.{◌>>=◌, byte_at, bytes_at, choice_at, chosen, items_at, limited_at, list_at, small_at, within}
 
 -- the same, with more bytes following
 unfoldable pub Goes : {A : Type 0} → List ℕ → Read A → Read A → Type 0

@@ -1,20 +1,17 @@
 -- Each part of an image is read the same with any bytes after it.
-use Rattle.std.proofs.Common.{ℕ, ◌+◌, ◌-◌, ◌^◌, Bool, List, [], max, None, nat_eq}
-use Rattle.std.specs.Prelude.{◌||◌, nat_lt}
-use Rattle.std.specs.Int.{w16, w32, w64}
-use Rattle.std.specs.Str.{bytes_eq}
+use Rattle.finding_laws.proofs.Prelude.{ℕ, ◌+◌, ◌-◌, Bool, max, nat_lt, w32, bytes_eq, is_name, GREATEST_PRIORITY, LEAST_STACK_WORDS, MOST_CHANNELS, MOST_DATA_WORDS, MOST_DEPTH, MOST_DESTINATIONS, MOST_FRAME_TICKS, MOST_INSTRUCTIONS, MOST_OBJECTS, MOST_PORTS, MOST_PROCEDURES, MOST_SEMAPHORE_VALUE, MOST_STACK_WORDS, MOST_TICKS, MOST_WINDOWS, PortRow, WindowRow, number_at}
+use Rattle.std.proofs.Common.{◌^◌, List, [], None, nat_eq}
+use Rattle.std.specs.Prelude.{◌||◌}
+use Rattle.std.specs.Int.{w16, w64}
 use Rattle.apex_types.specs.Costs.{cost_of_ticks}
-use Rattle.apex_types.specs.NameText.{is_name}
 use Rattle.apex_types.specs.Versions.{limits_of}
 use Rattle.apex_types.specs.declared.cost.TheConstants.{COST_KEYS}
 use Rattle.apex_types.specs.declared.limits.Limits.{Limits}
-use Rattle.apex_types.specs.declared.limits.TheConstants.{GREATEST_PRIORITY, INSTRUCTION_BYTES, LEAST_STACK_WORDS, MOST_CHANNELS, MOST_DATA_WORDS, MOST_DEPTH, MOST_DESTINATIONS, MOST_FRAME_TICKS, MOST_INSTRUCTIONS, MOST_NAME_BYTES, MOST_OBJECTS, MOST_PORTS, MOST_PROCEDURES, MOST_SEMAPHORE_VALUE, MOST_SLOTS, MOST_STACK_WORDS, MOST_TICKS, MOST_WINDOWS}
-use Rattle.apex_types.specs.declared.row.PortRow.{PortRow}
+use Rattle.apex_types.specs.declared.limits.TheConstants.{INSTRUCTION_BYTES, MOST_NAME_BYTES, MOST_SLOTS}
 use Rattle.apex_types.specs.declared.row.ProcessRow.{ProcessRow}
-use Rattle.apex_types.specs.declared.row.WindowRow.{WindowRow}
 use Rattle.apex_types.specs.declared.version.TheConstants.{FIRST_VERSION, SECOND_VERSION, THIRD_VERSION}
 use Rattle.machine_meaning.specs.Image.{Bodies, Item, magic}
-use Rattle.machine_meaning.specs.ImageReading.{blackboard_at, bodies_at, body_at, buffer_at, byte_at, bytes_at, channel_at, channel_end_at, choice_at, code_at, cost_at, costs_at, direction_of, discipline_of, duration_at, duration_of, enter_within, fields_at, fresh_name_at, handler_at, health_at, is_channel, is_infinite_or_multiple, is_partition, is_port, is_process, item_at, items_at, kind_at, last_end, limited_at, list_at, magic_at, module_action_of, name_at, number_at, objects_at, offset_at, own_fields_at, partition_action_of, partition_at, period_at, port_at, process_at, queuing_at, routine_at, sampling_at, section_at, semaphore_at, small_at, truth_of, version_at, window_at, word_at}
+use Rattle.machine_meaning.specs.ImageReading.{blackboard_at, bodies_at, body_at, buffer_at, byte_at, bytes_at, channel_at, channel_end_at, choice_at, code_at, cost_at, costs_at, direction_of, discipline_of, duration_at, duration_of, enter_within, fields_at, fresh_name_at, handler_at, health_at, is_channel, is_infinite_or_multiple, is_partition, is_port, is_process, item_at, items_at, kind_at, last_end, limited_at, list_at, magic_at, module_action_of, name_at, objects_at, offset_at, own_fields_at, partition_action_of, partition_at, period_at, port_at, process_at, queuing_at, routine_at, sampling_at, section_at, semaphore_at, small_at, truth_of, version_at, window_at, word_at}
 use Rattle.module_meaning.specs.Table.{Channel}
 use Rattle.finding_laws.proofs.Steady.{Steady, byte_steady, bytes_steady, choice_steady, chosen_steady, either_steady, foreign_steady, items_steady, limit_steady, limited_steady, list_steady, number_steady, ok_steady, order_steady, small_steady, then_steady}
 

@@ -1,31 +1,24 @@
 -- The lines of a text, one after another: each is refused by the rule that what is found in it breaks.
-use Rattle.std.proofs.Common.{◌≡◌, ℕ, ◌+◌, ℤ, Bool, true, false, cond, List, [], ◌∷◌, Option, Some, None, Result, Ok, Err, length, refl, codes, sym, ap, subst, ◌∙◌, map}
-use Rattle.std.specs.Prelude.{◌&&◌, ◌||◌, nat_le, nat_lt}
-use Rattle.std.proofs.lemmas.Option.{same_Some}
-use Rattle.apex_types.specs.Line.{space}
-use Rattle.apex_types.specs.declared.device.DeviceFault.{DeviceFault}
+use Rattle.finding_laws.proofs.Prelude.{◌≡◌, ℕ, ◌+◌, ℤ, Bool, cond, ◌∷◌, Option, Some, Result, Ok, Err, codes, subst, ◌∙◌, nat_le, nat_lt, same_Some, space, DeviceFault, MOST_TICKS, PortRow, Message, ModuleFault, PartitionFault, Written, WrittenLine, is_room, line_with, piece, pieces, pieces_behind_marks, plain_number, line_by, written_by, form_wrong, or_else, Names, Receiver, mark_of, Part, parts, total, rule_in, rule_of}
+use Rattle.std.proofs.Common.{true, false, List, [], None, length, refl, sym, ap, map}
+use Rattle.std.specs.Prelude.{◌&&◌, ◌||◌}
 use Rattle.apex_types.specs.declared.device.DeviceFault.TheVariants as fault
 use Rattle.apex_types.specs.declared.device.DeviceInput.{DeviceInput}
 use Rattle.apex_types.specs.declared.device.DeviceLine.{DeviceLine}
-use Rattle.apex_types.specs.declared.limits.TheConstants.{MOST_TICKS}
-use Rattle.apex_types.specs.declared.row.PortRow.{PortRow}
 use Rattle.engine_meaning.specs.Digits.{same}
 use Rattle.isolation.specs.declared.input.Input.{Input}
 use Rattle.isolation.specs.declared.input.InputLine.{InputLine}
 use Rattle.isolation.specs.ReplayText as replay
 use Rattle.module_meaning.specs.DeviceText as device
-use Rattle.module_meaning.specs.DeviceText.{Message, ModuleFault, PartitionFault, Written, WrittenLine, first_from, is_device, is_room, line_with, piece, pieces, pieces_behind_marks, plain_number, words_of_ends}
+use Rattle.module_meaning.specs.DeviceText.{first_from, is_device, words_of_ends}
 use Rattle.module_meaning.specs.Table.{Channel, Partition}
-use Rattle.module_base.specs.TextLines.{Taking, and_then, ends_with, line_by, lines_by, put_line, taken_by, verdict_by, written_by}
+use Rattle.module_base.specs.TextLines.{Taking, and_then, ends_with, lines_by, put_line, taken_by, verdict_by}
 use Rattle.module_base.proofs.Alike.{devices_read, inputs_read}
 use Rattle.image_findings.specs.First.{first_wrong, in_text, line_wrong, unended}
-use Rattle.image_findings.specs.Form.{form_wrong, or_else}
 use Rattle.image_findings.specs.Naming as naming
-use Rattle.image_findings.specs.Names.{Names, Receiver, mark_of}
-use Rattle.image_findings.specs.Parts.{Part, parts, total}
 use Rattle.image_findings.specs.What.{Early, Wrong}
 use Rattle.image_findings.specs.Named.{channel_receiver, device_names_of, input_names, partition_names, port_receiver}
-use Rattle.finding_laws.specs.Rules.{refusal_of, rule_in, rule_of}
+use Rattle.finding_laws.specs.Rules.{refusal_of}
 use Rattle.finding_laws.proofs.Forms.{IsFormed, line_formed}
 use Rattle.finding_laws.proofs.Meanings.{event_found, receiver_rule, room_rule, written_rule}
 

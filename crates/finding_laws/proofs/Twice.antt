@@ -1,7 +1,7 @@
 -- Something that appears twice in a list is looked for among the items after it, or among those before it.
-use Rattle.std.proofs.Common.{◌≡◌, ◌||◌, Bool, true, false, List, [], ◌∷◌, ◌++◌, refl, sym, ap, ◌∙◌, append_assoc}
+use Rattle.finding_laws.proofs.Prelude.{◌≡◌, ◌||◌, Bool, ◌∷◌, ◌++◌, ◌∙◌, append_assoc, list_any-append}
+use Rattle.std.proofs.Common.{true, false, List, [], refl, sym, ap}
 use Rattle.std.proofs.lemmas.List.{append-nil}
-use Rattle.std.proofs.lemmas.List.Folds.{list_any-append}
 use Rattle.std.specs.List.{list_any}
 use Rattle.module_meaning.specs.Table.{has_twice}
 use Rattle.finding_laws.proofs.Found.{or_assoc}

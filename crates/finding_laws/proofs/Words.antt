@@ -1,34 +1,21 @@
 -- A walk keeps to the words of the text, and what it finds is said of the word where it is.
-use Rattle.std.proofs.Common.{◌≡◌, ℕ, suc, zero, ◌+◌, Bool, true, false, cond, List, [], ◌∷◌, ◌++◌, length, codes, Option, Some, None, IfSome, refl, sym, ap, ◌∙◌}
-use Rattle.std.specs.Prelude.{nat_lt}
-use Rattle.apex_types.specs.ServiceShape.{arguments_of}
-use Rattle.apex_types.specs.declared.limits.TheConstants.{GREATEST_PRIORITY, LEAST_STACK_WORDS, MOST_DEPTH, MOST_LOCALS, MOST_PARAMETERS, MOST_PROCESSES, MOST_SEMAPHORE_VALUE, MOST_STACK_WORDS, MOST_WORDS, MOST_WORK_TICKS}
-use Rattle.apex_types.specs.declared.service.Service.{Service}
-use Rattle.apex_types.specs.declared.shape.ArgumentKind.{ArgumentKind}
+use Rattle.finding_laws.proofs.Prelude.{◌≡◌, ℕ, suc, ◌+◌, Bool, cond, ◌∷◌, ◌++◌, codes, Option, Some, ◌∙◌, nat_lt, arguments_of, GREATEST_PRIORITY, LEAST_STACK_WORDS, MOST_DEPTH, MOST_LOCALS, MOST_PARAMETERS, MOST_PROCESSES, MOST_SEMAPHORE_VALUE, MOST_STACK_WORDS, MOST_WORDS, MOST_WORK_TICKS, Service, ArgumentKind, Refusal, words_from_more, all_words, arguments_words, block_words, body_words, expr_words, first_words, integer_words, kind_words, links_words, local_words, names_words, next_name, process_words, stack_body_words, stmt_words, targets_words, values_words, words_of, declaration_words, expr_count, body_frame, held, procedure_frame, Judge, arguments_wrong, by_limit, capacity_wrong, frame_wrong, many_wrong, name_wrong, new_wrong, no_name_wrong, no_time, number_wrong, odd, outside_wrong, period_wrong, return_wrong, targets_wrong, Entry, declaration_entry, own_entry, process_entry, Tally, counted, no_tally, tally_wrong, all_given, block, comma, expr, exprs, given, links, service_call, stmt, targets, used, State, What, Wrong, noted, pushed, step, Many, Thing, Role, next_word}
+use Rattle.std.proofs.Common.{zero, true, false, List, [], length, None, IfSome, refl, sym, ap}
 use Rattle.apex_types.specs.declared.shape.ArgumentKind.TheVariants as argument
-use Rattle.pal_base.specs.declared.fault.Refusal.{Refusal}
 use Rattle.pal_base.specs.declared.fault.Refusal.TheVariants as rule
-use Rattle.pal_laws.proofs.WordsOf.{words_from_more, words_from_none}
-use Rattle.pal_meaning.specs.Grammar.{Word, all_words, arguments_words, behind_blanks, block_words, body_words, comma as comma_words, expr_words, first_words, handler_words, integer_words, kind_words, links_words, local_words, names_words, next_name, process_words, program_words, stack_body_words, stmt_words, targets_words, values_words, word_at, words_from, words_of, declaration_words}
+use Rattle.pal_laws.proofs.WordsOf.{words_from_none}
+use Rattle.pal_meaning.specs.Grammar.{Word, behind_blanks, comma as comma_words, handler_words, program_words, word_at, words_from}
 use Rattle.pal_meaning.specs.Grammar as grammar
 use Rattle.pal_meaning.specs.Lines.{from_word}
 use Rattle.pal_meaning.specs.Syntax as written
-use Rattle.pal_meaning.specs.WellFormed.{expr_count}
 use Rattle.finding_laws.specs.Placed.{ArePlaced, IsPlaced, IsSaidOf}
 use Rattle.source_findings.specs.Bodies as walk
-use Rattle.source_findings.specs.Frames.{body_frame, held, procedure_frame}
-use Rattle.source_findings.specs.Judged.{Judge, arguments_wrong, by_kind, by_limit, by_rule, capacity_wrong, frame_wrong, long, many_wrong, name_wrong, new_wrong, no_name_wrong, no_time, number_wrong, odd, other, outside, outside_wrong, period_wrong, return_wrong, small, targets_wrong, too_large, unknown, unless}
-use Rattle.source_findings.specs.Roles.{Entry, declaration_entry, own_entry, process_entry}
-use Rattle.source_findings.specs.Tally.{Tally, counted, no_tally, tally_wrong}
-use Rattle.source_findings.specs.Walk.{all_given, block, comma, expr, exprs, given, links, named, service_call, stmt, targets, used}
-use Rattle.source_findings.specs.What.{State, What, Wrong, judged, noted, pushed, step}
-use Rattle.source_findings.specs.declared.finding.Many.{Many}
-use Rattle.source_findings.specs.declared.finding.Thing.{Thing}
+use Rattle.source_findings.specs.Judged.{by_kind, by_rule, long, other, outside, small, too_large, unknown, unless}
+use Rattle.source_findings.specs.Walk.{named}
+use Rattle.source_findings.specs.What.{judged}
 use Rattle.source_findings.specs.declared.finding.Many.TheVariants as many
 use Rattle.source_findings.specs.declared.finding.Thing.TheVariants as thing
-use Rattle.source_findings.specs.declared.roles.Role.{Role}
 use Rattle.source_findings.specs.declared.roles.Role.TheVariants as role
-use Rattle.source_findings.specs.Words.{next_word}
 
 -- ---- the words of a text, one after another
 

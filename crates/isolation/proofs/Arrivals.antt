@@ -1,25 +1,12 @@
 -- A message that the port at one end of a channel allows is allowed at each destination port of the
 -- channel.
-use Rattle.std.proofs.Common.{◌≡◌, ◌≢◌, ℕ, zero, suc, ◌+◌, ◌-◌, ℤ, Bool, true, false, not, List, [], ◌∷◌, Option, Some, None, refl, sym, ap, subst, ◌∙◌, arith}
-use Rattle.std.specs.Prelude.{◌==◌, ◌||◌, slice_get, is_none, if◌then◌else◌, flat_map}
-use Rattle.std.specs.List.{list_any, AllByRecursion}
-use Rattle.std.proofs.lemmas.Bool.{or_parts, and_parts, eqb-true, eqb-false, not-false}
-use Rattle.arrayvec.specs.ArrayVec.{ArrayVec}
-use Rattle.apex_types.specs.declared.identity.PartitionId.{PartitionId}
-use Rattle.apex_types.specs.declared.identity.PortId.{PortId}
-use Rattle.apex_types.specs.declared.row.ChannelEnd.{ChannelEnd}
+use Rattle.isolation.proofs.Prelude.{◌≡◌, ◌≢◌, ℕ, zero, suc, ◌+◌, ◌-◌, ℤ, Bool, true, false, List, ◌∷◌, Option, Some, None, sym, ◌∙◌, arith, ◌==◌, ◌||◌, slice_get, is_none, if◌then◌else◌, flat_map, list_any, AllByRecursion, and_parts, eqb-true, eqb-false, not-false, ArrayVec, PartitionId, PortId, ChannelEnd, PortDirection, PortRow, Channel, Partition, at_number, is_port, channel_from, Port, is_source_port, differ, has_mixed_ports, has_wrong_direction, sends_to_itself, is_split_queue, has_twice, is_same_port, ends_of, has_wrong_ends, is_unknown_port, has_unknown_port, ◌>>=◌, Arrive, brought_to, brought_by, held_port, held_ports}
+use Rattle.std.proofs.Common.{not, [], refl, ap, subst}
+use Rattle.std.proofs.lemmas.Bool.{or_parts}
 use Rattle.apex_types.specs.declared.row.ChannelEnd.TheVariants as ends
-use Rattle.apex_types.specs.declared.row.PortDirection.{PortDirection}
 use Rattle.apex_types.specs.declared.row.PortDirection.TheVariants as direction
-use Rattle.apex_types.specs.declared.row.PortRow.{PortRow}
-use Rattle.module_meaning.specs.Table.{Channel, Partition, at_number}
-use Rattle.module_meaning.specs.Module.{is_port, channel_from}
-use Rattle.kernel_meaning.specs.Objects.{Port, is_source as is_source_port_of}
-use Rattle.module_meaning.specs.Table.{port_at, is_source, is_same_kind, port_is, is_source_port, is_destination_port, differ, has_mixed_ports, has_wrong_direction, sends_to_itself, has_two_devices, is_split_queue, has_twice, is_same_port, ends_of, is_wrong, has_wrong_ends}
-use Rattle.module_meaning.specs.ImageRules.{is_unknown_port, has_unknown_port}
-use Rattle.module_meaning.specs.Table.{◌>>=◌}
-use Rattle.isolation.specs.Alone.{Arrive}
-use Rattle.isolation.specs.Brought.{brought_to, brought_by, held_port, held_ports}
+use Rattle.kernel_meaning.specs.Objects.{is_source as is_source_port_of}
+use Rattle.module_meaning.specs.Table.{port_at, is_source, is_same_kind, port_is, is_destination_port, has_two_devices, is_wrong}
 use Rattle.isolation.proofs.Holding.{HasLength, IsDelivery, IsDelivered, IsHolding, AreHolding, all_append}
 use Rattle.isolation.proofs.Messages.{found_passes}
 use Rattle.isolation.proofs.OfImage.{found_is}

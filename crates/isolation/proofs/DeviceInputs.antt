@@ -1,26 +1,12 @@
 -- The inputs that an accepted device text brings a partition are allowed by its ports.
-use Rattle.std.proofs.Common.{◌≡◌, ◌≢◌, ℕ, zero, suc, ◌-◌, ◌≤◌, ℤ, Bool, true, false, List, [], ◌∷◌, length, Option, Some, None, Ok, refl, sym, subst, arith}
-use Rattle.std.specs.Prelude.{◌==◌, ◌||◌, slice_get, is_none, if◌then◌else◌, flat_map}
-use Rattle.std.specs.List.{list_any, AllByRecursion}
-use Rattle.std.proofs.lemmas.Bool.{or_parts, or_from, eqb-false}
-use Rattle.apex_types.specs.declared.codes.ModuleAction.{ModuleAction}
-use Rattle.apex_types.specs.declared.device.DeviceInput.{DeviceInput}
+use Rattle.isolation.proofs.Prelude.{◌≡◌, ◌≢◌, ℕ, zero, suc, ◌-◌, ◌≤◌, ℤ, Bool, true, false, List, ◌∷◌, length, Option, Some, None, Ok, sym, arith, ◌==◌, ◌||◌, slice_get, is_none, if◌then◌else◌, flat_map, list_any, AllByRecursion, or_from, eqb-false, ModuleAction, DeviceInput, DeviceLine, ChannelEnd, PortRow, words_of_ends, same, Partition, Channel, at_number, Plan, message, differ, is_source_port, has_twice, is_same_port, ends_of, has_wrong_ends, is_unknown_port, has_unknown_port, ◌>>=◌, Schedule, brought_to, brought_by, brought_in}
+use Rattle.std.proofs.Common.{[], refl, subst}
+use Rattle.std.proofs.lemmas.Bool.{or_parts}
 use Rattle.apex_types.specs.declared.device.DeviceInput.TheVariants as device
-use Rattle.apex_types.specs.declared.device.DeviceLine.{DeviceLine}
-use Rattle.apex_types.specs.declared.row.ChannelEnd.{ChannelEnd}
 use Rattle.apex_types.specs.declared.row.ChannelEnd.TheVariants as ends
-use Rattle.apex_types.specs.declared.row.PortRow.{PortRow}
-use Rattle.module_meaning.specs.DeviceText.{words_of_port, words_of_partition, words_of_ends, verdict}
-use Rattle.engine_meaning.specs.Digits.{same}
-use Rattle.module_meaning.specs.Table.{Partition, Channel, at_number}
-use Rattle.module_meaning.specs.Module.{Plan}
-use Rattle.kernel_meaning.specs.Step.{message}
-use Rattle.module_meaning.specs.Table.{port_at, differ, is_source_port, has_twice, is_same_port, ends_of, is_wrong, has_wrong_ends}
-use Rattle.module_meaning.specs.ImageRules.{is_unknown_port, has_unknown_port}
-use Rattle.module_meaning.specs.Table.{◌>>=◌}
-use Rattle.kernel_meaning.specs.Windows.{Schedule}
+use Rattle.module_meaning.specs.DeviceText.{words_of_port, words_of_partition, verdict}
+use Rattle.module_meaning.specs.Table.{port_at, is_wrong}
 use Rattle.isolation.specs.Alone as alone
-use Rattle.isolation.specs.Brought.{brought_to, brought_by, brought_in}
 use Rattle.isolation.proofs.Arrivals.{ends_arrive, right_of}
 use Rattle.isolation.proofs.Holding.{HasLength, IsDelivered}
 use Rattle.isolation.proofs.InputsOf.{AreAllowed}

@@ -1,28 +1,14 @@
 -- The services on the partition's mode and on errors keep the invariant of a partition, and so does the handling of
 -- errors.
-use Rattle.std.proofs.Common.{ℤ, Bool, true, List, [], ◌∷◌, Option, Some, None}
-use Rattle.std.specs.Prelude.{◌&&◌, not, is_some, if◌then◌else◌}
-use Rattle.apex_types.specs.declared.codes.ErrorKind.{ErrorKind}
+use Rattle.isolation.proofs.Prelude.{ℤ, Bool, true, List, ◌∷◌, Option, Some, None, ◌&&◌, not, is_some, if◌then◌else◌, ErrorKind, Mode, PartitionAction, At, Runner, ProcessStatus, PortRow, ArrayPlace, mode_of_action, Errors, ignores, is_fault, enters_mode_of_action, acts_on_error, raise_application_error, raises_application_error, raises, faults, Kernel, of_processes, with_errors, enters_mode, mode_of, wants, is_warm, is_cold, next_release_of, set_partition_mode, ends_body, row_of, rests_found, is_normal, Sharing, Step}
+use Rattle.std.proofs.Common.{[]}
 use Rattle.apex_types.specs.declared.codes.ErrorKind.TheVariants as error
-use Rattle.apex_types.specs.declared.codes.Mode.{Mode}
 use Rattle.apex_types.specs.declared.codes.Mode.TheVariants as mode
-use Rattle.apex_types.specs.declared.codes.PartitionAction.{PartitionAction}
 use Rattle.apex_types.specs.declared.codes.StartCondition.TheVariants as condition
-use Rattle.apex_types.specs.declared.identity.At.{At}
-use Rattle.apex_types.specs.declared.identity.Runner.{Runner}
 use Rattle.apex_types.specs.declared.identity.Runner.TheVariants as runner
-use Rattle.apex_types.specs.declared.process.ProcessStatus.{ProcessStatus}
 use Rattle.apex_types.specs.declared.process.WaitingError.{WaitingError}
-use Rattle.apex_types.specs.declared.row.PortRow.{PortRow}
-use Rattle.apex_types.specs.declared.service.ArrayPlace.{ArrayPlace}
-use Rattle.kernel_meaning.specs.Times.{mode_of_action}
-use Rattle.kernel_meaning.specs.Kernel.{Errors}
-use Rattle.kernel_meaning.specs.HealthServices.{create_error_handler, creates_found, get_error_status, takes_error, ignores, is_fault, enters_mode as enters_mode_of_action, acts_on_error, raise_application_error, raises_application_error, raises, faults}
-use Rattle.kernel_meaning.specs.Kernel.{Kernel, of_processes, with_errors}
-use Rattle.kernel_meaning.specs.PartitionServices.{enters_mode, mode_of, wants, is_warm, is_cold, next_release_of, set_partition_mode, ends_body, starts_normally}
-use Rattle.kernel_meaning.specs.Processes.{row_of, rests_found, is_normal}
-use Rattle.kernel_meaning.specs.Sharing.{Sharing}
-use Rattle.kernel_meaning.specs.Step.{Step}
+use Rattle.kernel_meaning.specs.HealthServices.{create_error_handler, creates_found, get_error_status, takes_error}
+use Rattle.kernel_meaning.specs.PartitionServices.{starts_normally}
 use Rattle.isolation.proofs.Handed.{IsSoundProcesses, either_so, row_sound, rests_found_sound}
 use Rattle.isolation.proofs.ObjectRows.{either as either_shared}
 use Rattle.isolation.proofs.ProcessRows.{stop_self_sound, all_start_sound}

@@ -1,38 +1,23 @@
 -- The messages that the processes which wait at the ports of a partition have handed in; the
 -- changes of one process keep them.
-use Rattle.std.proofs.Common.{◌≡◌, ◌≢◌, ℕ, zero, suc, ◌+◌, ◌<◌, ◌≤◌, ℤ, Bool, true, false, not, cond, List, [], ◌∷◌, ◌++◌, length, map, Option, Some, None, refl, sym, subst, arith}
-use Rattle.std.specs.Prelude.{filter, if◌then◌else◌, pos, slice_get, slice_set, slice_index_or, nat_lt}
-use Rattle.std.specs.List.{AllByRecursion}
-use Rattle.std.proofs.lemmas.Bool.{eqb-false}
-use Rattle.std.proofs.lemmas.List.{get_or-set_same, get_or-set_other, length-set}
-use Rattle.arrayvec.specs.ArrayVec.{ArrayVec}
-use Rattle.apex_types.specs.Runners.{place_of}
+use Rattle.isolation.proofs.Prelude.{◌≡◌, ◌≢◌, ℕ, zero, suc, ◌+◌, ◌<◌, ◌≤◌, ℤ, Bool, true, false, cond, List, ◌∷◌, ◌++◌, length, map, Option, Some, None, sym, arith, filter, if◌then◌else◌, pos, slice_get, slice_set, nat_lt, AllByRecursion, eqb-false, length-set, ArrayVec, place_of, Ready, ReturnCode, At, ProcessIndex, Runner, Due, Entry, ProcessStatus, Wait, Waiting, PortRow, is_zero, Processes, row_of, numbered, is_busy, no_longer_waits, wakes, rests_found, Step, message, blocks}
+use Rattle.std.proofs.Common.{not, [], refl, subst}
+use Rattle.std.specs.Prelude.{slice_index_or}
+use Rattle.std.proofs.lemmas.List.{get_or-set_same, get_or-set_other}
 use Rattle.apex_types.specs.declared.codes.Discipline.{Discipline}
 use Rattle.apex_types.specs.declared.codes.Discipline.TheVariants as discipline
-use Rattle.apex_types.specs.declared.codes.ProcessState.TheVariants.{Dormant, Ready, Waiting as IsWaiting}
-use Rattle.apex_types.specs.declared.codes.ReturnCode.{ReturnCode}
+use Rattle.apex_types.specs.declared.codes.ProcessState.TheVariants.{Dormant, Waiting as IsWaiting}
 use Rattle.apex_types.specs.declared.codes.ReturnCode.TheVariants as code
-use Rattle.apex_types.specs.declared.identity.At.{At}
 use Rattle.apex_types.specs.declared.identity.ListKey.{ListKey}
 use Rattle.apex_types.specs.declared.identity.ListKey.TheVariants as key
-use Rattle.apex_types.specs.declared.identity.ProcessIndex.{ProcessIndex}
-use Rattle.apex_types.specs.declared.identity.Runner.{Runner}
 use Rattle.apex_types.specs.declared.identity.Runner.TheVariants as runner
-use Rattle.apex_types.specs.declared.process.Due.{Due}
-use Rattle.apex_types.specs.declared.process.Entry.{Entry}
 use Rattle.apex_types.specs.declared.process.Lock.{Lock}
-use Rattle.apex_types.specs.declared.process.ProcessStatus.{ProcessStatus}
-use Rattle.apex_types.specs.declared.process.Wait.{Wait}
 use Rattle.apex_types.specs.declared.process.Wait.TheVariants as wait
-use Rattle.apex_types.specs.declared.process.Waiting.{Waiting}
 use Rattle.apex_types.specs.declared.row.PortDirection.TheVariants as direction
-use Rattle.apex_types.specs.declared.row.PortRow.{PortRow}
 use Rattle.kernel_meaning.specs.Queues.{entry, is_entry_of, without, behind_equals}
-use Rattle.engine_meaning.specs.Operators.{is_zero}
-use Rattle.kernel_meaning.specs.Processes.{Processes, row_of, numbered, is_busy, on, put_row, put_ready, put_unready, put_dormant, leaves, goes_last, not_running, without_holder, no_longer_waits, wakes, waits, rests, rests_found, released, released_with, zeros_of_wait}
+use Rattle.kernel_meaning.specs.Processes.{on, put_row, put_ready, put_unready, put_dormant, leaves, goes_last, not_running, without_holder, waits, rests, released, released_with, zeros_of_wait}
 use Rattle.kernel_meaning.specs.Queues.{joined, joins, list_in, no_entries, without_in_all}
-use Rattle.kernel_meaning.specs.Step.{Step, message}
-use Rattle.kernel_meaning.specs.Sharing.{enters, waits_at, blocks, gives_all, gives_found, releases_all, releases_found}
+use Rattle.kernel_meaning.specs.Sharing.{enters, waits_at, gives_all, gives_found, releases_all, releases_found}
 use Rattle.isolation.proofs.Holding.{HasLength}
 
 -- ---- the invariant of the processes

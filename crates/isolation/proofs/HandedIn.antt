@@ -1,31 +1,23 @@
 -- The message that a call hands in has the length given by the call, if its array lies within the
 -- data; and the arrays of the processor's calls do.
-use Rattle.std.proofs.Common.{◌≡◌, ℕ, ◌+◌, ◌-◌, ◌≤◌, min, ℤ, pos, negsuc, Bool, true, false, List, length, take, drop, Option, Some, None, refl, arith}
-use Rattle.std.specs.Prelude.{◌&&◌, int_le, nat_eq, nat_lt, nat_le, if◌then◌else◌, slice_get}
-use Rattle.std.proofs.lemmas.Bool.{and_parts, leb-true}
+use Rattle.isolation.proofs.Prelude.{◌≡◌, ℕ, ◌+◌, ◌-◌, ◌≤◌, ℤ, Bool, true, false, List, length, Option, Some, None, arith, ◌&&◌, nat_eq, nat_lt, nat_le, if◌then◌else◌, slice_get, and_parts, leb-true, MOST_WORDS, ErrorKind, Runner, Costs, ArrayPlace, Service, Engine, Asks, Nothing, Calls, Faults, Ends, MachineControl, is_length, first_words}
+use Rattle.std.proofs.Common.{min, pos, negsuc, take, drop, refl}
+use Rattle.std.specs.Prelude.{int_le}
 use Rattle.std.proofs.lemmas.List.{length-take, length-drop}
-use Rattle.apex_types.specs.declared.limits.TheConstants.{MOST_WORDS}
-use Rattle.apex_types.specs.declared.codes.ErrorKind.{ErrorKind}
 use Rattle.apex_types.specs.declared.codes.ErrorKind.TheVariants as error
-use Rattle.apex_types.specs.declared.identity.Runner.{Runner}
-use Rattle.apex_types.specs.declared.cost.Costs.{Costs}
 use Rattle.apex_types.specs.declared.instruction.Instr.{Instr}
 use Rattle.apex_types.specs.declared.instruction.Instr.TheVariants as instr
 use Rattle.apex_types.specs.declared.row.BodyRow.{BodyRow}
 use Rattle.apex_types.specs.declared.row.RoutineRow.{RoutineRow}
-use Rattle.apex_types.specs.declared.service.ArrayPlace.{ArrayPlace}
-use Rattle.apex_types.specs.declared.service.Service.{Service}
-use Rattle.engine_meaning.specs.Engine.{Engine, Ticked, Asks, Nothing, Calls, Faults, Ends}
+use Rattle.engine_meaning.specs.Engine.{Ticked}
 use Rattle.machine_meaning.specs.Instructions.{cost_of, is_work}
 use Rattle.machine_meaning.specs.MachineControl as machine
-use Rattle.machine_meaning.specs.MachineControl.{MachineControl, Effect, machine_engine, machine_tick}
+use Rattle.machine_meaning.specs.MachineControl.{Effect, machine_engine, machine_tick}
 use Rattle.engine_meaning.specs.Operators.{apply_binary, apply_unary, element_at}
 use Rattle.kernel_meaning.specs.Partition.{message_from, most_words, handed}
 use Rattle.apex_types.specs.ServiceShape.{service_of, argument_words, answer_words}
 use Rattle.apex_types.specs.ServiceCalls.{call_of, array_of}
 use Rattle.engine_meaning.specs.Operators.{is_range_within, has_array_within}
-use Rattle.kernel_meaning.specs.Sharing.{is_length}
-use Rattle.kernel_meaning.specs.Step.{first_words}
 use Rattle.isolation.proofs.Holding.{HasLength}
 
 -- ---- the words that a call hands in

@@ -1,30 +1,10 @@
 -- The messages of an ended window bring what its source ports held before.
-use Rattle.std.proofs.Common.{◌≡◌, ◌≢◌, ℕ, zero, suc, ◌+◌, ◌-◌, ℤ, Bool, true, false, List, [], ◌∷◌, ◌++◌, length, Option, Some, None, refl, sym, ap, subst, ◌∙◌, arith}
-use Rattle.std.specs.Prelude.{map, option_map, slice_get, slice_set, flat_map, if◌then◌else◌}
-use Rattle.arrayvec.specs.ArrayVec.{ArrayVec}
-use Rattle.std.proofs.lemmas.Option.{slice_get-map}
-use Rattle.apex_types.specs.declared.identity.At.{At}
-use Rattle.apex_types.specs.declared.identity.PartitionId.{PartitionId}
-use Rattle.apex_types.specs.declared.identity.PortId.{PortId}
-use Rattle.apex_types.specs.declared.identity.Runner.{Runner}
+use Rattle.isolation.proofs.Prelude.{◌≡◌, ◌≢◌, ℕ, zero, suc, ◌+◌, ◌-◌, ℤ, Bool, true, false, List, ◌∷◌, ◌++◌, length, Option, Some, None, sym, ◌∙◌, arith, option_map, slice_get, slice_set, flat_map, if◌then◌else◌, ArrayVec, slice_get-map, At, PartitionId, PortId, Runner, Action, Entry, ProcessStatus, Engine, Channel, at_number, of_ports, of_ports_alone, with_ports, of_member, ports_of, ports_from, channel_from, moves_message, moves_port, World, Member, act, act_all, leaves, leaving, admits, place_of_port, messages_to_move, Port, Ports, port_at, is_source, is_full, list, numbered, row_of, waiting, Sharing, Input, Surroundings, goes, goes_by_way, sends_found, sends_message, sends_messages, sends_so_many, sends_port, way_out, brought_by, held_port, held_ports, held_ended}
+use Rattle.std.proofs.Common.{[], refl, ap, subst}
+use Rattle.std.specs.Prelude.{map}
 use Rattle.apex_types.specs.declared.identity.Runner.TheVariants as runner
-use Rattle.apex_types.specs.Runners.{Action}
 use Rattle.apex_types.specs.Runners as action
-use Rattle.apex_types.specs.declared.process.Entry.{Entry}
-use Rattle.apex_types.specs.declared.process.ProcessStatus.{ProcessStatus}
 use Rattle.kernel_meaning.specs.PortServices as arrival
-use Rattle.engine_meaning.specs.Engine.{Engine}
-use Rattle.module_meaning.specs.Table.{Channel, at_number}
-use Rattle.kernel_meaning.specs.Kernel.{of_ports, of_ports_alone, with_ports}
-use Rattle.module_meaning.specs.Module.{of_member, ports_of, ports_from, channel_from, moves_message, moves_port}
-use Rattle.kernel_meaning.specs.Partition.{World, Member, act, act_all, leaves, leaving, admits, place_of_port, messages_to_move}
-use Rattle.kernel_meaning.specs.Objects.{Port, Ports, port_at, is_source, is_full}
-use Rattle.kernel_meaning.specs.PortServices.{list}
-use Rattle.kernel_meaning.specs.Processes.{numbered, row_of}
-use Rattle.kernel_meaning.specs.Sharing.{waiting}
-use Rattle.kernel_meaning.specs.Sharing.{Sharing}
-use Rattle.isolation.specs.Alone.{Input, Surroundings, goes, goes_by_way, sends_found, sends_message, sends_messages, sends_so_many, sends_port, way_out}
-use Rattle.isolation.specs.Brought.{brought_by, held_port, held_ports, held_ended}
 use Rattle.isolation.proofs.Twins.{brought_ended, brought_found, brought_message, brought_messages, brought_so_many, brought_port, brought_ports}
 use Rattle.isolation.proofs.OwnMessages.{AreLawful, AreWays, with_number, own_message, own_port_moves}
 use Rattle.isolation.proofs.Steps.{IsApart, AreApart, Holds, name_of, get_set_same, get_set_other}

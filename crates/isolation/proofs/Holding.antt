@@ -1,20 +1,9 @@
 -- The inputs of a partition except for the values of their words, and an invariant that gives them:
 -- what the source ports of a partition hold.
 use Rattle.std.specs.Prelude.{◌≡◌, ℕ, ◌≤◌, ℤ, true, List, [], ◌∷◌, ◌++◌, length, Some}
-use Rattle.std.specs.List.{AllByRecursion}
-use Rattle.arrayvec.specs.ArrayVec.{ArrayVec}
-use Rattle.apex_types.specs.declared.limits.TheConstants.{MOST_TICKS}
-use Rattle.apex_types.specs.declared.codes.StartCondition.{StartCondition}
-use Rattle.apex_types.specs.declared.identity.At.{At}
-use Rattle.apex_types.specs.declared.identity.PortId.{PortId}
+use Rattle.isolation.proofs.Prelude.{AllByRecursion, ArrayVec, MOST_TICKS, StartCondition, At, PortId, PortRow, Partition, at_number, ports_of, Member, cold_start, breaks_down, advances, arrives, leaves, admits, Port, is_source, Input, InputLine, Arrive, ModuleFault, PartitionFault, goes, AreInputs, AreWritable, IsInput}
 use Rattle.apex_types.specs.declared.row.PortDirection.TheVariants as direction
-use Rattle.apex_types.specs.declared.row.PortRow.{PortRow}
-use Rattle.module_meaning.specs.Table.{Partition, at_number}
-use Rattle.module_meaning.specs.Module.{ports_of}
-use Rattle.kernel_meaning.specs.Partition.{Member, cold_start, breaks_down, advances, arrives, leaves, admits}
-use Rattle.kernel_meaning.specs.Objects.{Port, is_source}
-use Rattle.isolation.specs.Alone.{Input, InputLine, Arrive, ModuleFault, PartitionFault, goes}
-use Rattle.isolation.specs.InputText.{AreInputs, AreWritable, IsInput, IsWritable}
+use Rattle.isolation.specs.InputText.{IsWritable}
 
 pub all_append : {A : Type 0} (P : A → Type 0) (xs ys : List A) → AllByRecursion P xs → AllByRecursion P ys → AllByRecursion P (xs ++ ys)
 all_append P [] ys h k = k

@@ -1,27 +1,16 @@
 -- The text of inputs is a replay text, and it is read as these inputs.
-use Rattle.std.proofs.Common.{◌≡◌, ℕ, zero, suc, ◌+◌, ◌<◌, ◌≤◌, ℤ, Bool, true, false, List, [], ◌∷◌, ◌++◌, length, map, Option, Some, None, Result, Ok, Err, refl, sym, ap, subst, ◌∙◌, arith, lit<, append_assoc}
-use Rattle.std.specs.Prelude.{◌==◌, ◌&&◌, nat_le, nat_lt, if◌then◌else◌, slice_get}
+use Rattle.isolation.proofs.Prelude.{◌≡◌, ℕ, zero, suc, ◌+◌, ◌<◌, ◌≤◌, ℤ, Bool, true, false, List, ◌∷◌, ◌++◌, length, map, Option, Some, None, Result, Ok, Err, sym, ◌∙◌, arith, append_assoc, ◌==◌, ◌&&◌, nat_le, nat_lt, if◌then◌else◌, slice_get, eq-eqb, space, third_limits, MOST_DEVICE_LINES, MOST_TICKS, is_name, DeviceFault, PortDirection, PortRow, Written, Message, message_of, message_with, line_with, pieces, is_room, same, Partition, at_number, EachBeside, IsPort, Input, InputLine, Arrive, ModuleFault, PartitionFault, replay_text, IsInput, AreInputs, HasNames}
+use Rattle.std.proofs.Common.{[], refl, ap, subst, lit<}
 use Rattle.std.specs.Fmt.{decimal, signed_decimal}
 use Rattle.std.specs.List.{list_all}
-use Rattle.std.proofs.lemmas.Bool.{and_from, eq-eqb, lt-ltb, le-ltb, le-leb, cond-true, cond-false}
-use Rattle.apex_types.specs.Line.{space}
-use Rattle.apex_types.specs.Versions.{third_limits}
-use Rattle.apex_types.specs.declared.limits.TheConstants.{MOST_DEVICE_LINES, MOST_TICKS}
-use Rattle.apex_types.specs.NameText.{is_name}
-use Rattle.apex_types.specs.declared.device.DeviceFault.{DeviceFault}
+use Rattle.std.proofs.lemmas.Bool.{and_from, lt-ltb, le-ltb, le-leb, cond-true, cond-false}
 use Rattle.apex_types.specs.declared.device.DeviceFault.TheVariants as fault
-use Rattle.apex_types.specs.declared.row.PortDirection.{PortDirection}
-use Rattle.apex_types.specs.declared.row.PortRow.{PortRow}
-use Rattle.module_meaning.specs.DeviceText.{Written, Message, ModuleFault as DeviceModuleFault, PartitionFault as DevicePartitionFault, message_of, message_with, line_with, pieces, pieces_behind_marks, first_from, is_room, words}
-use Rattle.engine_meaning.specs.Digits.{same}
-use Rattle.module_meaning.specs.Table.{Partition, at_number}
-use Rattle.machine_meaning.specs.ImageLimits.{EachBeside, IsPort}
+use Rattle.module_meaning.specs.DeviceText.{ModuleFault as DeviceModuleFault, PartitionFault as DevicePartitionFault, pieces_behind_marks, first_from, words}
 use Rattle.text_lines.specs.Words.{AreWords}
 use Rattle.text_lines.proofs.Names.{name_ink}
 use Rattle.text_lines.proofs.Pieces.{is_ink, AreInk, ink_is_free, all_free, join_free, first_piece, pieces_join}
 use Rattle.text_lines.proofs.Words.{plain_again, decimal_ink, words_again, words_ink}
-use Rattle.isolation.specs.Alone.{Input, InputLine, Arrive, ModuleFault, PartitionFault}
-use Rattle.isolation.specs.InputText.{name_of_port, input_parts, input_body, replay_text, IsInput, AreInputs, HasNames}
+use Rattle.isolation.specs.InputText.{name_of_port, input_parts, input_body}
 use Rattle.isolation.specs.ReplayText.{written_of, line_of_pieces, line_of, is_destination, within, taken_message, named, taken, put_line, and_then, lines_from, replay_verdict}
 use Rattle.isolation.proofs.OfImage.{any_at, get_front, get_last}
 use Rattle.isolation.proofs.Steps.{same_some}

@@ -1,31 +1,11 @@
 -- The inputs of a run of a lawful image are allowed, and have a text that is accepted and means
 -- them.
-use Rattle.std.proofs.Common.{◌≡◌, sym, ℕ, zero, suc, ◌+◌, ◌≤◌, List, [], ◌∷◌, ◌++◌, length, map, Option, Some, None, Ok, refl, ap, subst, ◌∙◌, arith}
-use Rattle.std.specs.Prelude.{slice_get, is_some, option_map}
-use Rattle.std.proofs.lemmas.Option.{slice_get-map}
-use Rattle.apex_types.specs.Versions.{third_limits}
-use Rattle.apex_types.specs.declared.limits.TheConstants.{MOST_DEVICE_LINES, MOST_TICKS, MOST_WORDS}
-use Rattle.apex_types.specs.Versions.{costs_of}
-use Rattle.apex_types.specs.declared.cost.Costs.{Costs}
+use Rattle.isolation.proofs.Prelude.{◌≡◌, sym, ℕ, zero, suc, ◌+◌, ◌≤◌, List, ◌∷◌, ◌++◌, length, map, Option, Some, None, Ok, ◌∙◌, arith, slice_get, is_some, option_map, slice_get-map, third_limits, MOST_DEVICE_LINES, MOST_TICKS, MOST_WORDS, costs_of, Costs, DeviceLine, PortRow, verdict_for, Partition, at_number, Item, Image, EachBeside, IsItem, IsLawful, IsPort, partitions_in, MachineControl, first_tick, Member, fixed_of, machine_members, Schedule, lawful_owner, lawful_end, HasNames, AreInputs, AreWritable, replay_text, Slice, slice, machine_inputs, items_widened}
+use Rattle.std.proofs.Common.{[], refl, ap, subst}
 use Rattle.apex_types.specs.declared.codes.StartCondition.TheVariants as condition
-use Rattle.apex_types.specs.declared.device.DeviceLine.{DeviceLine}
-use Rattle.apex_types.specs.declared.row.PortRow.{PortRow}
-use Rattle.machine_meaning.specs.MachineMeaning.{verdict_for}
-use Rattle.module_meaning.specs.Table.{Partition, at_number}
-use Rattle.machine_meaning.specs.Image.{Item, Image}
-use Rattle.machine_meaning.specs.ImageLimits.{EachBeside, IsItem, IsLawful, IsPort}
-use Rattle.machine_meaning.specs.ImageReading.{partitions_in}
 use Rattle.machine_meaning.specs.Instructions.{reading}
-use Rattle.machine_meaning.specs.MachineControl.{MachineControl}
-use Rattle.module_meaning.specs.Module.{first_tick}
-use Rattle.kernel_meaning.specs.Partition.{Member}
-use Rattle.module_meaning.specs.Table.{fixed_of}
-use Rattle.machine_meaning.specs.MachineMeaning.{machine_body, machine_members, machine_row, section_objects}
-use Rattle.kernel_meaning.specs.Windows.{Schedule}
-use Rattle.machine_laws.proofs.Releases.{lawful_owner, lawful_end}
-use Rattle.isolation.specs.InputText.{HasNames, AreInputs, AreWritable, replay_text}
+use Rattle.machine_meaning.specs.MachineMeaning.{machine_body, machine_row, section_objects}
 use Rattle.isolation.specs.ReplayText.{replay_verdict}
-use Rattle.isolation.specs.Slices.{Slice, slice, machine_inputs}
 use Rattle.isolation.proofs.DeviceInputs.{text_allowed}
 use Rattle.isolation.proofs.HandedIn.{machine_keeps_within}
 use Rattle.isolation.proofs.Holding.{AreDelivered, IsKept, are_inputs}
@@ -39,7 +19,6 @@ use Rattle.isolation.proofs.Steps.{same_some, starts_same}
 use Rattle.isolation.proofs.TakenLines.{accepted_from_device}
 use Rattle.isolation.proofs.TickSound.{tick_sound}
 use Rattle.isolation.proofs.Ways.{ports_in}
-use Rattle.machine_laws.proofs.Widened.{items_widened}
 
 -- ---- the facts of a lawful image about a partition's row
 names_in : (frame : ℕ) (before items : List Item) → EachBeside (IsItem third_limits frame) before items → (k : ℕ) (item : Item) → slice_get items k ≡ Some item → HasNames item.partition

@@ -1,26 +1,9 @@
 -- The inputs of a run are allowed but for their words, if an invariant says what the source ports hold.
-use Rattle.std.proofs.Common.{◌≡◌, ℕ, zero, suc, ◌+◌, ◌≤◌, ℤ, Bool, true, false, List, [], ◌∷◌, ◌++◌, length, map, Option, Some, None, refl, sym, ap, subst, ◌∙◌, arith, le_refl}
-use Rattle.std.specs.Prelude.{slice_get, option_map, cond, if◌then◌else◌}
-use Rattle.std.specs.List.{AllByRecursion}
-use Rattle.std.proofs.lemmas.Option.{slice_get-map}
-use Rattle.arrayvec.specs.ArrayVec.{ArrayVec}
-use Rattle.apex_types.specs.declared.limits.TheConstants.{MOST_TICKS}
-use Rattle.apex_types.specs.declared.codes.ModuleAction.{ModuleAction}
+use Rattle.isolation.proofs.Prelude.{◌≡◌, ℕ, zero, suc, ◌+◌, ◌≤◌, ℤ, Bool, true, false, List, ◌∷◌, ◌++◌, length, map, Option, Some, None, sym, ◌∙◌, arith, le_refl, slice_get, option_map, if◌then◌else◌, AllByRecursion, slice_get-map, ArrayVec, MOST_TICKS, ModuleAction, DeviceLine, At, PortId, Channel, Partition, at_number, Plan, as_origin, first_tick, next_tick, ports_of, of_member, inputs_all, of_tick, is_of_tick, module_tick, starts, started_member, Member, leaving, messages_to_move, has_wrong_ends, has_unknown_port, Schedule, ended, HasOneOwner, HasOneEnd, Input, InputLine, Arrive, ModuleFault, PartitionFault, Path, Surroundings, goes_by_way, takes, meets_fault, takes_all, unless_over, sends_found, sends_message, sends_messages, sends_so_many, sends_port, sends_ports, sends_ended, ticks_own, sends_and_ticks, tick_alone, way_out, brought_in, brought_in_all, shuts_down, held_ports, held_ended, brought_moved, brought_tick, line_in, inputs_from, inputs_of, surroundings_of}
+use Rattle.std.proofs.Common.{[], refl, ap, subst}
+use Rattle.std.specs.Prelude.{cond}
 use Rattle.apex_types.specs.declared.codes.ModuleAction.TheVariants as reaction
 use Rattle.apex_types.specs.declared.codes.StartCondition.TheVariants as condition
-use Rattle.apex_types.specs.declared.device.DeviceLine.{DeviceLine}
-use Rattle.apex_types.specs.declared.identity.At.{At}
-use Rattle.apex_types.specs.declared.identity.PortId.{PortId}
-use Rattle.module_meaning.specs.Table.{Channel, Partition, at_number}
-use Rattle.module_meaning.specs.Module.{Plan, as_origin, first_tick, next_tick, ports_of, of_member, inputs_all, of_tick, is_of_tick, module_tick, starts, started_member}
-use Rattle.kernel_meaning.specs.Partition.{Member, leaving, messages_to_move}
-use Rattle.module_meaning.specs.Table.{has_wrong_ends}
-use Rattle.module_meaning.specs.ImageRules.{has_unknown_port}
-use Rattle.kernel_meaning.specs.Windows.{Schedule, ended}
-use Rattle.kernel_meaning.specs.WindowFacts.{HasOneOwner, HasOneEnd}
-use Rattle.isolation.specs.Alone.{Input, InputLine, Arrive, ModuleFault, PartitionFault, Path, Surroundings, goes_by_way, takes, meets_fault, takes_all, unless_over, sends_found, sends_message, sends_messages, sends_so_many, sends_port, sends_ports, sends_ended, ticks_own, sends_and_ticks, tick_alone, way_out}
-use Rattle.isolation.specs.Brought.{brought_in, brought_in_all, shuts_down, held_ports, held_ended, brought_moved, brought_tick, line_in, inputs_from, inputs_of}
-use Rattle.isolation.specs.Surrounded.{surroundings_of}
 use Rattle.isolation.proofs.Arrivals.{all_brought}
 use Rattle.isolation.proofs.Holding.{IsDelivered, AreDelivered, IsKept, all_append}
 use Rattle.isolation.proofs.Isolated.{tick_in, next_in}

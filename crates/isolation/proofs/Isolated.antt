@@ -1,21 +1,12 @@
 -- The part of a module's trace that belongs to a partition is the trace it has on its own, with the
 -- inputs that the run brings it.
-use Rattle.std.proofs.Common.{◌≡◌, ◌≢◌, ℕ, zero, suc, ◌+◌, ◌<◌, ◌≤◌, Bool, true, false, List, [], ◌∷◌, ◌++◌, map, Option, Some, None, refl, sym, ap, subst, ◌∙◌, arith, le_refl, append-nil}
-use Rattle.std.specs.Prelude.{if◌then◌else◌, option_map}
-use Rattle.std.proofs.lemmas.Bool.{eq-eqb, ne_eqb}
-use Rattle.apex_types.specs.declared.codes.ModuleAction.{ModuleAction}
+use Rattle.isolation.proofs.Prelude.{◌≡◌, ◌≢◌, ℕ, zero, suc, ◌+◌, ◌<◌, ◌≤◌, Bool, true, false, List, ◌∷◌, ◌++◌, map, Option, Some, None, sym, ◌∙◌, arith, le_refl, append-nil, if◌then◌else◌, option_map, eq-eqb, ne_eqb, ModuleAction, DeviceInput, DeviceLine, At, PortRow, Plan, Course, unless_down, breaks_module, inputs, inputs_all, of_tick, moves_and_ticks, module_tick, first_tick, next_tick, starts, Member, cold_start, Input, InputLine, Path, goes, tick_alone, part, brought_tick, line_in, inputs_from, inputs_of, surroundings_of}
+use Rattle.std.proofs.Common.{[], refl, ap, subst}
 use Rattle.apex_types.specs.declared.codes.ModuleAction.TheVariants as reaction
 use Rattle.apex_types.specs.declared.codes.StartCondition.TheVariants as condition
-use Rattle.apex_types.specs.declared.device.DeviceInput.{DeviceInput}
 use Rattle.apex_types.specs.declared.device.DeviceInput.TheVariants as device
-use Rattle.apex_types.specs.declared.device.DeviceLine.{DeviceLine}
-use Rattle.apex_types.specs.declared.identity.At.{At}
-use Rattle.apex_types.specs.declared.row.PortRow.{PortRow}
-use Rattle.module_meaning.specs.Module.{Plan, Course, unless_down, breaks_module, inputs, inputs_all, of_tick, moves_and_ticks, module_tick, first_tick, next_tick, starts, trace_from, trace}
-use Rattle.kernel_meaning.specs.Partition.{Member, cold_start}
-use Rattle.isolation.specs.Alone.{Input, InputLine, Path, goes, is_in_tick, inputs_in, tick_alone, alone_from, trace_alone}
-use Rattle.isolation.specs.Brought.{part, brought_tick, line_in, inputs_from, inputs_of}
-use Rattle.isolation.specs.Surrounded.{surroundings_of}
+use Rattle.module_meaning.specs.Module.{trace_from, trace}
+use Rattle.isolation.specs.Alone.{is_in_tick, inputs_in, alone_from, trace_alone}
 use Rattle.isolation.proofs.Lines.{AreFromDevice}
 use Rattle.isolation.proofs.Steps.{IsApart, AreApart, Holds, SamePath, same_some, joined, starts_same}
 use Rattle.isolation.proofs.Tick.{IsIsolating, tick_same}

@@ -1,36 +1,19 @@
 -- No step of a partition changes its name, its number or its windows, and all its lines are its own.
-use Rattle.std.proofs.Common.{◌≡◌, ℕ, ℤ, Bool, true, false, List, [], ◌∷◌, Option, Some, None, refl, subst, ◌∙◌}
-use Rattle.std.specs.Prelude.{if◌then◌else◌, ◌&&◌, not, is_some, slice_set}
-use Rattle.arrayvec.specs.ArrayVec.{ArrayVec}
-use Rattle.apex_types.specs.declared.codes.ErrorKind.{ErrorKind}
+use Rattle.isolation.proofs.Prelude.{◌≡◌, ℕ, ℤ, Bool, true, false, List, ◌∷◌, Option, Some, None, ◌∙◌, if◌then◌else◌, ◌&&◌, not, is_some, slice_set, ArrayVec, ErrorKind, Mode, PartitionAction, mode_of_action, ReturnCode, place_of, StartCondition, At, PortId, Runner, Action, ArrayPlace, Call, Engine, Asks, Nothing, Calls, Faults, Ends, acts_on_error, breaks, enters_mode_of_action, ignores, faults, is_fault, raise_application_error, raises, raises_application_error, then_clears, Fixed, Kernel, of_processes, of_ports, of_ports_alone, with_errors, with_ports, row_of, rests_found, is_normal, World, Member, Moved, act, act_all, moved, ticked, given, treats_asked, chooses_with_handler, serves, spends, spends_chosen, treating_phase, clearing_phase, due_phase, choice_phase, prepares, tick, cold_start, breaks_down, advances, arrives, leaves, admits, goes_out, place_of_port, control_at, clears, ends_body, enters_mode, set_partition_mode, mode_of, wants, is_warm, is_cold, Step, after}
+use Rattle.std.proofs.Common.{[], refl, subst}
 use Rattle.apex_types.specs.declared.codes.ErrorKind.TheVariants as error
-use Rattle.apex_types.specs.declared.codes.Mode.{Mode}
-use Rattle.apex_types.specs.declared.codes.PartitionAction.{PartitionAction}
-use Rattle.kernel_meaning.specs.Times.{mode_of_action}
 use Rattle.apex_types.specs.declared.codes.Mode.TheVariants as mode
-use Rattle.apex_types.specs.declared.codes.ReturnCode.{ReturnCode}
 use Rattle.apex_types.specs.declared.codes.ReturnCode.TheVariants as code
 use Rattle.apex_types.specs.declared.service.Service.TheVariants as service
-use Rattle.apex_types.specs.Runners.{place_of}
-use Rattle.apex_types.specs.declared.codes.StartCondition.{StartCondition}
 use Rattle.apex_types.specs.declared.event.EventKind.TheVariants as event
-use Rattle.apex_types.specs.declared.identity.At.{At}
-use Rattle.apex_types.specs.declared.identity.PortId.{PortId}
-use Rattle.apex_types.specs.declared.identity.Runner.{Runner}
 use Rattle.apex_types.specs.declared.identity.Runner.TheVariants as runner
-use Rattle.apex_types.specs.Runners.{Action}
 use Rattle.apex_types.specs.Runners as action
-use Rattle.apex_types.specs.declared.service.ArrayPlace.{ArrayPlace}
-use Rattle.apex_types.specs.declared.service.Call.{Call}
 use Rattle.apex_types.specs.declared.service.Call.TheVariants as call
-use Rattle.engine_meaning.specs.Engine.{Engine, Asks, Nothing, Calls, Faults, Ends}
-use Rattle.kernel_meaning.specs.HealthServices.{acts_on_error, breaks, enters_mode as enters_mode_of_action, ignores, handles, faults, is_fault, raise_application_error, raises, raises_application_error, then_clears}
+use Rattle.kernel_meaning.specs.HealthServices.{handles}
 use Rattle.kernel_meaning.specs.PortServices as arrival
-use Rattle.kernel_meaning.specs.Kernel.{Fixed, Kernel, of_processes, of_ports, of_ports_alone, with_errors, with_ports}
-use Rattle.kernel_meaning.specs.Processes.{row_of, rests_found, refuses, answers, is_normal}
-use Rattle.kernel_meaning.specs.Partition.{World, Member, Moved, act, act_all, moved, followed_by, ticked, given, treats_asked, treats_due, chooses_with_handler, serves, spends, spends_chosen, spending_phase, treating_phase, clearing_phase, due_phase, choice_phase, prepares, tick, cold_start, breaks_down, advances, arrives, leaves, admits, goes_out, place_of_port, control_at}
-use Rattle.kernel_meaning.specs.PartitionServices.{clears, ends_body, enters_mode, set_partition_mode, mode_of, wants, is_warm, is_cold}
-use Rattle.kernel_meaning.specs.Step.{Step, row, after}
+use Rattle.kernel_meaning.specs.Processes.{refuses, answers}
+use Rattle.kernel_meaning.specs.Partition.{followed_by, treats_due, spending_phase}
+use Rattle.kernel_meaning.specs.Step.{row}
 use Rattle.isolation.proofs.Seen.{AreOf, told_own, nothing_own, both_own}
 
 -- ---- a step of the kernel

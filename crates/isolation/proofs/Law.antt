@@ -1,25 +1,8 @@
 -- Isolation, for every lawful image.
-use Rattle.std.proofs.Common.{◌≡◌, ℕ, zero, suc, ◌+◌, Bool, true, false, cond, List, [], ◌∷◌, map, Option, Some, None, Ok, refl, sym, ap, subst, ◌∙◌, arith}
-use Rattle.std.specs.Prelude.{slice_get, filter, option_map, ◌==◌}
-use Rattle.apex_types.specs.Versions.{costs_of}
-use Rattle.apex_types.specs.declared.cost.Costs.{Costs}
-use Rattle.apex_types.specs.declared.device.DeviceLine.{DeviceLine}
-use Rattle.apex_types.specs.declared.row.WindowRow.{WindowRow}
-use Rattle.machine_meaning.specs.MachineMeaning.{verdict_for}
-use Rattle.machine_meaning.specs.Image.{Item, Image}
-use Rattle.module_meaning.specs.Table.{at_number}
-use Rattle.machine_meaning.specs.ImageLimits.{IsLawful}
-use Rattle.machine_meaning.specs.ImageReading.{partitions_in}
-use Rattle.std.proofs.lemmas.Option.{slice_get-map}
-use Rattle.machine_meaning.specs.MachineControl.{MachineControl}
-use Rattle.kernel_meaning.specs.Partition.{Member}
-use Rattle.module_meaning.specs.Table.{fixed_of}
-use Rattle.machine_meaning.specs.MachineMeaning.{machine_member, machine_members, machine_module, machine_trace}
-use Rattle.kernel_meaning.specs.Windows.{Schedule, schedule_of_partition}
-use Rattle.machine_laws.proofs.Releases.{lawful_owner, lawful_end}
-use Rattle.isolation.specs.Alone.{InputLine}
-use Rattle.isolation.specs.Brought.{part}
-use Rattle.isolation.specs.Slices.{Slice, slice, slice_of, slice_trace, machine_inputs}
+use Rattle.isolation.proofs.Prelude.{◌≡◌, ℕ, zero, suc, ◌+◌, Bool, true, false, cond, List, ◌∷◌, map, Option, Some, None, Ok, sym, ◌∙◌, arith, slice_get, filter, option_map, ◌==◌, costs_of, Costs, DeviceLine, WindowRow, verdict_for, Item, Image, at_number, IsLawful, partitions_in, slice_get-map, MachineControl, Member, fixed_of, machine_members, Schedule, schedule_of_partition, lawful_owner, lawful_end, InputLine, part, Slice, slice, machine_inputs}
+use Rattle.std.proofs.Common.{[], refl, ap, subst}
+use Rattle.machine_meaning.specs.MachineMeaning.{machine_member, machine_module, machine_trace}
+use Rattle.isolation.specs.Slices.{slice_of, slice_trace}
 use Rattle.isolation.proofs.Isolated.{isolated}
 use Rattle.isolation.proofs.OfImage.{name_in, image_apart, image_all_apart, image_ends}
 use Rattle.isolation.proofs.Ways.{isolates}

@@ -1,3 +1,4 @@
+pub mod Prelude
 pub mod Twins
 pub mod Seen
 pub mod Kept

@@ -1,22 +1,13 @@
 -- The lines of the devices, as inputs of one partition.
-use Rattle.std.proofs.Common.{◌≡◌, ℕ, suc, Bool, true, false, List, [], ◌∷◌, Some, refl, sym, subst}
-use Rattle.std.specs.Prelude.{◌==◌, slice_get, if◌then◌else◌, cond}
-use Rattle.std.proofs.lemmas.Bool.{eqb-true, eqb-false}
-use Rattle.apex_types.specs.declared.codes.ModuleAction.{ModuleAction}
+use Rattle.isolation.proofs.Prelude.{◌≡◌, ℕ, suc, Bool, true, false, List, ◌∷◌, Some, sym, ◌==◌, slice_get, if◌then◌else◌, eqb-true, eqb-false, ModuleAction, DeviceInput, DeviceLine, At, PartitionId, ChannelEnd, Channel, Plan, Course, goes_on, still, steps, as_origin, breaks_module, starts_all, inputs, inputs_all, is_of_tick, of_tick, Member, breaks_down, cold_start, Path, PartitionFault, ModuleFault, stays, goes, meets_fault, takes_all, brought_in, brought_in_all, shuts_down}
+use Rattle.std.proofs.Common.{[], refl, subst}
+use Rattle.std.specs.Prelude.{cond}
 use Rattle.apex_types.specs.declared.codes.ModuleAction.TheVariants as reaction
 use Rattle.apex_types.specs.declared.codes.StartCondition.TheVariants as condition
-use Rattle.apex_types.specs.declared.device.DeviceInput.{DeviceInput}
 use Rattle.apex_types.specs.declared.device.DeviceInput.TheVariants as device
-use Rattle.apex_types.specs.declared.device.DeviceLine.{DeviceLine}
-use Rattle.apex_types.specs.declared.identity.At.{At}
-use Rattle.apex_types.specs.declared.identity.PartitionId.{PartitionId}
-use Rattle.apex_types.specs.declared.row.ChannelEnd.{ChannelEnd}
 use Rattle.apex_types.specs.declared.row.ChannelEnd.TheVariants as ends
-use Rattle.module_meaning.specs.Table.{Channel}
-use Rattle.module_meaning.specs.Module.{Plan, Course, goes_on, still, steps, tells_fault, as_origin, breaks_module, starts_all, inputs, inputs_all, is_of_tick, of_tick}
-use Rattle.kernel_meaning.specs.Partition.{Member, breaks_down, cold_start}
-use Rattle.isolation.specs.Alone.{Path, PartitionFault, ModuleFault, stays, goes, meets_fault, takes_all}
-use Rattle.isolation.specs.Brought.{brought_in, brought_in_all, is_shutdown, shuts_down}
+use Rattle.module_meaning.specs.Module.{tells_fault}
+use Rattle.isolation.specs.Brought.{is_shutdown}
 use Rattle.isolation.proofs.Kept.{breaks_down_keeps}
 use Rattle.isolation.proofs.Messages.{NotOf, gone_by}
 use Rattle.isolation.proofs.Paths.{takes_append, takes_one}

@@ -1,19 +1,8 @@
 -- Messages of other partitions and of the devices, as inputs of one partition.
-use Rattle.std.proofs.Common.{◌≡◌, ◌≢◌, ℕ, zero, suc, ◌+◌, ℤ, Bool, true, false, List, [], ◌∷◌, ◌++◌, Option, Some, None, refl, sym, subst, ◌∙◌}
-use Rattle.std.specs.Prelude.{◌==◌, ◌&&◌, find, if◌then◌else◌, cond}
-use Rattle.std.proofs.lemmas.Bool.{eqb-true, eqb-false}
-use Rattle.arrayvec.specs.ArrayVec.{ArrayVec}
-use Rattle.apex_types.specs.declared.codes.ModuleAction.{ModuleAction}
-use Rattle.apex_types.specs.declared.identity.At.{At}
-use Rattle.apex_types.specs.declared.identity.PartitionId.{PartitionId}
-use Rattle.apex_types.specs.declared.identity.PortId.{PortId}
-use Rattle.apex_types.specs.declared.row.ChannelEnd.{ChannelEnd}
+use Rattle.isolation.proofs.Prelude.{◌≡◌, ◌≢◌, ℕ, zero, suc, ◌+◌, ℤ, Bool, true, false, List, ◌∷◌, ◌++◌, Option, Some, None, sym, ◌∙◌, ◌==◌, ◌&&◌, find, if◌then◌else◌, eqb-true, eqb-false, ArrayVec, ModuleAction, At, PartitionId, PortId, ChannelEnd, Channel, at_number, Advanced, Course, goes_on, still, then_goes, steps, of_member, ports_from, delivers, delivers_all, goes_by, is_port, channel_from, moves_found, moves_message, moves_messages, moves_so_many, moves_port, moves_ports, Member, arrives, leaves, leaving, admits, goes_out, messages_to_move, Path, Input, Arrive, stays, goes, keeps_on, takes_all, brought_to, brought_by}
+use Rattle.std.proofs.Common.{[], refl, subst}
+use Rattle.std.specs.Prelude.{cond}
 use Rattle.apex_types.specs.declared.row.ChannelEnd.TheVariants as ends
-use Rattle.module_meaning.specs.Table.{Channel, at_number}
-use Rattle.module_meaning.specs.Module.{Advanced, Course, goes_on, still, then_goes, steps, of_member, ports_from, delivers, delivers_all, goes_by, is_port, channel_from, moves_found, moves_message, moves_messages, moves_so_many, moves_port, moves_ports}
-use Rattle.kernel_meaning.specs.Partition.{Member, arrives, leaves, leaving, admits, goes_out, messages_to_move}
-use Rattle.isolation.specs.Alone.{Path, Input, Arrive, stays, goes, keeps_on, takes_all}
-use Rattle.isolation.specs.Brought.{brought_to, brought_by}
 use Rattle.isolation.proofs.Twins.{brought_found, brought_message, brought_messages, brought_so_many, brought_port, brought_ports}
 use Rattle.isolation.proofs.Kept.{arrives_keeps, leaves_keeps, admits_keeps, goes_out_keeps}
 use Rattle.isolation.proofs.Paths.{takes_append}

@@ -1,26 +1,15 @@
 -- The services on objects keep the property of the processes that wait at ports.
-use Rattle.std.proofs.Common.{ℕ, ℤ, Bool, List, [], ◌∷◌, length, Option, Some, None}
-use Rattle.std.specs.Prelude.{nat_lt, pos, if◌then◌else◌}
-use Rattle.arrayvec.specs.ArrayVec.{ArrayVec}
-use Rattle.apex_types.specs.declared.codes.Mode.{Mode}
+use Rattle.isolation.proofs.Prelude.{ℕ, ℤ, Bool, List, ◌∷◌, length, Option, Some, None, nat_lt, pos, if◌then◌else◌, ArrayVec, Mode, At, Runner, ProcessStatus, Waiting, PortRow, ArrayPlace, Call, Objects, Sharing, on, Step, message, blocks, first_waiting, waiting}
+use Rattle.std.proofs.Common.{[]}
 use Rattle.apex_types.specs.declared.codes.ReturnCode.TheVariants as code
-use Rattle.apex_types.specs.declared.identity.At.{At}
-use Rattle.apex_types.specs.declared.identity.Runner.{Runner}
-use Rattle.apex_types.specs.declared.process.ProcessStatus.{ProcessStatus}
-use Rattle.apex_types.specs.declared.process.Waiting.{Waiting}
-use Rattle.apex_types.specs.declared.row.PortRow.{PortRow}
-use Rattle.apex_types.specs.declared.service.ArrayPlace.{ArrayPlace}
-use Rattle.apex_types.specs.declared.service.Call.{Call}
 use Rattle.apex_types.specs.declared.service.Call.TheVariants as call
 use Rattle.kernel_meaning.specs.BlackboardServices as blackboards
 use Rattle.kernel_meaning.specs.BufferServices as buffers
 use Rattle.kernel_meaning.specs.EventServices as events
-use Rattle.kernel_meaning.specs.Objects.{Objects, Blackboard, Buffer, Semaphore, ApexEvent}
+use Rattle.kernel_meaning.specs.Objects.{Blackboard, Buffer, Semaphore, ApexEvent}
 use Rattle.kernel_meaning.specs.ObjectServices.{serves_objects}
 use Rattle.kernel_meaning.specs.SemaphoreServices as semaphores
-use Rattle.kernel_meaning.specs.Sharing.{Sharing, of_processes, on}
-use Rattle.kernel_meaning.specs.Step.{Step, message}
-use Rattle.kernel_meaning.specs.Sharing.{blocks, first_waiting, waiting}
+use Rattle.kernel_meaning.specs.Sharing.{of_processes}
 use Rattle.isolation.proofs.Handed.{AsksIn, IsSoundProcesses, either_so, released_sound, released_with_sound, all_released_sound, all_given_sound, blocks_sound}
 
 module _ (rows : List PortRow) where

@@ -1,25 +1,13 @@
 -- The facts of a lawful image for isolation: names that differ, and channels to others.
-use Rattle.std.proofs.Common.{◌≡◌, ◌≢◌, ℕ, zero, suc, ◌<◌, ◌≤◌, Bool, true, false, cond, not, ◌&&◌, ◌||◌, List, [], ◌∷◌, ◌++◌, length, map, Some, refl, sym, ap, subst, ◌∙◌, arith, inl, inr}
-use Rattle.std.specs.Prelude.{◌==◌, slice_get, nat_eq, find, flat_map, option_map}
-use Rattle.std.specs.List.{list_any}
-use Rattle.std.proofs.lemmas.Bool.{or_parts, and_parts, not-true, cases_lt, eqb-true, eqb-false, ne_eqb, cases_Bool}
-use Rattle.std.proofs.lemmas.Option.{slice_get-map}
-use Rattle.apex_types.specs.Versions.{third_limits}
-use Rattle.apex_types.specs.declared.identity.PortId.{PortId}
-use Rattle.apex_types.specs.declared.row.ChannelEnd.{ChannelEnd}
+use Rattle.isolation.proofs.Prelude.{◌≡◌, ◌≢◌, ℕ, zero, suc, ◌<◌, ◌≤◌, Bool, true, false, cond, List, ◌∷◌, ◌++◌, length, map, Some, sym, ◌∙◌, arith, inl, inr, ◌==◌, slice_get, nat_eq, find, flat_map, option_map, list_any, and_parts, cases_lt, eqb-true, eqb-false, ne_eqb, slice_get-map, third_limits, PortId, ChannelEnd, same, Channel, Partition, Item, Image, EachBeside, IsItem, IsLawful, partitions_in, is_port, sends_to_itself, ends_of, has_wrong_ends, has_wrong_direction, has_mixed_ports, is_split_queue, has_twice, is_same_port, has_unknown_port, items_widened}
+use Rattle.std.proofs.Common.{not, ◌&&◌, ◌||◌, [], refl, ap, subst}
+use Rattle.std.proofs.lemmas.Bool.{or_parts, not-true, cases_Bool}
 use Rattle.apex_types.specs.declared.row.ChannelEnd.TheVariants as ends
-use Rattle.engine_meaning.specs.Digits.{same}
-use Rattle.module_meaning.specs.Table.{Channel, Partition}
-use Rattle.machine_meaning.specs.Image.{Item, Image}
-use Rattle.machine_meaning.specs.ImageLimits.{EachBeside, IsItem, IsLawful}
-use Rattle.machine_meaning.specs.ImageReading.{partitions_in}
-use Rattle.module_meaning.specs.Module.{is_port}
-use Rattle.module_meaning.specs.Table.{is_in_same_partition, sends_to_itself, has_two_devices, ends_of, is_wrong, has_wrong_ends, has_odd_period, has_short_period, lacks_release, has_wrong_direction, has_mixed_ports, is_split_queue, has_twice, is_same_port}
-use Rattle.module_meaning.specs.ImageRules.{has_wrong_window, has_unknown_port}
+use Rattle.module_meaning.specs.Table.{is_in_same_partition, has_two_devices, is_wrong, has_odd_period, has_short_period, lacks_release}
+use Rattle.module_meaning.specs.ImageRules.{has_wrong_window}
 use Rattle.isolation.proofs.Messages.{found_passes}
 use Rattle.isolation.proofs.OwnMessages.{IsOf, NoneOf, AreLawful, with_number}
 use Rattle.isolation.proofs.Steps.{IsApart, AreApart, same_some}
-use Rattle.machine_laws.proofs.Widened.{items_widened}
 
 -- ---- lists
 pub any_at : {A : Type 0} (test : A → Bool) (xs : List A) (k : ℕ) (x : A) → list_any test xs ≡ false → slice_get xs k ≡ Some x → test x ≡ false

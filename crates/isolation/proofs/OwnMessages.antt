@@ -1,23 +1,10 @@
 -- The messages of a partition whose own window has ended: their destinations make no difference to
 -- it.
-use Rattle.std.proofs.Common.{◌≡◌, ◌≢◌, ℕ, zero, suc, ◌+◌, ℤ, Bool, false, List, [], ◌∷◌, ◌++◌, length, Option, Some, None, refl, sym, ap, subst, ◌∙◌}
-use Rattle.std.specs.Prelude.{if◌then◌else◌}
-use Rattle.std.specs.List.{list_any}
-use Rattle.std.proofs.lemmas.Bool.{ne_eqb}
-use Rattle.arrayvec.specs.ArrayVec.{ArrayVec}
-use Rattle.apex_types.specs.declared.identity.At.{At}
-use Rattle.apex_types.specs.declared.identity.PartitionId.{PartitionId}
-use Rattle.apex_types.specs.declared.identity.PortId.{PortId}
-use Rattle.apex_types.specs.declared.row.ChannelEnd.{ChannelEnd}
+use Rattle.isolation.proofs.Prelude.{◌≡◌, ◌≢◌, ℕ, zero, suc, ◌+◌, ℤ, Bool, false, List, ◌∷◌, ◌++◌, length, Option, Some, None, sym, ◌∙◌, if◌then◌else◌, list_any, ne_eqb, ArrayVec, At, PartitionId, PortId, ChannelEnd, Channel, at_number, Advanced, steps, of_member, ports_of, ports_from, delivers, delivers_all, goes_by, channel_from, moves_found, moves_message, moves_messages, moves_so_many, moves_port, moves_ports, Member, arrives, leaves, leaving, admits, goes_out, messages_to_move, Gone, Input, Arrive, Surroundings, stays, goes, goes_by_way, sends_found, sends_message, sends_messages, sends_so_many, sends_port, sends_ports, way_out, brought_to, brought_by, name_to_device}
+use Rattle.std.proofs.Common.{[], refl, ap, subst}
 use Rattle.apex_types.specs.declared.row.ChannelEnd.TheVariants as ends
-use Rattle.module_meaning.specs.Table.{Channel, at_number}
-use Rattle.module_meaning.specs.Module.{Advanced, steps, of_member, ports_of, ports_from, delivers, delivers_all, goes_by, channel_from, moves_found, moves_message, moves_messages, moves_so_many, moves_port, moves_ports}
-use Rattle.kernel_meaning.specs.Partition.{Member, arrives, leaves, leaving, admits, goes_out, messages_to_move}
 use Rattle.module_meaning.specs.Table.{is_device, has_two_devices}
-use Rattle.isolation.specs.Alone.{Gone, Input, Arrive, Surroundings, stays, goes, goes_by_way, sends_found, sends_message, sends_messages, sends_so_many, sends_port, sends_ports, way_out}
-use Rattle.isolation.specs.Brought.{brought_to, brought_by}
 use Rattle.isolation.proofs.Twins.{brought_found, brought_messages, brought_so_many, brought_ports}
-use Rattle.isolation.specs.Surrounded.{name_to_device}
 use Rattle.isolation.proofs.Kept.{arrives_keeps, leaves_keeps, admits_keeps, goes_out_keeps}
 use Rattle.isolation.proofs.Messages.{NotOf}
 use Rattle.isolation.proofs.Steps.{IsApart, Holds, Same, still_same, steps_own, steps_other, then_same, nothing_then_same, then_nothing_same}

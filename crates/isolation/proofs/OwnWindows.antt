@@ -1,12 +1,10 @@
 -- A partition's own windows hold and end the very ticks that the module gives it.
-use Rattle.std.proofs.Common.{◌≡◌, ℕ, suc, Bool, true, false, IsTrue, cond, List, [], ◌∷◌, Option, Some, None, refl, sym, ap, ◌∙◌, arith}
-use Rattle.std.specs.Prelude.{◌<◌, ◌==◌, nat_lt, if◌then◌else◌, filter, find, is_some, option_map, slice_get}
-use Rattle.std.specs.List.{list_any}
-use Rattle.std.proofs.lemmas.Bool.{or_parts, or_from, ltb-true}
-use Rattle.apex_types.specs.declared.identity.At.{At}
-use Rattle.apex_types.specs.declared.row.WindowRow.{WindowRow}
-use Rattle.kernel_meaning.specs.Windows.{Schedule, schedule_of_partition, phase, is_within, ends_at, owner, ended}
-use Rattle.kernel_meaning.specs.WindowFacts.{AtMostOne, HasOneOwner, HasOneEnd}
+use Rattle.isolation.proofs.Prelude.{◌≡◌, ℕ, suc, Bool, true, false, cond, List, ◌∷◌, Option, Some, None, sym, ◌∙◌, arith, ◌==◌, nat_lt, if◌then◌else◌, filter, find, is_some, option_map, slice_get, list_any, or_from, At, WindowRow, Schedule, schedule_of_partition, owner, ended, HasOneOwner, HasOneEnd}
+use Rattle.std.proofs.Common.{IsTrue, [], refl, ap}
+use Rattle.std.specs.Prelude.{◌<◌}
+use Rattle.std.proofs.lemmas.Bool.{or_parts, ltb-true}
+use Rattle.kernel_meaning.specs.Windows.{phase, is_within, ends_at}
+use Rattle.kernel_meaning.specs.WindowFacts.{AtMostOne}
 
 abbrev pub is_number : ℕ → Option ℕ → Bool
 is_number p None = false

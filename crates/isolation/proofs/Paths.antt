@@ -1,10 +1,6 @@
 -- One input after another, for a partition on its own.
-use Rattle.std.proofs.Common.{◌≡◌, List, [], ◌∷◌, ◌++◌, Option, Some, None, refl, sym, ap, ◌∙◌, append_assoc, append-nil}
-use Rattle.apex_types.specs.declared.codes.ModuleAction.{ModuleAction}
-use Rattle.apex_types.specs.declared.event.Event.{Event}
-use Rattle.apex_types.specs.declared.identity.At.{At}
-use Rattle.kernel_meaning.specs.Partition.{Member}
-use Rattle.isolation.specs.Alone.{Path, Input, stays, keeps_on, unless_over, and_runs, takes, takes_all}
+use Rattle.isolation.proofs.Prelude.{◌≡◌, List, ◌∷◌, ◌++◌, Option, Some, None, sym, ◌∙◌, append_assoc, append-nil, ModuleAction, Event, At, Member, Path, Input, stays, keeps_on, unless_over, and_runs, takes, takes_all}
+use Rattle.std.proofs.Common.{[], refl, ap}
 
 module _ {C : Type 0} where
   abbrev path : Option At → Member C → List Event → Path (Member C)

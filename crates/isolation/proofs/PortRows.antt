@@ -1,29 +1,13 @@
 -- The services on ports keep the invariant of a partition.
-use Rattle.std.proofs.Common.{◌≡◌, ℕ, zero, suc, ◌≤◌, ℤ, Bool, true, false, List, [], ◌∷◌, length, Option, Some, None, refl, sym, ap, subst, ◌∙◌}
-use Rattle.std.specs.Prelude.{pos, negsuc, not, if◌then◌else◌, slice_get, is_some}
-use Rattle.std.proofs.lemmas.Bool.{not-false}
-use Rattle.arrayvec.specs.ArrayVec.{ArrayVec}
-use Rattle.apex_types.specs.declared.limits.TheConstants.{MOST_WORDS}
-use Rattle.apex_types.specs.declared.codes.Mode.{Mode}
+use Rattle.isolation.proofs.Prelude.{◌≡◌, ℕ, zero, suc, ◌≤◌, ℤ, Bool, true, false, List, ◌∷◌, length, Option, Some, None, sym, ◌∙◌, pos, negsuc, not, if◌then◌else◌, slice_get, is_some, not-false, ArrayVec, MOST_WORDS, Mode, At, Runner, PortRow, ArrayPlace, Call, Service, is_duration, Calls, given, Port, Ports, is_sampling, is_source, is_source_direction, is_full, with_sample, with_message, becomes_port, is_normal, Sharing, on, is_length, Step, after, message, first_words, blocks}
+use Rattle.std.proofs.Common.{[], refl, ap, subst}
 use Rattle.apex_types.specs.declared.codes.ReturnCode.TheVariants as code
-use Rattle.apex_types.specs.declared.identity.At.{At}
-use Rattle.apex_types.specs.declared.identity.Runner.{Runner}
-use Rattle.apex_types.specs.declared.row.PortRow.{PortRow}
-use Rattle.apex_types.specs.declared.service.ArrayPlace.{ArrayPlace}
-use Rattle.apex_types.specs.declared.service.Call.{Call}
 use Rattle.apex_types.specs.declared.service.Call.TheVariants as call
-use Rattle.apex_types.specs.declared.service.Service.{Service}
 use Rattle.apex_types.specs.declared.service.Service.TheVariants as service
-use Rattle.kernel_meaning.specs.Times.{is_duration}
-use Rattle.engine_meaning.specs.Engine.{Calls}
 use Rattle.kernel_meaning.specs.Objects.{numbered_in, placed}
-use Rattle.kernel_meaning.specs.Partition.{given}
-use Rattle.kernel_meaning.specs.Objects.{Port, Ports, sampling, queuing, is_sampling, is_source, is_source_direction, is_full, with_sample, with_message, those_sampling, those_queuing, if_sampling, unless_sampling}
-use Rattle.kernel_meaning.specs.PortServices.{sender, sends, send_queuing_message, receiver, receives, receive_queuing_message, is_valid, becomes_port, writes_sample, write_sampling_message, is_created, creates, reads_sample, read_sampling_message, clear_queuing_port, clears_port, serves_ports}
-use Rattle.kernel_meaning.specs.Processes.{is_normal}
-use Rattle.kernel_meaning.specs.Sharing.{Sharing, answers, has, on, create, get_id, get_status, is_length, is_large_enough, of_processes}
-use Rattle.kernel_meaning.specs.Step.{Step, after, message, first_words}
-use Rattle.kernel_meaning.specs.Sharing.{blocks}
+use Rattle.kernel_meaning.specs.Objects.{sampling, queuing, those_sampling, those_queuing, if_sampling, unless_sampling}
+use Rattle.kernel_meaning.specs.PortServices.{sender, sends, send_queuing_message, receiver, receives, receive_queuing_message, is_valid, writes_sample, write_sampling_message, is_created, creates, reads_sample, read_sampling_message, clear_queuing_port, clears_port, serves_ports}
+use Rattle.kernel_meaning.specs.Sharing.{answers, has, create, get_id, get_status, is_large_enough, of_processes}
 use Rattle.isolation.proofs.Handed.{Asks, blocks_sound}
 use Rattle.isolation.proofs.HandedIn.{AsksWithin, handed_length}
 use Rattle.isolation.proofs.Holding.{HasLength, IsHolding}

@@ -1,21 +1,14 @@
 -- The services on processes and on time keep the property of the processes that wait at ports.
-use Rattle.std.proofs.Common.{ℕ, zero, suc, ◌+◌, ℤ, Bool, true, false, List, length, Option, Some, None}
-use Rattle.std.specs.Prelude.{◌-◌, not, pos, negsuc, if◌then◌else◌}
-use Rattle.apex_types.specs.declared.codes.Mode.{Mode}
+use Rattle.isolation.proofs.Prelude.{ℕ, zero, suc, ◌+◌, ℤ, Bool, true, false, List, length, Option, Some, None, not, pos, negsuc, if◌then◌else◌, Mode, At, Runner, ProcessStatus, Wait, PortRow, is_duration, is_zero, Processes, row_of, index, is_busy}
+use Rattle.std.specs.Prelude.{◌-◌}
 use Rattle.apex_types.specs.declared.codes.ReturnCode.TheVariants as code
-use Rattle.apex_types.specs.declared.identity.At.{At}
 use Rattle.apex_types.specs.declared.identity.Priority.{Priority}
-use Rattle.apex_types.specs.declared.identity.Runner.{Runner}
 use Rattle.apex_types.specs.declared.identity.Runner.TheVariants as runner
 use Rattle.apex_types.specs.declared.identity.Ticks.{Ticks}
-use Rattle.apex_types.specs.declared.process.ProcessStatus.{ProcessStatus}
-use Rattle.apex_types.specs.declared.process.Wait.{Wait}
 use Rattle.apex_types.specs.declared.process.Wait.TheVariants as wait
-use Rattle.apex_types.specs.declared.row.PortRow.{PortRow}
 use Rattle.apex_types.specs.declared.service.Service.TheVariants as service
-use Rattle.kernel_meaning.specs.Times.{is_delay, is_duration}
-use Rattle.engine_meaning.specs.Operators.{is_zero}
-use Rattle.kernel_meaning.specs.Processes.{Processes, row_of, index, is_busy, is_periodic}
+use Rattle.kernel_meaning.specs.Times.{is_delay}
+use Rattle.kernel_meaning.specs.Processes.{is_periodic}
 use Rattle.kernel_meaning.specs.ProcessServices.{get_process_id, get_process_status, create_process, set_priority, takes_priority, is_ready_state, suspend_self, suspends_self, of_row, may_not_lock, time_out, suspend, resume, resumes, resumes_from, stop, stop_self, start, delayed_start, lock_preemption, unlock_preemption, get_my_id}
 use Rattle.kernel_meaning.specs.Times.{starts, starts_in_normal, starts_if_waiting, starts_waiting, start_from, start_all_waiting}
 use Rattle.kernel_meaning.specs.ProcessServices.{timed_wait, delays, yields, waits_until, periodic_wait, waits_periodically, waits_for_period, replenish, replenishes, deadline_in, has_no_deadline, reaches_past}

@@ -1,14 +1,10 @@
 -- Which lines of a trace belong to a partition: all that it writes, and none that another writes.
-use Rattle.std.proofs.Common.{◌≡◌, ℕ, Bool, true, false, List, [], ◌∷◌, ◌++◌, cond, refl, ap, ◌∙◌}
-use Rattle.std.specs.Prelude.{◌&&◌}
-use Rattle.std.proofs.lemmas.Bool.{eq-eqb}
+use Rattle.isolation.proofs.Prelude.{◌≡◌, ℕ, Bool, true, false, List, ◌∷◌, ◌++◌, cond, ◌∙◌, ◌&&◌, eq-eqb, Event, At, same, part}
+use Rattle.std.proofs.Common.{[], refl, ap}
 use Rattle.std.proofs.lemmas.List.Elements.{filter-append}
-use Rattle.apex_types.specs.declared.event.Event.{Event}
 use Rattle.apex_types.specs.declared.event.EventKind.{EventKind}
-use Rattle.apex_types.specs.declared.identity.At.{At}
-use Rattle.engine_meaning.specs.Digits.{same}
 use Rattle.kernel_meaning.specs.Partition.{line, told}
-use Rattle.isolation.specs.Brought.{is_of, part}
+use Rattle.isolation.specs.Brought.{is_of}
 
 pub same_itself : (name : List ℕ) → same name name ≡ true
 same_itself [] = refl

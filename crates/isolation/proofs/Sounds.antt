@@ -1,44 +1,22 @@
 -- The invariant of a partition, and that all steps but its own ticks keep it.
-use Rattle.std.proofs.Common.{◌≡◌, ℕ, zero, suc, ◌+◌, ◌-◌, ◌≤◌, ℤ, Bool, true, false, List, [], ◌∷◌, ◌++◌, map, length, Option, Some, None, refl, sym, ap, subst, ◌∙◌, arith}
-use Rattle.std.specs.Prelude.{replicate, pos, if◌then◌else◌, slice_get, slice_set}
-use Rattle.std.specs.List.{AllByRecursion}
-use Rattle.std.proofs.lemmas.List.{length-set, length-map}
-use Rattle.arrayvec.specs.ArrayVec.{ArrayVec}
+use Rattle.isolation.proofs.Prelude.{◌≡◌, ℕ, zero, suc, ◌+◌, ◌-◌, ◌≤◌, ℤ, Bool, true, false, List, ◌∷◌, ◌++◌, map, length, Option, Some, None, sym, ◌∙◌, arith, replicate, pos, if◌then◌else◌, slice_get, slice_set, AllByRecursion, length-set, ArrayVec, Mode, Ready, StartCondition, At, PortId, Runner, Action, Entry, ProcessStatus, PortDirection, PortRow, mode_of_action, Engine, breaks, then_clears, at_number, Fixed, Kernel, with_ports, of_ports, of_ports_alone, Objects, World, Member, act, act_all, moved, place_of_port, clears, Port, Ports, is_source, is_source_direction, is_sampling, is_full, with_sample, with_message, port_at, list, becomes_port, Processes, row_of, numbered, no_longer_waits, wakes, Sharing, Step, after, waiting, first_waiting}
+use Rattle.std.proofs.Common.{[], refl, ap, subst}
+use Rattle.std.proofs.lemmas.List.{length-map}
 use Rattle.apex_types.specs.declared.codes.ErrorKind.TheVariants as error
-use Rattle.apex_types.specs.declared.codes.Mode.{Mode}
 use Rattle.apex_types.specs.declared.codes.Mode.TheVariants as mode
-use Rattle.apex_types.specs.declared.codes.ProcessState.TheVariants.{Ready}
 use Rattle.apex_types.specs.declared.codes.ReturnCode.TheVariants as code
-use Rattle.apex_types.specs.declared.codes.StartCondition.{StartCondition}
 use Rattle.apex_types.specs.declared.codes.StartCondition.TheVariants as condition
-use Rattle.apex_types.specs.declared.identity.At.{At}
-use Rattle.apex_types.specs.declared.identity.PortId.{PortId}
-use Rattle.apex_types.specs.declared.identity.Runner.{Runner}
 use Rattle.apex_types.specs.declared.identity.Runner.TheVariants as runner
 use Rattle.apex_types.specs.declared.limits.TheConstants.{MOST_OBJECTS}
-use Rattle.apex_types.specs.Runners.{Action}
 use Rattle.apex_types.specs.Runners as action
-use Rattle.apex_types.specs.declared.process.Entry.{Entry}
-use Rattle.apex_types.specs.declared.process.ProcessStatus.{ProcessStatus}
-use Rattle.apex_types.specs.declared.row.PortDirection.{PortDirection}
 use Rattle.apex_types.specs.declared.row.PortDirection.TheVariants as direction
-use Rattle.apex_types.specs.declared.row.PortRow.{PortRow}
 use Rattle.kernel_meaning.specs.PortServices as arrival
-use Rattle.kernel_meaning.specs.Times.{mode_of_action}
-use Rattle.engine_meaning.specs.Engine.{Engine}
-use Rattle.kernel_meaning.specs.HealthServices.{action_of, breaks, then_clears}
-use Rattle.module_meaning.specs.Table.{at_number}
-use Rattle.kernel_meaning.specs.Kernel.{Fixed, Kernel, with_ports, of_ports, of_ports_alone}
-use Rattle.kernel_meaning.specs.Objects.{Objects}
-use Rattle.kernel_meaning.specs.Partition.{World, Member, act, act_all, moved, place_of_port}
-use Rattle.kernel_meaning.specs.PartitionServices.{clears, forgotten, ready_init, started_rows}
-use Rattle.kernel_meaning.specs.Objects.{Port, Ports, is_source, is_source_direction, is_sampling, is_full, with_sample, with_message, cleared_port, fresh_port, fresh_ports, port_at}
-use Rattle.kernel_meaning.specs.PortServices.{list, becomes_port}
-use Rattle.kernel_meaning.specs.Processes.{Processes, row_of, numbered, no_longer_waits, wakes}
-use Rattle.kernel_meaning.specs.Sharing.{Sharing}
-use Rattle.kernel_meaning.specs.Step.{Step, nothing, after}
+use Rattle.kernel_meaning.specs.HealthServices.{action_of}
+use Rattle.kernel_meaning.specs.PartitionServices.{forgotten, ready_init, started_rows}
+use Rattle.kernel_meaning.specs.Objects.{cleared_port, fresh_port, fresh_ports}
+use Rattle.kernel_meaning.specs.Step.{nothing}
 use Rattle.kernel_meaning.specs.Fresh.{fresh_kernel, no_message}
-use Rattle.kernel_meaning.specs.Sharing.{waiting, first_waiting, handed_by}
+use Rattle.kernel_meaning.specs.Sharing.{handed_by}
 use Rattle.isolation.proofs.Handed.{AllIn, Asks, HasHanded, IsSoundProcesses, emptied_in, at_place, released_sound, released_with_sound}
 use Rattle.isolation.proofs.HandedIn.{KeepsWithin}
 use Rattle.isolation.proofs.Holding.{HasLength, IsHolding, AreHolding}

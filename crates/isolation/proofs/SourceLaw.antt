@@ -1,33 +1,20 @@
 -- Isolation, for the sources of every accepted table. The consequences of a table's rules are taken
 -- from the image of the same table with empty sections.
-use Rattle.std.proofs.Common.{◌≡◌, ℕ, zero, suc, ◌+◌, List, [], ◌∷◌, map, Some, None, Ok, refl, sym, ap, subst, ◌∙◌, arith, false}
-use Rattle.std.specs.Prelude.{◌==◌, replicate, slice_get, option_map}
+use Rattle.isolation.proofs.Prelude.{◌≡◌, ℕ, zero, suc, ◌+◌, List, ◌∷◌, map, Some, None, Ok, sym, ◌∙◌, arith, false, ◌==◌, replicate, slice_get, option_map, slice_get-map, third_limits, Costs, DeviceLine, WindowRow, same, Item, Image, Partition, at_number, IsLawful, Member, has_wrong_ends, has_unknown_port, fixed_of, Schedule, schedule_of_partition, part}
+use Rattle.std.proofs.Common.{[], refl, ap, subst}
 use Rattle.std.specs.List.{All}
-use Rattle.std.proofs.lemmas.Option.{slice_get-map}
 use Rattle.toml.specs.Data.{Members}
-use Rattle.apex_types.specs.Versions.{third_limits}
-use Rattle.apex_types.specs.declared.cost.Costs.{Costs}
-use Rattle.apex_types.specs.declared.device.DeviceLine.{DeviceLine}
-use Rattle.apex_types.specs.declared.row.WindowRow.{WindowRow}
 use Rattle.module_meaning.specs.DeviceText.{verdict as device_verdict}
-use Rattle.engine_meaning.specs.Digits.{same}
-use Rattle.machine_meaning.specs.Image.{Item, Image}
-use Rattle.module_meaning.specs.Table.{Partition, Table, at_number}
+use Rattle.module_meaning.specs.Table.{Table}
 use Rattle.machine_meaning.specs.Section.{Section}
-use Rattle.machine_meaning.specs.ImageLimits.{IsSection, IsLawful}
-use Rattle.kernel_meaning.specs.Partition.{Member}
+use Rattle.machine_meaning.specs.ImageLimits.{IsSection}
 use Rattle.pal_meaning.specs.Program.{Program}
 use Rattle.pal_meaning.specs.SourceControl.{SourceControl}
 use Rattle.module_meaning.specs.TableRules.{verdict}
-use Rattle.module_meaning.specs.Table.{has_wrong_ends}
-use Rattle.module_meaning.specs.ImageRules.{has_unknown_port}
-use Rattle.module_meaning.specs.Table.{fixed_of}
 use Rattle.module_meaning.specs.SourceMeaning.{source_member, source_members, source_module, source_trace}
-use Rattle.kernel_meaning.specs.Windows.{Schedule, schedule_of_partition}
 use Rattle.machine_laws.proofs.AcceptedImage.{accepted_image}
 use Rattle.machine_laws.proofs.AcceptedTable.{image_of}
 use Rattle.machine_laws.proofs.Releases.{accepted_owner, accepted_end}
-use Rattle.isolation.specs.Brought.{part}
 use Rattle.isolation.specs.SourceSlices.{source_slice, source_slice_trace, source_inputs}
 use Rattle.isolation.proofs.Isolated.{isolated}
 use Rattle.isolation.proofs.Law.{filter_twice}

@@ -1,15 +1,8 @@
 -- The effect of a step of the module on one partition: its own step, or nothing.
-use Rattle.std.proofs.Common.{◌≡◌, ◌≢◌, ℕ, zero, suc, false, List, [], ◌∷◌, ◌++◌, map, Option, Some, None, refl, sym, ap, subst, ◌∙◌, append-nil, arith}
-use Rattle.std.specs.Prelude.{slice_get, slice_set, flat_map, option_map}
-use Rattle.std.proofs.lemmas.Option.{slice_get-map}
-use Rattle.apex_types.specs.declared.codes.StartCondition.{StartCondition}
-use Rattle.apex_types.specs.declared.event.Event.{Event}
-use Rattle.apex_types.specs.declared.identity.At.{At}
-use Rattle.engine_meaning.specs.Digits.{same}
-use Rattle.module_meaning.specs.Module.{Advanced, Course, still, then_goes, steps, steps_member, goes_on, unless_down, then_runs, starts_all, started_member, start_lines}
-use Rattle.kernel_meaning.specs.Partition.{Member, Moved, with_world, cold_start}
-use Rattle.isolation.specs.Alone.{Gone, Path, stays, goes, and_then, keeps_on, unless_over, and_runs}
-use Rattle.isolation.specs.Brought.{part}
+use Rattle.isolation.proofs.Prelude.{◌≡◌, ◌≢◌, ℕ, zero, suc, false, List, ◌∷◌, ◌++◌, map, Option, Some, None, sym, ◌∙◌, append-nil, arith, slice_get, slice_set, flat_map, option_map, slice_get-map, StartCondition, Event, At, same, Advanced, Course, still, then_goes, steps, goes_on, unless_down, starts_all, started_member, Member, Moved, cold_start, Gone, Path, stays, goes, and_then, keeps_on, unless_over, and_runs, part}
+use Rattle.std.proofs.Common.{[], refl, ap, subst}
+use Rattle.module_meaning.specs.Module.{steps_member, then_runs, start_lines}
+use Rattle.kernel_meaning.specs.Partition.{with_world}
 use Rattle.isolation.proofs.Seen.{part-append}
 use Rattle.isolation.proofs.Kept.{StepKeeps, cold_start_keeps}
 

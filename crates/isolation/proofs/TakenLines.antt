@@ -1,25 +1,13 @@
 -- The messages of an accepted device text go by channels that are from the device, and have a length that the
 -- channels allow.
-use Rattle.std.proofs.Common.{◌≡◌, ℕ, suc, ◌+◌, ◌≤◌, codes, ℤ, Bool, true, false, cond, List, [], ◌∷◌, Option, Some, None, Result, Ok, Err, refl, sym, ap, subst, ◌∙◌, arith, length}
-use Rattle.std.specs.Prelude.{slice_get, ◌&&◌, nat_lt, nat_le, map, if◌then◌else◌}
-use Rattle.std.specs.List.{AllByRecursion}
-use Rattle.std.proofs.lemmas.Bool.{and_parts, leb-true}
-use Rattle.apex_types.specs.Line.{space}
-use Rattle.apex_types.specs.declared.limits.TheConstants.{MOST_TICKS}
-use Rattle.apex_types.specs.NameText.{is_name}
-use Rattle.apex_types.specs.declared.device.DeviceFault.{DeviceFault}
+use Rattle.isolation.proofs.Prelude.{◌≡◌, ℕ, suc, ◌+◌, ◌≤◌, ℤ, Bool, true, false, cond, List, ◌∷◌, Option, Some, None, Result, Ok, Err, sym, ◌∙◌, arith, length, slice_get, ◌&&◌, nat_lt, nat_le, if◌then◌else◌, AllByRecursion, and_parts, leb-true, space, MOST_TICKS, is_name, DeviceFault, DeviceInput, DeviceLine, ChannelEnd, Written, Message, message_with, message_of, line_with, is_room, words_of_ends, pieces, verdict_for, same, Partition, Channel, Image, message}
+use Rattle.std.proofs.Common.{codes, [], refl, ap, subst}
+use Rattle.std.specs.Prelude.{map}
 use Rattle.apex_types.specs.declared.device.DeviceFault.TheVariants as fault
-use Rattle.apex_types.specs.declared.device.DeviceInput.{DeviceInput}
 use Rattle.apex_types.specs.declared.device.DeviceInput.TheVariants as device
-use Rattle.apex_types.specs.declared.device.DeviceLine.{DeviceLine}
-use Rattle.apex_types.specs.declared.row.ChannelEnd.{ChannelEnd}
 use Rattle.apex_types.specs.declared.row.ChannelEnd.TheVariants as ends
-use Rattle.module_meaning.specs.DeviceText.{Written, WrittenLine, Message, ModuleFault, PartitionFault, plain_number, word, words, put_word, message_with, message_of, fault_of, written_of, line_with, line_of_pieces, first_from, is_device, within, is_room, words_of_ends, taken_message, taken_fault, named, taken, ends_with, put_line, and_then, lines_from, line_of, pieces, verdict}
-use Rattle.machine_meaning.specs.MachineMeaning.{verdict_for, row_of_item}
-use Rattle.engine_meaning.specs.Digits.{same}
-use Rattle.module_meaning.specs.Table.{Partition, Channel}
-use Rattle.machine_meaning.specs.Image.{Image}
-use Rattle.kernel_meaning.specs.Step.{message}
+use Rattle.module_meaning.specs.DeviceText.{WrittenLine, ModuleFault, PartitionFault, plain_number, word, words, put_word, fault_of, written_of, line_of_pieces, first_from, is_device, within, taken_message, taken_fault, named, taken, ends_with, put_line, and_then, lines_from, line_of, verdict}
+use Rattle.machine_meaning.specs.MachineMeaning.{row_of_item}
 use Rattle.isolation.proofs.Holding.{HasLength}
 use Rattle.isolation.proofs.Lines.{IsFromDevice, AreFromDevice}
 use Rattle.isolation.proofs.Steps.{same_some}

@@ -1,17 +1,8 @@
 -- One tick of the module is one tick of each of its partitions on its own.
-use Rattle.std.proofs.Common.{◌≡◌, ◌≢◌, ℕ, suc, Bool, true, false, List, length, Option, Some, None, refl, sym, ap, subst, ◌∙◌}
-use Rattle.std.specs.Prelude.{◌==◌, is_some}
-use Rattle.std.proofs.lemmas.Bool.{eqb-true, eqb-false}
-use Rattle.apex_types.specs.declared.device.DeviceLine.{DeviceLine}
-use Rattle.apex_types.specs.declared.identity.At.{At}
-use Rattle.apex_types.specs.declared.row.PortRow.{PortRow}
-use Rattle.module_meaning.specs.Module.{Plan, Advanced, Course, goes_on, then_goes, steps, ports_from, moves_ended, ticks_owner, moves_and_ticks, module_tick, inputs_all, of_tick}
-use Rattle.kernel_meaning.specs.Partition.{Member, advances}
-use Rattle.kernel_meaning.specs.Windows.{owner, ended}
-use Rattle.isolation.specs.Alone.{Gone, Path, Input, Surroundings, goes, and_then, keeps_on, and_runs, takes_all, sends_ended, ticks_own, sends_and_ticks, tick_alone}
-use Rattle.isolation.specs.Brought.{brought_in_all, brought_moved, brought_tick}
+use Rattle.isolation.proofs.Prelude.{◌≡◌, ◌≢◌, ℕ, suc, Bool, true, false, List, length, Option, Some, None, sym, ◌∙◌, ◌==◌, is_some, eqb-true, eqb-false, DeviceLine, At, PortRow, Plan, Advanced, Course, goes_on, then_goes, steps, ports_from, moves_and_ticks, module_tick, inputs_all, of_tick, Member, advances, owner, ended, Gone, Path, Input, Surroundings, goes, and_then, keeps_on, and_runs, takes_all, sends_ended, ticks_own, sends_and_ticks, tick_alone, brought_in_all, brought_moved, brought_tick, surroundings_of}
+use Rattle.std.proofs.Common.{refl, ap, subst}
+use Rattle.module_meaning.specs.Module.{moves_ended, ticks_owner}
 use Rattle.isolation.proofs.Twins.{brought_ended}
-use Rattle.isolation.specs.Surrounded.{surroundings_of}
 use Rattle.isolation.proofs.Held.{ended_held}
 use Rattle.isolation.proofs.Kept.{advances_keeps}
 use Rattle.isolation.proofs.Lines.{AreFromDevice, of_tick_from, lines_same}

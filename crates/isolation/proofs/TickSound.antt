@@ -1,35 +1,19 @@
 -- A tick of a partition keeps its invariant.
-use Rattle.std.proofs.Common.{ℕ, zero, suc, ◌+◌, ℤ, Bool, true, false, List, length, Option, Some, None}
-use Rattle.std.specs.Prelude.{◌&&◌, not, nat_le, is_some, if◌then◌else◌, slice_set}
-use Rattle.apex_types.specs.Runners.{place_of}
-use Rattle.apex_types.specs.declared.codes.Mode.{Mode}
-use Rattle.apex_types.specs.declared.codes.PartitionAction.{PartitionAction}
-use Rattle.apex_types.specs.declared.codes.ProcessState.TheVariants.{Ready, Running}
+use Rattle.isolation.proofs.Prelude.{ℕ, zero, suc, ◌+◌, ℤ, Bool, true, false, List, length, Option, Some, None, ◌&&◌, not, nat_le, is_some, if◌then◌else◌, slice_set, place_of, Mode, PartitionAction, Ready, At, ProcessIndex, Runner, Due, ProcessStatus, PortRow, Call, Engine, Asks, Nothing, Calls, Faults, Ends, Errors, then_clears, Kernel, of_processes, with_errors, with_ports, World, Member, chooses_with_handler, given, control_at, ticked, serves, treats_asked, moved, spends, spends_chosen, treating_phase, clearing_phase, due_phase, choice_phase, prepares, tick, next_release_of, Processes, row_of, index, is_normal, Sharing, Step}
+use Rattle.apex_types.specs.declared.codes.ProcessState.TheVariants.{Running}
 use Rattle.apex_types.specs.declared.codes.ReturnCode.TheVariants as code
-use Rattle.apex_types.specs.declared.identity.At.{At}
-use Rattle.apex_types.specs.declared.identity.ProcessIndex.{ProcessIndex}
-use Rattle.apex_types.specs.declared.identity.Runner.{Runner}
 use Rattle.apex_types.specs.declared.identity.Runner.TheVariants as runner
-use Rattle.apex_types.specs.declared.process.Due.{Due}
 use Rattle.apex_types.specs.declared.process.Due.TheVariants as due_time
-use Rattle.apex_types.specs.declared.process.ProcessStatus.{ProcessStatus}
-use Rattle.apex_types.specs.declared.row.PortRow.{PortRow}
-use Rattle.apex_types.specs.declared.service.Call.{Call}
 use Rattle.apex_types.specs.declared.service.Call.TheVariants as call
 use Rattle.kernel_meaning.specs.Times.{Treated, timed_out, ends_wait, treats_due, misses, treats_deadline, treats, due_from, is_past, tick_of}
-use Rattle.engine_meaning.specs.Engine.{Engine, Asks, Nothing, Calls, Faults, Ends}
-use Rattle.kernel_meaning.specs.Kernel.{Errors}
-use Rattle.kernel_meaning.specs.HealthServices.{starts_handler, begins_if_dormant, is_message_length, is_waiting, then_clears}
-use Rattle.kernel_meaning.specs.Kernel.{Kernel, of_processes, with_errors, with_objects, with_ports}
+use Rattle.kernel_meaning.specs.HealthServices.{starts_handler, begins_if_dormant, is_message_length, is_waiting}
+use Rattle.kernel_meaning.specs.Kernel.{with_objects}
 use Rattle.kernel_meaning.specs.Partition as partition
-use Rattle.kernel_meaning.specs.Partition.{World, Member, preempts, runs, leaves_processor, takes_processor, are_same, pick, chooses, chooses_with_handler, given, control_at, ticked, ticked_some, serves, serves_processes, serves_shared, treats_asked, moved, spends, spends_chosen, treating_phase, clearing_phase, due_phase, choice_phase, prepares, tick}
-use Rattle.kernel_meaning.specs.PartitionServices.{next_release_of}
-use Rattle.kernel_meaning.specs.Processes.{Processes, row_of, index, is_dormant, is_normal}
+use Rattle.kernel_meaning.specs.Partition.{preempts, runs, leaves_processor, takes_processor, are_same, pick, chooses, ticked_some, serves_processes, serves_shared}
+use Rattle.kernel_meaning.specs.Processes.{is_dormant}
 use Rattle.kernel_meaning.specs.PortServices.{is_on_ports}
 use Rattle.kernel_meaning.specs.ProcessServices.{number_of}
-use Rattle.kernel_meaning.specs.Sharing.{Sharing}
 use Rattle.kernel_meaning.specs.Times.{released_at}
-use Rattle.kernel_meaning.specs.Step.{Step}
 use Rattle.isolation.proofs.ErrorRows.{either as either_kernel, create_handler_sound, error_status_sound, ends_body_sound, set_mode_sound, raise_sound, faults_sound}
 use Rattle.isolation.proofs.Handed.{IsSoundProcesses, either, record_sound, row_sound, wakes_sound, released_sound}
 use Rattle.isolation.proofs.HandedIn.{AsksWithin, IsWithin, KeepsWithin}

@@ -1,15 +1,7 @@
 -- The inputs that the messages of an ended window bring, as they move: a twin of each definition of
 -- the moves.
 use Rattle.std.specs.Prelude.{ℕ, zero, suc, ◌+◌, ℤ, List, [], ◌++◌, Option, Some, None, length}
-use Rattle.arrayvec.specs.ArrayVec.{ArrayVec}
-use Rattle.apex_types.specs.declared.identity.At.{At}
-use Rattle.apex_types.specs.declared.identity.PartitionId.{PartitionId}
-use Rattle.apex_types.specs.declared.identity.PortId.{PortId}
-use Rattle.module_meaning.specs.Table.{Channel, at_number}
-use Rattle.module_meaning.specs.Module.{of_member, channel_from, moves_message, moves_port, ports_from}
-use Rattle.kernel_meaning.specs.Partition.{Member, leaving, messages_to_move}
-use Rattle.isolation.specs.Alone.{Input}
-use Rattle.isolation.specs.Brought.{brought_by}
+use Rattle.isolation.proofs.Prelude.{ArrayVec, At, PartitionId, PortId, Channel, at_number, of_member, channel_from, moves_message, moves_port, ports_from, Member, leaving, messages_to_move, Input, brought_by}
 
 abbrev pub brought_found : List Channel → ℕ → PartitionId → PortId → Option (ArrayVec ℤ) → List Input
 brought_found channels p q port None = []

@@ -1,24 +1,11 @@
 -- The ways out of a slice are the ways by the channels, if each channel's source is an existing
 -- port.
-use Rattle.std.proofs.Common.{◌≡◌, ◌≢◌, ℕ, zero, suc, ◌+◌, ◌-◌, ◌<◌, ◌≤◌, true, false, List, [], ◌∷◌, length, Option, Some, None, refl, ap, subst, ◌∙◌, arith, inl, inr}
-use Rattle.std.specs.Prelude.{◌==◌, ◌||◌, slice_get, is_none}
-use Rattle.std.specs.List.{list_any}
-use Rattle.std.proofs.lemmas.Bool.{or_parts, and_parts, eqb-true, eqb-false, cases_lt}
-use Rattle.apex_types.specs.declared.codes.ModuleAction.{ModuleAction}
-use Rattle.apex_types.specs.declared.identity.At.{At}
-use Rattle.apex_types.specs.declared.identity.PortId.{PortId}
-use Rattle.apex_types.specs.declared.row.ChannelEnd.{ChannelEnd}
+use Rattle.isolation.proofs.Prelude.{◌≡◌, ◌≢◌, ℕ, zero, suc, ◌+◌, ◌-◌, ◌<◌, ◌≤◌, true, false, List, ◌∷◌, length, Option, Some, None, ◌∙◌, arith, inl, inr, ◌==◌, ◌||◌, slice_get, is_none, list_any, and_parts, eqb-true, eqb-false, cases_lt, ModuleAction, At, PortId, ChannelEnd, PortRow, Channel, Partition, at_number, Plan, is_port, channel_from, ends_of, has_wrong_ends, is_unknown_port, has_unknown_port, ◌>>=◌, Schedule, HasOneOwner, HasOneEnd, name_to_device, surroundings_of}
+use Rattle.std.proofs.Common.{[], refl, ap, subst}
+use Rattle.std.proofs.lemmas.Bool.{or_parts}
 use Rattle.apex_types.specs.declared.row.ChannelEnd.TheVariants as ends
-use Rattle.apex_types.specs.declared.row.PortRow.{PortRow}
-use Rattle.module_meaning.specs.Table.{Channel, Partition, at_number}
-use Rattle.module_meaning.specs.Module.{Plan, is_port, channel_from}
-use Rattle.module_meaning.specs.Table.{ends_of, has_wrong_ends}
-use Rattle.module_meaning.specs.ImageRules.{is_unknown_port, has_unknown_port}
-use Rattle.module_meaning.specs.Table.{◌>>=◌}
-use Rattle.kernel_meaning.specs.Windows.{Schedule}
-use Rattle.kernel_meaning.specs.WindowFacts.{HasOneOwner, HasOneEnd}
 use Rattle.isolation.specs.Alone.{way_of}
-use Rattle.isolation.specs.Surrounded.{name_to_device, ways_from, surroundings_of}
+use Rattle.isolation.specs.Surrounded.{ways_from}
 use Rattle.isolation.proofs.Messages.{found_passes}
 use Rattle.isolation.proofs.OfImage.{found_is, channels_lawful}
 use Rattle.isolation.proofs.OwnMessages.{AreWays, with_number}

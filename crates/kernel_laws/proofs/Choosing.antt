@@ -1,17 +1,10 @@
 -- The list of the ready processes has the order of their numbers.
-use Rattle.std.proofs.Common.{◌≡◌, ◌↔◌, inl, inr, ℕ, ◌+◌, ◌<◌, ◌≤◌, nat_eq, nat_lt, cond, Bool, true, false, not, List, [], ◌∷◌, Some, refl, sym, ap, subst, ◌∙◌, arith}
-use Rattle.std.proofs.lemmas.Bool.{ltb-true, ltb-false, eq-eqb}
-use Rattle.std.proofs.lemmas.Option.{none-some, same_Some}
-use Rattle.apex_types.specs.declared.codes.Mode.{Mode}
+use Rattle.kernel_laws.proofs.Prelude.{◌≡◌, ◌↔◌, inl, inr, ℕ, ◌+◌, ◌<◌, ◌≤◌, nat_eq, cond, Bool, true, false, List, ◌∷◌, Some, refl, sym, subst, ◌∙◌, arith, ltb-true, ltb-false, eq-eqb, none-some, same_Some, Mode, Runner, Entry, Lock, IsAmong, IsBeforeEach, AreNumbersBelow, IsNumbered, Picks, takes, Processes, row_of, without, behind_equals, pick, is_ready, unless_held}
+use Rattle.std.proofs.Common.{nat_lt, not, [], ap}
 use Rattle.apex_types.specs.declared.codes.Mode.TheVariants as mode
-use Rattle.apex_types.specs.declared.identity.Runner.{Runner}
 use Rattle.apex_types.specs.declared.identity.Runner.TheVariants as runner
-use Rattle.apex_types.specs.declared.process.Entry.{Entry}
-use Rattle.apex_types.specs.declared.process.Lock.{Lock}
 use Rattle.apex_types.specs.declared.process.Lock.TheVariants as lock
-use Rattle.kernel_laws.specs.Choice.{IsAmong, IsBefore, IsFirst, PicksUnlessHeld, PicksInNormal, IsBeforeEach, IsOrdered, AreNumbersBelow, IsNumbered, Picks, takes}
-use Rattle.kernel_meaning.specs.Processes.{Processes, row_of, without, behind_equals}
-use Rattle.kernel_meaning.specs.Partition.{pick, is_ready, unless_held}
+use Rattle.kernel_laws.specs.Choice.{IsBefore, IsFirst, PicksUnlessHeld, PicksInNormal, IsOrdered}
 
 -- ---- a process leaves
 

@@ -1,38 +1,23 @@
 -- Before the first start the lists of each partition have the order of its first numbers.
-use Rattle.std.proofs.Common.{◌≡◌, ℕ, zero, suc, ◌+◌, Bool, List, [], ◌∷◌, map, Option, Some, None, refl, sym, ap, subst, ◌∙◌, false}
+use Rattle.kernel_laws.proofs.Prelude.{◌≡◌, ℕ, zero, suc, ◌+◌, Bool, List, ◌∷◌, map, Option, Some, None, refl, sym, subst, ◌∙◌, false, none-some, same_Some, slice_get, ListKey, Priority, Entry, ProcessStatus, Kernel, of_member, Objects, Member, Ports, is_ready_state, list_in, list_at, IsQueue, Schedule, RecordsAgree, IsReadyAt, AreNamed, HaveDisciplines, PortsHaveDisciplines, first_numbers, subject_at, IsOrdered, disciplines_of, names_of, AreOrdered}
+use Rattle.std.proofs.Common.{[], ap}
 use Rattle.std.proofs.lemmas.Bool.{false≢true}
-use Rattle.std.proofs.lemmas.Option.{none-some, same_Some}
-use Rattle.std.specs.Prelude.{replicate, slice_get}
+use Rattle.std.specs.Prelude.{replicate}
 use Rattle.apex_types.specs.Versions.{costs_of}
 use Rattle.apex_types.specs.declared.cost.Costs.{Costs}
 use Rattle.apex_types.specs.declared.event.Subject.TheVariants.{Process}
-use Rattle.apex_types.specs.declared.identity.ListKey.{ListKey}
 use Rattle.apex_types.specs.declared.identity.ListKey.TheVariants as key
-use Rattle.apex_types.specs.declared.identity.Priority.{Priority}
 use Rattle.apex_types.specs.declared.identity.Runner.TheVariants as runner
 use Rattle.apex_types.specs.declared.limits.TheConstants.{MOST_OBJECTS}
-use Rattle.apex_types.specs.declared.process.Entry.{Entry}
-use Rattle.apex_types.specs.declared.process.ProcessStatus.{ProcessStatus}
 use Rattle.machine_meaning.specs.Image.{Item, Image}
 use Rattle.module_meaning.specs.Table.{Partition, Table}
-use Rattle.kernel_meaning.specs.Kernel.{Fixed, Kernel}
-use Rattle.module_meaning.specs.Module.{of_member}
-use Rattle.kernel_meaning.specs.Objects.{Objects}
-use Rattle.kernel_meaning.specs.Partition.{Member}
-use Rattle.kernel_meaning.specs.Objects.{Ports}
-use Rattle.kernel_meaning.specs.ProcessServices.{is_ready_state}
+use Rattle.kernel_meaning.specs.Kernel.{Fixed}
 use Rattle.pal_meaning.specs.Program as program
-use Rattle.kernel_meaning.specs.Queues.{list_in, list_at}
 use Rattle.kernel_meaning.specs.Fresh.{init_row, handler_row, fresh_kernel, fresh_queues}
 use Rattle.machine_meaning.specs.MachineMeaning.{machine_row, machine_member, machine_members}
 use Rattle.module_meaning.specs.SourceMeaning.{source_row, source_member, source_members}
 use Rattle.module_meaning.specs.Table.{fixed_of}
-use Rattle.kernel_laws.specs.WaitingOrder.{IsQueue}
-use Rattle.kernel_meaning.specs.Windows.{Schedule}
-use Rattle.kernel_laws.specs.Agreement.{RecordsAgree, IsReadyAt}
-use Rattle.kernel_laws.specs.Numbers.{AreNamed, HaveDisciplines, PortsHaveDisciplines, first_numbers, subject_at}
-use Rattle.kernel_laws.specs.OrderLaw.{IsOrdered}
-use Rattle.kernel_laws.specs.RunLaw.{name_of_subject, name_of_row, names_in, semaphore_discipline, buffer_discipline, port_discipline, disciplines_in, no_names, no_disciplines, disciplines_of, names_of, AreOrdered}
+use Rattle.kernel_laws.specs.RunLaw.{name_of_subject, name_of_row, names_in, semaphore_discipline, buffer_discipline, port_discipline, disciplines_in, no_names, no_disciplines}
 use Rattle.kernel_laws.proofs.Records.{not_ready_plain, not_free}
 
 -- ---- lists

@@ -1,21 +1,8 @@
 -- The order in every run of a module.
-use Rattle.std.proofs.Common.{◌≡◌, ◌↔◌, ℕ, List, Some, ap, subst}
-use Rattle.std.specs.Prelude.{slice_get}
-use Rattle.apex_types.specs.declared.codes.Discipline.{Discipline}
-use Rattle.apex_types.specs.declared.device.DeviceLine.{DeviceLine}
-use Rattle.apex_types.specs.declared.identity.ListKey.{ListKey}
-use Rattle.apex_types.specs.declared.process.Entry.{Entry}
-use Rattle.module_meaning.specs.Table.{at_number}
-use Rattle.kernel_meaning.specs.Kernel.{Kernel}
-use Rattle.module_meaning.specs.Module.{Module, Advanced}
-use Rattle.kernel_meaning.specs.Partition.{Member}
-use Rattle.kernel_meaning.specs.Sharing.{waiting}
-use Rattle.kernel_laws.specs.WaitingOrder.{IsReleasedFirst}
+use Rattle.kernel_laws.proofs.Prelude.{◌≡◌, ◌↔◌, ℕ, List, Some, subst, slice_get, Discipline, DeviceLine, ListKey, Entry, at_number, Kernel, Module, Advanced, Member, waiting, IsReleasedFirst, members_after, Numbers, first_numbers, IsOrdered, AreOrdered, disciplines_of, names_of}
+use Rattle.std.proofs.Common.{ap}
 use Rattle.kernel_laws.proofs.WaitingOrder.{released_first}
-use Rattle.kernel_laws.specs.History.{members_after}
-use Rattle.kernel_laws.specs.Numbers.{Numbers, first_numbers}
-use Rattle.kernel_laws.specs.OrderLaw.{IsOrdered}
-use Rattle.kernel_laws.specs.RunLaw.{AreOrdered, disciplines_of, names_of, RunGoes, HasOrder, HoldsReady}
+use Rattle.kernel_laws.specs.RunLaw.{RunGoes, HasOrder, HoldsReady}
 use Rattle.kernel_laws.proofs.Runs.{run_is}
 use Rattle.kernel_laws.proofs.Through.{goes_through, ends_ordered}
 

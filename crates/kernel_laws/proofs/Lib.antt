@@ -1,3 +1,4 @@
+pub mod Prelude
 pub mod ReadyLists
 pub mod Numbers
 pub mod Steps

@@ -1,13 +1,11 @@
 -- The computed next release is the least later tick at which a release window of the partition starts.
-use Rattle.std.proofs.Common.{◌≡◌, ℕ, zero, suc, ◌+◌, ◌-◌, ◌%◌, ◌<◌, ◌≤◌, min, Bool, true, false, ◌||◌, ◌&&◌, ◌==◌, cond, IsTrue, List, [], ◌∷◌, refl, sym, ap, ◌∙◌, arith, inl, inr, ◌⊎◌, subst}
-use Rattle.std.specs.List.{list_any}
+use Rattle.kernel_laws.proofs.Prelude.{◌≡◌, ℕ, zero, suc, ◌+◌, ◌-◌, ◌%◌, ◌<◌, ◌≤◌, Bool, true, false, cond, IsTrue, List, ◌∷◌, refl, sym, ◌∙◌, arith, inl, inr, ◌⊎◌, subst, list_any, or_parts, and_parts, eqb-true, eq-eqb, At, WindowRow, Schedule, phase, begins_late, BeginWithin}
+use Rattle.std.proofs.Common.{min, ◌||◌, ◌&&◌, ◌==◌, [], ap}
 use Rattle.std.proofs.Math.Nat.{mod-eq_of_lt, mod-add-mod, add-mod_right}
 use Rattle.std.proofs.lemmas.Nat.{mod_below}
-use Rattle.std.proofs.lemmas.Bool.{or_cases, or_parts, and_parts, and_from, eqb-true, eq-eqb, or_left, or_right, leb-false, false≢true}
-use Rattle.apex_types.specs.declared.identity.At.{At}
-use Rattle.apex_types.specs.declared.row.WindowRow.{WindowRow}
-use Rattle.kernel_meaning.specs.Windows.{Schedule, at_tick, phase, releases, has_release, until_start, until_one_of, next_release}
-use Rattle.kernel_meaning.specs.WindowFacts.{IsNextRelease, begins_late, BeginWithin}
+use Rattle.std.proofs.lemmas.Bool.{or_cases, and_from, or_left, or_right, leb-false, false≢true}
+use Rattle.kernel_meaning.specs.Windows.{at_tick, releases, has_release, until_start, until_one_of, next_release}
+use Rattle.kernel_meaning.specs.WindowFacts.{IsNextRelease}
 
 -- ---- places of a frame
 

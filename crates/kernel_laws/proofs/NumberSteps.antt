@@ -1,39 +1,15 @@
 -- Steps of the processes continue the numbers.
-use Rattle.std.proofs.Common.{Bool, List, None, Option, Some, [], ap, false, refl, subst, suc, sym, true, zero, ℕ, ℤ, ◌++◌, ◌∷◌, ◌≡◌}
-use Rattle.std.proofs.lemmas.Option.{none-some, same_Some}
-use Rattle.std.specs.Prelude.{if◌then◌else◌, length, negsuc, pos}
-use Rattle.arrayvec.specs.ArrayVec.{ArrayVec}
-use Rattle.apex_types.specs.Runners.{place_of}
-use Rattle.apex_types.specs.declared.codes.Discipline.{Discipline}
-use Rattle.apex_types.specs.declared.codes.ProcessState.{ProcessState}
-use Rattle.apex_types.specs.declared.codes.ProcessState.TheVariants.{Ready, Running, Dormant, Waiting}
-use Rattle.apex_types.specs.declared.codes.ReturnCode.{ReturnCode}
+use Rattle.kernel_laws.proofs.Prelude.{Bool, List, None, Option, Some, false, refl, subst, suc, sym, true, zero, ℕ, ℤ, ◌++◌, ◌∷◌, ◌≡◌, none-some, same_Some, if◌then◌else◌, negsuc, pos, ArrayVec, place_of, Discipline, ProcessState, Ready, Running, Dormant, Waiting, ReturnCode, EventKind, Subject, At, ListKey, ProcessIndex, Runner, Action, Due, Entry, Lock, ProcessStatus, Wait, Place, Service, entry, is_zero, time_out, with_lock, Processes, index, is_busy, numbered, process_at, put_ready, put_row, put_unready, rests, row_of, wakes, waits, answers, released, zeros_of_wait, no_longer_waits, on, joins, Step, after, nothing, row, fills, first_waiting, waiting, writes, enters, waits_at, blocks, releases_found, releases_all, gives, gives_found, gives_all, found_first, AreAllowed, AreNamed, BeginsToWait, Follows, Goes, IsInOrder, itself, process_of, ready_lines, subject_at, take_one, those_ready, May, only_last}
+use Rattle.std.proofs.Common.{[], ap}
+use Rattle.std.specs.Prelude.{length}
 use Rattle.apex_types.specs.declared.codes.ReturnCode.TheVariants as code
-use Rattle.apex_types.specs.declared.event.EventKind.{EventKind}
 use Rattle.apex_types.specs.declared.event.EventKind.TheVariants as event
-use Rattle.apex_types.specs.declared.event.Subject.{Subject}
-use Rattle.apex_types.specs.declared.identity.At.{At}
-use Rattle.apex_types.specs.declared.identity.ListKey.{ListKey}
-use Rattle.apex_types.specs.declared.identity.ProcessIndex.{ProcessIndex}
-use Rattle.apex_types.specs.declared.identity.Runner.{Runner}
 use Rattle.apex_types.specs.declared.identity.Runner.TheVariants as runner
-use Rattle.apex_types.specs.Runners.{Action}
-use Rattle.apex_types.specs.declared.process.Due.{Due}
-use Rattle.apex_types.specs.declared.process.Entry.{Entry}
-use Rattle.apex_types.specs.declared.process.Lock.{Lock}
-use Rattle.apex_types.specs.declared.process.ProcessStatus.{ProcessStatus}
-use Rattle.apex_types.specs.declared.process.Wait.{Wait}
 use Rattle.apex_types.specs.declared.process.Wait.TheVariants as wait
-use Rattle.apex_types.specs.declared.process.Waiting.{Waiting as Place}
-use Rattle.apex_types.specs.declared.service.Service.{Service}
-use Rattle.kernel_meaning.specs.Queues.{entry}
-use Rattle.engine_meaning.specs.Operators.{is_zero}
-use Rattle.kernel_meaning.specs.ProcessServices.{time_out, with_lock}
-use Rattle.kernel_meaning.specs.Processes.{Processes, index, is_busy, numbered, process_at, put_ready, put_row, put_unready, rests, row_of, waiting_lines, wakes, waits, answers, refuses, answers_wait, released, zeros_of_wait, no_longer_waits, on}
-use Rattle.kernel_meaning.specs.Queues.{joins}
-use Rattle.kernel_meaning.specs.Step.{Step, after, nothing, row, answered}
-use Rattle.kernel_meaning.specs.Sharing.{fills, first_waiting, waiting, writes, enters, waits_at, blocks, releases_found, releases_all, gives, gives_found, gives_all, found_first, array_of_wait}
-use Rattle.kernel_laws.specs.Numbers.{AreAllowed, AreNamed, BeginsToWait, Follows, Goes, IsInOrder, itself, process_of, ready_lines, subject_at, take_one, those_ready, called_ready, May, only_last}
+use Rattle.kernel_meaning.specs.Processes.{waiting_lines, refuses, answers_wait}
+use Rattle.kernel_meaning.specs.Step.{answered}
+use Rattle.kernel_meaning.specs.Sharing.{array_of_wait}
+use Rattle.kernel_laws.specs.Numbers.{called_ready}
 use Rattle.kernel_laws.proofs.Primitives.{readied, lasted, in_order_ready, in_order_last, in_order_unready, in_order_released, in_order_enters, follows_after, told_after, allowed_after, named_set}
 
 -- ---- lines

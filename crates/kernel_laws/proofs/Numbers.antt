@@ -1,12 +1,10 @@
 -- A program's number as the number of a process.
-use Rattle.std.proofs.Common.{◌≡◌, ℕ, zero, suc, ◌+◌, ◌≤◌, ℤ, pos, negsuc, nat_abs, List, [], ◌∷◌, length, None, refl, ap, arith}
+use Rattle.kernel_laws.proofs.Prelude.{◌≡◌, ℕ, zero, suc, ◌+◌, ◌≤◌, ℤ, nat_abs, List, ◌∷◌, length, None, refl, arith, slice_get, ProcessStatus, first_words, Processes, process_at, numbered, index, row_of}
+use Rattle.std.proofs.Common.{pos, negsuc, [], ap}
 use Rattle.std.proofs.lemmas.Int.{ints}
-use Rattle.std.specs.Prelude.{◌<ℤ◌, ◌≤ℤ◌, slice_get}
+use Rattle.std.specs.Prelude.{◌<ℤ◌, ◌≤ℤ◌}
 use Rattle.apex_types.specs.declared.identity.Runner.TheVariants as runner
-use Rattle.apex_types.specs.declared.process.ProcessStatus.{ProcessStatus}
 use Rattle.kernel_meaning.specs.Partition.{most_words}
-use Rattle.kernel_meaning.specs.Step.{first_words}
-use Rattle.kernel_meaning.specs.Processes.{Processes, process_at, numbered, index, row_of}
 use Rattle.std.specs.Prelude.{take, min}
 use Rattle.apex_types.specs.declared.limits.TheConstants.{MOST_WORDS}
 

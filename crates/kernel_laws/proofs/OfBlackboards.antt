@@ -1,23 +1,12 @@
 -- The services on blackboards continue the numbers.
-use Rattle.std.proofs.Common.{List, None, Option, Some, [], true, ℕ, ℤ, ◌∷◌, ◌≡◌}
-use Rattle.std.specs.Prelude.{length, not, pos}
-use Rattle.arrayvec.specs.ArrayVec.{ArrayVec}
-use Rattle.apex_types.specs.declared.codes.Discipline.{Discipline}
+use Rattle.kernel_laws.proofs.Prelude.{List, None, Option, Some, true, ℕ, ℤ, ◌∷◌, ◌≡◌, not, pos, ArrayVec, Discipline, Mode, At, ListKey, Runner, ArrayPlace, is_duration, Objects, Blackboard, Sharing, becomes, is_large_enough, is_length, has, refuses, Step, first_words, message, waiting, HaveDisciplines, May, itself}
+use Rattle.std.proofs.Common.{[]}
+use Rattle.std.specs.Prelude.{length}
 use Rattle.apex_types.specs.declared.codes.Discipline.TheVariants as discipline
-use Rattle.apex_types.specs.declared.codes.Mode.{Mode}
 use Rattle.apex_types.specs.declared.codes.ReturnCode.TheVariants as code
-use Rattle.apex_types.specs.declared.identity.At.{At}
-use Rattle.apex_types.specs.declared.identity.ListKey.{ListKey}
-use Rattle.apex_types.specs.declared.identity.Runner.{Runner}
-use Rattle.apex_types.specs.declared.service.ArrayPlace.{ArrayPlace}
 use Rattle.apex_types.specs.declared.service.Service.TheVariants as service
 use Rattle.kernel_meaning.specs.BlackboardServices.{clear_blackboard, create_blackboard, creates, display_blackboard, displays, is_created, list, read_blackboard, reader, reads, shows}
-use Rattle.kernel_meaning.specs.Times.{is_duration}
-use Rattle.kernel_meaning.specs.Objects.{Objects, Blackboard, blackboard, put_blackboard}
-use Rattle.kernel_meaning.specs.Sharing.{Sharing, becomes, is_large_enough, is_length, has, refuses}
-use Rattle.kernel_meaning.specs.Step.{Step, first_words, message}
-use Rattle.kernel_meaning.specs.Sharing.{waiting}
-use Rattle.kernel_laws.specs.Numbers.{HaveDisciplines, May, itself}
+use Rattle.kernel_meaning.specs.Objects.{blackboard, put_blackboard}
 use Rattle.kernel_laws.proofs.Shares.{Shares, IsSet, of_shares, becomes_shares, fills_shares, answers_shares, refuses_shares, row_shares, after_shares, on_shares, create_shares, each_put, numbered_is}
 use Rattle.kernel_laws.proofs.NumberSteps.{blocks_goes, give_all_goes}
 

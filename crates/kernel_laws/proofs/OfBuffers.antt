@@ -1,23 +1,11 @@
 -- The services on buffers continue the numbers.
-use Rattle.std.proofs.Common.{List, None, Option, Some, [], refl, true, ℕ, ℤ, ◌∷◌, ◌≡◌}
-use Rattle.std.specs.Prelude.{length, not, pos}
-use Rattle.arrayvec.specs.ArrayVec.{ArrayVec}
-use Rattle.apex_types.specs.declared.codes.Discipline.{Discipline}
-use Rattle.apex_types.specs.declared.codes.Mode.{Mode}
+use Rattle.kernel_laws.proofs.Prelude.{List, None, Option, Some, refl, true, ℕ, ℤ, ◌∷◌, ◌≡◌, not, pos, ArrayVec, Discipline, Mode, At, ListKey, Runner, ProcessStatus, ArrayPlace, is_duration, Objects, Buffer, Sharing, becomes, is_large_enough, is_length, has, refuses, Step, first_words, message, first_waiting, handed_by, HaveDisciplines, May, itself}
+use Rattle.std.proofs.Common.{[]}
+use Rattle.std.specs.Prelude.{length}
 use Rattle.apex_types.specs.declared.codes.ReturnCode.TheVariants as code
-use Rattle.apex_types.specs.declared.identity.At.{At}
-use Rattle.apex_types.specs.declared.identity.ListKey.{ListKey}
-use Rattle.apex_types.specs.declared.identity.Runner.{Runner}
-use Rattle.apex_types.specs.declared.process.ProcessStatus.{ProcessStatus}
-use Rattle.apex_types.specs.declared.service.ArrayPlace.{ArrayPlace}
 use Rattle.apex_types.specs.declared.service.Service.TheVariants as service
 use Rattle.kernel_meaning.specs.BufferServices.{admits, create_buffer, creates, is_created, is_full, list, receive_buffer, receiver, receives, send_buffer, sender, sends, takes_message, with_message}
-use Rattle.kernel_meaning.specs.Times.{is_duration}
-use Rattle.kernel_meaning.specs.Objects.{Objects, Buffer, buffer, put_buffer}
-use Rattle.kernel_meaning.specs.Sharing.{Sharing, becomes, is_large_enough, is_length, has, refuses}
-use Rattle.kernel_meaning.specs.Step.{Step, first_words, message}
-use Rattle.kernel_meaning.specs.Sharing.{first_waiting, handed_by}
-use Rattle.kernel_laws.specs.Numbers.{HaveDisciplines, May, itself}
+use Rattle.kernel_meaning.specs.Objects.{buffer, put_buffer}
 use Rattle.kernel_laws.proofs.Shares.{Shares, IsSet, of_shares, becomes_shares, fills_shares, answers_shares, refuses_shares, either_shares, row_shares, after_shares, on_shares, create_shares, each_put, numbered_is}
 use Rattle.kernel_laws.proofs.NumberSteps.{release_goes, gives_goes, blocks_goes, first_is_of}
 

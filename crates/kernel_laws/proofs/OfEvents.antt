@@ -1,21 +1,11 @@
 -- The services on events continue the numbers.
-use Rattle.std.proofs.Common.{List, Some, [], false, true, ℕ, ℤ, ◌∷◌, ◌≡◌}
-use Rattle.std.specs.Prelude.{not}
-use Rattle.apex_types.specs.declared.codes.Discipline.{Discipline}
+use Rattle.kernel_laws.proofs.Prelude.{List, Some, false, true, ℕ, ℤ, ◌∷◌, ◌≡◌, not, Discipline, Mode, At, ListKey, Runner, is_duration, Objects, ApexEvent, Sharing, becomes, has, refuses, Step, message, waiting, HaveDisciplines, May, itself}
+use Rattle.std.proofs.Common.{[]}
 use Rattle.apex_types.specs.declared.codes.Discipline.TheVariants as discipline
-use Rattle.apex_types.specs.declared.codes.Mode.{Mode}
 use Rattle.apex_types.specs.declared.codes.ReturnCode.TheVariants as code
-use Rattle.apex_types.specs.declared.identity.At.{At}
-use Rattle.apex_types.specs.declared.identity.ListKey.{ListKey}
-use Rattle.apex_types.specs.declared.identity.Runner.{Runner}
 use Rattle.apex_types.specs.declared.service.Service.TheVariants as service
-use Rattle.kernel_meaning.specs.Times.{is_duration}
 use Rattle.kernel_meaning.specs.EventServices.{awaits, create_event, creates, is_created, list, raises, reset_event, set_event, sets, wait_event, waiting_for}
-use Rattle.kernel_meaning.specs.Objects.{Objects, ApexEvent, event, put_event}
-use Rattle.kernel_meaning.specs.Sharing.{Sharing, becomes, has, refuses}
-use Rattle.kernel_meaning.specs.Step.{Step, message}
-use Rattle.kernel_meaning.specs.Sharing.{waiting}
-use Rattle.kernel_laws.specs.Numbers.{HaveDisciplines, May, itself}
+use Rattle.kernel_meaning.specs.Objects.{event, put_event}
 use Rattle.kernel_laws.proofs.Shares.{Shares, IsSet, of_shares, becomes_shares, answers_shares, refuses_shares, either_shares, row_shares, after_shares, on_shares, create_shares, each_put, numbered_is}
 use Rattle.kernel_laws.proofs.NumberSteps.{blocks_goes, releases_goes}
 

@@ -1,49 +1,28 @@
 -- Steps of a partition continue the numbers.
-use Rattle.std.proofs.Common.{Bool, List, None, Option, Some, [], false, refl, suc, true, zero, ℕ, ℤ, ◌∷◌, ◌≡◌}
+use Rattle.kernel_laws.proofs.Prelude.{Bool, List, None, Option, Some, false, refl, suc, true, zero, ℕ, ℤ, ◌∷◌, ◌≡◌, if◌then◌else◌, is_some, nat_le, not, pos, slice_get, ◌&&◌, Discipline, ErrorKind, Mode, PartitionAction, Ready, ReturnCode, StartCondition, At, ListKey, ProcessIndex, Runner, Due, ProcessStatus, Wait, ArrayPlace, Treated, due_from, ends_wait, is_past, misses, mode_of_action, tick_of, timed_out, treated_after, treats, treats_deadline, breaks, is_message_length, acts_on_error, faults, is_fault, then_clears, raises_application_error, raises, action_of, raise_application_error, Kernel, of_objects, of_ports, with_objects, with_ports, of_processes, with_errors, Objects, treats_due, clears, next_release_of, ends_body, enters_mode, forgotten, is_cold, is_warm, mode_of, ready_init, set_partition_mode, started_rows, starts_normally, wants, Ports, discipline_of, Processes, index, is_normal, rests_found, row_of, Sharing, released_at, start_from, starts_if_waiting, starts_waiting, Step, after, lifted, nothing, row, first_words, AreNamed, Goes, HaveDisciplines, PortsHaveDisciplines, ready_lines, subject_at, May, nobody}
+use Rattle.std.proofs.Common.{[]}
 use Rattle.std.specs.Ordering.{int_eq}
-use Rattle.std.specs.Prelude.{if◌then◌else◌, is_some, length, map, nat_le, not, pos, slice_get, ◌&&◌, ◌+◌}
-use Rattle.apex_types.specs.declared.codes.Discipline.{Discipline}
+use Rattle.std.specs.Prelude.{length, map, ◌+◌}
 use Rattle.apex_types.specs.declared.codes.Discipline.TheVariants as discipline
-use Rattle.apex_types.specs.declared.codes.ErrorKind.{ErrorKind}
 use Rattle.apex_types.specs.declared.codes.ErrorKind.TheVariants as error
-use Rattle.apex_types.specs.declared.codes.Mode.{Mode}
 use Rattle.apex_types.specs.declared.codes.Mode.TheVariants as mode
-use Rattle.apex_types.specs.declared.codes.PartitionAction.{PartitionAction}
-use Rattle.apex_types.specs.declared.codes.ProcessState.TheVariants.{Ready}
 use Rattle.apex_types.specs.declared.codes.Response.{Response}
 use Rattle.apex_types.specs.declared.codes.Response.TheVariants as response
-use Rattle.apex_types.specs.declared.codes.ReturnCode.{ReturnCode}
 use Rattle.apex_types.specs.declared.codes.ReturnCode.TheVariants as code
-use Rattle.apex_types.specs.declared.codes.StartCondition.{StartCondition}
 use Rattle.apex_types.specs.declared.codes.StartCondition.TheVariants as condition
-use Rattle.apex_types.specs.declared.identity.At.{At}
-use Rattle.apex_types.specs.declared.identity.ListKey.{ListKey}
 use Rattle.apex_types.specs.declared.identity.ListKey.TheVariants as key
-use Rattle.apex_types.specs.declared.identity.ProcessIndex.{ProcessIndex}
-use Rattle.apex_types.specs.declared.identity.Runner.{Runner}
 use Rattle.apex_types.specs.declared.identity.Runner.TheVariants as runner
-use Rattle.apex_types.specs.declared.process.Due.{Due}
 use Rattle.apex_types.specs.declared.process.Due.TheVariants as due_time
-use Rattle.apex_types.specs.declared.process.ProcessStatus.{ProcessStatus}
-use Rattle.apex_types.specs.declared.process.Wait.{Wait}
 use Rattle.apex_types.specs.declared.process.Wait.TheVariants as wait
-use Rattle.apex_types.specs.declared.service.ArrayPlace.{ArrayPlace}
 use Rattle.apex_types.specs.declared.service.Service.TheVariants as service
-use Rattle.kernel_meaning.specs.Times.{Treated, due_from, ends_wait, is_past, misses, mode_of_action, tick_of, timed_out, treated_after, treats, treats_deadline}
 use Rattle.kernel_meaning.specs.Times as due
-use Rattle.kernel_meaning.specs.HealthServices.{breaks, is_message_length, acts_on_error, faults, handles, is_fault, queues, then_clears, then_acts, waits_or_leaves, raises_application_error, leaves_none, raises, response_of, tells_error, action_of, raise_application_error}
+use Rattle.kernel_meaning.specs.HealthServices.{handles, queues, then_acts, waits_or_leaves, leaves_none, response_of, tells_error}
 use Rattle.kernel_meaning.specs.HealthServices as health
-use Rattle.kernel_meaning.specs.Kernel.{Kernel, of_objects, of_ports, with_objects, with_ports, of_processes, with_errors}
-use Rattle.kernel_meaning.specs.Objects.{Objects, cleared_blackboard, cleared_buffer, cleared_event, cleared_semaphore}
-use Rattle.kernel_meaning.specs.Partition.{treats_due}
-use Rattle.kernel_meaning.specs.PartitionServices.{clears, next_release_of, clear_lines, ends_body, enters_mode, enters_normal, forgotten, is_cold, is_warm, mode_of, ready_init, set_partition_mode, started_rows, starts_normally, wants}
-use Rattle.kernel_meaning.specs.Objects.{Ports, discipline_of, cleared_port}
-use Rattle.kernel_meaning.specs.Processes.{Processes, index, is_normal, rests_found, row_of, refuses}
-use Rattle.kernel_meaning.specs.Sharing.{Sharing}
+use Rattle.kernel_meaning.specs.Objects.{cleared_blackboard, cleared_buffer, cleared_event, cleared_semaphore}
+use Rattle.kernel_meaning.specs.PartitionServices.{clear_lines, enters_normal}
+use Rattle.kernel_meaning.specs.Objects.{cleared_port}
+use Rattle.kernel_meaning.specs.Processes.{refuses}
 use Rattle.kernel_meaning.specs.Sharing as sharing
-use Rattle.kernel_meaning.specs.Times.{released_at, start_from, starts_if_waiting, starts_waiting}
-use Rattle.kernel_meaning.specs.Step.{Step, after, lifted, nothing, row, first_words}
-use Rattle.kernel_laws.specs.Numbers.{AreNamed, Goes, HaveDisciplines, PortsHaveDisciplines, ready_lines, subject_at, May, nobody}
 use Rattle.kernel_laws.proofs.OfProcesses.{normal_goes}
 use Rattle.kernel_laws.proofs.Primitives.{in_order_cleared, named_map, named_set}
 use Rattle.kernel_laws.proofs.Shares.{Shares, each_map}

@@ -1,16 +1,6 @@
 -- The services on objects continue the numbers.
-use Rattle.std.proofs.Common.{List, ℕ, ℤ, refl}
-use Rattle.apex_types.specs.declared.codes.Discipline.{Discipline}
-use Rattle.apex_types.specs.declared.codes.Mode.{Mode}
-use Rattle.apex_types.specs.declared.identity.At.{At}
-use Rattle.apex_types.specs.declared.identity.ListKey.{ListKey}
-use Rattle.apex_types.specs.declared.identity.Runner.{Runner}
-use Rattle.apex_types.specs.declared.service.Call.{Call}
+use Rattle.kernel_laws.proofs.Prelude.{List, ℕ, ℤ, refl, Discipline, Mode, At, ListKey, Runner, Call, serves_objects, Objects, Sharing, HaveDisciplines, may_by}
 use Rattle.apex_types.specs.declared.service.Call.TheVariants as call
-use Rattle.kernel_meaning.specs.ObjectServices.{serves_objects}
-use Rattle.kernel_meaning.specs.Objects.{Objects}
-use Rattle.kernel_meaning.specs.Sharing.{Sharing}
-use Rattle.kernel_laws.specs.Numbers.{HaveDisciplines, may_by}
 use Rattle.kernel_laws.proofs.OfBlackboards.{create_blackboard_shares, display_blackboard_shares, clear_blackboard_shares, read_blackboard_shares}
 use Rattle.kernel_laws.proofs.OfBuffers.{create_buffer_shares, send_buffer_shares, receive_buffer_shares}
 use Rattle.kernel_laws.proofs.OfEvents.{create_event_shares, set_event_shares, reset_event_shares, wait_event_shares}

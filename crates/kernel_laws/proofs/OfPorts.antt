@@ -1,31 +1,14 @@
 -- The services on ports, arrivals and senders that enter continue the numbers.
-use Rattle.std.proofs.Common.{Bool, List, None, Option, Some, [], false, refl, subst, true, ℕ, ℤ, ◌∷◌, ◌≡◌}
-use Rattle.std.proofs.lemmas.Option.{none-some, same_Some}
-use Rattle.std.specs.Prelude.{length, not, pos}
-use Rattle.arrayvec.specs.ArrayVec.{ArrayVec}
-use Rattle.apex_types.specs.declared.codes.Discipline.{Discipline}
-use Rattle.apex_types.specs.declared.codes.Mode.{Mode}
+use Rattle.kernel_laws.proofs.Prelude.{Bool, List, None, Option, Some, false, refl, subst, true, ℕ, ℤ, ◌∷◌, ◌≡◌, none-some, same_Some, not, pos, ArrayVec, Discipline, Mode, At, ListKey, Runner, Entry, ProcessStatus, ArrayPlace, Call, is_duration, numbered_in, Ports, discipline_of, Port, is_full, is_sampling, port_at, numbered, row_of, Sharing, is_large_enough, is_length, has, refuses, Step, first_words, message, first_waiting, handed_by, waiting, PortsHaveDisciplines, May, may_by, itself}
+use Rattle.std.proofs.Common.{[]}
+use Rattle.std.specs.Prelude.{length}
 use Rattle.apex_types.specs.declared.codes.ReturnCode.TheVariants as code
-use Rattle.apex_types.specs.declared.identity.At.{At}
-use Rattle.apex_types.specs.declared.identity.ListKey.{ListKey}
-use Rattle.apex_types.specs.declared.identity.Runner.{Runner}
 use Rattle.apex_types.specs.declared.identity.Runner.TheVariants as runner
-use Rattle.apex_types.specs.declared.process.Entry.{Entry}
-use Rattle.apex_types.specs.declared.process.ProcessStatus.{ProcessStatus}
-use Rattle.apex_types.specs.declared.service.ArrayPlace.{ArrayPlace}
-use Rattle.apex_types.specs.declared.service.Call.{Call}
 use Rattle.apex_types.specs.declared.service.Call.TheVariants as call
 use Rattle.apex_types.specs.declared.service.Service.TheVariants as service
 use Rattle.kernel_meaning.specs.PortServices.{admits, all_enter, arrived, arrives, arrives_at, arrives_queuing, enters_found, enters_port, is_lost}
-use Rattle.kernel_meaning.specs.Times.{is_duration}
-use Rattle.kernel_meaning.specs.Objects.{numbered_in}
 use Rattle.kernel_meaning.specs.PortServices.{becomes_port, clear_queuing_port, clears_port, code_of_receive, create_queuing_port, create_sampling_port, creates, is_created, is_valid, list, read_sampling_message, reads_sample, receive_queuing_message, receiver, receives, send_queuing_message, sender, sends, serves_ports, validity_number, write_sampling_message, writes_sample}
-use Rattle.kernel_meaning.specs.Objects.{Ports, discipline_of, Port, if_sampling, is_full, is_sampling, is_source, port_at, put_port, queuing, sampling, those_queuing, those_sampling, unless_sampling, with_message, with_sample}
-use Rattle.kernel_meaning.specs.Processes.{numbered, row_of}
-use Rattle.kernel_meaning.specs.Sharing.{Sharing, is_large_enough, is_length, has, refuses}
-use Rattle.kernel_meaning.specs.Step.{Step, first_words, message}
-use Rattle.kernel_meaning.specs.Sharing.{first_waiting, handed_by, waiting}
-use Rattle.kernel_laws.specs.Numbers.{PortsHaveDisciplines, May, may_by, itself}
+use Rattle.kernel_meaning.specs.Objects.{if_sampling, is_source, put_port, queuing, sampling, those_queuing, those_sampling, unless_sampling, with_message, with_sample}
 use Rattle.kernel_laws.proofs.Shares.{Shares, IsSet, of_shares, becomes_shares, nothing_shares, fills_shares, answers_shares, refuses_shares, either_shares, row_shares, after_shares, on_shares, create_shares, get_id_shares, get_status_shares, each_put, numbered_is}
 use Rattle.kernel_laws.proofs.NumberSteps.{release_goes, gives_goes, blocks_goes, first_is_of, IsOf, row_is_of}
 

@@ -1,28 +1,13 @@
 -- The services on processes and on time continue the numbers.
-use Rattle.std.proofs.Common.{Bool, List, None, Option, Some, [], false, refl, subst, suc, sym, true, zero, ℕ, ℤ, ◌∷◌, ◌≡◌}
-use Rattle.std.specs.Prelude.{if◌then◌else◌, is_some, nat_le, negsuc, not, pos, ◌+◌, ◌==◌, ◌||◌}
-use Rattle.apex_types.specs.declared.limits.TheConstants.{MOST_LOCK_LEVEL}
-use Rattle.apex_types.specs.declared.codes.Discipline.{Discipline}
-use Rattle.apex_types.specs.declared.codes.Mode.{Mode}
+use Rattle.kernel_laws.proofs.Prelude.{Bool, List, None, Option, Some, false, refl, subst, suc, sym, true, zero, ℕ, ℤ, ◌∷◌, ◌≡◌, if◌then◌else◌, is_some, nat_le, negsuc, not, pos, ◌==◌, ◌||◌, MOST_LOCK_LEVEL, Discipline, Mode, At, ListKey, Priority, Runner, Ticks, ProcessStatus, Wait, is_duration, amount, is_delay, is_zero, time_out, with_lock, create_process, creates, delayed_start, get_my_id, get_process_id, get_process_status, is_beyond, is_holder, is_priority, is_ready_state, level_of, lock_preemption, locked_by, may_not_lock, of_row, priority_of, resume, resumes, resumes_from, set_priority, start, stop, suspend, suspend_self, suspends, suspends_self, takes_priority, tells_status, unlock_preemption, unlocked, Processes, is_busy, is_dormant, is_normal, process_at, put_ready, put_row, rests, row_of, answers, is_created, is_held, is_no_other, is_periodic, is_suspended, is_unknown, on, begins, released_at, starts, starts_in_normal, ticks, after, nothing, deadline_in, delays, has_no_deadline, periodic_wait, reaches_past, replenish, replenishes, timed_wait, waits_for_period, waits_periodically, waits_until, yields, Goes, itself, process_of, May, only_last}
+use Rattle.std.proofs.Common.{[]}
+use Rattle.std.specs.Prelude.{◌+◌}
 use Rattle.apex_types.specs.declared.codes.ReturnCode.TheVariants as code
-use Rattle.apex_types.specs.declared.identity.At.{At}
-use Rattle.apex_types.specs.declared.identity.ListKey.{ListKey}
-use Rattle.apex_types.specs.declared.identity.Priority.{Priority}
-use Rattle.apex_types.specs.declared.identity.Runner.{Runner}
-use Rattle.apex_types.specs.declared.identity.Ticks.{Ticks}
 use Rattle.apex_types.specs.Runners as action
-use Rattle.apex_types.specs.declared.process.ProcessStatus.{ProcessStatus}
-use Rattle.apex_types.specs.declared.process.Wait.{Wait}
 use Rattle.apex_types.specs.declared.process.Wait.TheVariants as wait
 use Rattle.apex_types.specs.declared.service.Service.TheVariants as service
-use Rattle.kernel_meaning.specs.Times.{is_duration, amount, is_delay}
-use Rattle.engine_meaning.specs.Operators.{is_zero}
-use Rattle.kernel_meaning.specs.ProcessServices.{time_out, with_lock, create_process, creates, delayed_start, get_my_id, get_process_id, get_process_status, is_beyond, is_holder, is_priority, is_ready_state, level_of, lock_preemption, locked_by, may_not_lock, of_row, priority_of, resume, resumes, resumes_from, set_priority, start, stop, suspend, suspend_self, suspends, suspends_self, takes_priority, tells_status, unlock_preemption, unlocked}
-use Rattle.kernel_meaning.specs.Processes.{Processes, is_busy, is_dormant, is_normal, process_at, put_ready, put_row, rests, row_of, answers, has, is_created, is_held, is_no_other, is_periodic, is_suspended, is_unknown, on, refuses}
-use Rattle.kernel_meaning.specs.Times.{begins, released_at, starts, starts_in_normal, ticks}
-use Rattle.kernel_meaning.specs.Step.{after, nothing}
-use Rattle.kernel_meaning.specs.ProcessServices.{deadline_in, delays, get_time, has_no_deadline, periodic_wait, reaches_past, replenish, replenishes, timed_wait, waits_for_period, waits_periodically, waits_until, yields}
-use Rattle.kernel_laws.specs.Numbers.{Goes, itself, process_of, May, only_last}
+use Rattle.kernel_meaning.specs.Processes.{has, refuses}
+use Rattle.kernel_meaning.specs.ProcessServices.{get_time}
 use Rattle.kernel_laws.proofs.NumberSteps.{Named, IsOf, nothing_goes, either_goes, row_goes, after_goes, put_goes, last_goes, wakes_goes, waits_goes, rests_goes, release_goes, fills_goes, on_at, row_is_of, refuse_goes, answer_goes, lock_goes}
 
 module _ (d : ListKey → Discipline) (names : ℕ → List ℕ) where

@@ -1,21 +1,11 @@
 -- The services on semaphores continue the numbers.
-use Rattle.std.proofs.Common.{List, None, Option, Some, [], refl, true, ℕ, ℤ, ◌∷◌, ◌≡◌}
-use Rattle.std.specs.Prelude.{not, nat_lt, ◌+◌, ◌-◌}
-use Rattle.apex_types.specs.declared.codes.Discipline.{Discipline}
-use Rattle.apex_types.specs.declared.codes.Mode.{Mode}
+use Rattle.kernel_laws.proofs.Prelude.{List, None, Option, Some, refl, true, ℕ, ℤ, ◌∷◌, ◌≡◌, not, nat_lt, Discipline, Mode, At, ListKey, Runner, ProcessStatus, is_duration, Objects, Semaphore, Sharing, becomes, has, refuses, Step, message, first_waiting, HaveDisciplines, May, itself}
+use Rattle.std.proofs.Common.{[]}
+use Rattle.std.specs.Prelude.{◌+◌, ◌-◌}
 use Rattle.apex_types.specs.declared.codes.ReturnCode.TheVariants as code
-use Rattle.apex_types.specs.declared.identity.At.{At}
-use Rattle.apex_types.specs.declared.identity.ListKey.{ListKey}
-use Rattle.apex_types.specs.declared.identity.Runner.{Runner}
-use Rattle.apex_types.specs.declared.process.ProcessStatus.{ProcessStatus}
 use Rattle.apex_types.specs.declared.service.Service.TheVariants as service
-use Rattle.kernel_meaning.specs.Times.{is_duration}
-use Rattle.kernel_meaning.specs.Objects.{Objects, Semaphore, put_semaphore, semaphore}
+use Rattle.kernel_meaning.specs.Objects.{put_semaphore, semaphore}
 use Rattle.kernel_meaning.specs.SemaphoreServices.{create_semaphore, creates, is_at_maximum, is_created, list, signal_semaphore, signals, takes, wait_semaphore, waiting_for}
-use Rattle.kernel_meaning.specs.Sharing.{Sharing, becomes, has, refuses}
-use Rattle.kernel_meaning.specs.Step.{Step, message}
-use Rattle.kernel_meaning.specs.Sharing.{first_waiting}
-use Rattle.kernel_laws.specs.Numbers.{HaveDisciplines, May, itself}
 use Rattle.kernel_laws.proofs.Shares.{Shares, IsSet, of_shares, becomes_shares, answers_shares, refuses_shares, either_shares, row_shares, after_shares, on_shares, create_shares, each_put, numbered_is}
 use Rattle.kernel_laws.proofs.NumberSteps.{release_goes, blocks_goes, first_is_of}
 

@@ -1,39 +1,21 @@
 -- The services and the choice continue the numbers.
-use Rattle.std.proofs.Common.{Bool, List, None, Option, Some, [], false, refl, true, ℕ, ℤ, ◌∙◌, ◌∷◌, ◌≡◌}
-use Rattle.std.specs.Prelude.{if◌then◌else◌, length, not, ◌&&◌}
+use Rattle.kernel_laws.proofs.Prelude.{Bool, List, None, Option, Some, false, refl, true, ℕ, ℤ, ◌∙◌, ◌∷◌, ◌≡◌, if◌then◌else◌, not, ◌&&◌, place_of, Discipline, Mode, Ready, Running, At, ListKey, Runner, ProcessStatus, WaitingError, ArrayPlace, Call, Asks, Nothing, Calls, Faults, Ends, Errors, begins_if_dormant, create_error_handler, creates_found, get_error_status, is_message_length, is_waiting, starts_handler, takes_error, Kernel, of_objects, of_ports, with_errors, with_objects, with_ports, chooses_with_handler, pick, treats_asked, are_same, chooses, leaves_processor, preempts, runs, serves, serves_processes, serves_shared, takes_processor, next_release_of, number_of, Processes, is_dormant, is_normal, put_ready, put_unready, row_of, is_same, Sharing, is_large_enough, begins, Step, after, lifted, nothing, Goes, subject_at, May, nobody, may_by, may_asked}
+use Rattle.std.proofs.Common.{[]}
+use Rattle.std.specs.Prelude.{length}
 use Rattle.apex_types.specs.declared.limits.TheConstants.{MOST_REPORT_WORDS}
-use Rattle.apex_types.specs.Runners.{place_of}
-use Rattle.apex_types.specs.declared.codes.Discipline.{Discipline}
-use Rattle.apex_types.specs.declared.codes.Mode.{Mode}
-use Rattle.apex_types.specs.declared.codes.ProcessState.TheVariants.{Ready, Running}
 use Rattle.apex_types.specs.declared.codes.ReturnCode.TheVariants as code
 use Rattle.apex_types.specs.declared.event.EventKind.TheVariants as event
-use Rattle.apex_types.specs.declared.identity.At.{At}
-use Rattle.apex_types.specs.declared.identity.ListKey.{ListKey}
-use Rattle.apex_types.specs.declared.identity.Runner.{Runner}
 use Rattle.apex_types.specs.declared.identity.Runner.TheVariants as runner
-use Rattle.apex_types.specs.declared.process.ProcessStatus.{ProcessStatus}
 use Rattle.apex_types.specs.declared.process.Wait.TheVariants as wait
-use Rattle.apex_types.specs.declared.process.WaitingError.{WaitingError}
-use Rattle.apex_types.specs.declared.service.ArrayPlace.{ArrayPlace}
-use Rattle.apex_types.specs.declared.service.Call.{Call}
 use Rattle.apex_types.specs.declared.service.Call.TheVariants as call
 use Rattle.apex_types.specs.declared.service.Service.TheVariants as service
-use Rattle.engine_meaning.specs.Engine.{Asks, Nothing, Calls, Faults, Ends}
-use Rattle.kernel_meaning.specs.Kernel.{Errors}
-use Rattle.kernel_meaning.specs.HealthServices.{begins_if_dormant, create_error_handler, creates_found, error_status, get_error_status, is_handler_created, is_message_length, is_waiting, report, starts_handler, takes_error}
-use Rattle.kernel_meaning.specs.Kernel.{Kernel, of_objects, of_ports, with_errors, with_objects, with_ports, of_errors}
+use Rattle.kernel_meaning.specs.HealthServices.{error_status, is_handler_created, report}
+use Rattle.kernel_meaning.specs.Kernel.{of_errors}
 use Rattle.kernel_meaning.specs.ObjectServices as objects
-use Rattle.kernel_meaning.specs.Partition.{chooses_with_handler, pick, treats_asked, are_same, chooses, leaves_processor, preempts, runs, serves, serves_processes, serves_shared, takes_processor}
-use Rattle.kernel_meaning.specs.PartitionServices.{next_release_of, status_of}
+use Rattle.kernel_meaning.specs.PartitionServices.{status_of}
 use Rattle.kernel_meaning.specs.PortServices as ports
-use Rattle.kernel_meaning.specs.ProcessServices.{number_of}
-use Rattle.kernel_meaning.specs.Processes.{Processes, is_dormant, is_normal, put_ready, put_unready, row_of, is_same, refuses}
-use Rattle.kernel_meaning.specs.Sharing.{Sharing, is_large_enough}
+use Rattle.kernel_meaning.specs.Processes.{refuses}
 use Rattle.kernel_meaning.specs.Sharing as sharing
-use Rattle.kernel_meaning.specs.Times.{begins}
-use Rattle.kernel_meaning.specs.Step.{Step, after, lifted, nothing}
-use Rattle.kernel_laws.specs.Numbers.{Goes, subject_at, May, nobody, may_by, may_asked}
 use Rattle.kernel_laws.proofs.OfKernel.{Moves, IsReady, of_moves, of_objects_moves, of_ports_moves, set_mode_moves, ends_body_moves, raise_moves, faults_moves}
 use Rattle.kernel_laws.proofs.OfObjects.{serves_objects_shares}
 use Rattle.kernel_laws.proofs.OfPorts.{serves_ports_shares}

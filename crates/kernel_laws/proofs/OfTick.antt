@@ -1,37 +1,16 @@
 -- Each step of a partition continues the numbers.
-use Rattle.std.proofs.Common.{List, None, Option, Some, [], ap, refl, subst, sym, ℕ, ℤ, ◌∙◌, ◌∷◌, ◌≡◌, ◌↔◌, ◌++◌}
+use Rattle.kernel_laws.proofs.Prelude.{List, None, Option, Some, refl, subst, sym, ℕ, ℤ, ◌∙◌, ◌∷◌, ◌≡◌, ◌↔◌, ◌++◌, slice_set, ArrayVec, place_of, Discipline, Mode, StartCondition, EventKind, At, ListKey, PortId, Runner, Action, Entry, IsNumbered, Picks, Engine, breaks, then_clears, Kernel, of_ports, with_errors, with_ports, of_processes, chooses_with_handler, pick, treats_asked, treats_due, World, Member, act, act_all, admits, choice_phase, control_at, given, moved, place_of_port, spends_chosen, ticked, Moved, followed_by, clearing_phase, clears, Port, discipline_of, port_at, Processes, Queues, nothing, Step, RecordsAgree, Goes, IsInOrder, Numbers, ready_lines, take_all, May, nobody, may_asked, IsOrdered, chosen_among}
+use Rattle.std.proofs.Common.{[], ap}
 use Rattle.std.proofs.lemmas.List.{map-append}
-use Rattle.std.specs.Prelude.{map, slice_set}
-use Rattle.arrayvec.specs.ArrayVec.{ArrayVec}
-use Rattle.apex_types.specs.Runners.{place_of}
-use Rattle.apex_types.specs.declared.codes.Discipline.{Discipline}
-use Rattle.apex_types.specs.declared.codes.Mode.{Mode}
+use Rattle.std.specs.Prelude.{map}
 use Rattle.apex_types.specs.declared.codes.Mode.TheVariants as mode
-use Rattle.apex_types.specs.declared.codes.StartCondition.{StartCondition}
-use Rattle.apex_types.specs.declared.event.EventKind.{EventKind}
-use Rattle.apex_types.specs.declared.identity.At.{At}
-use Rattle.apex_types.specs.declared.identity.ListKey.{ListKey}
 use Rattle.apex_types.specs.declared.identity.ListKey.TheVariants as key
-use Rattle.apex_types.specs.declared.identity.PortId.{PortId}
-use Rattle.apex_types.specs.declared.identity.Runner.{Runner}
-use Rattle.apex_types.specs.Runners.{Action}
 use Rattle.apex_types.specs.Runners as action
-use Rattle.apex_types.specs.declared.process.Entry.{Entry}
 use Rattle.kernel_meaning.specs.PortServices as arrival
-use Rattle.kernel_laws.specs.Choice.{IsNumbered, Picks}
-use Rattle.engine_meaning.specs.Engine.{Engine}
-use Rattle.kernel_meaning.specs.HealthServices.{breaks, then_clears}
-use Rattle.kernel_meaning.specs.Kernel.{Kernel, of_ports, with_errors, with_ports, of_ports_alone, of_processes}
-use Rattle.kernel_meaning.specs.Partition.{chooses_with_handler, pick, treats_asked, treats_due, World, Member, act, act_all, admits, arrives, breaks_down, choice_phase, cold_start, control_at, due_phase, given, moved, place_of_port, prepares, spends_chosen, ticked, told, leaves, Moved, followed_by, treating_phase, clearing_phase, goes_out}
-use Rattle.kernel_meaning.specs.PartitionServices.{clears}
-use Rattle.kernel_meaning.specs.Objects.{Port, discipline_of, port_at}
-use Rattle.kernel_meaning.specs.Processes.{Processes}
-use Rattle.kernel_meaning.specs.Queues.{Queues}
-use Rattle.kernel_meaning.specs.Step.{nothing, Step}
+use Rattle.kernel_meaning.specs.Kernel.{of_ports_alone}
+use Rattle.kernel_meaning.specs.Partition.{arrives, breaks_down, cold_start, due_phase, prepares, told, leaves, treating_phase, goes_out}
 use Rattle.kernel_laws.proofs.Choosing as choosing
-use Rattle.kernel_laws.specs.Agreement.{RecordsAgree}
-use Rattle.kernel_laws.specs.Numbers.{Goes, IsInOrder, Numbers, ready_lines, take_all, May, nobody, may_asked}
-use Rattle.kernel_laws.specs.OrderLaw.{GoesOn, IsOrdered, TickGoes, chosen_among, kind_of, may_of_chosen}
+use Rattle.kernel_laws.specs.OrderLaw.{GoesOn, TickGoes, kind_of, may_of_chosen}
 use Rattle.kernel_laws.proofs.OfKernel.{IsReady, Moves, breaks_moves, clears_moves, due_moves, of_ports_moves, then_clears_moves}
 use Rattle.kernel_laws.proofs.OfPorts.{admits_shares, arrives_shares}
 use Rattle.kernel_laws.proofs.OfServices.{asked_moves, choice_stays, handler_stays}

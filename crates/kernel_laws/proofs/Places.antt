@@ -1,7 +1,6 @@
 -- The items of a list after one of them is replaced.
-use Rattle.std.proofs.Common.{◌≡◌, ◌≢◌, ℕ, zero, suc, true, List, [], ◌∷◌, Some, refl, ap}
-use Rattle.std.proofs.lemmas.Option.{none-some}
-use Rattle.std.specs.Prelude.{is_some, slice_get, slice_set}
+use Rattle.kernel_laws.proofs.Prelude.{◌≡◌, ◌≢◌, ℕ, zero, suc, true, List, ◌∷◌, Some, refl, none-some, is_some, slice_get, slice_set}
+use Rattle.std.proofs.Common.{[], ap}
 
 pub get_set_same : {A : Type 0} (xs : List A) (i : ℕ) (x y : A) → slice_get xs i ≡ Some x → slice_get (slice_set xs i y) i ≡ Some y
 get_set_same [] i x y h = absurd (none-some x h)

@@ -1,25 +1,12 @@
 -- The effect of each primitive on the numbers.
-use Rattle.std.proofs.Common.{List, Some, [], ap, refl, subst, suc, sym, zero, ℕ, ◌++◌, ◌∙◌, ◌∷◌, ◌≡◌, ◌+◌, arith}
-use Rattle.std.proofs.lemmas.List.{append_assoc}
-use Rattle.std.proofs.lemmas.Option.{same_Some}
-use Rattle.std.specs.Prelude.{map, slice_get, slice_set}
-use Rattle.apex_types.specs.declared.codes.Discipline.{Discipline}
-use Rattle.apex_types.specs.declared.event.EventKind.{EventKind}
-use Rattle.apex_types.specs.declared.event.Subject.{Subject}
-use Rattle.apex_types.specs.declared.identity.ListKey.{ListKey}
-use Rattle.apex_types.specs.declared.identity.Priority.{Priority}
-use Rattle.apex_types.specs.declared.identity.Runner.{Runner}
+use Rattle.kernel_laws.proofs.Prelude.{List, Some, refl, subst, suc, sym, zero, ℕ, ◌++◌, ◌∙◌, ◌∷◌, ◌≡◌, ◌+◌, arith, append_assoc, same_Some, slice_get, slice_set, Discipline, EventKind, Subject, ListKey, Priority, Runner, Entry, ProcessStatus, IsNumbered, AreNumbersBelow, entry, Processes, goes_last, leaves, joins, list_at, emptied, Queues, AreQueues, AreAllowed, AreNamed, BeginsToWait, Follows, IsInOrder, Numbers, ready_lines, take_all, take_one, those_ready, May}
+use Rattle.std.proofs.Common.{[], ap}
+use Rattle.std.specs.Prelude.{map}
 use Rattle.apex_types.specs.declared.identity.Runner.TheVariants as runner
-use Rattle.apex_types.specs.declared.process.Entry.{Entry}
-use Rattle.apex_types.specs.declared.process.ProcessStatus.{ProcessStatus}
-use Rattle.kernel_laws.specs.Choice.{IsNumbered, AreNumbersBelow}
-use Rattle.kernel_meaning.specs.Queues.{entry}
-use Rattle.kernel_meaning.specs.Processes.{Processes, goes_last, leaves, leaves_queues}
-use Rattle.kernel_meaning.specs.Queues.{joins, list_at, emptied, Queues}
-use Rattle.kernel_laws.specs.WaitingOrder.{AreQueues}
+use Rattle.kernel_meaning.specs.Processes.{leaves_queues}
 use Rattle.kernel_laws.proofs.Choosing as choosing
 use Rattle.kernel_laws.proofs.WaitingOrder as waiting
-use Rattle.kernel_laws.specs.Numbers.{AreAllowed, AreNamed, BeginsToWait, Follows, IsInOrder, Numbers, ready_lines, take_all, take_one, those_ready, Taking, BecomesReady, GoesLast, ready_line, taken_ready, May}
+use Rattle.kernel_laws.specs.Numbers.{Taking, BecomesReady, GoesLast, ready_line, taken_ready}
 
 -- ---- the next number grows
 

@@ -1,21 +1,12 @@
 -- Ticks in which nothing happens change nothing: n of them are one jump.
-use Rattle.std.proofs.Common.{◌≡◌, inl, inr, ℕ, zero, suc, ◌+◌, ◌<◌, ◌≤◌, List, [], ◌∷◌, ◌++◌, refl, ap, sym, ◌∙◌, arith, length, subst}
-use Rattle.std.specs.Prelude.{Option, Some, None, slice_get, slice_set, option_map}
-use Rattle.std.proofs.lemmas.Option.{none-some, same_Some}
-use Rattle.apex_types.specs.declared.device.DeviceLine.{DeviceLine}
-use Rattle.apex_types.specs.declared.identity.At.{At}
-use Rattle.apex_types.specs.declared.identity.PartitionId.{PartitionId}
-use Rattle.apex_types.specs.declared.identity.PortId.{PortId}
-use Rattle.engine_meaning.specs.Engine.{Engine}
+use Rattle.kernel_laws.proofs.Prelude.{◌≡◌, inl, inr, ℕ, zero, suc, ◌+◌, ◌<◌, ◌≤◌, List, ◌∷◌, ◌++◌, refl, sym, ◌∙◌, arith, length, subst, slice_get, slice_set, option_map, none-some, same_Some, DeviceLine, At, PartitionId, PortId, Engine, Channel, at_number, with_ports, of_ports, of_processes, Plan, of_tick, Advanced, Course, still, ports_from, of_member, trace_from, module_tick, next_tick, moves_port, moves_ports, moves_ended, moves_so_many, steps, steps_member, ticks_owner, moves_and_ticks, then_goes, then_runs, inputs_all, Member, World, Moved, admits, moved, followed_by, with_world, tick, clearing_phase, treats_due, choice_phase, spends_chosen, messages_to_move, place_of_port, chooses_with_handler, nothing, tick_from, owner, ended, HasNothingDue}
+use Rattle.std.proofs.Common.{[], ap}
+use Rattle.std.specs.Prelude.{Option, Some, None}
 use Rattle.kernel_meaning.specs.PortServices as arrival
-use Rattle.module_meaning.specs.Table.{Channel, at_number}
-use Rattle.kernel_meaning.specs.Kernel.{with_ports, of_ports, of_processes}
 use Rattle.module_meaning.specs.Module as meaning
-use Rattle.module_meaning.specs.Module.{Plan, of_tick, Advanced, Course, still, ports_from, ports_of, of_member, trace_from, module_tick, next_tick, moves_port, moves_ports, moves_ended, moves_so_many, steps, steps_member, ticks_owner, moves_and_ticks, then_goes, then_runs, inputs_all}
-use Rattle.kernel_meaning.specs.Partition.{Member, World, Moved, advances, admits, moved, followed_by, with_world, tick, clearing_phase, treats_due, choice_phase, spending_phase, spends_chosen, messages_to_move, place_of_port, chooses_with_handler}
-use Rattle.kernel_meaning.specs.Step.{nothing}
-use Rattle.kernel_meaning.specs.Windows.{tick_from, owner, ended}
-use Rattle.kernel_laws.specs.Quiet.{IsIdle, HasNothingDue, IsAtRest, IsStill, AreStill, HaveNoLines}
+use Rattle.module_meaning.specs.Module.{ports_of}
+use Rattle.kernel_meaning.specs.Partition.{advances, spending_phase}
+use Rattle.kernel_laws.specs.Quiet.{IsIdle, IsAtRest, IsStill, AreStill, HaveNoLines}
 
 -- ---- a partition
 

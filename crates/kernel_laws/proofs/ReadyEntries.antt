@@ -1,10 +1,8 @@
 -- The entries of a ready list when a process has left it, or has joined it.
-use Rattle.std.proofs.Common.{◌≡◌, inl, inr, ℕ, Bool, true, false, not, cond, nat_eq, nat_lt, List, [], ◌∷◌, refl, sym, subst, ◌∙◌}
+use Rattle.kernel_laws.proofs.Prelude.{◌≡◌, inl, inr, ℕ, Bool, true, false, cond, nat_eq, List, ◌∷◌, refl, sym, subst, ◌∙◌, if◌then◌else◌, Entry, IsAmong, without, behind_equals}
+use Rattle.std.proofs.Common.{not, nat_lt, []}
 use Rattle.std.proofs.lemmas.Bool.{false≢true}
-use Rattle.std.specs.Prelude.{◌⊎◌, if◌then◌else◌}
-use Rattle.apex_types.specs.declared.process.Entry.{Entry}
-use Rattle.kernel_laws.specs.Choice.{IsAmong}
-use Rattle.kernel_meaning.specs.Processes.{without, behind_equals}
+use Rattle.std.specs.Prelude.{◌⊎◌}
 
 -- ---- a process has left
 

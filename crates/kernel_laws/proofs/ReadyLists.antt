@@ -1,10 +1,9 @@
 -- A list of ready processes still has each process at most once, and has room.
-use Rattle.std.proofs.Common.{◌≡◌, ℕ, zero, suc, ◌+◌, ◌<◌, ◌≤◌, Bool, true, false, not, cond, List, [], ◌∷◌, length, refl, sym, arith, subst, inl, inr}
-use Rattle.std.specs.Prelude.{nat_eq, nat_lt, if◌then◌else◌}
+use Rattle.kernel_laws.proofs.Prelude.{◌≡◌, ℕ, zero, suc, ◌+◌, ◌<◌, ◌≤◌, Bool, true, false, cond, List, ◌∷◌, length, refl, sym, arith, subst, inl, inr, nat_lt, if◌then◌else◌, cases_lt, Entry, without, behind_equals}
+use Rattle.std.proofs.Common.{not, []}
+use Rattle.std.specs.Prelude.{nat_eq}
 use Rattle.std.proofs.lemmas.Bool.Decides.{nat_tests}
-use Rattle.std.proofs.lemmas.Bool.{cases_lt, cases_eq}
-use Rattle.apex_types.specs.declared.process.Entry.{Entry}
-use Rattle.kernel_meaning.specs.Processes.{without, behind_equals}
+use Rattle.std.proofs.lemmas.Bool.{cases_eq}
 use Rattle.kernel_laws.specs.Ready.{times_listed, AreBelow, IsListed}
 
 abbrev all_times : ℕ → List Entry → ℕ

@@ -1,25 +1,11 @@
 -- The choice keeps the agreement of the ready list with the records, and the picked runner runs.
-use Rattle.std.proofs.Common.{◌≡◌, inl, ℕ, Bool, true, false, List, [], ◌∷◌, Option, Some, None, refl, sym, ap, subst, ◌∙◌}
-use Rattle.std.proofs.lemmas.Bool.{false≢true, eqb-true}
-use Rattle.std.proofs.lemmas.Option.{none-some, same_Some}
-use Rattle.std.specs.Prelude.{if◌then◌else◌, is_some}
-use Rattle.apex_types.specs.declared.codes.Mode.{Mode}
+use Rattle.kernel_laws.proofs.Prelude.{◌≡◌, inl, ℕ, Bool, true, false, List, ◌∷◌, Option, Some, None, refl, sym, subst, ◌∙◌, eqb-true, none-some, same_Some, if◌then◌else◌, is_some, Mode, Ready, Running, Priority, ProcessIndex, Runner, Entry, Lock, ProcessStatus, IsAmong, are_same, chooses, is_ready, leaves_processor, pick, preempts, runs, takes_processor, unless_held, is_ready_state, Processes, row_of, index, is_same, Step, IsPlain, IsReadyAt, RecordsAgree, record_at}
+use Rattle.std.proofs.Common.{[], ap}
+use Rattle.std.proofs.lemmas.Bool.{false≢true}
 use Rattle.apex_types.specs.declared.codes.Mode.TheVariants as mode
-use Rattle.apex_types.specs.declared.codes.ProcessState.TheVariants.{Ready, Running}
-use Rattle.apex_types.specs.declared.identity.Priority.{Priority}
-use Rattle.apex_types.specs.declared.identity.ProcessIndex.{ProcessIndex}
-use Rattle.apex_types.specs.declared.identity.Runner.{Runner}
 use Rattle.apex_types.specs.declared.identity.Runner.TheVariants as runner
-use Rattle.apex_types.specs.declared.process.Entry.{Entry}
-use Rattle.apex_types.specs.declared.process.Lock.{Lock}
 use Rattle.apex_types.specs.declared.process.Lock.TheVariants as lock
-use Rattle.apex_types.specs.declared.process.ProcessStatus.{ProcessStatus}
-use Rattle.kernel_laws.specs.Choice.{IsAmong}
-use Rattle.kernel_meaning.specs.Partition.{are_same, chooses, first_ready, is_ready, leaves_processor, pick, preempts, runs, takes_processor, unless_held}
-use Rattle.kernel_meaning.specs.ProcessServices.{is_ready_state}
-use Rattle.kernel_meaning.specs.Processes.{Processes, row_of, index, is_same}
-use Rattle.kernel_meaning.specs.Step.{Step}
-use Rattle.kernel_laws.specs.Agreement.{IsPlain, IsReadyAt, RecordsAgree, record_at}
+use Rattle.kernel_meaning.specs.Partition.{first_ready}
 use Rattle.kernel_laws.proofs.RecordRows.{IsCaller}
 use Rattle.kernel_laws.proofs.Records.{OfProcess, either, kept_agrees, plain_of, same_at, stays_ready, was_at}
 

@@ -1,43 +1,19 @@
 -- Clear, the services on the mode and on errors, what is due, and the choice keep the agreement of
 -- the ready list with the records. The picked runner runs.
-use Rattle.std.proofs.Common.{◌≡◌, ℕ, zero, suc, ◌+◌, ℤ, Bool, true, false, List, [], ◌∷◌, map, Option, Some, None, refl, sym, subst, ◌∙◌}
+use Rattle.kernel_laws.proofs.Prelude.{◌≡◌, ℕ, zero, suc, ◌+◌, ℤ, Bool, true, false, List, ◌∷◌, map, Option, Some, None, refl, sym, subst, ◌∙◌, none-some, same_Some, ◌&&◌, if◌then◌else◌, is_some, nat_le, not, slice_get, place_of, ErrorKind, Mode, PartitionAction, Ready, StartCondition, At, Priority, ProcessIndex, Runner, Due, ProcessStatus, Wait, WaitingError, ArrayPlace, Treated, timed_out, ends_wait, misses, treats_deadline, treats, due_from, is_past, tick_of, mode_of_action, Errors, action_of, acts_on_error, begins_if_dormant, breaks, create_error_handler, creates_found, faults, get_error_status, is_fault, is_waiting, raise_application_error, raises, raises_application_error, starts_handler, takes_error, then_clears, Kernel, of_processes, with_errors, clears, ends_body, enters_mode, forgotten, is_cold, is_warm, mode_of, next_release_of, ready_init, set_partition_mode, started_rows, starts_normally, wants, is_ready_state, Processes, row_of, index, is_dormant, is_normal, rests_found, Sharing, released_at, Step, IsReadyAt, RecordsAgree, record_at}
+use Rattle.std.proofs.Common.{[]}
 use Rattle.std.proofs.lemmas.Bool.{false≢true}
-use Rattle.std.proofs.lemmas.Option.{none-some, same_Some}
-use Rattle.std.specs.Prelude.{◌&&◌, if◌then◌else◌, is_some, nat_le, not, slice_get}
-use Rattle.apex_types.specs.Runners.{place_of}
-use Rattle.apex_types.specs.declared.codes.ErrorKind.{ErrorKind}
 use Rattle.apex_types.specs.declared.codes.ErrorKind.TheVariants as error
-use Rattle.apex_types.specs.declared.codes.Mode.{Mode}
 use Rattle.apex_types.specs.declared.codes.Mode.TheVariants as mode
-use Rattle.apex_types.specs.declared.codes.PartitionAction.{PartitionAction}
-use Rattle.apex_types.specs.declared.codes.ProcessState.TheVariants.{Ready}
 use Rattle.apex_types.specs.declared.codes.ReturnCode.TheVariants as code
-use Rattle.apex_types.specs.declared.codes.StartCondition.{StartCondition}
 use Rattle.apex_types.specs.declared.codes.StartCondition.TheVariants as condition
-use Rattle.apex_types.specs.declared.identity.At.{At}
-use Rattle.apex_types.specs.declared.identity.Priority.{Priority}
-use Rattle.apex_types.specs.declared.identity.ProcessIndex.{ProcessIndex}
-use Rattle.apex_types.specs.declared.identity.Runner.{Runner}
 use Rattle.apex_types.specs.declared.identity.Runner.TheVariants as runner
-use Rattle.apex_types.specs.declared.process.Due.{Due}
 use Rattle.apex_types.specs.declared.process.Due.TheVariants as due_time
-use Rattle.apex_types.specs.declared.process.ProcessStatus.{ProcessStatus}
-use Rattle.apex_types.specs.declared.process.Wait.{Wait}
 use Rattle.apex_types.specs.declared.process.Wait.TheVariants as wait
-use Rattle.apex_types.specs.declared.process.WaitingError.{WaitingError}
-use Rattle.apex_types.specs.declared.service.ArrayPlace.{ArrayPlace}
 use Rattle.apex_types.specs.declared.service.Service.TheVariants as service
-use Rattle.kernel_meaning.specs.Times.{Treated, timed_out, ends_wait, treats_due, misses, treats_deadline, treats, due_from, is_past, tick_of, mode_of_action}
-use Rattle.kernel_meaning.specs.Kernel.{Errors}
-use Rattle.kernel_meaning.specs.HealthServices.{action_of, acts_on_error, begins_if_dormant, breaks, create_error_handler, creates_found, enters_mode as enters_mode_of_action, faults, get_error_status, ignores, is_fault, is_waiting, raise_application_error, raises, raises_application_error, starts_handler, takes_error, then_clears}
-use Rattle.kernel_meaning.specs.Kernel.{Kernel, of_processes, with_errors}
-use Rattle.kernel_meaning.specs.PartitionServices.{clears, cleared_processes, ends_body, enters_mode, forgotten, is_cold, is_warm, mode_of, next_release_of, ready_init, set_partition_mode, started_rows, starts_normally, wants}
-use Rattle.kernel_meaning.specs.ProcessServices.{is_ready_state}
-use Rattle.kernel_meaning.specs.Processes.{Processes, row_of, index, is_dormant, is_normal, rests_found}
-use Rattle.kernel_meaning.specs.Sharing.{Sharing}
-use Rattle.kernel_meaning.specs.Times.{released_at}
-use Rattle.kernel_meaning.specs.Step.{Step}
-use Rattle.kernel_laws.specs.Agreement.{IsReadyAt, RecordsAgree, record_at}
+use Rattle.kernel_meaning.specs.Times.{treats_due}
+use Rattle.kernel_meaning.specs.HealthServices.{enters_mode as enters_mode_of_action, ignores}
+use Rattle.kernel_meaning.specs.PartitionServices.{cleared_processes}
 use Rattle.kernel_laws.proofs.Places.{get_set_other, some_set}
 use Rattle.kernel_laws.proofs.RecordObjects.{either as either_shared}
 use Rattle.kernel_laws.proofs.RecordRows.{all_start_agree, row_agrees, stop_self_agrees}

@@ -1,32 +1,17 @@
 -- The services on objects and on ports, and the messages that arrive and leave, keep the agreement
 -- of the ready list with the records.
-use Rattle.std.proofs.Common.{ℕ, ℤ, Bool, List, [], ◌∷◌, Option, Some, None, refl}
-use Rattle.std.specs.Prelude.{nat_lt, if◌then◌else◌}
-use Rattle.arrayvec.specs.ArrayVec.{ArrayVec}
-use Rattle.apex_types.specs.declared.codes.Mode.{Mode}
+use Rattle.kernel_laws.proofs.Prelude.{ℕ, ℤ, Bool, List, ◌∷◌, Option, Some, None, refl, nat_lt, if◌then◌else◌, ArrayVec, Mode, At, Runner, Entry, ProcessStatus, ArrayPlace, Call, serves_objects, Objects, Blackboard, Buffer, Semaphore, ApexEvent, Port, Ports, is_full, is_sampling, port_at, row_of, numbered, Sharing, Step, message, blocks, first_waiting, waiting, RecordsAgree}
+use Rattle.std.proofs.Common.{[]}
 use Rattle.apex_types.specs.declared.codes.ReturnCode.TheVariants as code
-use Rattle.apex_types.specs.declared.identity.At.{At}
-use Rattle.apex_types.specs.declared.identity.Runner.{Runner}
 use Rattle.apex_types.specs.declared.identity.Runner.TheVariants as runner
-use Rattle.apex_types.specs.declared.process.Entry.{Entry}
-use Rattle.apex_types.specs.declared.process.ProcessStatus.{ProcessStatus}
 use Rattle.apex_types.specs.declared.process.Waiting.{Waiting}
-use Rattle.apex_types.specs.declared.service.ArrayPlace.{ArrayPlace}
-use Rattle.apex_types.specs.declared.service.Call.{Call}
 use Rattle.apex_types.specs.declared.service.Call.TheVariants as call
 use Rattle.kernel_meaning.specs.BlackboardServices as blackboards
 use Rattle.kernel_meaning.specs.BufferServices as buffers
 use Rattle.kernel_meaning.specs.EventServices as events
-use Rattle.kernel_meaning.specs.ObjectServices.{serves_objects}
-use Rattle.kernel_meaning.specs.Objects.{Objects, Blackboard, Buffer, Semaphore, ApexEvent}
 use Rattle.kernel_meaning.specs.PortServices as ports
-use Rattle.kernel_meaning.specs.Objects.{Port, Ports, is_full, is_sampling, port_at}
-use Rattle.kernel_meaning.specs.Processes.{row_of, numbered}
 use Rattle.kernel_meaning.specs.SemaphoreServices as semaphores
-use Rattle.kernel_meaning.specs.Sharing.{Sharing, of_processes, on}
-use Rattle.kernel_meaning.specs.Step.{Step, message}
-use Rattle.kernel_meaning.specs.Sharing.{blocks, first_waiting, waiting}
-use Rattle.kernel_laws.specs.Agreement.{RecordsAgree}
+use Rattle.kernel_meaning.specs.Sharing.{of_processes, on}
 use Rattle.kernel_laws.proofs.Records.{IsFound, numbered_found, first_waiting_found, released_agrees, gives_agrees, all_released_agree, all_given_agree, blocks_agrees}
 use Rattle.kernel_laws.proofs.Records as records
 

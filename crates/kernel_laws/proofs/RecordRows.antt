@@ -1,33 +1,16 @@
 -- The services on processes and on time, and the starts, keep the agreement of the ready list with the records.
-use Rattle.std.proofs.Common.{◌≡◌, ℕ, zero, suc, ◌+◌, ℤ, Bool, true, false, length, Option, Some, None, refl, sym, ap, ◌∙◌}
+use Rattle.kernel_laws.proofs.Prelude.{◌≡◌, ℕ, zero, suc, ◌+◌, ℤ, Bool, true, false, length, Option, Some, None, refl, sym, ◌∙◌, ◌==◌, ◌||◌, if◌then◌else◌, is_some, nat_le, not, pos, negsuc, MOST_LOCK_LEVEL, Mode, ProcessState, Dormant, Ready, Running, Waiting, At, Priority, ProcessIndex, Runner, Ticks, Lock, ProcessStatus, Wait, amount, is_delay, is_duration, is_zero, is_ready, get_process_id, get_process_status, tells_status, create_process, creates, set_priority, takes_priority, is_priority, priority_of, is_ready_state, suspend_self, suspends_self, of_row, is_holder, suspend, suspends, resume, resumes, resumes_from, stop, start, delayed_start, is_beyond, level_of, may_not_lock, locked_by, unlocked, lock_preemption, unlock_preemption, get_my_id, Processes, row_of, index, process_at, on, is_created, is_dormant, is_held, is_periodic, is_suspended, is_unknown, is_no_other, is_busy, is_normal, put_row, put_ready, starts, starts_in_normal, starts_if_waiting, starts_waiting, start_from, released_at, ticks, Step, timed_wait, delays, yields, waits_until, periodic_wait, waits_periodically, waits_for_period, replenish, replenishes, deadline_in, has_no_deadline, reaches_past, IsPlain, RecordsAgree, record_at}
+use Rattle.std.proofs.Common.{ap}
 use Rattle.std.proofs.lemmas.Bool.{false≢true}
-use Rattle.std.specs.Prelude.{◌==◌, ◌-◌, ◌||◌, if◌then◌else◌, is_some, nat_le, not, pos, negsuc}
-use Rattle.apex_types.specs.declared.limits.TheConstants.{MOST_LOCK_LEVEL}
-use Rattle.apex_types.specs.declared.codes.Mode.{Mode}
-use Rattle.apex_types.specs.declared.codes.ProcessState.{ProcessState}
-use Rattle.apex_types.specs.declared.codes.ProcessState.TheVariants.{Dormant, Ready, Running, Waiting}
+use Rattle.std.specs.Prelude.{◌-◌}
 use Rattle.apex_types.specs.declared.codes.ReturnCode.TheVariants as code
-use Rattle.apex_types.specs.declared.identity.At.{At}
-use Rattle.apex_types.specs.declared.identity.Priority.{Priority}
-use Rattle.apex_types.specs.declared.identity.ProcessIndex.{ProcessIndex}
-use Rattle.apex_types.specs.declared.identity.Runner.{Runner}
 use Rattle.apex_types.specs.declared.identity.Runner.TheVariants as runner
-use Rattle.apex_types.specs.declared.identity.Ticks.{Ticks}
-use Rattle.apex_types.specs.declared.process.Lock.{Lock}
 use Rattle.apex_types.specs.declared.process.Lock.TheVariants as lock
-use Rattle.apex_types.specs.declared.process.ProcessStatus.{ProcessStatus}
-use Rattle.apex_types.specs.declared.process.Wait.{Wait}
 use Rattle.apex_types.specs.declared.process.Wait.TheVariants as wait
 use Rattle.apex_types.specs.declared.service.Service.TheVariants as service
-use Rattle.kernel_meaning.specs.Times.{amount, is_delay, is_duration}
-use Rattle.engine_meaning.specs.Operators.{is_zero}
-use Rattle.kernel_meaning.specs.Partition.{is_ready}
-use Rattle.kernel_meaning.specs.ProcessServices.{get_process_id, get_process_status, tells_status, create_process, creates, set_priority, takes_priority, is_priority, priority_of, is_ready_state, suspend_self, suspends_self, of_row, holds, is_holder, suspend, suspends, resume, resumes, resumes_from, stop, stop_self, start, delayed_start, is_beyond, level_of, may_not_lock, locked_by, unlocked, lock_preemption, unlock_preemption, get_my_id}
-use Rattle.kernel_meaning.specs.Processes.{Processes, row_of, index, process_at, has, on, is_created, is_dormant, is_dormant_state, is_held, is_periodic, is_suspended, is_unknown, is_no_other, is_busy, is_normal, put_row, put_ready}
-use Rattle.kernel_meaning.specs.Times.{starts, starts_in_normal, starts_if_waiting, starts_waiting, start_from, start_all_waiting, released_at, ticks}
-use Rattle.kernel_meaning.specs.Step.{Step}
-use Rattle.kernel_meaning.specs.ProcessServices.{timed_wait, delays, yields, waits_until, periodic_wait, waits_periodically, waits_for_period, replenish, replenishes, deadline_in, has_no_deadline, reaches_past}
-use Rattle.kernel_laws.specs.Agreement.{IsPlain, RecordsAgree, record_at}
+use Rattle.kernel_meaning.specs.ProcessServices.{holds, stop_self}
+use Rattle.kernel_meaning.specs.Processes.{has, is_dormant_state}
+use Rattle.kernel_meaning.specs.Times.{start_all_waiting}
 use Rattle.kernel_laws.proofs.Records.{OfProcess, IsFree, at_found, either, free_of, is_free, kept_agrees, not_free, on_agrees, plain_of, ready_agrees, released_agrees, rests_agrees, rests_found_agrees, same_holder, waits_agrees, wakes_agrees, was_at}
 
 -- ---- tests

@@ -1,22 +1,9 @@
 -- Each step of a partition keeps the agreement of the ready list with the records.
-use Rattle.std.proofs.Common.{◌≡◌, ℤ, List, [], ◌∷◌, refl, ◌∙◌}
-use Rattle.std.specs.Prelude.{not}
-use Rattle.apex_types.specs.declared.identity.At.{At}
-use Rattle.apex_types.specs.declared.identity.Runner.{Runner}
-use Rattle.apex_types.specs.Runners.{Action}
+use Rattle.kernel_laws.proofs.Prelude.{◌≡◌, ℤ, List, ◌∷◌, refl, ◌∙◌, not, At, Runner, Action, Call, Engine, Asks, Nothing, Calls, Faults, Ends, is_message_length, Kernel, of_processes, with_errors, with_objects, with_ports, World, act, act_all, chooses_with_handler, pick, serves, serves_processes, serves_shared, treats_asked, treats_due, next_release_of, number_of, Processes, Step, chosen_among}
+use Rattle.std.proofs.Common.{[]}
 use Rattle.apex_types.specs.Runners as action
-use Rattle.apex_types.specs.declared.service.Call.{Call}
 use Rattle.apex_types.specs.declared.service.Call.TheVariants as call
-use Rattle.engine_meaning.specs.Engine.{Engine, Asks, Nothing, Calls, Faults, Ends}
-use Rattle.kernel_meaning.specs.HealthServices.{is_message_length}
-use Rattle.kernel_meaning.specs.Kernel.{Kernel, of_processes, with_errors, with_objects, with_ports}
-use Rattle.kernel_meaning.specs.Partition.{World, act, act_all, chooses_with_handler, pick, serves, serves_processes, serves_shared, treats_asked, treats_due}
-use Rattle.kernel_meaning.specs.PartitionServices.{next_release_of}
 use Rattle.kernel_meaning.specs.PortServices.{is_on_ports}
-use Rattle.kernel_meaning.specs.ProcessServices.{number_of}
-use Rattle.kernel_meaning.specs.Processes.{Processes}
-use Rattle.kernel_meaning.specs.Step.{Step}
-use Rattle.kernel_laws.specs.OrderLaw.{chosen_among}
 use Rattle.kernel_laws.proofs.RecordChoice.{chooses_agrees, picked_runs}
 use Rattle.kernel_laws.proofs.RecordKernel.{KernelAgrees, create_handler_agrees, due_from_agrees, ends_body_agrees, error_status_agrees, faults_agrees, handler_agrees, raise_agrees, set_mode_agrees}
 use Rattle.kernel_laws.proofs.RecordObjects.{objects_agree, ports_agree}

@@ -1,35 +1,13 @@
 -- The changes of one process keep the agreement of the ready list with the records.
-use Rattle.std.proofs.Common.{◌≡◌, ◌≢◌, ◌↔◌, inl, inr, ℕ, suc, ℤ, Bool, true, false, nat_eq, List, [], ◌∷◌, length, Option, Some, None, refl, sym, ap, subst, ◌∙◌, arith}
-use Rattle.std.proofs.lemmas.Bool.{false≢true, eq-eqb, eqb-true, eqb-false}
-use Rattle.std.proofs.lemmas.Option.{none-some, same_Some}
-use Rattle.std.specs.Prelude.{◌⊎◌, ◌==◌, is_some, if◌then◌else◌, pos, negsuc, zero, slice_get, slice_set}
-use Rattle.arrayvec.specs.ArrayVec.{ArrayVec}
-use Rattle.apex_types.specs.Runners.{place_of}
-use Rattle.apex_types.specs.declared.codes.ProcessState.TheVariants.{Ready, Waiting, Dormant}
-use Rattle.apex_types.specs.declared.codes.ReturnCode.{ReturnCode}
+use Rattle.kernel_laws.proofs.Prelude.{◌≡◌, ◌≢◌, ◌↔◌, inl, inr, ℕ, suc, ℤ, Bool, true, false, nat_eq, List, ◌∷◌, length, Option, Some, None, refl, sym, subst, ◌∙◌, arith, eq-eqb, eqb-true, eqb-false, none-some, same_Some, ◌==◌, is_some, if◌then◌else◌, pos, negsuc, slice_get, slice_set, ArrayVec, place_of, Ready, Waiting, Dormant, ReturnCode, At, ListKey, ProcessIndex, Runner, Due, Entry, Lock, ProcessStatus, Wait, Place, IsAmong, entry, is_zero, is_ready, is_ready_state, Processes, row_of, index, numbered, process_at, is_same, is_busy, is_held, on, put_row, put_ready, put_unready, leaves, goes_last, without, behind_equals, no_longer_waits, wakes, waits, rests, rests_found, released, zeros_of_wait, Step, enters, waits_at, blocks, gives, gives_found, gives_all, releases_found, releases_all, found_first, first_waiting, waiting, IsPlain, IsReadyAt, RecordsAgree, record_at}
+use Rattle.std.proofs.Common.{[], ap}
+use Rattle.std.proofs.lemmas.Bool.{false≢true}
+use Rattle.std.specs.Prelude.{◌⊎◌, zero}
 use Rattle.apex_types.specs.declared.codes.ReturnCode.TheVariants as code
-use Rattle.apex_types.specs.declared.identity.At.{At}
-use Rattle.apex_types.specs.declared.identity.ListKey.{ListKey}
-use Rattle.apex_types.specs.declared.identity.ProcessIndex.{ProcessIndex}
-use Rattle.apex_types.specs.declared.identity.Runner.{Runner}
 use Rattle.apex_types.specs.declared.identity.Runner.TheVariants as runner
-use Rattle.apex_types.specs.declared.process.Due.{Due}
-use Rattle.apex_types.specs.declared.process.Entry.{Entry}
-use Rattle.apex_types.specs.declared.process.Lock.{Lock}
 use Rattle.apex_types.specs.declared.process.Lock.TheVariants as lock
-use Rattle.apex_types.specs.declared.process.ProcessStatus.{ProcessStatus}
-use Rattle.apex_types.specs.declared.process.Wait.{Wait}
 use Rattle.apex_types.specs.declared.process.Wait.TheVariants as wait
-use Rattle.apex_types.specs.declared.process.Waiting.{Waiting as Place}
-use Rattle.kernel_laws.specs.Choice.{IsAmong}
-use Rattle.kernel_meaning.specs.Queues.{entry}
-use Rattle.engine_meaning.specs.Operators.{is_zero}
-use Rattle.kernel_meaning.specs.Partition.{is_ready}
-use Rattle.kernel_meaning.specs.ProcessServices.{is_ready_state}
-use Rattle.kernel_meaning.specs.Processes.{Processes, row_of, index, numbered, process_at, is_same, is_busy, is_held, on, put_row, put_ready, put_unready, put_dormant, leaves, goes_last, without, behind_equals, not_running, without_holder, no_longer_waits, wakes, waits, rests, rests_found, released, released_with, zeros_of_wait}
-use Rattle.kernel_meaning.specs.Step.{Step}
-use Rattle.kernel_meaning.specs.Sharing.{enters, waits_at, blocks, gives, gives_found, gives_all, releases_found, releases_all, found_first, first_waiting, waiting}
-use Rattle.kernel_laws.specs.Agreement.{IsPlain, IsReadyAt, RecordsAgree, record_at}
+use Rattle.kernel_meaning.specs.Processes.{put_dormant, not_running, without_holder, released_with}
 use Rattle.kernel_laws.proofs.Places.{get_set_same, get_set_other, some_set}
 use Rattle.kernel_laws.proofs.ReadyEntries.{stays, left, in_behind, of_behind}
 

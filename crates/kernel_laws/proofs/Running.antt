@@ -1,16 +1,11 @@
 -- While nothing is due and the choice stays, ticks of a partition are ticks of its current runner.
-use Rattle.std.proofs.Common.{◌≤◌, ◌≡◌, ℕ, zero, suc, ◌+◌, ◌-◌, ◌<◌, ℤ, Bool, true, false, cond, List, [], ◌∷◌, refl, ap, sym, ◌∙◌, arith, subst}
-use Rattle.std.specs.Prelude.{None, Option, Some, slice_set}
-use Rattle.apex_types.specs.Runners.{place_of}
-use Rattle.apex_types.specs.declared.event.Event.{Event}
-use Rattle.apex_types.specs.declared.identity.Runner.{Runner}
-use Rattle.engine_meaning.specs.Engine.{Ticked, Engine, Asks, Nothing, Calls, Faults, Ends}
-use Rattle.kernel_meaning.specs.Partition.{World, Moved, tick, moved, spends, spends_chosen, treats_asked, given, ticked, control_at, chooses_with_handler}
-use Rattle.kernel_meaning.specs.Step.{nothing}
-use Rattle.kernel_meaning.specs.Windows.{tick_from}
-use Rattle.kernel_laws.specs.Bursts.{Burst, later, alone, burst, is_nothing, told_of}
+use Rattle.kernel_laws.proofs.Prelude.{◌≤◌, ◌≡◌, ℕ, zero, suc, ◌+◌, ◌-◌, ◌<◌, ℤ, Bool, true, false, cond, List, ◌∷◌, refl, sym, ◌∙◌, arith, subst, slice_set, place_of, Event, Runner, Engine, Asks, Nothing, Calls, Faults, Ends, World, Moved, tick, moved, spends_chosen, treats_asked, given, ticked, control_at, chooses_with_handler, nothing, tick_from, Burst, alone, HasNothingDue}
+use Rattle.std.proofs.Common.{[], ap}
+use Rattle.std.specs.Prelude.{None, Option, Some}
+use Rattle.engine_meaning.specs.Engine.{Ticked}
+use Rattle.kernel_meaning.specs.Partition.{spends}
+use Rattle.kernel_laws.specs.Bursts.{later, burst, is_nothing, told_of}
 use Rattle.kernel_laws.proofs.Until.{ticked_once}
-use Rattle.kernel_laws.specs.Quiet.{HasNothingDue}
 use Rattle.kernel_laws.specs.Running.{Goes, is_silent, partition_tick, advances_by, with_control, burst_of, treated_at, lifted}
 use Rattle.kernel_laws.proofs.Quiet.{idle_tick, running_tick}
 

@@ -1,26 +1,17 @@
 -- Every run of a module is a history.
-use Rattle.std.proofs.Common.{◌≡◌, ℕ, zero, suc, ◌+◌, ℤ, List, [], ◌∷◌, ◌++◌, map, length, Option, Some, None, refl, sym, ap, ◌∙◌, append-nil}
-use Rattle.std.proofs.lemmas.List.{append_assoc}
-use Rattle.std.specs.Prelude.{slice_get, slice_set, flat_map, option_map}
-use Rattle.arrayvec.specs.ArrayVec.{ArrayVec}
+use Rattle.kernel_laws.proofs.Prelude.{◌≡◌, ℕ, zero, suc, ◌+◌, ℤ, List, ◌∷◌, ◌++◌, map, length, Option, Some, None, refl, sym, ◌∙◌, append_assoc, slice_get, slice_set, option_map, ArrayVec, StartCondition, DeviceLine, Event, At, PartitionId, PortId, Channel, at_number, Plan, Module, Advanced, Course, still, then_goes, then_runs, steps, steps_member, inputs_all, of_tick, of_member, moves_so_many, ports_from, moves_port, moves_ports, moves_ended, ticks_owner, moves_and_ticks, module_tick, next_tick, trace_from, Member, messages_to_move, owner, ended, Move, Starts, BreaksDown, Arrives, Leaves, Admits, GoesOut, Advances, makes, Happening, Moves, Tells, happens, all_happen, members_after}
+use Rattle.std.proofs.Common.{[], ap, append-nil}
+use Rattle.std.specs.Prelude.{flat_map}
 use Rattle.apex_types.specs.declared.codes.ModuleAction.{ModuleAction}
 use Rattle.apex_types.specs.declared.codes.ModuleAction.TheVariants as reaction
-use Rattle.apex_types.specs.declared.codes.StartCondition.{StartCondition}
 use Rattle.apex_types.specs.declared.codes.StartCondition.TheVariants as condition
 use Rattle.apex_types.specs.declared.device.DeviceInput.{DeviceInput}
 use Rattle.apex_types.specs.declared.device.DeviceInput.TheVariants as device
-use Rattle.apex_types.specs.declared.device.DeviceLine.{DeviceLine}
-use Rattle.apex_types.specs.declared.event.Event.{Event}
-use Rattle.apex_types.specs.declared.identity.At.{At}
-use Rattle.apex_types.specs.declared.identity.PartitionId.{PartitionId}
-use Rattle.apex_types.specs.declared.identity.PortId.{PortId}
 use Rattle.apex_types.specs.declared.row.ChannelEnd.{ChannelEnd}
 use Rattle.apex_types.specs.declared.row.ChannelEnd.TheVariants as ends
-use Rattle.module_meaning.specs.Table.{Channel, at_number}
-use Rattle.module_meaning.specs.Module.{Plan, Module, Advanced, Course, still, then_goes, unless_down, then_runs, steps, steps_member, started_member, start_lines, starts_all, delivers, delivers_all, goes_by, fault_line, tells_fault, as_origin, breaks_module, inputs, inputs_all, of_tick, channel_from, of_member, moves_found, moves_message, moves_messages, moves_so_many, ports_from, moves_port, moves_ports, moves_ended, ticks_owner, moves_and_ticks, module_tick, first_tick, next_tick, trace_from, trace}
-use Rattle.kernel_meaning.specs.Partition.{Member, leaving, messages_to_move}
-use Rattle.kernel_meaning.specs.Windows.{owner, ended}
-use Rattle.kernel_laws.specs.History.{Move, Starts, BreaksDown, Arrives, Leaves, Admits, GoesOut, Advances, makes, Happening, Moves, Tells, happens, all_happen, members_from, members_after}
+use Rattle.module_meaning.specs.Module.{unless_down, started_member, start_lines, starts_all, delivers, delivers_all, goes_by, fault_line, tells_fault, as_origin, breaks_module, inputs, channel_from, moves_found, moves_message, moves_messages, first_tick, trace}
+use Rattle.kernel_meaning.specs.Partition.{leaving}
+use Rattle.kernel_laws.specs.History.{members_from}
 
 -- ---- lists
 

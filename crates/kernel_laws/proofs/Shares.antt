@@ -1,22 +1,11 @@
 -- Steps of the processes with what they share continue the numbers.
-use Rattle.std.proofs.Common.{Bool, List, None, Option, Some, [], false, refl, subst, suc, true, zero, ℕ, ℤ, ◌∷◌, ◌≡◌}
-use Rattle.std.proofs.lemmas.Option.{none-some, same_Some}
-use Rattle.std.specs.Prelude.{if◌then◌else◌, is_some, map, negsuc, not, pos, slice_get, slice_set}
-use Rattle.arrayvec.specs.ArrayVec.{ArrayVec}
-use Rattle.apex_types.specs.declared.codes.Discipline.{Discipline}
-use Rattle.apex_types.specs.declared.codes.Mode.{Mode}
-use Rattle.apex_types.specs.declared.codes.ReturnCode.{ReturnCode}
+use Rattle.kernel_laws.proofs.Prelude.{Bool, List, None, Option, Some, false, refl, subst, suc, true, zero, ℕ, ℤ, ◌∷◌, ◌≡◌, none-some, same_Some, if◌then◌else◌, is_some, negsuc, not, pos, slice_get, slice_set, ArrayVec, Discipline, Mode, ReturnCode, ListKey, Runner, ArrayPlace, Service, numbered_in, Processes, is_normal, Sharing, becomes, refuses, has, Step, after, lifted, nothing, row, fills, writes, Goes, May}
+use Rattle.std.proofs.Common.{[]}
+use Rattle.std.specs.Prelude.{map}
 use Rattle.apex_types.specs.declared.codes.ReturnCode.TheVariants as code
-use Rattle.apex_types.specs.declared.identity.ListKey.{ListKey}
-use Rattle.apex_types.specs.declared.identity.Runner.{Runner}
-use Rattle.apex_types.specs.declared.service.ArrayPlace.{ArrayPlace}
-use Rattle.apex_types.specs.declared.service.Service.{Service}
-use Rattle.kernel_meaning.specs.Objects.{numbered_in, placed}
-use Rattle.kernel_meaning.specs.Processes.{Processes, is_normal}
-use Rattle.kernel_meaning.specs.Sharing.{Sharing, becomes, of_processes, answers, refuses, has, on, create, get_id, get_status}
-use Rattle.kernel_meaning.specs.Step.{Step, after, lifted, nothing, row}
-use Rattle.kernel_meaning.specs.Sharing.{fills, writes}
-use Rattle.kernel_laws.specs.Numbers.{Goes, EachAt, May}
+use Rattle.kernel_meaning.specs.Objects.{placed}
+use Rattle.kernel_meaning.specs.Sharing.{of_processes, answers, on, create, get_id, get_status}
+use Rattle.kernel_laws.specs.Numbers.{EachAt}
 use Rattle.kernel_laws.proofs.NumberSteps.{Named, nothing_goes, after_goes, fills_goes, answer_goes, refuse_goes}
 
 -- ---- lists of objects

@@ -1,17 +1,10 @@
 -- A loop over processes: the steps so far, followed by those of the remaining processes, are the
 -- whole.
-use Rattle.std.proofs.Common.{◌≡◌, ℕ, zero, suc, ◌+◌, ◌-◌, ◌<◌, List, ◌++◌, refl, sym, ap, ◌∙◌, append_assoc, arith}
-use Rattle.std.specs.Prelude.{Bool, true, false, Option, is_some, if◌then◌else◌}
-use Rattle.apex_types.specs.declared.codes.Mode.{Mode}
-use Rattle.apex_types.specs.declared.codes.PartitionAction.{PartitionAction}
-use Rattle.apex_types.specs.declared.event.EventKind.{EventKind}
-use Rattle.apex_types.specs.declared.identity.At.{At}
+use Rattle.kernel_laws.proofs.Prelude.{◌≡◌, ℕ, zero, suc, ◌+◌, ◌-◌, ◌<◌, List, ◌++◌, refl, sym, ◌∙◌, arith, is_some, if◌then◌else◌, Mode, PartitionAction, EventKind, At, Action, Step, after, Processes, row_of, index, starts_waiting, start_from, Treated, treats, treated_after, due_from}
+use Rattle.std.proofs.Common.{ap, append_assoc}
+use Rattle.std.specs.Prelude.{Bool, true, false, Option}
 use Rattle.apex_types.specs.declared.identity.Runner.TheVariants as runner
-use Rattle.apex_types.specs.Runners.{Action}
-use Rattle.kernel_meaning.specs.Step.{Step, after}
-use Rattle.kernel_meaning.specs.Processes.{Processes, row_of, index}
-use Rattle.kernel_meaning.specs.Times.{starts_waiting, start_from}
-use Rattle.kernel_meaning.specs.Times.{Treated, treats, treated_after, then_others, due_from}
+use Rattle.kernel_meaning.specs.Times.{then_others}
 
 pub goes_on : {A : Type 0} (old new this rest whole : List A) → new ≡ old ++ this → old ++ (this ++ rest) ≡ whole → new ++ rest ≡ whole
 goes_on old new this rest whole grown before = rw grown (append_assoc old this rest ∙ before)

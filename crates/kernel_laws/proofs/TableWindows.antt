@@ -1,10 +1,8 @@
 -- The windows of an accepted module table are in order.
-use Rattle.std.proofs.Common.{◌≡◌, ℕ, ◌+◌, ◌≤◌, ℤ, pos, negsuc, nat_abs, true, false, List, [], ◌∷◌, map, refl, subst}
-use Rattle.std.specs.Prelude.{◌||◌, ◌+ℤ◌, nat_lt, int_lt}
-use Rattle.std.specs.List.{list_any}
-use Rattle.std.proofs.lemmas.Bool.{ltb-false, or_parts}
+use Rattle.kernel_laws.proofs.Prelude.{◌≡◌, ℕ, ◌+◌, ◌≤◌, ℤ, nat_abs, true, false, List, ◌∷◌, map, refl, subst, ◌||◌, nat_lt, list_any, ltb-false, or_parts, BeginWithin}
+use Rattle.std.proofs.Common.{pos, negsuc, []}
+use Rattle.std.specs.Prelude.{◌+ℤ◌, int_lt}
 use Rattle.module_meaning.specs.TableRules.{PartitionText, WindowText, exceeds_window, window_row, overlaps_after}
-use Rattle.kernel_meaning.specs.WindowFacts.{BeginWithin}
 use Rattle.kernel_laws.proofs.WindowOrder.{AreInOrder, begin_within}
 
 -- the rules that a window keeps if it begins at or after an end and ends within the frame

@@ -1,17 +1,7 @@
 -- Through every history the lists of each partition keep the order of its numbers.
-use Rattle.std.proofs.Common.{◌≡◌, ℕ, zero, suc, Bool, true, false, List, [], ◌∷◌, Option, Some, None, refl, sym, ap, subst, ◌∙◌}
-use Rattle.std.proofs.lemmas.Bool.{eqb-true, eqb-false}
-use Rattle.std.proofs.lemmas.Option.{none-some, same_Some}
-use Rattle.std.specs.Prelude.{◌==◌, if◌then◌else◌, slice_get, slice_set}
-use Rattle.apex_types.specs.declared.codes.Discipline.{Discipline}
-use Rattle.apex_types.specs.declared.identity.ListKey.{ListKey}
-use Rattle.module_meaning.specs.Table.{at_number}
-use Rattle.module_meaning.specs.Module.{steps_member}
-use Rattle.kernel_meaning.specs.Partition.{Member, with_world}
-use Rattle.kernel_laws.specs.History.{Move, Starts, BreaksDown, Arrives, Leaves, Admits, GoesOut, Advances, makes, Happening, Moves, Tells, happens, all_happen}
-use Rattle.kernel_laws.specs.Numbers.{Numbers}
-use Rattle.kernel_laws.specs.OrderLaw.{IsOrdered}
-use Rattle.kernel_laws.specs.RunLaw.{MoveGoes, numbers_by, MoveGoesAt, numbers_at, AreOrdered, with_numbers, GoThrough}
+use Rattle.kernel_laws.proofs.Prelude.{◌≡◌, ℕ, zero, suc, Bool, true, false, List, ◌∷◌, Option, Some, None, refl, sym, subst, ◌∙◌, eqb-true, eqb-false, none-some, same_Some, ◌==◌, if◌then◌else◌, slice_get, slice_set, Discipline, ListKey, at_number, steps_member, Member, with_world, Move, Starts, BreaksDown, Arrives, Leaves, Admits, GoesOut, Advances, makes, Happening, Moves, Tells, happens, all_happen, Numbers, IsOrdered, AreOrdered}
+use Rattle.std.proofs.Common.{[], ap}
+use Rattle.kernel_laws.specs.RunLaw.{MoveGoes, numbers_by, MoveGoesAt, numbers_at, with_numbers, GoThrough}
 use Rattle.kernel_laws.proofs.OfTick.{tick_goes, cold_start_goes, breaks_down_goes, arrives_goes, leaves_goes, admits_goes, goes_out_goes}
 use Rattle.kernel_laws.proofs.Places.{get_set_same, get_set_other}
 

@@ -1,15 +1,12 @@
 -- Each waiting list has the order of its numbers.
-use Rattle.std.proofs.Common.{◌≡◌, ◌⊎◌, ◌↔◌, inl, inr, ℕ, zero, suc, ◌+◌, ◌<◌, nat_eq, cond, true, false, not, List, [], ◌∷◌, ◌++◌, map, Some, slice_get, slice_set, refl, sym, ap, subst, arith}
-use Rattle.std.proofs.lemmas.Option.{none-some, same_Some}
-use Rattle.apex_types.specs.declared.codes.Discipline.{Discipline}
+use Rattle.kernel_laws.proofs.Prelude.{◌≡◌, ◌⊎◌, ◌↔◌, inl, inr, ℕ, zero, suc, ◌+◌, ◌<◌, nat_eq, cond, true, false, List, ◌∷◌, ◌++◌, map, Some, refl, sym, subst, arith, none-some, same_Some, Discipline, ListKey, Entry, IsAmong, IsBeforeEach, AreNumbersBelow, takes, Queues, list_in, list_at, joins, emptied, IsQueue, AreQueues, IsReleasedFirst}
+use Rattle.std.proofs.Common.{not, [], slice_get, slice_set, ap}
 use Rattle.apex_types.specs.declared.codes.Discipline.TheVariants as discipline
-use Rattle.apex_types.specs.declared.identity.ListKey.{ListKey}
 use Rattle.apex_types.specs.declared.identity.ListKey.TheVariants as key
-use Rattle.apex_types.specs.declared.process.Entry.{Entry}
-use Rattle.kernel_laws.specs.Choice.{IsAmong, IsOrdered, IsBeforeEach, AreNumbersBelow, takes}
+use Rattle.kernel_laws.specs.Choice.{IsOrdered}
 use Rattle.kernel_meaning.specs.Queues.{without, behind_equals}
-use Rattle.kernel_meaning.specs.Queues.{Queues, list_in, each_list, without_in_all, list_at, put_list, joined, joins, no_entries, emptied}
-use Rattle.kernel_laws.specs.WaitingOrder.{IsBeforeUnder, IsBeforeEachUnder, IsOrderedUnder, IsQueue, AreQueues, IsReleasedFirst}
+use Rattle.kernel_meaning.specs.Queues.{each_list, without_in_all, put_list, joined, no_entries}
+use Rattle.kernel_laws.specs.WaitingOrder.{IsBeforeUnder, IsBeforeEachUnder, IsOrderedUnder}
 use Rattle.kernel_laws.proofs.Choosing.{AreOthers, below_without, others_without, same_number, own_number, before_other, below_takes, ordered_behind, below_behind, not_both}
 
 -- ---- a process leaves

@@ -1,14 +1,12 @@
 -- Windows that follow one another within a frame: each begins within it, at most one holds a tick,
 -- and at most one ends at it.
-use Rattle.std.proofs.Common.{◌≡◌, ℕ, zero, suc, ◌+◌, ◌%◌, ◌<◌, ◌≤◌, Bool, true, false, cond, IsTrue, List, [], ◌∷◌, Some, None, refl, sym, ap, subst, ◌∙◌, arith, inl, inr, mod-eq_of_lt}
+use Rattle.kernel_laws.proofs.Prelude.{◌≡◌, ℕ, zero, suc, ◌+◌, ◌%◌, ◌<◌, ◌≤◌, Bool, true, false, cond, IsTrue, List, ◌∷◌, Some, None, refl, sym, subst, ◌∙◌, arith, inl, inr, nat_le, nat_lt, option_map, slice_get, list_any, and_parts, ltb-true, eqb-true, cases_lt, At, WindowRow, Schedule, phase, ended, begins_late, BeginWithin}
+use Rattle.std.proofs.Common.{[], ap, mod-eq_of_lt}
 use Rattle.std.proofs.Math.Nat.{mod_self}
-use Rattle.std.specs.Prelude.{nat_le, nat_lt, find, option_map, slice_get}
-use Rattle.std.specs.List.{list_any}
-use Rattle.std.proofs.lemmas.Bool.{and_parts, or_from, leb-true, ltb-true, lt-leb, lt-ltb, eqb-true, cases_lt}
-use Rattle.apex_types.specs.declared.identity.At.{At}
-use Rattle.apex_types.specs.declared.row.WindowRow.{WindowRow}
-use Rattle.kernel_meaning.specs.Windows.{Schedule, phase, is_within, ends_at, ended}
-use Rattle.kernel_meaning.specs.WindowFacts.{Holds, Ends, AtMostOne, HasOneOwner, HasOneEnd, begins_late, BeginWithin}
+use Rattle.std.specs.Prelude.{find}
+use Rattle.std.proofs.lemmas.Bool.{or_from, leb-true, lt-leb, lt-ltb}
+use Rattle.kernel_meaning.specs.Windows.{is_within, ends_at}
+use Rattle.kernel_meaning.specs.WindowFacts.{Holds, Ends, AtMostOne, HasOneOwner, HasOneEnd}
 
 -- from a place of the frame on, each after the one before, within the frame
 abbrev pub AreInOrder : ℕ → ℕ → List WindowRow → Type 0

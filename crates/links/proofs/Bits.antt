@@ -1,17 +1,8 @@
 -- The bits of the levels.
-use Rattle.std.proofs.Common.{◌≡◌, ◌⊎◌, inl, inr, ℕ, zero, suc, ◌+◌, ◌*◌, ◌<◌, ◌≤◌, nat_eq, nat_lt, cond, Bool, true, false, List, [], ◌∷◌, ◌++◌, length, None, refl, sym, ap, subst, ◌∙◌, arith, slice_index, slice_set, slice_get}
-use Rattle.std.specs.Int.{bit_at}
-use Rattle.std.proofs.lemmas.Bool.{cases_lt, cases_eq}
-use Rattle.std.proofs.lemmas.Bool.Decides.{nat_tests}
+use Rattle.links.proofs.Prelude.{◌≡◌, ◌⊎◌, inl, inr, ℕ, zero, suc, ◌+◌, ◌*◌, ◌<◌, ◌≤◌, nat_eq, nat_lt, cond, Bool, true, false, List, [], ◌∷◌, ◌++◌, length, None, refl, sym, ap, subst, ◌∙◌, arith, slice_index, slice_get, bit_at, cases_lt, cases_eq, nat_tests, bit_at-zero, MARK_BITS, Entry, without, list_in, put_in, without_in_each, times_listed, IsLowest, in_order, one_if_any}
+use Rattle.std.proofs.Common.{slice_set}
 use Rattle.std.proofs.lemmas.List.{get_or-set_same, get_or-set_other}
-use Rattle.std.proofs.lemmas.Nat.Bits.{bit_at-zero}
-use Rattle.apex_types.specs.declared.limits.TheConstants.{MARK_BITS}
-use Rattle.apex_types.specs.declared.process.Entry.{Entry}
-use Rattle.kernel_meaning.specs.Queues.{without}
-use Rattle.kernel_meaning.specs.Queues.{list_in}
-use Rattle.links.specs.Lists.{put_in, without_in_each}
-use Rattle.kernel_laws.specs.Ready.{times_listed}
-use Rattle.links.specs.Levels.{AreMarked, IsFirstMark, IsLowest, in_order, one_if_any}
+use Rattle.links.specs.Levels.{AreMarked, IsFirstMark}
 use Rattle.links.proofs.Levels.{at_put_other, at_put_same, at_without, in_order_first, in_order_none, times_append, without_absent}
 
 -- one bit of one word changes

@@ -1,19 +1,14 @@
 -- The waiting lists by their keys, among the lists with numbers.
-use Rattle.std.proofs.Common.{◌*◌, ◌≡◌, ◌∙◌, ◌⊎◌, inl, inr, ℕ, ◌+◌, ◌-◌, ◌<◌, ◌≤◌, true, false, List, [], length, map, refl, sym, ap, arith}
-use Rattle.std.specs.Prelude.{nat_lt, take, drop, slice_set}
-use Rattle.std.proofs.lemmas.Bool.Decides.{nat_tests}
-use Rattle.std.proofs.lemmas.Bool.{cases_lt}
-use Rattle.std.proofs.lemmas.List.{take-map, drop-map, get_or_past, get_or-take, get_or-drop, drop-set-lt, drop-set-add, take-set-le, set_past, length-map, length-take}
+use Rattle.links.proofs.Prelude.{◌*◌, ◌≡◌, ◌∙◌, ◌⊎◌, inl, inr, ℕ, ◌+◌, ◌-◌, ◌<◌, ◌≤◌, true, false, List, [], length, map, refl, sym, ap, arith, slice_set, nat_tests, cases_lt, get_or_past, length-map, Discipline, Entry, without, list_in, joined, put_in, without_in_each}
+use Rattle.std.specs.Prelude.{nat_lt, take, drop}
+use Rattle.std.proofs.lemmas.List.{take-map, drop-map, get_or-take, get_or-drop, drop-set-lt, drop-set-add, take-set-le, set_past, length-take}
 use Rattle.std.proofs.Math.Seq.{take-set-lt}
 use Rattle.apex_types.specs.declared.limits.TheConstants.{MOST_OBJECTS}
-use Rattle.apex_types.specs.declared.codes.Discipline.{Discipline}
 use Rattle.apex_types.specs.declared.identity.ListKey.{ListKey}
 use Rattle.apex_types.specs.declared.identity.ListKey.TheVariants as key
-use Rattle.apex_types.specs.declared.process.Entry.{Entry}
-use Rattle.kernel_meaning.specs.Queues.{without}
-use Rattle.kernel_meaning.specs.Queues.{Queues, list_in, list_at, put_list, each_list, without_in_all, joined, joins}
+use Rattle.kernel_meaning.specs.Queues.{Queues, list_at, put_list, each_list, without_in_all, joins}
 use Rattle.links.specs.ByKind.{lists_from, by_kind, number_from, number_of}
-use Rattle.links.specs.Lists.{put_in, without_in_each, joins_in}
+use Rattle.links.specs.Lists.{joins_in}
 
 same_queues : {a b c d e a' b' c' d' e' : List (List Entry)} → a ≡ a' → b ≡ b' → c ≡ c' → d ≡ d' → e ≡ e' → ◌≡◌ {A = Queues} (record { semaphores = a; events = b; buffers = c; blackboards = d; ports = e }) (record { semaphores = a'; events = b'; buffers = c'; blackboards = d'; ports = e' })
 same_queues p q r s t = rw (p, q, r, s, t) refl

@@ -1,13 +1,9 @@
 -- The bits of the processes that are due are those of the entries in front, whose ticks have come.
-use Rattle.std.proofs.Common.{◌≡◌, ℕ, zero, suc, ◌<◌, ◌≤◌, nat_eq, cond, Bool, true, false, List, [], ◌∷◌, Option, Some, length, drop, get_or, refl, sym, ap, ◌∙◌, arith}
+use Rattle.links.proofs.Prelude.{◌≡◌, ℕ, zero, suc, ◌<◌, ◌≤◌, nat_eq, cond, Bool, true, false, List, [], ◌∷◌, Option, Some, length, drop, get_or, refl, sym, ap, ◌∙◌, arith, bit_at, nat_tests, bit_at-zero, DueEntry, AreFrom, AreInOrder, AreDueBelow, IsExact, tick_in}
 use Rattle.std.specs.Prelude.{max, nat_le}
-use Rattle.std.specs.Int.{bit_at}
 use Rattle.std.specs.Int.Bits.{bit_or}
-use Rattle.std.proofs.lemmas.Bool.Decides.{nat_tests}
-use Rattle.std.proofs.lemmas.Nat.Bits.{bit_at-zero, bit_at-lt, bit_at_or}
-use Rattle.links.specs.declared.dues.DueEntry.{DueEntry}
-use Rattle.links.specs.DueOrder.{AreFrom, AreInOrder, AreDueBelow}
-use Rattle.links.specs.Timers.{HasThoseDue, IsDueMask, IsExact, has_come, one_if_come, tick_in}
+use Rattle.std.proofs.lemmas.Nat.Bits.{bit_at-lt, bit_at_or}
+use Rattle.links.specs.Timers.{HasThoseDue, IsDueMask, has_come, one_if_come}
 
 -- the union of two bits
 abbrev pub or_bit : ℕ → ℕ → ℕ

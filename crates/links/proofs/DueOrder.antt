@@ -1,17 +1,8 @@
 -- The due list keeps its order, and has room.
-use Rattle.std.proofs.Common.{◌≡◌, ℕ, suc, ◌+◌, ◌<◌, ◌≤◌, Bool, true, false, not, cond, List, [], ◌∷◌, ◌++◌, length, take, drop, get_or, map, ap, ◌∙◌, refl, sym, arith, subst, inl, inr}
-use Rattle.std.specs.Prelude.{remove, nat_eq, nat_lt, if◌then◌else◌}
-use Rattle.std.proofs.lemmas.Bool.Decides.{nat_tests}
-use Rattle.std.proofs.lemmas.Bool.{cases_eq}
-use Rattle.std.proofs.lemmas.List.{take-append-drop}
-use Rattle.std.proofs.lemmas.Option.{get_or_from_slice_get, slice_get_read}
-use Rattle.std.proofs.Math.Seq.{drop-cons}
-use Rattle.apex_types.specs.declared.process.Entry.{Entry}
+use Rattle.links.proofs.Prelude.{◌≡◌, ℕ, suc, ◌+◌, ◌<◌, ◌≤◌, Bool, true, false, not, cond, List, [], ◌∷◌, ◌++◌, length, take, drop, get_or, map, ap, ◌∙◌, refl, sym, arith, subst, inl, inr, remove, if◌then◌else◌, nat_tests, cases_eq, take-append-drop, get_or_from_slice_get, slice_get_read, drop-cons, Entry, times_listed, AreBelow, IsListed, length-without, DueEntry, behind_earlier, AreFrom, AreInOrder, AreDueBelow}
+use Rattle.std.specs.Prelude.{nat_eq, nat_lt}
 use Rattle.kernel_meaning.specs.Queues as entries
-use Rattle.kernel_laws.specs.Ready.{times_listed, AreBelow, IsListed}
-use Rattle.kernel_laws.proofs.ReadyLists.{length-without}
-use Rattle.links.specs.declared.dues.DueEntry.{DueEntry}
-use Rattle.links.specs.DueOrder.{without, behind_earlier, AreFrom, AreInOrder, times_due, AreDueBelow}
+use Rattle.links.specs.DueOrder.{without, times_due}
 
 abbrev one_if : Bool → ℕ
 one_if b = if b then 1 else 0

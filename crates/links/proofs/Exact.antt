@@ -1,13 +1,11 @@
 -- A timer list stays exact, and its first has the least tick.
-use Rattle.std.proofs.Common.{◌≡◌, ℕ, ◌≤◌, nat_eq, nat_lt, cond, Bool, true, false, not, List, [], ◌∷◌, Option, Some, None, slice_get, refl, sym, ap, ◌∙◌, arith}
+use Rattle.links.proofs.Prelude.{◌≡◌, ℕ, ◌≤◌, nat_eq, nat_lt, cond, Bool, true, false, not, List, [], ◌∷◌, Option, Some, None, slice_get, refl, sym, ap, ◌∙◌, arith, nat_tests, DueEntry, AreFrom, behind_earlier, due_at, IsExact, tick_in}
 use Rattle.std.proofs.lemmas.Bool.{eq-eqb}
-use Rattle.std.proofs.lemmas.Bool.Decides.{nat_tests}
 use Rattle.std.proofs.lemmas.Option.{none-some, same_Some}
 use Rattle.apex_types.specs.declared.identity.ProcessIndex.{ProcessIndex}
 use Rattle.apex_types.specs.declared.identity.Ticks.{Ticks}
-use Rattle.links.specs.declared.dues.DueEntry.{DueEntry}
-use Rattle.links.specs.DueOrder.{AreFrom, behind_earlier, due_at, without}
-use Rattle.links.specs.Timers.{IsExact, IsLeastTick, number_of, set_timer, tick_in, ticks_with}
+use Rattle.links.specs.DueOrder.{without}
+use Rattle.links.specs.Timers.{IsLeastTick, number_of, set_timer, ticks_with}
 
 gone : (p : ℕ) (dues : List DueEntry) → tick_in p (without p dues) ≡ None
 gone p [] = refl

@@ -1,10 +1,8 @@
 -- The lowest bit that is set.
-use Rattle.std.proofs.Common.{◌≡◌, ◌⊎◌, inl, inr, ℕ, ◌+◌, ◌*◌, ◌<◌, ◌≤◌, ◌^◌, List, ap, ◌∙◌, arith, slice_index, w64}
-use Rattle.std.specs.Int.{bit_at, trailing_zeros}
-use Rattle.std.proofs.lemmas.Bool.{cases_lt, cases_eq}
-use Rattle.std.proofs.lemmas.Nat.Bits.{bit_at-zero, bit_at-trailing_zeros}
-use Rattle.apex_types.specs.declared.limits.TheConstants.{MARK_BITS}
-use Rattle.links.specs.Levels.{IsLowest}
+use Rattle.links.proofs.Prelude.{◌≡◌, ◌⊎◌, inl, inr, ℕ, ◌+◌, ◌*◌, ◌<◌, ◌≤◌, List, ap, ◌∙◌, arith, slice_index, w64, bit_at, cases_lt, cases_eq, bit_at-zero, MARK_BITS, IsLowest}
+use Rattle.std.proofs.Common.{◌^◌}
+use Rattle.std.specs.Int.{trailing_zeros}
+use Rattle.std.proofs.lemmas.Nat.Bits.{bit_at-trailing_zeros}
 
 pub lowest : (marks : List ℕ) (word : ℕ) → ((w : ℕ) → w < word → slice_index marks w ≡ 0) → 0 < slice_index marks word → slice_index marks word < 2 ^ 64 → IsLowest marks (word * MARK_BITS + trailing_zeros w64 (slice_index marks word))
 lowest marks word before some small =

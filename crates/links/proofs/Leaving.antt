@@ -1,17 +1,6 @@
 -- A process that leaves a list, which contains it at most once.
-use Rattle.std.proofs.Common.{◌≡◌, ℕ, suc, ◌+◌, ◌<◌, ◌≤◌, true, List, [], ◌∷◌, ◌++◌, length, take, drop, get_or, map, ap, ◌∙◌, refl, sym, arith}
-use Rattle.std.specs.Prelude.{Option, Some, None, remove, nat_eq, slice_index_or, if◌then◌else◌}
-use Rattle.std.proofs.lemmas.Bool.Decides.{nat_tests}
-use Rattle.std.proofs.lemmas.List.{get_or-map, take-append-drop}
-use Rattle.std.proofs.lemmas.Option.{get_or_from_slice_get, slice_get_read}
-use Rattle.std.proofs.Math.Seq.{drop-cons}
-use Rattle.arrayvec.specs.ArrayVec.{ArrayVec}
-use Rattle.apex_types.specs.declared.process.Entry.{Entry}
-use Rattle.kernel_meaning.specs.Queues.{without}
-use Rattle.kernel_meaning.specs.Queues.{list_in}
-use Rattle.kernel_laws.specs.Ready.{times_listed}
-use Rattle.links.specs.OneHome.{entries_of, once_at, IsHomed}
-use Rattle.links.specs.declared.lists.ListId.{ListId}
+use Rattle.links.proofs.Prelude.{◌≡◌, ℕ, suc, ◌+◌, ◌<◌, ◌≤◌, true, List, [], ◌∷◌, ◌++◌, length, take, drop, get_or, map, ap, ◌∙◌, refl, sym, arith, remove, slice_index_or, if◌then◌else◌, nat_tests, get_or-map, take-append-drop, get_or_from_slice_get, slice_get_read, drop-cons, ArrayVec, Entry, without, list_in, times_listed, entries_of, once_at, IsHomed, ListId}
+use Rattle.std.specs.Prelude.{Option, Some, None, nat_eq}
 use Rattle.links.proofs.Levels.{times_append, without_absent}
 
 pub same-process : (es found : List Entry) (place p : ℕ) (e d : Entry) → place < length es → found ≡ es → e ≡ get_or es place e → (get_or found place d).process.0 ≡ p → e.process.0 ≡ p

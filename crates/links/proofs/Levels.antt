@@ -1,12 +1,6 @@
 -- The lists one after another.
-use Rattle.std.proofs.Common.{◌≡◌, ℕ, zero, suc, ◌+◌, ◌<◌, ◌≤◌, nat_eq, nat_lt, cond, true, false, not, List, [], ◌∷◌, ◌++◌, length, slice_get, replicate, refl, sym, ap, ◌∙◌, arith}
-use Rattle.std.proofs.lemmas.Bool.Decides.{nat_tests}
-use Rattle.apex_types.specs.declared.process.Entry.{Entry}
-use Rattle.kernel_meaning.specs.Queues.{without, behind_equals}
-use Rattle.kernel_meaning.specs.Queues.{list_in}
-use Rattle.links.specs.Lists.{without_in_each, put_in, emptied_each}
-use Rattle.kernel_laws.specs.Ready.{times_listed}
-use Rattle.links.specs.Levels.{in_order, AreOfLevel, AreLevels, one_if_any}
+use Rattle.links.proofs.Prelude.{◌≡◌, ℕ, zero, suc, ◌+◌, ◌<◌, ◌≤◌, nat_eq, nat_lt, cond, true, false, not, List, [], ◌∷◌, ◌++◌, length, slice_get, replicate, refl, sym, ap, ◌∙◌, arith, nat_tests, Entry, without, behind_equals, list_in, without_in_each, put_in, emptied_each, times_listed, in_order, one_if_any}
+use Rattle.links.specs.Levels.{AreOfLevel, AreLevels}
 
 append_assoc : {A : Type 0} (xs ys zs : List A) → (xs ++ ys) ++ zs ≡ xs ++ (ys ++ zs)
 append_assoc [] ys zs = refl

@@ -1,22 +1,11 @@
 -- Each process stays only in its home.
-use Rattle.std.proofs.Common.{◌≡◌, ℕ, zero, suc, ◌+◌, ◌<◌, ◌≤◌, Bool, true, false, not, cond, List, [], ◌∷◌, length, drop, map, refl, sym, ap, ◌∙◌, replicate, arith, subst, inl, inr, get_or, get_or-set_other, length-set}
-use Rattle.std.specs.Prelude.{nat_eq, nat_lt, slice_get, slice_set, slice_index_or, Option, Some, None, IfSome, if◌then◌else◌}
-use Rattle.std.proofs.lemmas.Bool.Decides.{nat_tests}
-use Rattle.std.proofs.lemmas.Bool.{cases_lt, cases_eq}
-use Rattle.std.proofs.lemmas.List.{get_or_past, get_or-map, get_or-replicate, length-replicate, map-set}
+use Rattle.links.proofs.Prelude.{◌≡◌, ℕ, zero, suc, ◌+◌, ◌<◌, ◌≤◌, Bool, true, false, not, cond, List, [], ◌∷◌, length, drop, map, refl, sym, ap, ◌∙◌, replicate, arith, subst, inl, inr, get_or, length-set, slice_set, slice_index_or, if◌then◌else◌, nat_tests, cases_lt, cases_eq, get_or_past, get_or-map, ArrayVec, Discipline, ListId, Entry, without, behind_equals, list_in, joined, no_entries, without_in_each, put_in, emptied_each, times_listed, AreBelow, IsListed, length-without, entries_of, once_at, IsHomed}
+use Rattle.std.proofs.Common.{get_or-set_other}
+use Rattle.std.specs.Prelude.{nat_eq, nat_lt, slice_get, Option, Some, None, IfSome}
+use Rattle.std.proofs.lemmas.List.{get_or-replicate, length-replicate, map-set}
 use Rattle.std.proofs.lemmas.Grind.{get_or-set_at}
 use Rattle.std.proofs.Math.ListN as listn
-use Rattle.arrayvec.specs.ArrayVec.{ArrayVec}
-use Rattle.apex_types.specs.declared.codes.Discipline.{Discipline}
 use Rattle.apex_types.specs.declared.codes.Discipline.TheVariants as discipline
-use Rattle.links.specs.declared.lists.ListId.{ListId}
-use Rattle.apex_types.specs.declared.process.Entry.{Entry}
-use Rattle.kernel_meaning.specs.Queues.{without, behind_equals}
-use Rattle.kernel_meaning.specs.Queues.{list_in, joined, no_entries}
-use Rattle.links.specs.Lists.{without_in_each, put_in, emptied_each}
-use Rattle.kernel_laws.specs.Ready.{times_listed, AreBelow, IsListed}
-use Rattle.kernel_laws.proofs.ReadyLists.{length-without}
-use Rattle.links.specs.OneHome.{entries_of, once_at, IsHomed}
 
 abbrev one_if : Bool → ℕ
 one_if b = if b then 1 else 0

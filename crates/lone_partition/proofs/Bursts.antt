@@ -1,27 +1,20 @@
 -- Many ticks of a lone partition together.
-use Rattle.std.proofs.Common.{◌≡◌, inl, inr, ℕ, zero, suc, ◌+◌, ◌-◌, ◌<◌, ◌≤◌, Bool, true, false, cond, List, [], ◌∷◌, ◌++◌, length, Option, Some, None, refl, sym, ap, subst, ◌∙◌, append_assoc, nat_le, arith}
-use Rattle.std.specs.Prelude.{option_map, is_some}
-use Rattle.apex_types.specs.declared.event.Event.{Event}
+use Rattle.lone_partition.proofs.Prelude.{◌≡◌, ℕ, zero, suc, ◌+◌, ◌-◌, ◌<◌, ◌≤◌, Bool, true, false, List, [], ◌∷◌, ◌++◌, length, Option, Some, None, refl, sym, ap, subst, ◌∙◌, append_assoc, arith, option_map, is_some, Event, At, PortId, next_tick, ports_of, Member, moved, at_tick, owner, ended, Gone, Path, Surroundings, and_then, alone_from, goes, inputs_in, keeps_on, sends_ended, sends_ports, sends_so_many, stays, tick_alone, ticks_own, InputLine, IsStill, AreFrom, inputs_of, tick_of_input, IsWithin, LeadsTo, HasRun, HasAdvancedWritten, Sent}
+use Rattle.std.proofs.Common.{inl, inr, cond, nat_le}
 use Rattle.apex_types.specs.declared.limits.TheConstants.{MOST_EVENTS}
-use Rattle.apex_types.specs.declared.identity.At.{At}
-use Rattle.apex_types.specs.declared.identity.PortId.{PortId}
 use Rattle.kernel_meaning.specs.Kernel.{of_ports}
-use Rattle.module_meaning.specs.Module.{next_tick, ports_of}
-use Rattle.kernel_meaning.specs.Partition.{Member, Moved, World, moved, with_world, tick}
-use Rattle.kernel_meaning.specs.Windows.{at_tick, tick_from, owner, ended}
-use Rattle.isolation.specs.Alone.{Gone, Path, Surroundings, and_then, alone_from, goes, inputs_in, keeps_on, sends_ended, sends_port, sends_ports, sends_so_many, stays, tick_alone, ticks_own}
-use Rattle.isolation.specs.declared.input.InputLine.{InputLine}
+use Rattle.kernel_meaning.specs.Partition.{Moved, World, with_world, tick}
+use Rattle.kernel_meaning.specs.Windows.{tick_from}
+use Rattle.isolation.specs.Alone.{sends_port}
 use Rattle.partition.specs.Gathering.{joined, no_ticks, ticks_within}
 use Rattle.partition.specs.Members.{HasAdvanced}
 use Rattle.partition.specs.declared.rooms.TheConstants.{LINES_FOR_TICK}
 use Rattle.kernel_laws.specs.Bursts.{Burst}
-use Rattle.kernel_laws.specs.Quiet.{IsAtRest, IsStill}
+use Rattle.kernel_laws.specs.Quiet.{IsAtRest}
 use Rattle.kernel_laws.proofs.Quiet.{idle_tick}
 use Rattle.lone_partition.proofs.LinesOfTicks.{inputs_are, none_before}
 use Rattle.lone_partition.proofs.Outputs.{CompletesLines, lines_go_on, nothing_sent}
-use Rattle.lone_partition.specs.Lines.{AreFrom, inputs_of, tick_of_input}
-use Rattle.lone_partition.specs.Pieces.{IsWithin, LeadsTo, HasRun, HasRunSome, HasAdvancedWritten}
-use Rattle.lone_partition.specs.Sent.{Sent}
+use Rattle.lone_partition.specs.Pieces.{HasRunSome}
 
 -- the partition gets no input in the ticks from `from` on, before `limit`
 abbrev pub HaveNoInputs : ℕ → ℕ → List InputLine → Type 0

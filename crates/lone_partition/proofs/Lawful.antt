@@ -1,34 +1,26 @@
 -- The partitions of a lawful image fit the processor, and are idle with nothing to do.
-use Rattle.std.proofs.Common.{◌≡◌, ℕ, zero, suc, ◌+◌, ◌<◌, ◌≤◌, List, [], ◌∷◌, ◌++◌, length, get_or, map, replicate, Option, Some, None, refl, sym, ap, subst, ◌∙◌, arith}
+use Rattle.lone_partition.proofs.Prelude.{◌≡◌, ℕ, zero, suc, ◌+◌, ◌<◌, ◌≤◌, List, [], ◌∷◌, ◌++◌, length, get_or, Option, Some, None, refl, sym, ap, subst, ◌∙◌, arith, none-some, same_Some, slice_get-get_or, Costs, PortRow, Item, Fixed, Kernel, Member, MachineControl, machine_member, image_of, PartitionItem, item_of, items_of, idle_kernel}
+use Rattle.std.proofs.Common.{map, replicate}
 use Rattle.std.specs.Prelude.{ℤ}
 use Rattle.std.specs.Option.{option_map}
 use Rattle.std.proofs.lemmas.List.{length-map}
-use Rattle.std.proofs.lemmas.Option.{none-some, same_Some, slice_get-get_or}
 use Rattle.apex_types.specs.Versions.{third_limits}
-use Rattle.apex_types.specs.declared.cost.Costs.{Costs}
 use Rattle.apex_types.specs.declared.limits.TheConstants.{MOST_PARTITIONS, MOST_PORTS, MOST_TICKS}
 use Rattle.apex_types.specs.declared.row.PortKind.{PortKind}
 use Rattle.apex_types.specs.declared.row.PortKind.TheVariants as kinds
-use Rattle.apex_types.specs.declared.row.PortRow.{PortRow}
 use Rattle.apex_types.specs.declared.row.ProcessRow.{ProcessRow}
 use Rattle.apex_types.specs.declared.row.RoutineRow.{RoutineRow}
 use Rattle.apex_types.specs.declared.row.Section.{Section}
 use Rattle.engine_meaning.specs.Engine.{Engine}
-use Rattle.machine_meaning.specs.Image.{Item}
-use Rattle.kernel_meaning.specs.Kernel.{Fixed, Kernel}
-use Rattle.kernel_meaning.specs.Partition.{Member}
 use Rattle.kernel_meaning.specs.Objects.{refresh_of}
 use Rattle.machine_meaning.specs.ImageLimits.{IsPortKind, IsPort, IsPartition, EachBeside, IsRoutine, IsDuration, IsProcess, IsSection, IsItem}
-use Rattle.machine_meaning.specs.MachineControl.{MachineControl}
 use Rattle.kernel_meaning.specs.Times.{ticks}
-use Rattle.machine_meaning.specs.MachineMeaning.{machine_row, section_engine, machine_member}
+use Rattle.machine_meaning.specs.MachineMeaning.{machine_row, section_engine}
 use Rattle.kernel_meaning.specs.Fresh.{init_row, handler_row, no_control_for}
-use Rattle.image.specs.Views.{image_of}
 use Rattle.image.specs.declared.value.Image.{Image}
-use Rattle.image.specs.declared.item.PartitionItem.{PartitionItem}
-use Rattle.image.specs.Items.{item_of, items_of, partition_of, section_of}
+use Rattle.image.specs.Items.{partition_of, section_of}
 use Rattle.ports.specs.Bounds as ports
-use Rattle.partition.specs.Fresh.{AreWithinLimits, idle_kernel}
+use Rattle.partition.specs.Fresh.{AreWithinLimits}
 use Rattle.partition_base.specs.Sections.{IsFittingSection, engine_of_section}
 use Rattle.processor.specs.Fitting.{IsFittingRoutine, AreFitting}
 use Rattle.process_table_base.specs.Bounds.{IsAtMost, IsShort, AreShort}

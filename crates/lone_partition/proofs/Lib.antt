@@ -1,3 +1,4 @@
+pub mod Prelude
 pub mod Bursts
 pub mod Lawful
 pub mod LinesOfTicks

@@ -1,11 +1,7 @@
 -- Lines that act each in its own tick, in the order of their ticks.
-use Rattle.std.proofs.Common.{◌≡◌, ◌≢◌, ℕ, suc, ◌+◌, ◌<◌, ◌≤◌, ◌==◌, Bool, true, false, if◌then◌else◌, List, [], ◌∷◌, length, get_or, take, drop, refl, sym, ap, subst, ◌∙◌, arith}
+use Rattle.lone_partition.proofs.Prelude.{◌≡◌, ◌≢◌, ℕ, suc, ◌+◌, ◌<◌, ◌≤◌, Bool, true, false, List, [], ◌∷◌, length, get_or, take, drop, refl, sym, ap, subst, ◌∙◌, arith, drop_more, drop_all, inputs_in, Input, InputLine, AreFrom, inputs_of, lines_in, tick_of_input}
+use Rattle.std.proofs.Common.{◌==◌, if◌then◌else◌}
 use Rattle.std.proofs.lemmas.Bool.Decides.{Decides-eqb}
-use Rattle.std.proofs.lemmas.List.{drop_more, drop_all}
-use Rattle.isolation.specs.Alone.{inputs_in}
-use Rattle.isolation.specs.declared.input.Input.{Input}
-use Rattle.isolation.specs.declared.input.InputLine.{InputLine}
-use Rattle.lone_partition.specs.Lines.{AreFrom, inputs_of, lines_in, tick_of_input}
 
 not_true : (b : Bool) → (b ≡ true → ⊥) → b ≡ false
 not_true true h = absurd (h refl)

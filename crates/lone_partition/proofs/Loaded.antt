@@ -1,20 +1,10 @@
 -- A partition that is loaded alone is the lone partition of its slice.
-use Rattle.std.proofs.Common.{◌≡◌, ℕ, suc, List, Option, Some, sym, ap, ◌∙◌}
-use Rattle.std.specs.Prelude.{option_map, slice_get}
+use Rattle.lone_partition.proofs.Prelude.{◌≡◌, ℕ, suc, List, Option, Some, sym, ap, ◌∙◌, option_map, slice_get, Item, at_number, Fixed, MachineControl, Member, machine_member, machine_module, item_of, items_of, PartitionItem, Surroundings, surroundings_of}
 use Rattle.std.proofs.lemmas.Option.{slice_get-map}
 use Rattle.apex_types.specs.Versions.{costs_of}
-use Rattle.machine_meaning.specs.Image.{Image, Item}
-use Rattle.module_meaning.specs.Table.{at_number}
-use Rattle.kernel_meaning.specs.Kernel.{Fixed}
-use Rattle.machine_meaning.specs.MachineControl.{MachineControl}
-use Rattle.kernel_meaning.specs.Partition.{Member}
+use Rattle.machine_meaning.specs.Image.{Image}
 use Rattle.module_meaning.specs.Table.{fixed_of}
-use Rattle.machine_meaning.specs.MachineMeaning.{machine_member, machine_module}
-use Rattle.image.specs.Items.{item_of, items_of}
-use Rattle.image.specs.declared.item.PartitionItem.{PartitionItem}
-use Rattle.isolation.specs.Alone.{Surroundings}
 use Rattle.isolation.specs.Slices.{machine_alone, slice, slice_of}
-use Rattle.isolation.specs.Surrounded.{surroundings_of}
 
 -- the item at a place is that of the next number
 pub item_here : (items : List PartitionItem) (place number : ℕ) (item : PartitionItem) → number ≡ suc place → slice_get items place ≡ Some item → at_number (items_of items) number ≡ Some (item_of item)

@@ -1,9 +1,5 @@
 -- A memory that has one part.
-use Rattle.std.proofs.Common.{◌≡◌, List, [], ◌∷◌, Some}
-use Rattle.std.specs.Prelude.{slice_get}
-use Rattle.std.proofs.lemmas.Option.{none-some, same_Some}
-use Rattle.regions.specs.Space.{Space}
-use Rattle.lone_partition.specs.Only.{only_part}
+use Rattle.lone_partition.proofs.Prelude.{◌≡◌, List, [], ◌∷◌, Some, slice_get, none-some, same_Some, Space, only_part}
 
 -- the only part of the memory is the part that is lent
 pub only_lent : (memory : List Space) (s : Space) → slice_get memory 0 ≡ Some s → only_part memory ≡ s

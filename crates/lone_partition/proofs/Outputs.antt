@@ -1,12 +1,8 @@
 -- Texts that go to a sink one after another.
-use Rattle.std.proofs.Common.{◌≡◌, ℕ, ◌+◌, Bool, true, false, List, [], ◌++◌, Option, refl, sym, ap, subst, ◌∙◌}
-use Rattle.std.proofs.KnownBytes.{Appends-nil, Appends-trans}
-use Rattle.std.specs.Io.KnownBytes.{Appends}
-use Rattle.apex_types.specs.Line.{text_of}
-use Rattle.apex_types.specs.Line.{TakesBeginning}
-use Rattle.apex_types.specs.declared.event.Event.{Event}
+use Rattle.lone_partition.proofs.Prelude.{◌≡◌, ℕ, ◌+◌, Bool, true, false, List, [], ◌++◌, Option, refl, sym, ap, subst, ◌∙◌, Appends-nil, Appends, text_of, TakesBeginning, Event, Sent, HasSent}
+use Rattle.std.proofs.KnownBytes.{Appends-trans}
 use Rattle.lone_partition.proofs.Texts.{text_append, first_fails, second_fails}
-use Rattle.lone_partition.specs.Sent.{Sent, Takes, HasSent}
+use Rattle.lone_partition.specs.Sent.{Takes}
 
 takes_nothing : (s : Sent) (failed : Bool) → Takes s s [] failed failed
 takes_nothing s true = (refl, refl)

@@ -1,15 +1,7 @@
 -- Ticks of a lone partition that are made in parts, one after another.
-use Rattle.std.proofs.Common.{◌≡◌, ◌≤◌, ◌<◌, ℕ, ◌+◌, ◌-◌, List, ◌++◌, Some, sym, ap, subst, ◌∙◌, append_assoc, arith, refl}
-use Rattle.apex_types.specs.declared.event.Event.{Event}
-use Rattle.apex_types.specs.declared.identity.At.{At}
-use Rattle.kernel_meaning.specs.Partition.{Member}
-use Rattle.kernel_meaning.specs.Windows.{at_tick}
-use Rattle.isolation.specs.Alone.{Surroundings, alone_from}
-use Rattle.isolation.specs.declared.input.InputLine.{InputLine}
+use Rattle.lone_partition.proofs.Prelude.{◌≡◌, ◌≤◌, ◌<◌, ℕ, ◌+◌, ◌-◌, List, ◌++◌, Some, sym, ap, subst, ◌∙◌, append_assoc, arith, refl, Event, At, Member, at_tick, Surroundings, alone_from, InputLine, HasAdvancedWritten, IsWithin, LeadsTo, HasRun, Sent}
 use Rattle.lone_partition.proofs.Bursts.{run_nothing, run_piece}
 use Rattle.lone_partition.proofs.Outputs.{lines_sent}
-use Rattle.lone_partition.specs.Pieces.{HasAdvancedWritten, IsWithin, LeadsTo, HasRun}
-use Rattle.lone_partition.specs.Sent.{Sent}
 
 module _ {C : Type 0} (s : Surroundings) (lines : List InputLine) where
   leads_more : (n m : ℕ) (at : At) (x y z : Member C) (told more : List Event) → LeadsTo s lines n at x told y → LeadsTo s lines m (at_tick at (at.now.0 + n)) y more z → LeadsTo s lines (n + m) at x (told ++ more) z

@@ -1,18 +1,14 @@
 -- A message leaves its port, and leaves the module if the port has a way out.
-use Rattle.std.proofs.Common.{◌≡◌, ℕ, ℤ, List, [], ◌∷◌, Option, Some, None, refl, sym, ap, subst}
-use Rattle.std.proofs.lemmas.Option.{none-some}
+use Rattle.lone_partition.proofs.Prelude.{◌≡◌, ℕ, List, [], ◌∷◌, Option, Some, None, refl, sym, ap, subst, none-some, At, PortId, Member, leaving, moved, Gone, Surroundings, stays, goes, goes_by_way, Sent, IsMade}
+use Rattle.std.proofs.Common.{ℤ}
 use Rattle.arrayvec.specs.ArrayVec.{ArrayVec}
-use Rattle.apex_types.specs.declared.identity.At.{At}
-use Rattle.apex_types.specs.declared.identity.PortId.{PortId}
 use Rattle.kernel_meaning.specs.PortServices.{first_message, leaves_first, leaves_of}
 use Rattle.kernel_meaning.specs.Kernel.{of_ports_alone}
-use Rattle.kernel_meaning.specs.Partition.{Member, leaves, leaving, moved, place_of_port}
+use Rattle.kernel_meaning.specs.Partition.{leaves, place_of_port}
 use Rattle.kernel_meaning.specs.Objects.{Port, Ports, port_at}
 use Rattle.kernel_meaning.specs.Step.{Step, nothing}
-use Rattle.isolation.specs.Alone.{Gone, Surroundings, stays, goes, goes_by_way, sends_found, way_out}
+use Rattle.isolation.specs.Alone.{sends_found, way_out}
 use Rattle.lone_partition.proofs.Written.{then_made}
-use Rattle.lone_partition.specs.Sent.{Sent}
-use Rattle.lone_partition.specs.Written.{IsMade}
 
 no_first : (o : Ports) (place : ℕ) (x : Port) (ms : List (ArrayVec ℤ)) → first_message (Some (record x { messages = ms })) ≡ None → leaves_first o place x ms ≡ nothing o
 no_first o place x [] h = refl

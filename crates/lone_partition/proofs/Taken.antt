@@ -1,15 +1,6 @@
 -- The inputs of a partition: the last of them, and one that ends everything.
-use Rattle.std.proofs.Common.{◌≡◌, ℕ, ◌+◌, ◌<◌, ◌≤◌, List, ◌∷◌, length, get_or, drop, Some, None, sym, ap, ◌∙◌}
-use Rattle.std.proofs.lemmas.List.{drop_more, drop_all}
-use Rattle.apex_types.specs.declared.codes.ModuleAction.{ModuleAction}
-use Rattle.apex_types.specs.declared.identity.At.{At}
-use Rattle.kernel_meaning.specs.Partition.{Member}
-use Rattle.isolation.specs.Alone.{Path, takes, takes_all}
-use Rattle.isolation.specs.declared.input.InputLine.{InputLine}
+use Rattle.lone_partition.proofs.Prelude.{◌≡◌, ℕ, ◌+◌, ◌<◌, ◌≤◌, List, ◌∷◌, length, get_or, drop, Some, None, sym, ap, ◌∙◌, drop_more, drop_all, ModuleAction, At, Member, Path, takes, takes_all, InputLine, inputs_of, Sent, IsPathMade}
 use Rattle.lone_partition.proofs.Written.{CompletesPath, ends_all, path_is_over}
-use Rattle.lone_partition.specs.Lines.{inputs_of}
-use Rattle.lone_partition.specs.Sent.{Sent}
-use Rattle.lone_partition.specs.Written.{IsPathMade}
 
 -- after the last one nothing remains
 pub inputs_are_over : {C : Type 0} {whole : Path (Member C)} {old new : Sent} (fault : ModuleAction) (at : At) (lines : List InputLine) (i : ℕ) (now : Member C)

@@ -1,24 +1,14 @@
 -- A lone partition tick by tick, and the lines of its trace.
-use Rattle.std.proofs.Common.{◌≡◌, ◌≢◌, ℕ, zero, suc, ◌+◌, ◌<◌, ◌≤◌, List, [], ◌∷◌, ◌++◌, Option, Some, None, refl, sym, ap, subst, ◌∙◌, arith, le_refl}
-use Rattle.std.specs.Prelude.{option_map}
-use Rattle.apex_types.specs.Line.{text_of}
-use Rattle.apex_types.specs.declared.codes.ModuleAction.{ModuleAction}
+use Rattle.lone_partition.proofs.Prelude.{◌≡◌, ◌≢◌, ℕ, zero, suc, ◌+◌, ◌<◌, ◌≤◌, List, [], ◌∷◌, ◌++◌, Option, Some, None, refl, sym, ap, subst, ◌∙◌, arith, option_map, text_of, ModuleAction, Event, At, first_tick, next_tick, Member, IsIn, Alone, Path, Surroundings, goes, inputs_in, unless_over, takes, takes_all, sends_and_ticks, tick_alone, alone_from, trace_alone, Input, InputLine, inputs_of, lines_in, tick_of_input, Sent, HasSent, IsMade, IsPathMade}
+use Rattle.std.proofs.Common.{le_refl}
 use Rattle.apex_types.specs.declared.codes.ModuleAction.TheVariants as reaction
 use Rattle.apex_types.specs.declared.codes.StartCondition.TheVariants as condition
-use Rattle.apex_types.specs.declared.event.Event.{Event}
-use Rattle.apex_types.specs.declared.identity.At.{At}
-use Rattle.module_meaning.specs.Module.{first_tick, next_tick}
-use Rattle.kernel_meaning.specs.Partition.{Member, cold_start}
-use Rattle.isolation.proofs.Isolated.{IsIn, next_in}
-use Rattle.isolation.specs.Alone.{Alone, Path, Surroundings, goes, inputs_in, unless_over, meets_fault, takes, takes_all, sends_and_ticks, tick_alone, alone_from, trace_alone}
-use Rattle.isolation.specs.declared.input.Input.{Input}
+use Rattle.kernel_meaning.specs.Partition.{cold_start}
+use Rattle.isolation.proofs.Isolated.{next_in}
+use Rattle.isolation.specs.Alone.{meets_fault}
 use Rattle.isolation.specs.declared.input.Input.TheVariants.{Arrive, ModuleFault, PartitionFault}
-use Rattle.isolation.specs.declared.input.InputLine.{InputLine}
 use Rattle.lone_partition.proofs.LinesOfTicks.{inputs_are}
 use Rattle.lone_partition.proofs.Outputs.{CompletesLines, lines_are_over, lines_go_on, lines_sent, nothing_sent}
-use Rattle.lone_partition.specs.Lines.{inputs_of, lines_in, tick_of_input}
-use Rattle.lone_partition.specs.Sent.{Sent, HasSent}
-use Rattle.lone_partition.specs.Written.{IsMade, IsPathMade}
 
 -- ---- a tick stays a tick
 

@@ -1,13 +1,8 @@
 -- The ways out of the ports of a partition, one after another.
-use Rattle.std.proofs.Common.{◌≡◌, ℕ, ◌+◌, ◌≤◌, List, [], ◌++◌, length, drop, Option, sym, ap, ◌∙◌, append-nil}
-use Rattle.std.proofs.lemmas.List.{drop_all}
-use Rattle.apex_types.specs.declared.identity.PartitionId.{PartitionId}
-use Rattle.apex_types.specs.declared.row.PortRow.{PortRow}
+use Rattle.lone_partition.proofs.Prelude.{◌≡◌, ℕ, ◌+◌, ◌≤◌, List, [], ◌++◌, length, drop, Option, sym, ap, ◌∙◌, append-nil, drop_all, PartitionId, PortRow, ways_from}
 use Rattle.module_meaning.specs.Table.{Channel}
-use Rattle.isolation.specs.Surrounded.{ways_from}
 
 module _ (channels : List Channel) (p : PartitionId) where
-
   -- no port remains
   pub all_ways : (ports : List PortRow) (i number : ℕ) (ways whole : List (Option (List ℕ))) → length ports ≤ i → ways ++ ways_from channels p number (drop i ports) ≡ whole → ways ≡ whole
   all_ways ports i number ways whole past so_far =

@@ -1,10 +1,8 @@
 -- The text written by one step after another.
-use Rattle.std.proofs.Common.{◌≡◌, ◌++◌, Option, Some, None, sym, ap, subst, ◌∙◌, refl}
-use Rattle.apex_types.specs.declared.identity.At.{At}
-use Rattle.isolation.specs.Alone.{Gone, Path, stays, and_then, keeps_on, unless_over, and_runs}
+use Rattle.lone_partition.proofs.Prelude.{◌≡◌, ◌++◌, Option, Some, None, sym, ap, subst, ◌∙◌, refl, At, Gone, Path, stays, and_then, keeps_on, unless_over, Sent, IsMade, IsPathMade}
+use Rattle.isolation.specs.Alone.{and_runs}
 use Rattle.lone_partition.proofs.Outputs.{lines_sent, nothing_sent}
-use Rattle.lone_partition.specs.Sent.{Sent}
-use Rattle.lone_partition.specs.Written.{IsMade, done_in, IsPathMade}
+use Rattle.lone_partition.specs.Written.{done_in}
 
 -- a step that changes nothing writes nothing
 pub still_made : {S : Type 0} (next : S) (s : Sent) → IsMade (stays next) next s s

@@ -1,3 +1,4 @@
+pub mod Prelude
 pub mod StackLength
 pub mod VersionLimits
 pub mod ImageFields

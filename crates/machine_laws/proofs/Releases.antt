@@ -1,23 +1,16 @@
 -- Each partition of an accepted table, and of a lawful image, has a next release, which its own windows give. At most
 -- one window holds a tick, and at most one ends at it.
-use Rattle.std.proofs.Common.{◌≡◌, ℕ, suc, ◌+◌, ◌≤◌, ◌<◌, Bool, true, false, not, nat_le, List, [], ◌∷◌, ◌++◌, length, Ok, refl, arith, inl, inr, ◌⊎◌, subst}
-use Rattle.std.specs.Prelude.{◌||◌, ◌&&◌, ◌==◌, nat_lt}
-use Rattle.std.specs.List.{list_any}
-use Rattle.std.proofs.lemmas.Bool.{or_parts, and_parts, not-false, not-true, ltb-false, leb-true, leb-false}
+use Rattle.machine_laws.proofs.Prelude.{◌≡◌, ℕ, suc, ◌+◌, ◌≤◌, ◌<◌, Bool, true, false, not, List, ◌∷◌, ◌++◌, length, Ok, arith, inl, inr, ◌||◌, ◌&&◌, ◌==◌, nat_lt, list_any, and_parts, not-false, ltb-false, leb-true, WindowRow, Members, Table, Partition, Image, last_end, EachBeside, IsWindow, IsLawful, has_odd_period, has_short_period, lacks_release, has_wrong_ends, is_wrong_window, has_wrong_window, has_unknown_port, AreInOrder}
+use Rattle.std.proofs.Common.{nat_le, [], refl, ◌⊎◌, subst}
+use Rattle.std.proofs.lemmas.Bool.{or_parts, not-true, leb-false}
 use Rattle.apex_types.specs.declared.identity.At.{At}
-use Rattle.apex_types.specs.declared.row.WindowRow.{WindowRow}
-use Rattle.toml.specs.Data.{Members}
-use Rattle.module_meaning.specs.Table.{Table, Partition}
-use Rattle.machine_meaning.specs.Image.{Image}
-use Rattle.machine_meaning.specs.ImageReading.{last_end, partitions_in}
-use Rattle.machine_meaning.specs.ImageLimits.{EachBeside, IsWindow, IsLawful}
-use Rattle.module_meaning.specs.Table.{has_odd_period, has_short_period, lacks_release_from, lacks_release, has_wrong_ends}
-use Rattle.module_meaning.specs.ImageRules.{is_wrong_window, has_wrong_window, has_unknown_port}
+use Rattle.machine_meaning.specs.ImageReading.{partitions_in}
+use Rattle.module_meaning.specs.Table.{lacks_release_from}
 use Rattle.module_meaning.specs.TableRules.{verdict}
 use Rattle.kernel_meaning.specs.Windows.{has_release}
 use Rattle.kernel_meaning.specs.WindowFacts.{HasOneOwner, HasOneEnd}
 use Rattle.machine_laws.proofs.AcceptedTable.{accepted_table, last_of, table_in_order}
-use Rattle.kernel_laws.proofs.WindowOrder.{AreInOrder, one_owner, one_end}
+use Rattle.kernel_laws.proofs.WindowOrder.{one_owner, one_end}
 
 first_or_later : (n k m : ℕ) → n ≤ k → k < n + suc m → (n ≡ k) ⊎ (n + 1 ≤ k)
 first_or_later n k m least most = compare (nat_le (n + 1) k) refl

@@ -1,19 +1,8 @@
 -- The inputs that the ticks of a module bring one partition, one tick after another.
-use Rattle.std.proofs.Common.{◌≡◌, ℕ, zero, suc, ◌+◌, ◌<◌, ◌≤◌, ◌^◌, ◌==◌, Bool, if◌then◌else◌, List, [], ◌∷◌, ◌++◌, length, map, option_map, is_some, false, true, Option, Some, None, refl, sym, ap, subst, ◌∙◌, append_assoc, append-nil, length-append, arith}
-use Rattle.std.proofs.lemmas.List.{length-map}
-use Rattle.std.proofs.lemmas.Option.{none-some, same_Some}
-use Rattle.apex_types.specs.declared.device.DeviceLine.{DeviceLine}
-use Rattle.apex_types.specs.declared.identity.At.{At}
-use Rattle.apex_types.specs.declared.identity.Ticks.{Ticks}
-use Rattle.module_meaning.specs.Module.{Advanced, Course, Plan, first_tick, next_tick, inputs_all, module_tick, moves_and_ticks, of_tick, starts, then_runs, unless_down}
-use Rattle.kernel_meaning.specs.Partition.{Member}
-use Rattle.kernel_meaning.specs.Windows.{tick_from}
-use Rattle.isolation.specs.declared.input.Input.{Input}
-use Rattle.isolation.specs.declared.input.InputLine.{InputLine}
-use Rattle.isolation.specs.Brought.{brought_in_all, brought_moved, brought_tick, inputs_from, inputs_of, line_in}
-use Rattle.module.specs.Collecting.{HasNoRoom, IsMadeUnseen, brought_from, brought_next, brought_of}
-use Rattle.module.specs.Standing.{Standing, after, at_first, begins, moment_of, origin_of, ticks, ticks_from, ticks_in}
-use Rattle.module.specs.declared.inputs_fault.InputsFault.{InputsFault}
+use Rattle.module.proofs.Prelude.{◌≡◌, ℕ, zero, suc, ◌+◌, ◌<◌, ◌≤◌, ◌^◌, ◌==◌, Bool, if◌then◌else◌, List, ◌∷◌, ◌++◌, length, map, false, true, Option, Some, None, refl, sym, ap, ◌∙◌, append_assoc, append-nil, length-append, arith, length-map, none-some, same_Some, DeviceLine, At, Ticks, Advanced, Course, Plan, first_tick, next_tick, inputs_all, module_tick, moves_and_ticks, of_tick, starts, then_runs, unless_down, Member, tick_from, Input, InputLine, brought_in_all, brought_moved, brought_tick, inputs_from, line_in, HasNoRoom, IsMadeUnseen, brought_next, brought_of, Standing, after, at_first, begins, moment_of, origin_of, ticks, ticks_from, ticks_in, InputsFault}
+use Rattle.std.proofs.Common.{[], option_map, is_some, subst}
+use Rattle.isolation.specs.Brought.{inputs_of}
+use Rattle.module.specs.Collecting.{brought_from}
 use Rattle.module.proofs.Collecting.{no_room_for_more}
 use Rattle.module.proofs.DeviceLines.{of_tick_again, same_tick, tick_now}
 use Rattle.module.proofs.Standing.{begins_later, same_next, same_ticks}

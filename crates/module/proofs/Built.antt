@@ -1,26 +1,15 @@
 -- Programs that are compiled one after the other.
-use Rattle.std.proofs.Common.{◌≡◌, ℕ, zero, suc, ◌+◌, ◌≤◌, Bool, true, false, List, [], ◌∷◌, ◌++◌, length, map, take, Some, None, All, FitsSigned, w64, refl, sym, ap, subst, ◌∙◌, arith, length-append}
-use Rattle.std.specs.Prelude.{slice_get, nat_lt, min, if◌then◌else◌, ◌||◌}
-use Rattle.std.specs.List.{list_any}
-use Rattle.std.proofs.lemmas.Bool.{ltb-true, ltb-false, lt-ltb, le-ltb}
-use Rattle.std.proofs.lemmas.List.{map-append}
-use Rattle.std.proofs.lemmas.Option.{none-some, same_Some}
+use Rattle.module.proofs.Prelude.{◌≡◌, ℕ, zero, suc, ◌+◌, ◌≤◌, Bool, true, false, List, ◌∷◌, ◌++◌, length, map, take, Some, None, All, refl, sym, ap, ◌∙◌, arith, length-append, slice_get, nat_lt, list_any, ltb-false, map-append, none-some, same_Some, reading, PartitionItem, item_of, items_of, partition_of, PartitionRow, section_of, Partition, Item, Program, AreAccepted, is_too_long, first_too_long, built_item, built_items, IsCoded, AreCoded, AreCompiled}
+use Rattle.std.proofs.Common.{[], FitsSigned, w64, subst}
+use Rattle.std.specs.Prelude.{min, if◌then◌else◌, ◌||◌}
+use Rattle.std.proofs.lemmas.Bool.{ltb-true, lt-ltb, le-ltb}
 use Rattle.apex_types.specs.declared.limits.TheConstants.{MOST_INSTRUCTIONS}
 use Rattle.apex_types.specs.declared.row.Section as code
 use Rattle.pal_meaning.specs.Program.{size_of}
-use Rattle.machine_meaning.specs.Instructions.{reading}
 use Rattle.compiling_laws.proofs.WellFormedFits.{well_formed_fits}
-use Rattle.image.specs.declared.item.PartitionItem.{PartitionItem}
-use Rattle.image.specs.Items.{item_of, items_of, partition_of, section_of as view}
-use Rattle.window_table.specs.declared.table.PartitionRow.{PartitionRow}
-use Rattle.compiling_laws.specs.CompiledCode.{code_of, section_of}
-use Rattle.module_meaning.specs.Table.{Partition}
+use Rattle.image.specs.Items.{section_of as view}
+use Rattle.compiling_laws.specs.CompiledCode.{code_of}
 use Rattle.machine_meaning.specs.Section.{Section}
-use Rattle.machine_meaning.specs.Image.{Item}
-use Rattle.pal_meaning.specs.Program.{Program}
-use Rattle.module_meaning.specs.Accepted.{AreAccepted}
-use Rattle.module.specs.Refusals.{is_too_long, first_too_long}
-use Rattle.module.specs.Built.{built_item, built_items, IsCoded, AreCoded, AreCompiled}
 
 -- ---- lengths
 

@@ -1,31 +1,14 @@
 -- Many ticks of the module together, between two standings.
-use Rattle.std.proofs.Common.{◌≡◌, ◌⊎◌, inl, inr, ℕ, zero, suc, ◌+◌, ◌-◌, ◌<◌, ◌≤◌, Bool, true, false, cond, List, [], ◌∷◌, ◌++◌, length, Option, Some, None, refl, sym, ap, subst, ◌∙◌, nat_le, arith}
-use Rattle.std.specs.Prelude.{slice_get, slice_set, option_map}
-use Rattle.std.proofs.lemmas.Option.{none-some, same_Some}
-use Rattle.apex_types.specs.Line.{text_of}
-use Rattle.apex_types.specs.Line.{TakesBeginning}
-use Rattle.apex_types.proofs.Writing.{IsUnderWay, under_way_more, under_way_fails}
-use Rattle.apex_types.specs.declared.device.DeviceLine.{DeviceLine}
-use Rattle.apex_types.specs.declared.event.Event.{Event}
-use Rattle.apex_types.specs.declared.identity.At.{At}
+use Rattle.module.proofs.Prelude.{◌≡◌, ◌⊎◌, inl, inr, ℕ, zero, suc, ◌+◌, ◌-◌, ◌<◌, ◌≤◌, Bool, true, false, cond, List, ◌∷◌, ◌++◌, length, Option, Some, None, refl, sym, ap, ◌∙◌, arith, slice_get, slice_set, option_map, none-some, same_Some, text_of, TakesBeginning, IsUnderWay, under_way_more, under_way_fails, DeviceLine, Event, At, Kernel, Plan, Member, Moved, World, tick, with_world, Schedule, tick_from, owner, ended, Engine, IsStill, AreStill, HaveNoLines, nothing_sent, Sent, LeadsTo, HasPassedSome, HasSkippedSome, HasRun, IsBrokenOff, HasMoved, ticks_by, Standing, lines_of, AreFrom}
+use Rattle.std.proofs.Common.{[], subst, nat_le}
 use Rattle.apex_types.specs.declared.limits.TheConstants.{MOST_EVENTS}
-use Rattle.kernel_meaning.specs.Kernel.{Kernel}
-use Rattle.module_meaning.specs.Module.{Plan}
-use Rattle.kernel_meaning.specs.Partition.{Member, Moved, World, tick, with_world}
-use Rattle.kernel_meaning.specs.Windows.{Schedule, at_tick, tick_from, owner, ended}
-use Rattle.engine_meaning.specs.Engine.{Engine}
+use Rattle.kernel_meaning.specs.Windows.{at_tick}
 use Rattle.kernel_laws.specs.Bursts.{Burst}
 use Rattle.partition.specs.Gathering.{joined, no_ticks, ticks_within}
 use Rattle.partition.specs.Members.{HasAdvanced}
 use Rattle.partition.specs.declared.rooms.TheConstants.{LINES_FOR_TICK}
 use Rattle.partition.proofs.Gathering.{some_ticks}
-use Rattle.kernel_laws.specs.Quiet.{IsStill, AreStill, HaveNoLines}
 use Rattle.kernel_laws.proofs.Quiet.{jump}
-use Rattle.lone_partition.proofs.Outputs.{nothing_sent}
-use Rattle.lone_partition.specs.Sent.{Sent}
-use Rattle.module.specs.Pieces.{LeadsTo, HasPassedSome, HasSkippedSome, HasRun, IsBrokenOff, HasMoved, ticks_by}
-use Rattle.module.specs.Standing.{Standing, lines_of}
-use Rattle.module.specs.Written.{AreFrom}
 use Rattle.module.proofs.DeviceLines.{none_before}
 use Rattle.module.proofs.Standing.{later_is}
 use Rattle.module.proofs.Texts.{text_append}

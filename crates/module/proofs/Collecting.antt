@@ -1,23 +1,9 @@
 -- Inputs that are collected one part after another.
-use Rattle.std.proofs.Common.{◌≡◌, ◌≢◌, ℕ, zero, suc, ◌+◌, ◌<◌, ◌≤◌, ◌==◌, ℤ, Bool, true, false, cond, if◌then◌else◌, List, [], ◌∷◌, ◌++◌, length, map, drop, slice_get, flat_map, Option, Some, None, Result, Ok, Err, refl, sym, ap, subst, ◌∙◌, append_assoc, append-nil, length-append, arith}
-use Rattle.std.proofs.lemmas.List.{length-map, map-append}
-use Rattle.std.proofs.lemmas.Option.{none-some, same_Some}
-use Rattle.arrayvec.specs.ArrayVec.{ArrayVec}
-use Rattle.apex_types.specs.declared.device.DeviceLine.{DeviceLine}
-use Rattle.apex_types.specs.declared.identity.PartitionId.{PartitionId}
-use Rattle.apex_types.specs.declared.row.ChannelEnd.{ChannelEnd}
+use Rattle.module.proofs.Prelude.{◌≡◌, ◌≢◌, ℕ, zero, suc, ◌+◌, ◌<◌, ◌≤◌, ◌==◌, ℤ, Bool, true, false, cond, if◌then◌else◌, List, ◌∷◌, ◌++◌, length, map, drop, Option, Some, None, Result, Ok, Err, refl, sym, ap, ◌∙◌, append_assoc, append-nil, length-append, arith, length-map, map-append, none-some, same_Some, ArrayVec, DeviceLine, PartitionId, ChannelEnd, Channel, at_number, Plan, messages_to_move, Port, is_source, Input, InputLine, brought_by, brought_in, brought_in_all, brought_to, held_port, held_ports, line_in, message_behind, AreCollected, HasNoRoom, brought_found, held_found, InputsFault}
+use Rattle.std.proofs.Common.{[], slice_get, flat_map, subst}
 use Rattle.apex_types.specs.declared.row.ChannelEnd.TheVariants as ends
-use Rattle.module_meaning.specs.Table.{Channel, at_number}
-use Rattle.module_meaning.specs.Module.{Plan}
-use Rattle.kernel_meaning.specs.Partition.{messages_to_move}
-use Rattle.kernel_meaning.specs.Objects.{Port, is_source}
-use Rattle.isolation.specs.declared.input.Input.{Input}
 use Rattle.isolation.specs.declared.input.Input.TheVariants.{Arrive}
-use Rattle.isolation.specs.declared.input.InputLine.{InputLine}
-use Rattle.isolation.specs.Brought.{brought_by, brought_in, brought_in_all, brought_to, held_port, held_ports, line_in, shuts_down}
-use Rattle.ports.specs.Held.{message_behind}
-use Rattle.module.specs.Collecting.{AreCollected, HasNoRoom, brought_found, held_found}
-use Rattle.module.specs.declared.inputs_fault.InputsFault.{InputsFault}
+use Rattle.isolation.specs.Brought.{shuts_down}
 use Rattle.module.specs.declared.inputs_fault.InputsFault.TheVariants as fault
 
 -- ---- no input, and one

@@ -1,11 +1,8 @@
 -- The costs of programs, one after the other.
-use Rattle.std.proofs.Common.{◌≡◌, ℕ, ◌+◌, ◌<◌, List, [], ◌∷◌, ◌++◌, length, map, take, get_or, Option, Some, None, refl, sym, ap, ◌∙◌, arith}
+use Rattle.module.proofs.Prelude.{◌≡◌, ℕ, ◌+◌, ◌<◌, List, ◌∷◌, ◌++◌, length, map, take, get_or, Option, Some, None, refl, sym, ap, ◌∙◌, arith, map-append, take_more, Costs, Partition, Table, partition_of, program_of, PartitionRow, IsTable, AreSourceRefusals, IsTableRefusal, AreCostsOf, AreSources, IsSource, Checked, BuildFault}
+use Rattle.std.proofs.Common.{[]}
 use Rattle.std.specs.Option.{option_map}
-use Rattle.std.proofs.lemmas.List.{map-append, take_more}
-use Rattle.apex_types.specs.declared.cost.Costs.{Costs}
-use Rattle.module_meaning.specs.Table.{Partition, Table}
-use Rattle.image.specs.Items.{partition_of}
-use Rattle.pal_base.specs.ProgramView.{body_of, procedure_of, process_of, program_of}
+use Rattle.pal_base.specs.ProgramView.{body_of, procedure_of, process_of}
 use Rattle.pal_base.specs.declared.program.Body as code_body
 use Rattle.pal_base.specs.declared.program.Procedure as code_procedure
 use Rattle.pal_base.specs.declared.program.Process as code_process
@@ -13,14 +10,8 @@ use Rattle.pal_base.specs.declared.program.Program as code_program
 use Rattle.pal.specs.Costs as report
 use Rattle.pal.specs.ProcedureNames.{names_of_procedures}
 use Rattle.pal.specs.declared.report.BodyCost.{BodyCost}
-use Rattle.window_table.specs.declared.table.PartitionRow.{PartitionRow}
-use Rattle.module_meaning.specs.Accepted.{IsTable}
-use Rattle.module.specs.Building.{AreSourceRefusals, IsTableRefusal}
-use Rattle.module.specs.Costs.{AreCosted, AreCostsOf, IsCosted, IsCostOf, IsCostRefusal, IsCostRefusedWith, cost_of_process, costs_of_handler, costs_of_procedures, costs_of_program}
-use Rattle.module.specs.Sources.{AreSources, IsSource}
-use Rattle.pal_base.specs.declared.checked.Checked.{Checked}
+use Rattle.module.specs.Costs.{AreCosted, IsCosted, IsCostOf, IsCostRefusal, IsCostRefusedWith, cost_of_process, costs_of_handler, costs_of_procedures, costs_of_program}
 use Rattle.module.specs.declared.costing.PartitionCosts.{PartitionCosts}
-use Rattle.module.specs.declared.fault.BuildFault.{BuildFault}
 use Rattle.module.specs.declared.fault.BuildFault.TheVariants as fault
 
 -- ---- one program

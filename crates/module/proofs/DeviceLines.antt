@@ -1,17 +1,8 @@
 -- The device lines, in the order of their ticks.
-use Rattle.std.proofs.Common.{◌≡◌, ◌≢◌, ℕ, zero, suc, ◌+◌, ◌<◌, ◌≤◌, ◌==◌, Bool, true, false, if◌then◌else◌, List, [], ◌∷◌, length, get_or, take, Option, Some, None, drop, refl, sym, ap, subst, ◌∙◌, arith}
-use Rattle.std.proofs.lemmas.List.{drop_more, drop_all}
-use Rattle.std.proofs.lemmas.Bool.Decides.{Decides-eqb}
-use Rattle.apex_types.specs.declared.codes.ModuleAction.{ModuleAction}
+use Rattle.module.proofs.Prelude.{◌≡◌, ◌≢◌, ℕ, zero, suc, ◌+◌, ◌<◌, ◌≤◌, ◌==◌, Bool, true, false, if◌then◌else◌, List, ◌∷◌, length, get_or, take, Option, Some, None, drop, refl, sym, ap, ◌∙◌, arith, drop_more, drop_all, Decides-eqb, ModuleAction, DeviceInput, DeviceLine, At, Plan, Course, unless_down, then_runs, breaks_module, of_tick, inputs, inputs_all, moves_and_ticks, module_tick, trace_from, Member, IsNow, AreFrom}
+use Rattle.std.proofs.Common.{[], subst}
 use Rattle.apex_types.specs.declared.codes.ModuleAction.TheVariants as reaction
-use Rattle.apex_types.specs.declared.device.DeviceInput.{DeviceInput}
 use Rattle.apex_types.specs.declared.device.DeviceInput.TheVariants as input
-use Rattle.apex_types.specs.declared.device.DeviceLine.{DeviceLine}
-use Rattle.apex_types.specs.declared.identity.At.{At}
-use Rattle.module_meaning.specs.Module.{Plan, Course, unless_down, then_runs, breaks_module, of_tick, inputs, inputs_all, moves_and_ticks, module_tick, trace_from}
-use Rattle.kernel_meaning.specs.Partition.{Member}
-use Rattle.module.specs.Standing.{IsNow}
-use Rattle.module.specs.Written.{AreFrom}
 
 pub not_true : (b : Bool) → (b ≡ true → ⊥) → b ≡ false
 not_true true h = absurd (h refl)

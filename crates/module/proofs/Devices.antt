@@ -1,15 +1,10 @@
 -- The lines of an accepted device text are in the order of their ticks.
-use Rattle.std.proofs.Common.{◌≡◌, ◌≤◌, ℕ, ◌+◌, ℤ, Bool, true, false, List, [], ◌∷◌, Option, Some, None, Result, Ok, Err, refl, ap, subst, arith}
-use Rattle.std.specs.Prelude.{nat_lt, if◌then◌else◌}
-use Rattle.std.proofs.lemmas.Bool.{ltb-false}
-use Rattle.apex_types.specs.declared.device.DeviceFault.{DeviceFault}
+use Rattle.module.proofs.Prelude.{◌≡◌, ◌≤◌, ℕ, ◌+◌, ℤ, Bool, true, false, List, ◌∷◌, Option, Some, None, Result, Ok, Err, refl, ap, arith, nat_lt, ltb-false, DeviceFault, DeviceInput, DeviceLine, Partition, Channel, AreFrom}
+use Rattle.std.proofs.Common.{[], subst}
+use Rattle.std.specs.Prelude.{if◌then◌else◌}
 use Rattle.apex_types.specs.declared.device.DeviceFault.TheVariants as fault
-use Rattle.apex_types.specs.declared.device.DeviceInput.{DeviceInput}
-use Rattle.apex_types.specs.declared.device.DeviceLine.{DeviceLine}
 use Rattle.module_meaning.specs.DeviceText as text
 use Rattle.module_meaning.specs.DeviceText.{WrittenLine}
-use Rattle.module_meaning.specs.Table.{Partition, Channel}
-use Rattle.module.specs.Written.{AreFrom}
 
 abbrev ok_line : DeviceLine → Result DeviceLine DeviceFault
 ok_line l = Ok l

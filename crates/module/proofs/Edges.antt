@@ -1,25 +1,10 @@
 -- Ticks of the owner of a window from an edge on: first the messages move, then it makes its ticks.
-use Rattle.std.proofs.Common.{◌≡◌, ℕ, zero, suc, ◌+◌, ◌-◌, ◌<◌, ◌≤◌, List, [], ◌∷◌, ◌++◌, Option, Some, None, Bool, true, false, cond, inl, inr, ◌⊎◌, length, map, refl, sym, ap, subst, ◌∙◌, append-nil, append_assoc, arith}
-use Rattle.std.specs.Prelude.{slice_get, slice_set, option_map}
+use Rattle.module.proofs.Prelude.{◌≡◌, ℕ, zero, suc, ◌+◌, ◌-◌, ◌<◌, ◌≤◌, List, ◌∷◌, ◌++◌, Option, Some, None, Bool, true, false, cond, inl, inr, ◌⊎◌, length, map, refl, sym, ap, ◌∙◌, append-nil, append_assoc, arith, slice_get, slice_set, option_map, none-some, same_Some, place_of_number, DeviceLine, Event, At, PartitionId, Ticks, Engine, Port, is_source, Member, World, messages_to_move, tick, with_world, Schedule, tick_from, owner, ended, Advanced, Course, Plan, inputs_all, module_tick, moves_and_ticks, moves_ended, moves_ports, moves_so_many, of_member, of_tick, ports_from, ports_of, steps_member, still, then_goes, then_runs, ticks_owner, Channel, at_number, lines_sent, nothing_sent, Sent, LeadsTo, EndsQuietly, HasNoSource, HasPassed, HasPassedSome, HasPassedBehind, HasPassedSomeBehind, HasMoved, HasMovedWritten, ticks_by, Standing, lines_of, origin_of, ticks_in, AreFrom, IsMade}
+use Rattle.std.proofs.Common.{[], subst}
 use Rattle.std.proofs.lemmas.Bool.{cases_lt}
-use Rattle.std.proofs.lemmas.Option.{none-some, same_Some}
-use Rattle.apex_types.specs.Places.{place_of_number}
-use Rattle.apex_types.specs.declared.device.DeviceLine.{DeviceLine}
-use Rattle.apex_types.specs.declared.event.Event.{Event}
-use Rattle.apex_types.specs.declared.identity.At.{At}
-use Rattle.apex_types.specs.declared.identity.PartitionId.{PartitionId}
-use Rattle.apex_types.specs.declared.identity.Ticks.{Ticks}
-use Rattle.engine_meaning.specs.Engine.{Engine}
-use Rattle.kernel_meaning.specs.Objects.{Port, is_source}
-use Rattle.kernel_meaning.specs.Partition.{Member, World, advances, messages_to_move, tick, with_world}
-use Rattle.kernel_meaning.specs.Windows.{Schedule, tick_from, owner, ended}
-use Rattle.module_meaning.specs.Module.{Advanced, Course, Plan, goes_on, inputs_all, module_tick, moves_and_ticks, moves_ended, moves_ports, moves_so_many, of_member, of_tick, ports_from, ports_of, steps_member, still, then_goes, then_runs, ticks_owner}
-use Rattle.module_meaning.specs.Table.{Channel, at_number}
-use Rattle.lone_partition.proofs.Outputs.{lines_sent, nothing_sent}
-use Rattle.lone_partition.specs.Sent.{Sent}
-use Rattle.module.specs.Pieces.{LeadsTo, LeadsBehind, EndsQuietly, HasNoSource, HasPassed, HasPassedSome, HasPassedBehind, HasPassedSomeBehind, HasMoved, HasMovedWritten, lines_behind, ticks_by}
-use Rattle.module.specs.Standing.{Standing, lines_of, origin_of, ticks_in}
-use Rattle.module.specs.Written.{AreFrom, IsMade}
+use Rattle.kernel_meaning.specs.Partition.{advances}
+use Rattle.module_meaning.specs.Module.{goes_on}
+use Rattle.module.specs.Pieces.{LeadsBehind, lines_behind}
 use Rattle.module.proofs.Bursts.{from_lower, lift, standing_at}
 use Rattle.module.proofs.DeviceLines.{none_before, of_tick_again}
 use Rattle.module.proofs.Sources.{sources_of, tick_keeps}

@@ -1,36 +1,19 @@
 -- From accepted sources to the text of their trace.
-use Rattle.std.proofs.Common.{◌≡◌, ℕ, List, [], ◌∷◌, map, Option, Some, None, Result, Ok, Err, IfOk, refl, sym, ap, subst, ◌∙◌}
+use Rattle.module.proofs.Prelude.{◌≡◌, ℕ, List, ◌∷◌, map, Option, Some, None, Result, Ok, Err, IfOk, refl, sym, ap, ◌∙◌, Appends, All-nil, All-cons, third_limits, text_of, TakesBeginning, section_of, DeviceFault, DeviceLine, verdict_for, Partition, Channel, Table, Item, Image, Fault, image_at, Program, source_trace, machine_trace, spelled_is_read, IsAccepted, AreAccepted, IsTable, built_item, built_items, built_image, IsCoded, AreCoded, IsBuiltFrom, IsImageOf, IsRun, IsDeviceRefusal, Runs, Means, RunFault, NoImage, NoPartition, Memory, Write, Failed}
+use Rattle.std.proofs.Common.{[], subst}
 use Rattle.std.specs.List.{All}
-use Rattle.std.specs.Io.KnownBytes.{Appends}
-use Rattle.std.proofs.lemmas.List.Elements.{All-nil, All-cons}
-use Rattle.apex_types.specs.Versions.{third_limits}
-use Rattle.apex_types.specs.Line.{text_of}
-use Rattle.apex_types.specs.Line.{TakesBeginning}
-use Rattle.compiling_laws.specs.CompiledCode.{section_of}
-use Rattle.apex_types.specs.declared.device.DeviceFault.{DeviceFault}
-use Rattle.apex_types.specs.declared.device.DeviceLine.{DeviceLine}
 use Rattle.module_meaning.specs.DeviceText.{verdict}
-use Rattle.machine_meaning.specs.MachineMeaning.{verdict_for}
-use Rattle.module_meaning.specs.Table.{Partition, Channel, Table}
-use Rattle.machine_meaning.specs.Image.{Item, Image}
 use Rattle.machine_meaning.specs.ImageLimits.{IsSection}
-use Rattle.machine_meaning.specs.ImageReading.{Fault, image_at}
-use Rattle.pal_meaning.specs.Program.{Program}
-use Rattle.module_meaning.specs.SourceMeaning.{source_trace}
-use Rattle.machine_meaning.specs.MachineMeaning.{machine_trace}
 use Rattle.machine_laws.proofs.AcceptedImage.{accepted_image}
-use Rattle.machine_laws.proofs.ImageLaws.{spelled_is_read}
 use Rattle.compiling_laws.proofs.WellFormedSection.{accepted_section}
-use Rattle.module_meaning.specs.Accepted.{IsAccepted, AreAccepted, IsJudged, IsTable}
-use Rattle.module.specs.Built.{built_item, built_items, built_image, IsCoded, AreCoded, BecomesLawful, IsBuiltFrom}
-use Rattle.module.specs.Building.{IsImageOf}
-use Rattle.module.specs.Runs.{IsRun, IsDeviceRefusal, IsNamed, Runs}
+use Rattle.module_meaning.specs.Accepted.{IsJudged}
+use Rattle.module.specs.Built.{BecomesLawful}
+use Rattle.module.specs.Runs.{IsNamed}
 use Rattle.module_meaning.specs.SourceMeaning.{IsAcceptedRun}
-use Rattle.module.specs.Promises.{IsDeviceRefused, Means}
+use Rattle.module.specs.Promises.{IsDeviceRefused}
 use Rattle.module.specs.Running.{ran}
 use Rattle.image.specs.Named.{named}
-use Rattle.module.specs.declared.fault.RunFault.{RunFault}
-use Rattle.module.specs.declared.fault.RunFault.TheVariants.{Ticks, Image as NoImage, Partition as NoPartition, Device, Memory, Write, Failed}
+use Rattle.module.specs.declared.fault.RunFault.TheVariants.{Ticks, Device}
 use Rattle.module.proofs.Built.{are_compiled}
 use Rattle.module.proofs.SameTraces.{traces_same}
 

@@ -1,20 +1,10 @@
 -- For each partition, a run writes what the partition shows when it runs alone.
-use Rattle.std.proofs.Common.{◌≡◌, ◌≤◌, ◌^◌, ℕ, List, Option, Result, Ok, Err, OnOk, sym, subst, ◌∙◌}
-use Rattle.apex_types.specs.declared.limits.TheConstants.{MOST_TICKS}
-use Rattle.apex_types.specs.declared.device.DeviceLine.{DeviceLine}
-use Rattle.machine_meaning.specs.MachineMeaning.{verdict_for}
-use Rattle.machine_meaning.specs.Image.{Image}
-use Rattle.machine_meaning.specs.ImageLimits.{IsLawful}
-use Rattle.machine_meaning.specs.ImageReading.{Fault}
-use Rattle.isolation.proofs.Law.{part_of_slice}
+use Rattle.module.proofs.Prelude.{◌≡◌, ◌≤◌, ◌^◌, ℕ, List, Option, Result, Ok, Err, OnOk, sym, ◌∙◌, MOST_TICKS, DeviceLine, verdict_for, Image, IsLawful, Fault, part_of_slice, Machine, HaveTicked, fresh_machine, Means, Runs, RunFault}
+use Rattle.std.proofs.Common.{subst}
 use Rattle.isolation.proofs.SourceLaw.{source_isolation}
 use Rattle.module.specs.Isolated.{AreAlone, IsIsolated, WritesAlone}
 use Rattle.module.specs.SourcesIsolated.{IsSourceIsolated}
-use Rattle.module.specs.Machines.{Machine, HaveTicked, fresh_machine}
-use Rattle.module.specs.Promises.{Means}
-use Rattle.module.specs.Runs.{Runs}
 use Rattle.module.specs.declared.fault.BuildAndRunFault.{BuildAndRunFault}
-use Rattle.module.specs.declared.fault.RunFault.{RunFault}
 use Rattle.module.proofs.Headline.{ok_image, image_is}
 use Rattle.module.proofs.Machines.{calls_write_the_trace}
 

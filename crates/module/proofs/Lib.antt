@@ -1,3 +1,4 @@
+pub mod Prelude
 pub mod Brought
 pub mod Built
 pub mod Bursts

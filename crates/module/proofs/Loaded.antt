@@ -1,12 +1,6 @@
 -- The partitions of an image that are loaded one after the other.
-use Rattle.std.proofs.Common.{◌≡◌, ℕ, ◌+◌, List, [], ◌∷◌, ◌++◌, ◌∙◌, append_assoc}
-use Rattle.apex_types.specs.declared.cost.Costs.{Costs}
-use Rattle.machine_meaning.specs.Image.{Item}
-use Rattle.kernel_meaning.specs.Partition.{Member}
-use Rattle.kernel_meaning.specs.Windows.{Schedule}
-use Rattle.machine_meaning.specs.MachineControl.{MachineControl}
-use Rattle.machine_meaning.specs.MachineMeaning.{machine_member, machine_members}
-use Rattle.module_meaning.specs.Table.{fixed_of}
+use Rattle.module.proofs.Prelude.{◌≡◌, ℕ, ◌+◌, List, ◌∷◌, ◌++◌, ◌∙◌, append_assoc, Costs, Item, Member, Schedule, MachineControl, machine_member, machine_members, fixed_of}
+use Rattle.std.proofs.Common.{[]}
 
 -- one more partition is loaded, the first of the rest
 pub one_more_loaded : (costs : Costs) (schedule : Schedule) (number : ℕ) (before next whole : List (Member MachineControl)) (m : Member MachineControl) (i : Item) (rest : List Item)

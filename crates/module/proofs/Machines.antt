@@ -1,23 +1,11 @@
 -- A tick of a machine within a run.
-use Rattle.std.proofs.Common.{◌≡◌, ◌<◌, ◌≤◌, ◌+◌, ◌^◌, ℕ, zero, suc, true, false, List, [], Option, Some, None, Result, Ok, Err, inl, inr, refl, sym, ap, subst, ◌∙◌, append-nil, arith}
-use Rattle.std.proofs.KnownBytes.{Appends-kept, Appends-nil}
-use Rattle.std.specs.Io.KnownBytes.{Appends, Keeps}
-use Rattle.std.specs.Prelude.{is_none}
-use Rattle.apex_types.specs.declared.limits.TheConstants.{MOST_TICKS}
-use Rattle.apex_types.specs.Line.{text_of}
-use Rattle.apex_types.specs.Line.{TakesBeginning}
-use Rattle.apex_types.specs.declared.device.DeviceLine.{DeviceLine}
-use Rattle.apex_types.specs.declared.event.Event.{Event}
-use Rattle.apex_types.proofs.Writing.{IsUnderWay, under_way_more, under_way_end, under_way_fails, under_way_start}
-use Rattle.machine_meaning.specs.Image.{Image}
-use Rattle.module_meaning.specs.Module.{of_tick}
-use Rattle.machine_meaning.specs.MachineControl.{MachineControl}
-use Rattle.kernel_meaning.specs.Partition.{Member}
-use Rattle.machine_meaning.specs.MachineMeaning.{machine_module, machine_trace}
-use Rattle.module.specs.Machines.{Machine, HasGoneOn, HasFailed, HasTicked, HaveTicked, fresh_machine}
+use Rattle.module.proofs.Prelude.{◌≡◌, ◌<◌, ◌≤◌, ◌+◌, ◌^◌, ℕ, zero, suc, true, false, List, Option, Some, None, Result, Ok, Err, inl, inr, refl, sym, ap, ◌∙◌, append-nil, arith, Appends-nil, Appends, is_none, MOST_TICKS, text_of, TakesBeginning, DeviceLine, Event, IsUnderWay, under_way_more, under_way_fails, Image, of_tick, MachineControl, Member, machine_module, machine_trace, Machine, HaveTicked, fresh_machine, Standing, after, lines_of, ticks, RunFault}
+use Rattle.std.proofs.Common.{[], subst}
+use Rattle.std.proofs.KnownBytes.{Appends-kept}
+use Rattle.std.specs.Io.KnownBytes.{Keeps}
+use Rattle.apex_types.proofs.Writing.{under_way_end, under_way_start}
+use Rattle.module.specs.Machines.{HasGoneOn, HasFailed, HasTicked}
 use Rattle.module.specs.Running.{RunsImage}
-use Rattle.module.specs.Standing.{Standing, after, lines_of, ticks}
-use Rattle.module.specs.declared.fault.RunFault.{RunFault}
 use Rattle.module.specs.declared.fault.RunFault.TheVariants as fault
 use Rattle.module.proofs.DeviceLines.{of_tick_again}
 use Rattle.module.proofs.Standing.{tick_text, none_down, is_traced}

@@ -1,16 +1,10 @@
 -- Partitions with their parts of the memory, one after the other.
-use Rattle.std.proofs.Common.{◌≡◌, ◌≢◌, ◌≤◌, ◌<◌, ℕ, zero, suc, List, [], ◌∷◌, ◌++◌, length, Option, Some, None, map, refl, ap, subst, sym, ◌∙◌, arith}
-use Rattle.std.specs.Prelude.{slice_get, slice_set, option_map}
-use Rattle.std.proofs.lemmas.List.{length-map, length-set, map-append, map-set}
-use Rattle.std.proofs.lemmas.Option.{none-some, same_Some}
+use Rattle.module.proofs.Prelude.{◌≡◌, ◌≢◌, ◌≤◌, ◌<◌, ℕ, zero, suc, List, ◌∷◌, ◌++◌, length, Option, Some, None, map, refl, ap, sym, ◌∙◌, arith, slice_get, slice_set, option_map, length-map, map-append, none-some, same_Some, Kernel, of_member, ports_of, Member, member_of, Ghosts, members_of, AreFitting}
+use Rattle.std.proofs.Common.{[], subst}
+use Rattle.std.proofs.lemmas.List.{length-set, map-set}
 use Rattle.apex_types.specs.declared.limits.TheConstants.{MOST_PARTITIONS}
-use Rattle.kernel_meaning.specs.Kernel.{Kernel}
-use Rattle.module_meaning.specs.Module.{of_member, ports_of}
-use Rattle.kernel_meaning.specs.Partition.{Member}
-use Rattle.partition.specs.Members.{member_of}
 use Rattle.partition.specs.declared.partition.Partition.{Partition}
-use Rattle.partition_base.specs.declared.executor.Executor.{Ghosts}
-use Rattle.module.specs.Members.{members_of, layout_in, AreFitting}
+use Rattle.module.specs.Members.{layout_in}
 
 pub get_other : {A : Type 0} (xs : List A) (n q : ℕ) (x : A) → q ≢ n → slice_get (slice_set xs n x) q ≡ slice_get xs q
 get_other [] zero q x h = refl

@@ -1,21 +1,13 @@
 -- A message leaves its port, and goes by its channel.
-use Rattle.std.proofs.Common.{◌≡◌, ℕ, zero, suc, ℤ, List, [], ◌∷◌, Option, Some, None, refl, sym, ap, subst, ◌∙◌}
-use Rattle.std.proofs.lemmas.Option.{none-some, same_Some}
-use Rattle.std.specs.Prelude.{slice_get, slice_set}
-use Rattle.arrayvec.specs.ArrayVec.{ArrayVec}
-use Rattle.apex_types.specs.declared.identity.At.{At}
-use Rattle.apex_types.specs.declared.identity.PartitionId.{PartitionId}
-use Rattle.apex_types.specs.declared.identity.PortId.{PortId}
+use Rattle.module.proofs.Prelude.{◌≡◌, ℕ, zero, suc, ℤ, List, ◌∷◌, Option, Some, None, refl, sym, ap, ◌∙◌, none-some, same_Some, slice_get, slice_set, ArrayVec, At, PartitionId, PortId, Channel, at_number, Advanced, still, steps, steps_member, of_member, channel_from, Member, Moved, with_world, leaves, leaving, moved, Port, Ports, Step, Sent, IsMade}
+use Rattle.std.proofs.Common.{[], subst}
 use Rattle.kernel_meaning.specs.PortServices.{first_message, leaves_first, leaves_of}
-use Rattle.module_meaning.specs.Table.{Channel, at_number}
 use Rattle.kernel_meaning.specs.Kernel.{of_ports_alone}
-use Rattle.module_meaning.specs.Module.{Advanced, still, steps, steps_member, of_member, goes_by, channel_from, moves_found}
-use Rattle.kernel_meaning.specs.Partition.{Member, Moved, with_world, leaves, leaving, moved, place_of_port}
-use Rattle.kernel_meaning.specs.Objects.{Port, Ports, port_at}
-use Rattle.kernel_meaning.specs.Step.{Step, nothing}
-use Rattle.lone_partition.specs.Sent.{Sent}
+use Rattle.module_meaning.specs.Module.{goes_by, moves_found}
+use Rattle.kernel_meaning.specs.Partition.{place_of_port}
+use Rattle.kernel_meaning.specs.Objects.{port_at}
+use Rattle.kernel_meaning.specs.Step.{nothing}
 use Rattle.module.proofs.Written.{then_made}
-use Rattle.module.specs.Written.{IsMade}
 
 -- ---- nothing leaves a port without a message
 

@@ -1,22 +1,11 @@
 -- The partition of a name, its row, and its slice of the image.
-use Rattle.std.proofs.Common.{◌≡◌, ℕ, zero, suc, ◌+◌, ◌-◌, ◌<◌, ◌≤◌, ◌==◌, Bool, true, false, cond, List, [], ◌∷◌, ◌++◌, map, Option, Some, None, All, slice_get, option_map, refl, sym, ap, subst, ◌∙◌, arith}
+use Rattle.module.proofs.Prelude.{◌≡◌, ℕ, zero, suc, ◌+◌, ◌-◌, ◌<◌, ◌≤◌, ◌==◌, Bool, true, false, cond, List, ◌∷◌, ◌++◌, map, Option, Some, None, All, refl, sym, ap, ◌∙◌, arith, All-nil, All-cons, none-some, same_Some, slice_get-map, third_limits, PortRow, same, Item, Image, at_number, item_of, items_of, partition_of, image_of, PartitionItem, numbered, Slice, slice, slice_of}
+use Rattle.std.proofs.Common.{[], slice_get, option_map, subst}
 use Rattle.std.proofs.lemmas.Bool.{and_parts, eqb-true}
-use Rattle.std.proofs.lemmas.List.Elements.{All-nil, All-cons}
-use Rattle.std.proofs.lemmas.Option.{none-some, same_Some, slice_get-map}
-use Rattle.apex_types.specs.Versions.{third_limits}
-use Rattle.apex_types.specs.declared.row.PortRow.{PortRow}
 use Rattle.apex_types.specs.declared.limits.TheConstants.{MOST_WORDS}
 use Rattle.module_meaning.specs.DeviceText.{first_from}
-use Rattle.engine_meaning.specs.Digits.{same}
-use Rattle.machine_meaning.specs.Image.{Item, Image}
-use Rattle.module_meaning.specs.Table.{at_number}
 use Rattle.machine_meaning.specs.ImageLimits.{EachBeside, IsItem, IsPort}
-use Rattle.image.specs.Items.{item_of, items_of, partition_of}
-use Rattle.image.specs.Views.{image_of}
-use Rattle.image.specs.declared.item.PartitionItem.{PartitionItem}
 use Rattle.image.specs.declared.value.Image as code
-use Rattle.isolation.specs.Replays.{numbered}
-use Rattle.isolation.specs.Slices.{Slice, slice, slice_of}
 use Rattle.isolation.proofs.Law.{sliced}
 use Rattle.module_base.specs.Rows.{HasPorts}
 use Rattle.machine_laws.proofs.Widened.{items_widened}

@@ -1,12 +1,6 @@
 -- Ticks that are made in parts, one after another.
-use Rattle.std.proofs.Common.{◌≡◌, ◌≤◌, ℕ, ◌+◌, ◌-◌, List, [], ◌++◌, refl, sym, ap, subst, ◌∙◌, append_assoc, arith}
-use Rattle.apex_types.specs.declared.device.DeviceLine.{DeviceLine}
-use Rattle.apex_types.specs.declared.event.Event.{Event}
-use Rattle.module_meaning.specs.Module.{Plan}
-use Rattle.lone_partition.proofs.Outputs.{lines_sent}
-use Rattle.lone_partition.specs.Sent.{Sent}
-use Rattle.module.specs.Pieces.{LeadsTo, HasPassed, HasPassedSome}
-use Rattle.module.specs.Standing.{Standing, lines_of}
+use Rattle.module.proofs.Prelude.{◌≡◌, ◌≤◌, ℕ, ◌+◌, ◌-◌, List, ◌++◌, refl, sym, ap, ◌∙◌, append_assoc, arith, DeviceLine, Event, Plan, lines_sent, Sent, LeadsTo, HasPassed, HasPassedSome, Standing, lines_of}
+use Rattle.std.proofs.Common.{[], subst}
 use Rattle.module.proofs.Bursts.{run_nothing}
 
 leads_more : {C : Type 0} (plan : Plan) (lines : List DeviceLine) (n m : ℕ) (s t u : Standing C) (told more : List Event) → LeadsTo plan lines n s told t → LeadsTo plan lines m t more u → LeadsTo plan lines (n + m) s (told ++ more) u

@@ -1,12 +1,7 @@
 -- The result of ticks if the sink has taken all of their lines, and if it has failed.
-use Rattle.std.proofs.Common.{◌≡◌, ℕ, true, false, List, Option, ◌≤◌, sym, subst, ◌∙◌}
-use Rattle.apex_types.specs.Line.{text_of, TakesBeginning}
-use Rattle.apex_types.specs.declared.device.DeviceLine.{DeviceLine}
-use Rattle.module_meaning.specs.Module.{Plan}
+use Rattle.module.proofs.Prelude.{◌≡◌, ℕ, true, false, List, Option, ◌≤◌, sym, ◌∙◌, text_of, TakesBeginning, DeviceLine, Plan, Sent, HasPassed, HasPassedSome, HasRun, IsBrokenOff, Standing}
+use Rattle.std.proofs.Common.{subst}
 use Rattle.lone_partition.proofs.Outputs.{all_sent, some_sent}
-use Rattle.lone_partition.specs.Sent.{Sent}
-use Rattle.module.specs.Pieces.{HasPassed, HasPassedSome, HasRun, IsBrokenOff}
-use Rattle.module.specs.Standing.{Standing}
 
 -- all lines are taken
 pub passed_all : {C : Type 0} (plan : Plan) (lines : List DeviceLine) (n : ℕ) (s next : Standing C) (old new : Sent) → old.failed ≡ false → new.failed ≡ false

@@ -1,25 +1,14 @@
 -- Refusals, and their reasons.
-use Rattle.std.proofs.Common.{◌≡◌, inl, inr, ℕ, zero, suc, ◌+◌, false, List, [], ◌∷◌, ◌++◌, length, map, drop, Some, None, Result, Ok, Err, IfErr, refl, sym, ap, subst, ◌∙◌, arith, append-nil}
-use Rattle.std.specs.Prelude.{IsErr, IsErrAnd, slice_get}
-use Rattle.std.specs.List.{list_any}
-use Rattle.std.proofs.lemmas.Option.{none-some, same_Some}
-use Rattle.module_meaning.specs.Table.{Partition, Table}
-use Rattle.pal_base.specs.ProgramView.{program_of}
+use Rattle.module.proofs.Prelude.{◌≡◌, inl, inr, ℕ, zero, suc, ◌+◌, false, List, ◌∷◌, ◌++◌, length, map, drop, Some, None, Result, Ok, Err, IfErr, refl, sym, ap, ◌∙◌, arith, append-nil, slice_get, list_any, none-some, same_Some, Partition, Table, program_of, IsAccepted, AreAccepted, IsTable, spelling, built_image, AreCoded, IsBuiltFrom, is_too_long, first_too_long, IsTableRefusal, IsSourceRefusal, AreSourceRefusals, IsLengthRefusal, programs_of, IsSource, AreSources, length-map, partition_of, PartitionRow, Checked, BuildFault}
+use Rattle.std.proofs.Common.{[], subst}
+use Rattle.std.specs.Prelude.{IsErr, IsErrAnd}
 use Rattle.pal_base.specs.declared.fault.PalFault.{PalFault}
 use Rattle.pal_base.specs.declared.fault.Refusal.{Refusal}
 use Rattle.pal_base.specs.declared.fault.Refusal.TheVariants as refusal
-use Rattle.module_meaning.specs.Accepted.{IsAccepted, AreAccepted, IsTable}
-use Rattle.machine_meaning.specs.ImageSpelling.{spelling}
-use Rattle.module.specs.Built.{built_image, AreCoded, IsBuiltFrom}
 use Rattle.module.proofs.Built.{none_too_long}
-use Rattle.module.specs.Refusals.{IsNotAccepted, IsFirstRefused, IsRefusedWith, IsRefusal, is_too_long, first_too_long}
-use Rattle.module.specs.Building.{IsTableRefusal, IsSourceRefusal, AreSourceRefusals, IsLengthRefusal, unless_memory, refusal_of}
-use Rattle.module.specs.Sources.{programs_of, IsSource, AreSources}
-use Rattle.std.proofs.lemmas.List.{append_assoc, length-map}
-use Rattle.image.specs.Items.{partition_of}
-use Rattle.window_table.specs.declared.table.PartitionRow.{PartitionRow}
-use Rattle.pal_base.specs.declared.checked.Checked.{Checked}
-use Rattle.module.specs.declared.fault.BuildFault.{BuildFault}
+use Rattle.module.specs.Refusals.{IsNotAccepted, IsFirstRefused, IsRefusedWith, IsRefusal}
+use Rattle.module.specs.Building.{unless_memory, refusal_of}
+use Rattle.std.proofs.lemmas.List.{append_assoc}
 use Rattle.module.specs.declared.fault.BuildFault.TheVariants as fault
 
 -- ---- results

@@ -1,36 +1,15 @@
 -- From the parts of a replay to its promise.
-use Rattle.std.proofs.Common.{◌≡◌, ◌≤◌, ◌^◌, ℕ, List, [], ◌∷◌, Option, Some, None, Result, Ok, Err, OnOk, option_map, refl, sym, ap, subst, ◌∙◌}
-use Rattle.std.proofs.lemmas.Option.{same_Some}
-use Rattle.std.specs.Io.KnownBytes.{Appends}
-use Rattle.apex_types.specs.declared.limits.TheConstants.{MOST_TICKS}
-use Rattle.apex_types.specs.Line.{text_of}
-use Rattle.apex_types.specs.Line.{TakesBeginning}
-use Rattle.apex_types.specs.declared.device.DeviceFault.{DeviceFault}
-use Rattle.apex_types.specs.declared.device.DeviceLine.{DeviceLine}
+use Rattle.module.proofs.Prelude.{◌≡◌, ◌≤◌, ◌^◌, ℕ, List, ◌∷◌, Option, Some, None, Result, Ok, Err, OnOk, refl, sym, ap, ◌∙◌, same_Some, Appends, MOST_TICKS, text_of, TakesBeginning, DeviceFault, DeviceLine, Image, Item, IsLawful, Fault, MachineControl, machine_trace, InputLine, AreInOrder, replay_verdict, numbered, Slice, machine_inputs, slice, slice_of, part_of_slice, IsRefusal, DeviceTextFault, Replays, IsRun, ReplaysSlice, fault_of_text, RunFault, NoImage, NoPartition, Memory, Write, Failed}
+use Rattle.std.proofs.Common.{[], option_map, subst}
 use Rattle.apex_types.specs.declared.sink.SinkFault.{SinkFault}
-use Rattle.machine_meaning.specs.Image.{Image, Item}
-use Rattle.machine_meaning.specs.ImageLimits.{IsLawful}
-use Rattle.machine_meaning.specs.ImageReading.{Fault}
-use Rattle.machine_meaning.specs.MachineControl.{MachineControl}
-use Rattle.machine_meaning.specs.MachineMeaning.{machine_trace}
 use Rattle.isolation.specs.Alone.{Alone, trace_alone}
-use Rattle.isolation.specs.declared.input.InputLine.{InputLine}
 use Rattle.isolation.specs.Brought.{part}
-use Rattle.isolation.specs.InputText.{AreInOrder}
-use Rattle.isolation.specs.ReplayText.{replay_verdict}
-use Rattle.isolation.specs.Replays.{numbered}
-use Rattle.isolation.specs.Slices.{Slice, machine_alone, machine_inputs, slice, slice_of, slice_trace}
-use Rattle.isolation.proofs.Law.{part_of_slice}
+use Rattle.isolation.specs.Slices.{machine_alone, slice_trace}
 use Rattle.lone_partition.specs.Lines.{AreFrom, tick_of_input}
-use Rattle.module_base.specs.Refusals.{IsRefusal}
-use Rattle.module_base.specs.declared.fault.DeviceTextFault.{DeviceTextFault}
 use Rattle.module_base.specs.declared.fault.DeviceTextFault.TheVariants as text_fault
 use Rattle.module.specs.Isolated.{ReplaysPart}
-use Rattle.module.specs.Replays.{IsInputRefusal, LacksPartition, Replays}
-use Rattle.module.specs.Runs.{IsRun}
-use Rattle.module.specs.Running.{ReplaysSlice, fault_of_text}
-use Rattle.module.specs.declared.fault.RunFault.{RunFault}
-use Rattle.module.specs.declared.fault.RunFault.TheVariants.{Ticks, Image as NoImage, Partition as NoPartition, Device, Memory, Write, Failed}
+use Rattle.module.specs.Replays.{IsInputRefusal, LacksPartition}
+use Rattle.module.specs.declared.fault.RunFault.TheVariants.{Ticks, Device}
 use Rattle.module.proofs.Headline.{ok_image, image_is}
 use Rattle.module.proofs.Named.{by_number, no_number, numbered_name, numbered_slice}
 

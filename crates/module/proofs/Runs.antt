@@ -1,20 +1,7 @@
 -- Many ticks of a machine within a run, and a run that its device text refuses.
-use Rattle.std.proofs.Common.{◌≡◌, ◌≤◌, ◌+◌, ℕ, List, Option, Result, Ok, Err, refl, sym, ap, subst, ◌∙◌}
-use Rattle.apex_types.specs.Line.{text_of}
-use Rattle.apex_types.specs.Line.{TakesBeginning}
-use Rattle.apex_types.proofs.Writing.{IsUnderWay}
-use Rattle.apex_types.specs.declared.limits.TheConstants.{MOST_TICKS}
-use Rattle.apex_types.specs.declared.device.DeviceFault.{DeviceFault}
-use Rattle.apex_types.specs.declared.device.DeviceLine.{DeviceLine}
-use Rattle.machine_meaning.specs.Image.{Image}
-use Rattle.machine_meaning.specs.ImageReading.{Fault}
-use Rattle.machine_meaning.specs.MachineMeaning.{machine_module, verdict_for}
-use Rattle.module.specs.Machines.{Machine, HasRunOn}
-use Rattle.module.specs.Pieces.{HasRun, IsBrokenOff}
-use Rattle.module.specs.Running.{AreRefused}
-use Rattle.module.specs.Runs.{IsDeviceRefusal, Runs}
-use Rattle.module.specs.Standing.{lines_of}
-use Rattle.module.specs.declared.fault.RunFault.{RunFault}
+use Rattle.module.proofs.Prelude.{◌≡◌, ◌≤◌, ◌+◌, ℕ, List, Option, Result, Ok, Err, refl, sym, ap, ◌∙◌, text_of, TakesBeginning, IsUnderWay, MOST_TICKS, DeviceFault, DeviceLine, Image, Fault, machine_module, verdict_for, Machine, HasRun, IsBrokenOff, AreRefused, IsDeviceRefusal, Runs, lines_of, RunFault}
+use Rattle.std.proofs.Common.{subst}
+use Rattle.module.specs.Machines.{HasRunOn}
 use Rattle.module.specs.declared.fault.RunFault.TheVariants as fault
 use Rattle.module.proofs.Bursts.{runs_on, breaks_off}
 

@@ -1,29 +1,21 @@
 -- The trace of a built image is the trace of its sources.
-use Rattle.std.proofs.Common.{◌≡◌, ℕ, ◌+◌, ℤ, Bool, List, [], ◌∷◌, map, Option, Some, None, refl, ap, subst}
-use Rattle.std.specs.Prelude.{is_some, option_map}
-use Rattle.apex_types.specs.declared.cost.Costs.{Costs}
-use Rattle.apex_types.specs.declared.device.DeviceLine.{DeviceLine}
+use Rattle.module.proofs.Prelude.{◌≡◌, ℕ, ◌+◌, ℤ, Bool, List, ◌∷◌, map, Option, Some, None, refl, ap, is_some, option_map, Costs, DeviceLine, PortRow, section_of, Partition, Table, reading, Kernel, MachineControl, Program, source_trace, machine_member, machine_members, machine_trace, fixed_of, Schedule, built_items, built_image, AreCompiled}
+use Rattle.std.proofs.Common.{[], subst}
 use Rattle.apex_types.specs.declared.process.ProcessStatus.{ProcessStatus}
-use Rattle.apex_types.specs.declared.row.PortRow.{PortRow}
 use Rattle.kernel_meaning.specs.Objects.{fresh_ports}
-use Rattle.compiling_laws.specs.CompiledCode.{section_of, body_row, handler_place, process_rows, processes_place}
+use Rattle.compiling_laws.specs.CompiledCode.{body_row, handler_place, process_rows, processes_place}
 use Rattle.pal_meaning.specs.Program.{size_of_process}
-use Rattle.module_meaning.specs.Table.{Partition, Table}
-use Rattle.machine_meaning.specs.Instructions.{reading}
-use Rattle.kernel_meaning.specs.Kernel.{Fixed, Kernel}
+use Rattle.kernel_meaning.specs.Kernel.{Fixed}
 use Rattle.compiling_laws.specs.Lifting.{SameControls, SameMember, SameMembers, SameWorld}
-use Rattle.machine_meaning.specs.MachineControl.{MachineControl}
-use Rattle.pal_meaning.specs.Program.{Program, Process}
+use Rattle.pal_meaning.specs.Program.{Process}
 use Rattle.compiling_laws.specs.Related.{Keeps}
 use Rattle.pal_meaning.specs.SourceControl.{SourceControl}
 use Rattle.kernel_meaning.specs.Fresh.{fresh_kernel, fresh_world, no_control_for}
-use Rattle.module_meaning.specs.SourceMeaning.{source_row, source_objects, source_member, source_members, source_trace}
-use Rattle.machine_meaning.specs.MachineMeaning.{machine_row, machine_member, machine_members, machine_trace}
-use Rattle.module_meaning.specs.Table.{fixed_of}
-use Rattle.kernel_meaning.specs.Windows.{Schedule}
+use Rattle.module_meaning.specs.SourceMeaning.{source_row, source_objects, source_member, source_members}
+use Rattle.machine_meaning.specs.MachineMeaning.{machine_row}
 use Rattle.compiling_laws.proofs.Lifting.{trace_same}
 use Rattle.compiling_laws.proofs.Starts.{compiled_correctly}
-use Rattle.module.specs.Built.{built_items, built_image, IsCompiled, AreCompiled}
+use Rattle.module.specs.Built.{IsCompiled}
 
 rows_same : (at : ℕ) (ps : List Process) → map source_row ps ≡ map machine_row (process_rows at ps)
 rows_same at [] = refl

@@ -1,16 +1,9 @@
 -- The device lines: the last of them, a line that shuts the module down, and a fault of the module.
-use Rattle.std.proofs.Common.{◌≡◌, ℕ, ◌+◌, ◌<◌, ◌≤◌, List, ◌∷◌, length, get_or, drop, Option, Some, None, refl, sym, ap, ◌∙◌}
-use Rattle.std.proofs.lemmas.List.{drop_more, drop_all}
-use Rattle.apex_types.specs.declared.codes.ModuleAction.{ModuleAction}
+use Rattle.module.proofs.Prelude.{◌≡◌, ℕ, ◌+◌, ◌<◌, ◌≤◌, List, ◌∷◌, length, get_or, drop, Option, Some, None, refl, sym, ap, ◌∙◌, drop_more, drop_all, ModuleAction, DeviceLine, At, Plan, Course, as_origin, breaks_module, of_tick, starts_all, then_goes, then_runs, inputs, inputs_all, moves_and_ticks, module_tick, Member, Sent, IsMade, IsCourse}
 use Rattle.apex_types.specs.declared.codes.ModuleAction.TheVariants as reaction
 use Rattle.apex_types.specs.declared.codes.StartCondition.TheVariants as condition
-use Rattle.apex_types.specs.declared.device.DeviceLine.{DeviceLine}
-use Rattle.apex_types.specs.declared.identity.At.{At}
-use Rattle.module_meaning.specs.Module.{Plan, Course, as_origin, breaks_module, of_tick, starts_all, tells_fault, then_goes, then_runs, inputs, inputs_all, moves_and_ticks, module_tick}
-use Rattle.kernel_meaning.specs.Partition.{Member}
-use Rattle.lone_partition.specs.Sent.{Sent}
+use Rattle.module_meaning.specs.Module.{tells_fault}
 use Rattle.module.proofs.Written.{CompletesCourse, course_is_over, ends_down}
-use Rattle.module.specs.Written.{IsMade, IsCourse}
 
 -- after the last one nothing is left
 pub lines_are_over : {C : Type 0} {whole : Course C} {old new : Sent} (plan : Plan) (at : At) (lines : List DeviceLine) (i : ℕ) (now : List (Member C))

@@ -1,8 +1,7 @@
 -- No tick of a partition changes which of its ports are sources.
-use Rattle.std.proofs.Common.{◌≡◌, ℕ, zero, suc, ℤ, Bool, true, false, List, [], ◌∷◌, map, Option, Some, None, refl, sym, ap, subst, ◌∙◌}
-use Rattle.std.specs.Prelude.{pos, negsuc, not, ◌&&◌, if◌then◌else◌, slice_get, slice_set, is_some}
-use Rattle.std.proofs.lemmas.Option.{same_Some}
-use Rattle.arrayvec.specs.ArrayVec.{ArrayVec}
+use Rattle.module.proofs.Prelude.{◌≡◌, ℕ, zero, suc, ℤ, Bool, true, false, List, ◌∷◌, map, Option, Some, None, refl, sym, ap, ◌∙◌, slice_get, slice_set, is_some, same_Some, ArrayVec, StartCondition, At, Engine, Kernel, Port, Ports, is_source, World, moved, tick, Step}
+use Rattle.std.proofs.Common.{[], subst}
+use Rattle.std.specs.Prelude.{pos, negsuc, not, ◌&&◌, if◌then◌else◌}
 use Rattle.apex_types.specs.Runners.{Action, place_of}
 use Rattle.apex_types.specs.Runners as action
 use Rattle.apex_types.specs.declared.codes.ErrorKind.{ErrorKind}
@@ -11,9 +10,7 @@ use Rattle.apex_types.specs.declared.codes.Mode.{Mode}
 use Rattle.apex_types.specs.declared.codes.Mode.TheVariants as mode
 use Rattle.apex_types.specs.declared.codes.PartitionAction.{PartitionAction}
 use Rattle.apex_types.specs.declared.codes.ReturnCode.TheVariants as code
-use Rattle.apex_types.specs.declared.codes.StartCondition.{StartCondition}
 use Rattle.apex_types.specs.declared.codes.StartCondition.TheVariants as condition
-use Rattle.apex_types.specs.declared.identity.At.{At}
 use Rattle.apex_types.specs.declared.identity.Runner.{Runner}
 use Rattle.apex_types.specs.declared.identity.Runner.TheVariants as runner
 use Rattle.apex_types.specs.declared.service.ArrayPlace.{ArrayPlace}
@@ -21,16 +18,16 @@ use Rattle.apex_types.specs.declared.service.Call.{Call}
 use Rattle.apex_types.specs.declared.service.Call.TheVariants as call
 use Rattle.apex_types.specs.declared.service.Service.{Service}
 use Rattle.apex_types.specs.declared.service.Service.TheVariants as service
-use Rattle.engine_meaning.specs.Engine.{Engine, Asks, Nothing, Calls, Faults, Ends}
+use Rattle.engine_meaning.specs.Engine.{Asks, Nothing, Calls, Faults, Ends}
 use Rattle.kernel_meaning.specs.HealthServices.{acts_on_error, enters_mode as enters_mode_of_action, faults, ignores, is_fault, raise_application_error, raises, then_clears}
-use Rattle.kernel_meaning.specs.Kernel.{Kernel, of_processes, with_errors, with_ports}
-use Rattle.kernel_meaning.specs.Objects.{Port, Ports, cleared_port, is_full, is_sampling, is_source, if_sampling, numbered_in, placed, queuing, sampling, those_queuing, those_sampling, unless_sampling, with_message, with_sample}
-use Rattle.kernel_meaning.specs.Partition.{World, act, act_all, chooses_with_handler, control_at, due_phase, given, moved, prepares, serves, serves_processes, serves_shared, spends_chosen, tick, ticked, treating_phase, treats_asked, treats_due}
+use Rattle.kernel_meaning.specs.Kernel.{of_processes, with_errors, with_ports}
+use Rattle.kernel_meaning.specs.Objects.{cleared_port, is_full, is_sampling, if_sampling, numbered_in, placed, queuing, sampling, those_queuing, those_sampling, unless_sampling, with_message, with_sample}
+use Rattle.kernel_meaning.specs.Partition.{act, act_all, chooses_with_handler, control_at, due_phase, given, prepares, serves, serves_processes, serves_shared, spends_chosen, ticked, treating_phase, treats_asked, treats_due}
 use Rattle.kernel_meaning.specs.PartitionServices.{clears, ends_body, enters_mode, is_cold, is_warm, mode_of, set_partition_mode, wants}
 use Rattle.kernel_meaning.specs.PortServices.{becomes_port, clear_queuing_port, clears_port, creates, is_created, is_on_ports, is_valid, read_sampling_message, reads_sample, receive_queuing_message, receives, send_queuing_message, sends, serves_ports, write_sampling_message, writes_sample}
 use Rattle.kernel_meaning.specs.Processes.{is_normal, rests_found, row_of}
 use Rattle.kernel_meaning.specs.Sharing.{Sharing, answers, create, get_id, get_status, has, is_large_enough, is_length, on}
-use Rattle.kernel_meaning.specs.Step.{Step, first_words, message}
+use Rattle.kernel_meaning.specs.Step.{first_words, message}
 use Rattle.kernel_meaning.specs.Times.{is_duration, mode_of_action}
 
 -- ---- the ports

@@ -1,17 +1,8 @@
 -- A module tick by tick, and its trace.
-use Rattle.std.proofs.Common.{◌≡◌, ℕ, zero, suc, ◌+◌, ◌<◌, ◌≤◌, ◌==◌, Bool, false, if◌then◌else◌, List, [], ◌++◌, Option, Some, None, refl, sym, ap, subst, ◌∙◌, append_assoc, arith}
-use Rattle.std.proofs.lemmas.Bool.Decides.{Decides-eqb}
-use Rattle.std.proofs.lemmas.Option.{none-some, same_Some}
-use Rattle.std.specs.Prelude.{option_map}
-use Rattle.apex_types.specs.Line.{text_of}
-use Rattle.apex_types.specs.declared.device.DeviceLine.{DeviceLine}
-use Rattle.apex_types.specs.declared.event.Event.{Event}
-use Rattle.apex_types.specs.declared.identity.At.{At}
-use Rattle.apex_types.specs.declared.identity.Ticks.{Ticks}
-use Rattle.module_meaning.specs.Module.{Plan, Advanced, Course, of_tick, first_tick, next_tick, still, starts, module_tick, trace_from, trace}
-use Rattle.kernel_meaning.specs.Partition.{Member}
-use Rattle.kernel_meaning.specs.Windows.{tick_from}
-use Rattle.module.specs.Standing.{IsNow, Standing, at_first, begins, begins_and_ticks, moment_of, ticks_from, ticks_in, ticks, origin_of, after, lines_of}
+use Rattle.module.proofs.Prelude.{◌≡◌, ℕ, zero, suc, ◌+◌, ◌<◌, ◌≤◌, ◌==◌, Bool, false, if◌then◌else◌, List, ◌++◌, Option, Some, None, refl, sym, ap, ◌∙◌, append_assoc, arith, Decides-eqb, none-some, same_Some, option_map, text_of, DeviceLine, Event, At, Ticks, Plan, Advanced, Course, of_tick, first_tick, next_tick, still, starts, module_tick, trace_from, Member, tick_from, IsNow, Standing, at_first, begins, moment_of, ticks_from, ticks_in, ticks, origin_of, after, lines_of}
+use Rattle.std.proofs.Common.{[], subst}
+use Rattle.module_meaning.specs.Module.{trace}
+use Rattle.module.specs.Standing.{begins_and_ticks}
 use Rattle.module.proofs.DeviceLines.{not_true, of_tick_again, same_tick, tick_now}
 use Rattle.module.proofs.Texts.{text_append}
 

@@ -1,16 +1,10 @@
 -- The start of the partitions, one after the other.
-use Rattle.std.proofs.Common.{◌≡◌, ℕ, zero, suc, ◌+◌, ◌<◌, ◌≤◌, List, [], ◌∷◌, ◌++◌, length, map, take, drop, Option, Some, None, refl, sym, ap, subst, ◌∙◌, arith}
-use Rattle.std.specs.Prelude.{slice_get}
-use Rattle.std.specs.List.{flat_map}
-use Rattle.apex_types.specs.declared.event.Event.{Event}
-use Rattle.apex_types.specs.declared.codes.StartCondition.{StartCondition}
-use Rattle.apex_types.specs.declared.identity.At.{At}
-use Rattle.module_meaning.specs.Module.{Advanced, steps_member, started_member, start_lines}
-use Rattle.kernel_meaning.specs.Partition.{Member, cold_start}
-use Rattle.module.specs.Members.{members_of, AreFitting}
+use Rattle.module.proofs.Prelude.{◌≡◌, ℕ, zero, suc, ◌+◌, ◌<◌, ◌≤◌, List, ◌∷◌, ◌++◌, length, map, take, drop, Option, Some, None, refl, sym, ap, ◌∙◌, arith, slice_get, flat_map, Event, StartCondition, At, Advanced, steps_member, start_lines, Member, members_of, AreFitting, Ghosts}
+use Rattle.std.proofs.Common.{[], subst}
+use Rattle.module_meaning.specs.Module.{started_member}
+use Rattle.kernel_meaning.specs.Partition.{cold_start}
 use Rattle.module.proofs.Members.{members_count}
 use Rattle.partition.specs.declared.partition.Partition.{Partition}
-use Rattle.partition_base.specs.declared.executor.Executor.{Ghosts}
 
 module _ (at : At) (reason : StartCondition) where
   -- the start of a partition

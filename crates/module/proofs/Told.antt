@@ -1,26 +1,10 @@
 -- From the parts of writing a partition's inputs to its promise.
-use Rattle.std.proofs.Common.{◌≡◌, ◌<◌, ◌≤◌, ◌^◌, ℕ, List, length, Option, Some, None, Result, Ok, Err, option_map, refl, sym, ap, subst, ◌∙◌}
-use Rattle.std.specs.Io.KnownBytes.{Appends}
-use Rattle.apex_types.specs.declared.limits.TheConstants.{MOST_DEVICE_LINES, MOST_TICKS}
-use Rattle.apex_types.specs.Line.{TakesBeginning}
-use Rattle.apex_types.specs.declared.device.DeviceFault.{DeviceFault}
-use Rattle.apex_types.specs.declared.device.DeviceLine.{DeviceLine}
-use Rattle.machine_meaning.specs.MachineMeaning.{verdict_for}
-use Rattle.machine_meaning.specs.Image.{Image, Item}
-use Rattle.machine_meaning.specs.ImageLimits.{IsLawful}
-use Rattle.machine_meaning.specs.ImageReading.{Fault}
-use Rattle.isolation.specs.declared.input.InputLine.{InputLine}
-use Rattle.isolation.specs.InputText.{AreWritable, replay_text}
-use Rattle.isolation.specs.ReplayText.{replay_verdict}
-use Rattle.isolation.specs.Replays.{numbered}
-use Rattle.isolation.specs.Slices.{Slice, machine_inputs, slice, slice_of}
+use Rattle.module.proofs.Prelude.{◌≡◌, ◌<◌, ◌≤◌, ◌^◌, ℕ, List, length, Option, Some, None, Result, Ok, Err, refl, sym, ap, ◌∙◌, Appends, MOST_DEVICE_LINES, MOST_TICKS, TakesBeginning, DeviceFault, DeviceLine, verdict_for, Image, Item, IsLawful, Fault, InputLine, replay_text, replay_verdict, numbered, Slice, machine_inputs, slice, slice_of, IsRefusal, DeviceTextFault, HasNoRoom, TellsSlice, InputsFault}
+use Rattle.std.proofs.Common.{option_map, subst}
+use Rattle.isolation.specs.InputText.{AreWritable}
 use Rattle.isolation.proofs.InputsLaw.{inputs_read_again}
-use Rattle.module_base.specs.Refusals.{IsRefusal}
-use Rattle.module_base.specs.declared.fault.DeviceTextFault.{DeviceTextFault}
 use Rattle.module_base.specs.declared.fault.DeviceTextFault.TheVariants as text_fault
-use Rattle.module.specs.Collecting.{HasNoRoom}
-use Rattle.module.specs.Telling.{AreRunInputs, AreTold, IsDeviceRefusalBeside, Tells, TellsSlice, fault_of_text}
-use Rattle.module.specs.declared.inputs_fault.InputsFault.{InputsFault}
+use Rattle.module.specs.Telling.{AreRunInputs, AreTold, IsDeviceRefusalBeside, Tells, fault_of_text}
 use Rattle.module.specs.declared.inputs_fault.InputsFault.TheVariants.{Ticks, Image as NoImage, Partition as NoPartition, Device, Memory, TooMany, Write}
 use Rattle.module.proofs.Headline.{ok_image, image_is}
 use Rattle.module.proofs.Named.{by_number, numbered_slice}

@@ -1,28 +1,10 @@
 -- Ticks in which nothing happens bring no partition anything.
-use Rattle.std.proofs.Common.{◌≡◌, ◌⊎◌, inl, inr, ℕ, zero, suc, ◌+◌, ◌<◌, ◌≤◌, ℤ, Bool, true, false, if◌then◌else◌, List, [], ◌∷◌, ◌++◌, length, map, Option, Some, None, refl, sym, ap, subst, ◌∙◌, arith}
-use Rattle.std.specs.Prelude.{flat_map, option_map, slice_get}
-use Rattle.std.proofs.lemmas.Option.{none-some, same_Some}
-use Rattle.arrayvec.specs.ArrayVec.{ArrayVec}
-use Rattle.apex_types.specs.declared.device.DeviceLine.{DeviceLine}
-use Rattle.apex_types.specs.declared.identity.At.{At}
-use Rattle.apex_types.specs.declared.identity.PartitionId.{PartitionId}
-use Rattle.apex_types.specs.declared.identity.PortId.{PortId}
-use Rattle.module_meaning.specs.Table.{Channel, at_number}
-use Rattle.module_meaning.specs.Module.{Course, Plan, inputs_all, module_tick, next_tick, of_member, of_tick, ports_of}
-use Rattle.kernel_meaning.specs.Kernel.{Kernel}
-use Rattle.kernel_meaning.specs.Objects.{Port, is_source}
-use Rattle.kernel_meaning.specs.Partition.{Member, messages_to_move}
-use Rattle.kernel_meaning.specs.Windows.{ended, tick_from}
-use Rattle.kernel_laws.specs.Quiet.{AreStill, HaveNoLines, IsAtRest, IsStill}
+use Rattle.module.proofs.Prelude.{◌≡◌, ◌⊎◌, inl, inr, ℕ, zero, suc, ◌+◌, ◌<◌, ◌≤◌, ℤ, Bool, true, false, if◌then◌else◌, List, ◌∷◌, ◌++◌, length, map, Option, Some, None, refl, sym, ap, ◌∙◌, arith, option_map, slice_get, none-some, same_Some, ArrayVec, DeviceLine, At, PartitionId, PortId, Channel, at_number, Course, Plan, inputs_all, module_tick, next_tick, of_member, of_tick, ports_of, Kernel, Port, is_source, Member, messages_to_move, ended, tick_from, AreStill, HaveNoLines, IsStill, Input, InputLine, brought_by, brought_in_all, brought_moved, brought_tick, held_port, held_ports, inputs_from, line_in, channel_from, BringsNothing, brought_of, HasSkippedSome, Standing, AreFrom}
+use Rattle.std.proofs.Common.{[], subst}
+use Rattle.std.specs.Prelude.{flat_map}
+use Rattle.kernel_laws.specs.Quiet.{IsAtRest}
 use Rattle.kernel_laws.proofs.Quiet.{still_tick}
-use Rattle.isolation.specs.declared.input.Input.{Input}
-use Rattle.isolation.specs.declared.input.InputLine.{InputLine}
-use Rattle.isolation.specs.Brought.{brought_by, brought_in_all, brought_moved, brought_tick, held_ended, held_port, held_ports, inputs_from, line_in}
-use Rattle.module_meaning.specs.Module.{channel_from}
-use Rattle.module.specs.Collecting.{BringsNothing, brought_of}
-use Rattle.module.specs.Pieces.{HasSkippedSome}
-use Rattle.module.specs.Standing.{Standing}
-use Rattle.module.specs.Written.{AreFrom}
+use Rattle.isolation.specs.Brought.{held_ended}
 use Rattle.module.proofs.Brought.{later_is}
 use Rattle.module.proofs.Bursts.{from_lower, no_lines, standing_at}
 

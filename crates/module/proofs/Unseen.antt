@@ -1,14 +1,7 @@
 -- Ticks that are not shown: what was made, and what was collected.
-use Rattle.std.proofs.Common.{◌≡◌, ℕ, ◌+◌, ◌==◌, ◌&&◌, Bool, true, false, not, if◌then◌else◌, List, [], ◌++◌, length, map, Option, Result, refl, sym, ap, subst, ◌∙◌}
-use Rattle.apex_types.specs.declared.identity.At.{At}
+use Rattle.module.proofs.Prelude.{◌≡◌, ℕ, ◌+◌, ◌==◌, Bool, true, false, if◌then◌else◌, List, ◌++◌, length, map, Option, Result, refl, sym, ap, ◌∙◌, At, Course, Plan, Member, Input, InputLine, brought_moved, line_in, AreCollected, InputsFault}
+use Rattle.std.proofs.Common.{◌&&◌, not, [], subst}
 use Rattle.module_meaning.specs.Module as meaning
-use Rattle.module_meaning.specs.Module.{Course, Plan}
-use Rattle.kernel_meaning.specs.Partition.{Member}
-use Rattle.isolation.specs.declared.input.Input.{Input}
-use Rattle.isolation.specs.declared.input.InputLine.{InputLine}
-use Rattle.isolation.specs.Brought.{brought_moved, line_in}
-use Rattle.module.specs.Collecting.{AreCollected}
-use Rattle.module.specs.declared.inputs_fault.InputsFault.{InputsFault}
 use Rattle.module.proofs.Collecting.{both_collected}
 
 -- ---- what was made

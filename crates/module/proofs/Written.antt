@@ -1,13 +1,8 @@
 -- The text written by one step of the module after another.
-use Rattle.std.proofs.Common.{◌≡◌, List, [], ◌++◌, Option, Some, None, refl, sym, ap, subst, ◌∙◌}
-use Rattle.std.proofs.lemmas.Option.{slice_get-map}
-use Rattle.apex_types.specs.declared.identity.At.{At}
+use Rattle.module.proofs.Prelude.{◌≡◌, List, ◌++◌, Option, Some, None, refl, sym, ap, ◌∙◌, slice_get-map, At, Advanced, Course, still, then_goes, unless_down, then_runs, Member, lines_sent, nothing_sent, Sent, IsMade, IsCourse}
+use Rattle.std.proofs.Common.{[], subst}
 use Rattle.module_meaning.specs.Module as meaning
-use Rattle.module_meaning.specs.Module.{Advanced, Course, still, then_goes, unless_down, then_runs}
-use Rattle.kernel_meaning.specs.Partition.{Member}
-use Rattle.lone_partition.proofs.Outputs.{lines_sent, nothing_sent}
-use Rattle.lone_partition.specs.Sent.{Sent}
-use Rattle.module.specs.Written.{IsMade, done_in, IsCourse}
+use Rattle.module.specs.Written.{done_in}
 
 -- a step that changes nothing writes nothing
 pub still_made : {C : Type 0} (members : List (Member C)) (s : Sent) → IsMade (still members) members s s

@@ -1,16 +1,11 @@
 -- Device texts and replay texts are read as the lines of any text are.
-use Rattle.std.proofs.Common.{◌≡◌, ℕ, ◌+◌, codes, List, [], ◌∷◌, Option, Some, None, Ok, Err, Result, refl, sym, ap, ◌∙◌}
+use Rattle.module_base.proofs.Prelude.{◌≡◌, ℕ, ◌+◌, codes, List, ◌∷◌, Option, Some, None, Ok, Err, Result, ◌∙◌, space, MOST_TICKS, DeviceFault, DeviceLine, Written, WrittenLine, line_with, plain_number, piece, pieces, Partition, Channel, InputLine, line_by, written_by, taken_by, ends_with, put_line, and_then}
+use Rattle.std.proofs.Common.{[], refl, sym, ap}
 use Rattle.std.specs.Prelude.{◌^◌}
-use Rattle.apex_types.specs.Line.{space}
-use Rattle.apex_types.specs.declared.limits.TheConstants.{MOST_TICKS}
-use Rattle.apex_types.specs.declared.device.DeviceFault.{DeviceFault}
-use Rattle.apex_types.specs.declared.device.DeviceLine.{DeviceLine}
 use Rattle.module_meaning.specs.DeviceText as device
-use Rattle.module_meaning.specs.DeviceText.{Written, WrittenLine, line_with, plain_number, piece, pieces, pieces_behind_marks}
-use Rattle.module_meaning.specs.Table.{Partition, Channel}
-use Rattle.isolation.specs.declared.input.InputLine.{InputLine}
+use Rattle.module_meaning.specs.DeviceText.{pieces_behind_marks}
 use Rattle.isolation.specs.ReplayText as replay
-use Rattle.module_base.specs.TextLines.{line_by, written_by, taken_by, ends_with, put_line, and_then, lines_by, verdict_by}
+use Rattle.module_base.specs.TextLines.{lines_by, verdict_by}
 
 -- ---- device texts
 device_written : (ps : List (List ℕ)) → device.written_of ps ≡ written_by (codes "MSG") ps

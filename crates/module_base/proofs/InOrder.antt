@@ -1,15 +1,9 @@
 -- The lines of an accepted replay text are in the order of their ticks.
-use Rattle.std.proofs.Common.{◌≡◌, ◌≤◌, ℕ, ◌+◌, ℤ, Bool, true, false, List, [], ◌∷◌, Option, Some, None, Result, Ok, Err, refl, ap, subst, arith}
-use Rattle.std.specs.Prelude.{nat_lt, if◌then◌else◌}
+use Rattle.module_base.proofs.Prelude.{◌≡◌, ◌≤◌, ℕ, ◌+◌, ℤ, Bool, true, false, List, ◌∷◌, Option, Some, None, Result, Ok, Err, arith, nat_lt, if◌then◌else◌, DeviceFault, PortRow, Written, WrittenLine, is_room, pieces, same, Partition, Input, InputLine}
+use Rattle.std.proofs.Common.{[], refl, ap, subst}
 use Rattle.std.proofs.lemmas.Bool.{ltb-false}
-use Rattle.apex_types.specs.declared.device.DeviceFault.{DeviceFault}
 use Rattle.apex_types.specs.declared.device.DeviceFault.TheVariants as fault
-use Rattle.apex_types.specs.declared.row.PortRow.{PortRow}
-use Rattle.module_meaning.specs.DeviceText.{Written, WrittenLine, Message, ModuleFault as DeviceModuleFault, PartitionFault as DevicePartitionFault, is_room, pieces}
-use Rattle.engine_meaning.specs.Digits.{same}
-use Rattle.module_meaning.specs.Table.{Partition}
-use Rattle.isolation.specs.declared.input.Input.{Input}
-use Rattle.isolation.specs.declared.input.InputLine.{InputLine}
+use Rattle.module_meaning.specs.DeviceText.{Message, ModuleFault as DeviceModuleFault, PartitionFault as DevicePartitionFault}
 use Rattle.isolation.specs.InputText.{AreInOrder}
 use Rattle.isolation.specs.ReplayText as text
 

@@ -1,32 +1,25 @@
 -- The facts that the type of an image gives about its numbers and its partitions' rows.
-use Rattle.std.proofs.Common.{◌≡◌, ℕ, zero, suc, ℤ, ◌<◌, ◌≤◌, Bool, true, false, cond, List, [], ◌∷◌, ◌++◌, length, map, get_or, Option, Some, refl, sym, ap, ◌∙◌, arith}
-use Rattle.std.specs.Prelude.{slice_get, option_map, nat_le}
-use Rattle.std.proofs.lemmas.Bool.{lt-leb, leb-false}
+use Rattle.module_base.proofs.Prelude.{◌≡◌, ℕ, suc, ℤ, ◌<◌, ◌≤◌, Bool, true, false, cond, List, ◌∷◌, ◌++◌, length, map, Option, Some, ◌∙◌, arith, option_map, lt-leb, ArrayVec, place_of_number, PortRow, MOST_WORDS, row_of_item, words_of_port, Partition, at_number, message, items_of, partition_of, channel_of, fitting, rows_in}
+use Rattle.std.proofs.Common.{zero, [], get_or, refl, sym, ap}
+use Rattle.std.specs.Prelude.{slice_get, nat_le}
+use Rattle.std.proofs.lemmas.Bool.{leb-false}
 use Rattle.std.proofs.lemmas.List.{length-map}
 use Rattle.std.proofs.lemmas.Option.{none-some, same_Some, slice_get_read, slice_get_past}
-use Rattle.arrayvec.specs.ArrayVec.{ArrayVec}
 use Rattle.apex_types.specs.Versions.{third_limits}
-use Rattle.apex_types.specs.Places.{place_of_number}
 use Rattle.apex_types.specs.declared.identity.PartitionId.{PartitionId}
 use Rattle.apex_types.specs.declared.identity.PortId.{PortId}
 use Rattle.apex_types.specs.declared.row.ChannelEnd.{ChannelEnd}
 use Rattle.apex_types.specs.declared.row.ChannelEnd.TheVariants.{Device, Port}
-use Rattle.apex_types.specs.declared.row.PortRow.{PortRow}
-use Rattle.apex_types.specs.declared.limits.TheConstants.{MOST_CHANNELS, MOST_PARTITIONS, MOST_WORDS}
-use Rattle.machine_meaning.specs.MachineMeaning.{row_of_item}
-use Rattle.module_meaning.specs.DeviceText.{words_of_port, words_of_partition, words_of_end, words_of_ends}
+use Rattle.apex_types.specs.declared.limits.TheConstants.{MOST_CHANNELS, MOST_PARTITIONS}
+use Rattle.module_meaning.specs.DeviceText.{words_of_partition, words_of_end, words_of_ends}
 use Rattle.machine_meaning.specs.Image as meant
-use Rattle.module_meaning.specs.Table.{Partition, at_number}
 use Rattle.machine_meaning.specs.Image.{Item}
 use Rattle.machine_meaning.specs.ImageLimits.{EachBeside, IsPort, IsItem}
-use Rattle.kernel_meaning.specs.Step.{message}
-use Rattle.image.specs.Items.{item_of, items_of, partition_of, channel_of}
+use Rattle.image.specs.Items.{item_of}
 use Rattle.image.specs.Views.{image_of}
 use Rattle.image.specs.declared.item.PartitionItem.{PartitionItem}
 use Rattle.image.specs.declared.value.Image.{Image}
-use Rattle.module_base.specs.Seen.{fitting}
 use Rattle.module_base.specs.declared.line.MessageWords.TheVariants as held
-use Rattle.module_base.specs.Views.{rows_in}
 use Rattle.machine_laws.proofs.Widened.{items_widened, count_widened}
 
 pub few_channels : (image : Image) → length image.channels.items ≤ MOST_CHANNELS

@@ -1,14 +1,11 @@
 -- The text of a line of inputs is the text written part by part.
-use Rattle.std.proofs.Common.{◌≡◌, ℕ, ℤ, codes, List, [], ◌∷◌, ◌++◌, map, refl, sym, ap, ◌∙◌, append-nil}
+use Rattle.module_base.proofs.Prelude.{◌≡◌, ℕ, ℤ, codes, List, ◌∷◌, ◌++◌, map, ◌∙◌, append-nil, words_text, space, Partition, at_number, Input, PartitionFault, InputLine, input_text}
+use Rattle.std.proofs.Common.{[], refl, sym, ap}
 use Rattle.std.specs.Prelude.{flat_map}
 use Rattle.std.specs.Fmt.{decimal, signed_decimal}
 use Rattle.std.specs.List.{join_with_byte}
-use Rattle.apex_types.specs.Line.{words_text, space}
-use Rattle.module_meaning.specs.Table.{Partition, at_number}
-use Rattle.isolation.specs.declared.input.Input.{Input}
-use Rattle.isolation.specs.declared.input.Input.TheVariants.{Arrive, ModuleFault, PartitionFault}
-use Rattle.isolation.specs.declared.input.InputLine.{InputLine}
-use Rattle.isolation.specs.InputText.{input_parts, input_text, name_of_port}
+use Rattle.isolation.specs.declared.input.Input.TheVariants.{Arrive, ModuleFault}
+use Rattle.isolation.specs.InputText.{input_parts, name_of_port}
 use Rattle.module_base.specs.LineText.{behind_tick, line_text}
 
 -- parts, each after a space

@@ -1,15 +1,9 @@
 -- Words that are read one by one, the first of which are kept.
-use Rattle.std.proofs.Common.{◌≡◌, ℕ, ℤ, ◌≤◌, Bool, true, false, cond, List, [], ◌∷◌, ◌++◌, length, Option, Some, None, refl, sym, ap, ◌∙◌, arith, append_assoc, append-nil, length-append}
-use Rattle.std.proofs.lemmas.Bool.{lt-leb, le-leb}
-use Rattle.apex_types.specs.Line.{space}
-use Rattle.apex_types.specs.declared.limits.TheConstants.{MOST_WORDS}
-use Rattle.arrayvec.specs.ArrayVec.{ArrayVec}
-use Rattle.module_meaning.specs.DeviceText.{piece, pieces_behind_marks, word, words, put_word}
-use Rattle.kernel_meaning.specs.Step.{message}
-use Rattle.text_lines.specs.Pieces.{pieces_of}
+use Rattle.module_base.proofs.Prelude.{◌≡◌, ℕ, ℤ, ◌≤◌, Bool, true, false, cond, List, ◌∷◌, ◌++◌, length, Option, Some, None, ◌∙◌, arith, append-nil, length-append, lt-leb, space, MOST_WORDS, ArrayVec, piece, message, pieces_of, fitting, MessageWords}
+use Rattle.std.proofs.Common.{[], refl, sym, ap, append_assoc}
+use Rattle.std.proofs.lemmas.Bool.{le-leb}
+use Rattle.module_meaning.specs.DeviceText.{pieces_behind_marks, word, words, put_word}
 use Rattle.text_lines.proofs.Words.{next_word}
-use Rattle.module_base.specs.Seen.{fitting}
-use Rattle.module_base.specs.declared.line.MessageWords.{MessageWords}
 use Rattle.module_base.specs.declared.line.MessageWords.TheVariants as held
 
 -- the words of a message, after these were read and kept, or were too many, and the rest is still

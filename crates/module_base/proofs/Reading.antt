@@ -1,12 +1,11 @@
 -- The lines that were read, and the lines still to come.
-use Rattle.std.proofs.Common.{◌≡◌, ℕ, suc, ◌+◌, ◌<◌, Bool, true, false, cond, List, [], ◌∷◌, ◌++◌, length, take, Ok, Err, Result, refl, sym, ap, subst, ◌∙◌, arith, length-append}
-use Rattle.std.specs.Prelude.{not, ◌==◌, IsErr, IsErrAnd, IfErr}
+use Rattle.module_base.proofs.Prelude.{◌≡◌, ℕ, suc, ◌+◌, ◌<◌, Bool, true, false, cond, List, ◌∷◌, ◌++◌, length, take, Ok, Err, Result, ◌∙◌, arith, length-append, IfErr, DeviceFault, piece, pieces, IsRefusal, Taking, line_by, taken_by, ends_with, put_line, and_then}
+use Rattle.std.proofs.Common.{[], refl, sym, ap, subst}
+use Rattle.std.specs.Prelude.{not, ◌==◌, IsErr, IsErrAnd}
 use Rattle.std.specs.List.{prefix_len}
-use Rattle.apex_types.specs.declared.device.DeviceFault.{DeviceFault}
 use Rattle.apex_types.specs.declared.device.DeviceFault.TheVariants as fault
-use Rattle.module_meaning.specs.DeviceText.{piece, pieces_behind_marks, pieces}
-use Rattle.module_base.specs.Refusals.{IsRefusal}
-use Rattle.module_base.specs.TextLines.{Taking, line_by, taken_by, ends_with, put_line, and_then, lines_by}
+use Rattle.module_meaning.specs.DeviceText.{pieces_behind_marks}
+use Rattle.module_base.specs.TextLines.{lines_by}
 use Rattle.module_base.specs.declared.fault.DeviceTextFault.{DeviceTextFault}
 use Rattle.module_base.specs.declared.fault.DeviceTextFault.TheVariants.{Line}
 

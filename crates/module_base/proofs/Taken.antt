@@ -1,23 +1,11 @@
 -- The meaning of a line as the code holds it is the meaning of the line.
-use Rattle.std.proofs.Common.{◌≡◌, ℕ, ℤ, Bool, true, false, cond, List, Option, Some, None, Err, Result, refl, sym, ap, ◌∙◌}
-use Rattle.std.specs.Prelude.{option_map, nat_lt, if◌then◌else◌}
-use Rattle.apex_types.specs.Line.{space}
-use Rattle.apex_types.specs.declared.limits.TheConstants.{MOST_TICKS}
-use Rattle.apex_types.specs.declared.device.DeviceFault.{DeviceFault}
+use Rattle.module_base.proofs.Prelude.{◌≡◌, ℕ, ℤ, Bool, true, false, cond, List, Option, Some, None, Err, Result, ◌∙◌, option_map, nat_lt, if◌then◌else◌, space, MOST_TICKS, DeviceFault, DeviceLine, PortRow, first_from, is_room, line_with, piece, plain_number, same, Partition, Channel, PartitionFault, InputLine, pieces_of, fitting, Taking, line_by, taken_by, written_by, MessageWords}
+use Rattle.std.proofs.Common.{refl, sym, ap}
 use Rattle.apex_types.specs.declared.device.DeviceFault.TheVariants as fault
-use Rattle.apex_types.specs.declared.device.DeviceLine.{DeviceLine}
-use Rattle.apex_types.specs.declared.row.PortRow.{PortRow}
 use Rattle.module_meaning.specs.DeviceText as meant
-use Rattle.module_meaning.specs.DeviceText.{first_from, is_room, line_with, piece, pieces_behind_marks, plain_number, taken_message, taken_fault, named}
-use Rattle.engine_meaning.specs.Digits.{same}
-use Rattle.module_meaning.specs.Table.{Partition, Channel}
-use Rattle.isolation.specs.declared.input.Input.TheVariants.{PartitionFault}
-use Rattle.isolation.specs.declared.input.InputLine.{InputLine}
+use Rattle.module_meaning.specs.DeviceText.{pieces_behind_marks, taken_message, taken_fault, named}
 use Rattle.isolation.specs.ReplayText as replay
-use Rattle.text_lines.specs.Pieces.{pieces_of}
-use Rattle.module_base.specs.Seen.{fitting, seen, seen_line}
-use Rattle.module_base.specs.TextLines.{Taking, line_by, taken_by, written_by}
-use Rattle.module_base.specs.declared.line.MessageWords.{MessageWords}
+use Rattle.module_base.specs.Seen.{seen, seen_line}
 use Rattle.module_base.specs.declared.line.Written.{Written}
 use Rattle.module_base.specs.declared.line.Written.TheVariants as written
 use Rattle.module_base.specs.declared.line.WrittenLine.{WrittenLine}

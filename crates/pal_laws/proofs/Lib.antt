@@ -1,3 +1,4 @@
+pub mod Prelude
 pub mod Levels
 pub mod Repeats
 pub mod WordsOf

@@ -1,9 +1,7 @@
 -- The words of a text, one after another: each step leaves fewer bytes.
-use Rattle.std.proofs.Common.{◌≡◌, ℕ, zero, suc, ◌+◌, ◌<◌, ◌≤◌, Bool, true, false, ◌||◌, List, [], ◌∷◌, length, Option, Some, refl, ap, arith, cond, nat_eq, length-drop, lit<}
-use Rattle.std.specs.Prelude.{find}
-use Rattle.std.specs.List.{prefix_len, starts_with}
-use Rattle.pal_meaning.specs.Grammar.{Word, behind_blanks, behind, word_at, words_within, words_from, sign_word, sign_or_stray, signs, is_lower, is_upper, in_name, in_service, is_blank}
-use Rattle.engine_meaning.specs.Digits.{is_digit}
+use Rattle.pal_laws.proofs.Prelude.{◌≡◌, ℕ, suc, ◌+◌, ◌<◌, ◌≤◌, Bool, ◌||◌, ◌∷◌, length, Option, cond, nat_eq, find, prefix_len, starts_with, behind, sign_or_stray, signs, is_lower, is_upper, in_name, in_service, is_blank, is_digit}
+use Rattle.std.proofs.Common.{zero, true, false, List, [], Some, refl, ap, arith, length-drop, lit<}
+use Rattle.pal_meaning.specs.Grammar.{Word, behind_blanks, word_at, words_within, words_from, sign_word}
 
 either_short : (b : Bool) (xs ys : List ℕ) (n : ℕ) → length xs ≤ n → length ys ≤ n → length (cond b xs ys) ≤ n
 either_short true xs ys n h k = h

@@ -1,4 +1,4 @@
-use Rattle.std.proofs.Common.{pos}
+use Rattle.finding_laws.proofs.Prelude.{pos}
 use Rattle.finding_laws.proofs.Found.{overlaps_any}
 use Rattle.finding_laws.proofs.tables.overlaps_are_found.Goals as goal
 

@@ -1,5 +1,4 @@
-use Rattle.machine_meaning.specs.MachineMeaning.{machine_module}
-use Rattle.module_meaning.specs.SourceMeaning.{source_module}
+use Rattle.kernel_laws.proofs.Prelude.{machine_module, source_module}
 use Rattle.kernel_laws.proofs.Fresh.{machine_ordered, source_ordered}
 use Rattle.kernel_laws.proofs.Law.{run_goes, state_has_order}
 use Rattle.kernel_laws.proofs.order.order_in_every_state.Goals as goal

@@ -1,8 +1,4 @@
-use Rattle.std.proofs.Common.{◌≡◌, suc, ◌+◌, ◌<◌, ◌≤◌, length, get_or, arith, rules, w64}
-use Rattle.std.proofs.Math.Seq.{drop-cons}
-use Rattle.std.proofs.lemmas.Nat.Bits.{bit_at_set_same, bit_at_set_other}
-use Rattle.apex_types.specs.declared.limits.TheConstants.{MARK_BITS, MOST_PROCESSES}
-use Rattle.links.specs.declared.dues.DueEntry.{DueEntry}
+use Rattle.links.proofs.Prelude.{◌≡◌, suc, ◌+◌, ◌<◌, ◌≤◌, length, get_or, arith, rules, w64, drop-cons, bit_at_set_same, bit_at_set_other, MARK_BITS, MOST_PROCESSES, DueEntry}
 use Rattle.links.proofs.DueMask.{all_there, none_later, one_more, process_below}
 use Rattle.links.proofs.dues.due_by.Goals as goal
 

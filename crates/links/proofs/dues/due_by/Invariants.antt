@@ -1,4 +1,4 @@
-use Rattle.std.proofs.Common.{◌≤◌, ◌-◌, length}
+use Rattle.links.proofs.Prelude.{◌≤◌, ◌-◌, length}
 use Rattle.links.proofs.DueMask.{HasThoseBefore}
 use Rattle.links.proofs.dues.due_by.Given as goal
 

@@ -1,5 +1,4 @@
-use Rattle.std.proofs.Common.{◌≡◌, ◌≤◌, ◌-◌, ◌++◌, length, take, drop}
-use Rattle.links.specs.DueOrder.{behind_earlier}
+use Rattle.links.proofs.Prelude.{◌≡◌, ◌≤◌, ◌-◌, ◌++◌, length, take, drop, behind_earlier}
 use Rattle.links.proofs.dues.enter.Given as goal
 
 abbrev pub invariant-loop-place : goal.invariant-loop-place

@@ -1,4 +1,4 @@
-use Rattle.std.proofs.Common.{◌≡◌, ◌∙◌, ◌<◌, length, rules}
+use Rattle.links.proofs.Prelude.{◌≡◌, ◌∙◌, ◌<◌, length, rules}
 use Rattle.links.proofs.DueOrder.{leaves-at, same-process}
 use Rattle.links.proofs.dues.leave.Goals as goal
 use Rattle.links.proofs.dues.leave.Goals.{then-loop-place-test+else-deref-place, else-loop-place-test}

@@ -1,5 +1,4 @@
-use Rattle.std.proofs.Common.{◌≡◌, ◌≤◌, ◌-◌, ◌++◌, length, take, drop}
-use Rattle.kernel_meaning.specs.Queues.{behind_equals}
+use Rattle.links.proofs.Prelude.{◌≡◌, ◌≤◌, ◌-◌, ◌++◌, length, take, drop, behind_equals}
 use Rattle.links.proofs.entries.enter.Given as goal
 
 abbrev pub invariant-loop-place : goal.invariant-loop-place

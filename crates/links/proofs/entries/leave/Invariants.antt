@@ -1,5 +1,4 @@
-use Rattle.std.proofs.Common.{◌≡◌, ◌≤◌, ◌-◌, ◌++◌, length, take, drop}
-use Rattle.kernel_meaning.specs.Queues.{without}
+use Rattle.links.proofs.Prelude.{◌≡◌, ◌≤◌, ◌-◌, ◌++◌, length, take, drop, without}
 use Rattle.links.proofs.entries.leave.Given as goal
 
 abbrev pub invariant-loop-place : goal.invariant-loop-place

@@ -1,6 +1,4 @@
-use Rattle.std.proofs.Common.{◌≡◌, ◌≤◌, ◌++◌, length, map, take, drop}
-use Rattle.links.specs.Lists.{emptied_each}
-use Rattle.links.specs.OneHome.{entries_of}
+use Rattle.links.proofs.Prelude.{◌≡◌, ◌≤◌, ◌++◌, length, map, take, drop, emptied_each, entries_of}
 use Rattle.links.proofs.lists.clear_all.Given as goal
 
 abbrev pub invariant-loop-entries : goal.invariant-loop-entries

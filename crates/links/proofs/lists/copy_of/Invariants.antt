@@ -1,4 +1,4 @@
-use Rattle.std.proofs.Common.{◌≡◌, take}
+use Rattle.links.proofs.Prelude.{◌≡◌, take}
 use Rattle.links.proofs.lists.copy_of.Given as goal
 
 abbrev pub invariant-loop-entry : goal.invariant-loop-entry

@@ -1,5 +1,4 @@
-use Rattle.std.proofs.Common.{◌≡◌, [], map, replicate}
-use Rattle.links.specs.OneHome.{entries_of}
+use Rattle.links.proofs.Prelude.{◌≡◌, [], map, replicate, entries_of}
 use Rattle.links.proofs.lists.empty_lists.Given as goal
 
 abbrev pub invariant-loop : goal.invariant-loop

@@ -1,5 +1,4 @@
-use Rattle.std.proofs.Common.{rules}
-use Rattle.kernel_meaning.specs.Queues.{joined}
+use Rattle.links.proofs.Prelude.{rules, joined}
 use Rattle.links.proofs.OneHome.{put-entries}
 use Rattle.links.proofs.lists.join_at.Goals as goal
 

@@ -1,5 +1,4 @@
-use Rattle.std.proofs.Common.{rules}
-use Rattle.kernel_meaning.specs.Queues.{without}
+use Rattle.links.proofs.Prelude.{rules, without}
 use Rattle.links.proofs.Leaving.{once-in}
 use Rattle.links.proofs.OneHome.{put-entries}
 use Rattle.links.proofs.lists.leave_at.Goals as goal

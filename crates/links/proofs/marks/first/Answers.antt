@@ -1,4 +1,4 @@
-use Rattle.std.proofs.Common.{rules, ◌<◌, arith, slice_index}
+use Rattle.links.proofs.Prelude.{rules, ◌<◌, arith, slice_index}
 use Rattle.links.proofs.FirstMark.{lowest}
 use Rattle.links.proofs.marks.first.Goals as goal
 use Rattle.links.proofs.marks.first.Goals.{then-loop-word-test+else-marks-word-eq0, else-loop-word-test}

@@ -1,4 +1,4 @@
-use Rattle.std.proofs.Common.{◌-◌, ◌≡◌, ◌<◌, ◌≤◌, ℕ, slice_index}
+use Rattle.links.proofs.Prelude.{◌-◌, ◌≡◌, ◌<◌, ◌≤◌, ℕ, slice_index}
 use Rattle.links.proofs.marks.first.Given as goal
 
 abbrev pub invariant-loop-word : goal.invariant-loop-word

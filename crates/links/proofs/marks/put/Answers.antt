@@ -1,6 +1,6 @@
-use Rattle.std.proofs.Common.{◌≡◌, ◌+◌, ◌*◌, ◌%◌, ◌<◌, arith, w64}
-use Rattle.std.proofs.lemmas.Nat.Bits.{bit_at_set_same, bit_at_set_other, bit_at_clear_same, bit_at_clear_other}
-use Rattle.apex_types.specs.declared.limits.TheConstants.{MARK_BITS}
+use Rattle.links.proofs.Prelude.{◌≡◌, ◌+◌, ◌*◌, ◌<◌, arith, w64, bit_at_set_same, bit_at_set_other, MARK_BITS}
+use Rattle.std.proofs.Common.{◌%◌}
+use Rattle.std.proofs.lemmas.Nat.Bits.{bit_at_clear_same, bit_at_clear_other}
 use Rattle.links.proofs.Bits.{put_bits}
 use Rattle.links.proofs.marks.put.Goals as goal
 

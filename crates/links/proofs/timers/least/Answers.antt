@@ -1,4 +1,4 @@
-use Rattle.std.proofs.Common.{sym, ◌∙◌}
+use Rattle.links.proofs.Prelude.{sym, ◌∙◌}
 use Rattle.links.proofs.Exact.{first_least, none_least}
 use Rattle.links.proofs.timers.least.Goals as goal
 

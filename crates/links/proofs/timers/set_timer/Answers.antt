@@ -1,4 +1,4 @@
-use Rattle.std.proofs.Common.{Some, None}
+use Rattle.links.proofs.Prelude.{Some, None}
 use Rattle.links.proofs.Exact.{exact_set}
 use Rattle.links.proofs.timers.set_timer.Goals as goal
 

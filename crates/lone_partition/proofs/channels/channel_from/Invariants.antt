@@ -1,6 +1,5 @@
-use Rattle.std.proofs.Common.{◌≡◌, drop}
+use Rattle.lone_partition.proofs.Prelude.{◌≡◌, drop, channels_of}
 use Rattle.module_meaning.specs.Module.{channel_from}
-use Rattle.image.specs.Items.{channels_of}
 use Rattle.lone_partition.proofs.channels.channel_from.Given as goal
 
 abbrev pub invariant-loop-channel : goal.invariant-loop-channel

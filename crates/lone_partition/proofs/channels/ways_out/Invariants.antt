@@ -1,6 +1,4 @@
-use Rattle.std.proofs.Common.{◌≡◌, ◌+◌, ◌++◌, drop}
-use Rattle.image.specs.Items.{channels_of}
-use Rattle.isolation.specs.Surrounded.{ways_from}
+use Rattle.lone_partition.proofs.Prelude.{◌≡◌, ◌+◌, ◌++◌, drop, channels_of, ways_from}
 use Rattle.lone_partition.proofs.channels.ways_out.Given as goal
 
 abbrev pub invariant-loop : goal.invariant-loop

@@ -1,10 +1,4 @@
-use Rattle.std.proofs.Common.{◌≡◌, ◌+◌, ◌∷◌, ◌∙◌, List, Some, drop, sym, ap, rules}
-use Rattle.std.proofs.lemmas.List.{drop_more}
-use Rattle.isolation.specs.Alone.{takes_all}
-use Rattle.isolation.specs.declared.input.InputLine.{InputLine}
-use Rattle.partition.specs.Members.{member_of}
-use Rattle.lone_partition.specs.Lines.{inputs_of}
-use Rattle.lone_partition.specs.Outputs.{next_at, sent_of}
+use Rattle.lone_partition.proofs.Prelude.{◌≡◌, ◌+◌, ◌∷◌, ◌∙◌, List, Some, drop, sym, ap, rules, drop_more, takes_all, InputLine, member_of, inputs_of, next_at, sent_of}
 use Rattle.lone_partition.proofs.Taken.{inputs_end_down}
 use Rattle.lone_partition.proofs.Written.{path_starts_out, runs_on}
 use Rattle.lone_partition.proofs.input.take_all.Goals as goal

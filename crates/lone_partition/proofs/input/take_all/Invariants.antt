@@ -1,8 +1,4 @@
-use Rattle.std.proofs.Common.{◌≡◌, drop}
-use Rattle.isolation.specs.Alone.{takes_all}
-use Rattle.partition.specs.Members.{member_of}
-use Rattle.lone_partition.specs.Lines.{inputs_of}
-use Rattle.lone_partition.specs.Outputs.{sent_of}
+use Rattle.lone_partition.proofs.Prelude.{◌≡◌, drop, takes_all, member_of, inputs_of, sent_of}
 use Rattle.lone_partition.proofs.Written.{CompletesPath}
 use Rattle.lone_partition.proofs.input.take_all.Given as goal
 

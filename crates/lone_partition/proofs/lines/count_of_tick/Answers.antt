@@ -1,5 +1,4 @@
-use Rattle.std.proofs.Common.{◌≢◌, ap, subst, sym, ◌∙◌, rules, ℕ, ◌+◌, take, drop}
-use Rattle.lone_partition.specs.Lines.{AreFrom, lines_in}
+use Rattle.lone_partition.proofs.Prelude.{◌≢◌, ap, subst, sym, ◌∙◌, rules, ℕ, ◌+◌, take, drop, AreFrom, lines_in}
 use Rattle.lone_partition.proofs.LinesOfTicks.{front_now, front_later, front_rest, reached, reached_all}
 use Rattle.lone_partition.proofs.lines.count_of_tick.Goals as goal
 

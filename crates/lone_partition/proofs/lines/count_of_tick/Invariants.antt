@@ -1,4 +1,4 @@
-use Rattle.std.proofs.Common.{◌≡◌, ◌≤◌, ◌+◌, ◌-◌, length, drop}
+use Rattle.lone_partition.proofs.Prelude.{◌≡◌, ◌≤◌, ◌+◌, ◌-◌, length, drop}
 use Rattle.lone_partition.proofs.LinesOfTicks.{front}
 use Rattle.lone_partition.proofs.lines.count_of_tick.Given as goal
 

@@ -1,5 +1,4 @@
-use Rattle.std.proofs.Common.{ap, subst, sym, ◌∙◌, ◌+◌}
-use Rattle.lone_partition.specs.Lines.{AreFrom, lines_in}
+use Rattle.lone_partition.proofs.Prelude.{ap, subst, sym, ◌∙◌, ◌+◌, AreFrom, lines_in}
 use Rattle.lone_partition.proofs.LinesOfTicks.{of_tick_again}
 use Rattle.lone_partition.proofs.lines.split_tick.Goals as goal
 

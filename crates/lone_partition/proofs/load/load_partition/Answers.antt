@@ -1,6 +1,4 @@
-use Rattle.std.proofs.Common.{rules, ◌≡◌, sym}
-use Rattle.partition.specs.Fresh.{idle_kernel}
-use Rattle.partition.specs.View.{fixed_of as view}
+use Rattle.lone_partition.proofs.Prelude.{rules, ◌≡◌, sym, idle_kernel, view}
 use Rattle.lone_partition.proofs.Lawful.{loaded_member}
 use Rattle.lone_partition.proofs.load.load_partition.Goals as goal
 

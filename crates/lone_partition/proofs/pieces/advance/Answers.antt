@@ -1,9 +1,4 @@
-use Rattle.std.proofs.Common.{◌≤◌, ◌<◌, ◌+◌, subst, arith}
-use Rattle.kernel_meaning.specs.Kernel.{Kernel}
-use Rattle.kernel_laws.specs.Quiet.{IsStill}
-use Rattle.partition.specs.Members.{member_of}
-use Rattle.lone_partition.specs.Around.{around}
-use Rattle.lone_partition.specs.Outputs.{sent_of}
+use Rattle.lone_partition.proofs.Prelude.{◌≤◌, ◌<◌, ◌+◌, subst, arith, Kernel, IsStill, member_of, around, sent_of}
 use Rattle.lone_partition.proofs.Bursts.{from_lower, run_fewer, run_still}
 use Rattle.lone_partition.proofs.pieces.advance.Goals as goal
 

@@ -1,8 +1,4 @@
-use Rattle.std.proofs.Common.{◌≡◌, ◌≤◌, ◌+◌, Some, None, arith, rules}
-use Rattle.kernel_meaning.specs.Windows.{ended, owner}
-use Rattle.partition.specs.Members.{member_of}
-use Rattle.lone_partition.specs.Around.{around}
-use Rattle.lone_partition.specs.Outputs.{sent_of}
+use Rattle.lone_partition.proofs.Prelude.{◌≡◌, ◌≤◌, ◌+◌, Some, None, arith, rules, ended, owner, member_of, around, sent_of}
 use Rattle.lone_partition.proofs.Bursts.{from_lower, is_within, run_empty, run_fewer}
 use Rattle.lone_partition.proofs.pieces.advance_window.Goals as goal
 

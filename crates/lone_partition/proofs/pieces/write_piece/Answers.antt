@@ -1,7 +1,4 @@
-use Rattle.std.proofs.Common.{rules, ◌≡◌, ◌-◌, subst, arith}
-use Rattle.partition.specs.Members.{member_of}
-use Rattle.lone_partition.specs.Outputs.{sent_of}
-use Rattle.lone_partition.specs.Pieces.{HasRun}
+use Rattle.lone_partition.proofs.Prelude.{rules, ◌≡◌, ◌-◌, subst, arith, member_of, sent_of, HasRun}
 use Rattle.lone_partition.proofs.Parts.{all_left, fewer_left}
 use Rattle.lone_partition.proofs.pieces.write_piece.Goals as goal
 

@@ -1,9 +1,4 @@
-use Rattle.std.proofs.Common.{◌≡◌, ◌≤◌, ◌<◌, ◌+◌, ◌-◌, ℕ, List, Some}
-use Rattle.isolation.specs.Alone.{Surroundings}
-use Rattle.isolation.specs.declared.input.InputLine.{InputLine}
-use Rattle.partition.specs.Members.{member_of}
-use Rattle.lone_partition.specs.Outputs.{sent_of}
-use Rattle.lone_partition.specs.Pieces.{HasRun, IsWithin}
+use Rattle.lone_partition.proofs.Prelude.{◌≡◌, ◌≤◌, ◌<◌, ◌+◌, ◌-◌, ℕ, List, Some, Surroundings, InputLine, member_of, sent_of, HasRun, IsWithin}
 use Rattle.lone_partition.proofs.pieces.write_piece.Given as goal
 
 abbrev pub invariant-loop-left : goal.invariant-loop-left

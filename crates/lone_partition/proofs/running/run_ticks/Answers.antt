@@ -1,14 +1,4 @@
-use Rattle.std.proofs.Common.{rules, ◌≡◌, ℕ, suc, ◌+◌, ◌-◌, true, Some, None, sym, ap, subst, ◌∙◌, arith}
-use Rattle.apex_types.specs.Line.{text_of}
-use Rattle.apex_types.specs.declared.identity.At.{At}
-use Rattle.module_meaning.specs.Module.{first_tick, next_tick}
-use Rattle.kernel_meaning.specs.Windows.{at_tick}
-use Rattle.isolation.specs.Alone.{alone_from}
-use Rattle.isolation.proofs.Isolated.{IsIn}
-use Rattle.partition.specs.Members.{member_of}
-use Rattle.lone_partition.specs.Around.{around}
-use Rattle.lone_partition.specs.Lines.{AreFrom, inputs_of, tick_of_input}
-use Rattle.lone_partition.specs.Outputs.{next_at, sent_of}
+use Rattle.lone_partition.proofs.Prelude.{rules, ◌≡◌, ℕ, suc, ◌+◌, ◌-◌, true, Some, None, sym, ap, subst, ◌∙◌, arith, text_of, At, first_tick, next_tick, at_tick, alone_from, IsIn, member_of, around, AreFrom, inputs_of, tick_of_input, next_at, sent_of}
 use Rattle.lone_partition.proofs.Bursts.{none_made, runs_on}
 use Rattle.lone_partition.proofs.Outputs.{CompletesLines, all_lines_left, failed_sent}
 use Rattle.lone_partition.proofs.Traces.{goes_on, ends_down, nothing_left, tick_in}

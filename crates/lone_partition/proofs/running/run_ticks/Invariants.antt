@@ -1,10 +1,4 @@
-use Rattle.std.proofs.Common.{◌≡◌, ◌+◌, Some}
-use Rattle.module_meaning.specs.Module.{first_tick}
-use Rattle.isolation.specs.Alone.{alone_from}
-use Rattle.partition.specs.Members.{member_of}
-use Rattle.lone_partition.specs.Around.{around}
-use Rattle.lone_partition.specs.Lines.{AreFrom, tick_of_input}
-use Rattle.lone_partition.specs.Outputs.{sent_of}
+use Rattle.lone_partition.proofs.Prelude.{◌≡◌, ◌+◌, Some, first_tick, alone_from, member_of, around, AreFrom, tick_of_input, sent_of}
 use Rattle.lone_partition.proofs.Outputs.{CompletesLines}
 use Rattle.lone_partition.proofs.running.run_ticks.Given as goal
 

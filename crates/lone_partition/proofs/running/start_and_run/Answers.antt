@@ -1,8 +1,4 @@
-use Rattle.std.proofs.Common.{◌≢◌, rules}
-use Rattle.isolation.specs.Alone.{Alone}
-use Rattle.partition.specs.Members.{member_of}
-use Rattle.lone_partition.specs.Around.{around}
-use Rattle.lone_partition.specs.Outputs.{sent_of}
+use Rattle.lone_partition.proofs.Prelude.{◌≢◌, rules, Alone, member_of, around, sent_of}
 use Rattle.lone_partition.proofs.Traces.{no_tick, started}
 use Rattle.lone_partition.proofs.running.start_and_run.Goals as goal
 

@@ -1,8 +1,4 @@
-use Rattle.std.proofs.Common.{ℕ, List, Option, sym, subst}
-use Rattle.isolation.specs.Alone.{goes_by_way}
-use Rattle.partition.specs.Members.{member_of}
-use Rattle.lone_partition.specs.Outputs.{sent_of}
-use Rattle.lone_partition.specs.Written.{IsMade}
+use Rattle.lone_partition.proofs.Prelude.{ℕ, List, Option, sym, subst, goes_by_way, member_of, sent_of, IsMade}
 use Rattle.lone_partition.proofs.sending.go_out.Goals as goal
 
 pub returns-in-Some-clause-written : goal.returns-in-Some-clause-written

@@ -1,7 +1,4 @@
-use Rattle.std.proofs.Common.{◌≡◌, Some, None, rules}
-use Rattle.kernel_meaning.specs.Partition.{leaving}
-use Rattle.partition.specs.Members.{member_of}
-use Rattle.lone_partition.specs.Around.{around}
+use Rattle.lone_partition.proofs.Prelude.{◌≡◌, Some, None, rules, leaving, member_of, around}
 use Rattle.lone_partition.proofs.Sent.{none_sent, one_sent}
 use Rattle.lone_partition.proofs.sending.send_message.Goals as goal
 

@@ -1,10 +1,5 @@
-use Rattle.std.proofs.Common.{◌≡◌, ℕ, Option, Some, ap, rules}
-use Rattle.module_meaning.specs.Table.{at_number}
-use Rattle.module_meaning.specs.Module.{ports_of}
+use Rattle.lone_partition.proofs.Prelude.{◌≡◌, ℕ, Option, Some, ap, rules, at_number, ports_of, goes, sends_so_many, member_of, around}
 use Rattle.kernel_meaning.specs.Partition.{admits, messages_to_move}
-use Rattle.isolation.specs.Alone.{goes, sends_so_many}
-use Rattle.partition.specs.Members.{member_of}
-use Rattle.lone_partition.specs.Around.{around}
 use Rattle.lone_partition.proofs.Written.{then_made}
 use Rattle.lone_partition.proofs.sending.send_port.Goals as goal
 

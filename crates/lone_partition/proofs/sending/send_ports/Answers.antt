@@ -1,8 +1,4 @@
-use Rattle.std.proofs.Common.{◌≡◌, ℕ, suc, ◌+◌, ◌-◌, ap, subst, rules, arith}
-use Rattle.isolation.specs.Alone.{sends_ports}
-use Rattle.partition.specs.Members.{member_of}
-use Rattle.lone_partition.specs.Around.{around}
-use Rattle.lone_partition.specs.Outputs.{sent_of}
+use Rattle.lone_partition.proofs.Prelude.{◌≡◌, ℕ, suc, ◌+◌, ◌-◌, ap, subst, rules, arith, sends_ports, member_of, around, sent_of}
 use Rattle.lone_partition.proofs.Written.{Completes, goes_on, is_over, starts_out}
 use Rattle.lone_partition.proofs.sending.send_ports.Goals as goal
 

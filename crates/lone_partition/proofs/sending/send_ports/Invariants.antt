@@ -1,8 +1,4 @@
-use Rattle.std.proofs.Common.{◌≡◌, ◌+◌, ◌-◌}
-use Rattle.isolation.specs.Alone.{sends_ports}
-use Rattle.partition.specs.Members.{member_of}
-use Rattle.lone_partition.specs.Around.{around}
-use Rattle.lone_partition.specs.Outputs.{sent_of}
+use Rattle.lone_partition.proofs.Prelude.{◌≡◌, ◌+◌, ◌-◌, sends_ports, member_of, around, sent_of}
 use Rattle.lone_partition.proofs.Written.{Completes}
 use Rattle.lone_partition.proofs.sending.send_ports.Given as goal
 

@@ -1,10 +1,4 @@
-use Rattle.std.proofs.Common.{◌≡◌, Bool, Option, Some, None, refl, sym, ap, ◌∙◌}
-use Rattle.std.specs.Prelude.{is_some, option_map}
-use Rattle.apex_types.specs.declared.identity.PartitionId.{PartitionId}
-use Rattle.kernel_meaning.specs.Windows.{owner, ended}
-use Rattle.isolation.specs.Alone.{and_then, sends_ended, ticks_own}
-use Rattle.partition.specs.Members.{member_of}
-use Rattle.lone_partition.specs.Around.{around}
+use Rattle.lone_partition.proofs.Prelude.{◌≡◌, Bool, Option, Some, None, refl, sym, ap, ◌∙◌, is_some, option_map, PartitionId, owner, ended, and_then, sends_ended, ticks_own, member_of, around}
 use Rattle.lone_partition.proofs.Written.{then_made}
 use Rattle.lone_partition.proofs.ticking.send_and_tick.Goals as goal
 

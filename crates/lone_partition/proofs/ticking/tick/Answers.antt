@@ -1,7 +1,4 @@
-use Rattle.std.proofs.Common.{refl}
-use Rattle.isolation.specs.Alone.{sends_and_ticks}
-use Rattle.partition.specs.Members.{member_of}
-use Rattle.lone_partition.specs.Around.{around}
+use Rattle.lone_partition.proofs.Prelude.{refl, sends_and_ticks, member_of, around}
 use Rattle.lone_partition.proofs.Written.{then_runs_made}
 use Rattle.lone_partition.proofs.ticking.tick.Goals as goal
 

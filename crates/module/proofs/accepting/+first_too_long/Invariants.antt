@@ -1,4 +1,4 @@
-use Rattle.std.proofs.Common.{length}
+use Rattle.module.proofs.Prelude.{length}
 use Rattle.module.proofs.accepting.+first_too_long.Given as goal
 
 abbrev pub decreases-first_too_long : goal.decreases-first_too_long

@@ -1,6 +1,5 @@
-use Rattle.std.proofs.Common.{sym, subst}
-use Rattle.image.specs.Items.{partition_of}
-use Rattle.module.specs.Building.{IsSourceRefusal}
+use Rattle.module.proofs.Prelude.{sym, partition_of, IsSourceRefusal}
+use Rattle.std.proofs.Common.{subst}
 use Rattle.module.proofs.Refused.{one_refused}
 use Rattle.module.proofs.accepting.accept.Goals as goal
 

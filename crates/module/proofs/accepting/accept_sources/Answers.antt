@@ -1,12 +1,6 @@
-use Rattle.std.proofs.Common.{rules, ◌≡◌, ◌∷◌, ◌+◌, [], ◌++◌, List, length, map, drop, get_or, Some, sym, subst, ap, ◌∙◌}
-use Rattle.std.specs.Prelude.{slice_get}
+use Rattle.module.proofs.Prelude.{rules, ◌≡◌, ◌∷◌, ◌+◌, ◌++◌, List, length, map, drop, get_or, Some, sym, ap, ◌∙◌, slice_get, length-map, drop_more, slice_get-map, slice_get-get_or, partition_of, PartitionRow, AreSources, Checked}
+use Rattle.std.proofs.Common.{[], subst}
 use Rattle.std.specs.Option.{option_map}
-use Rattle.std.proofs.lemmas.List.{length-map, drop_more}
-use Rattle.std.proofs.lemmas.Option.{slice_get-map, slice_get-get_or}
-use Rattle.image.specs.Items.{partition_of}
-use Rattle.window_table.specs.declared.table.PartitionRow.{PartitionRow}
-use Rattle.module.specs.Sources.{AreSources}
-use Rattle.pal_base.specs.declared.checked.Checked.{Checked}
 use Rattle.module.proofs.Built.{one_longer}
 use Rattle.module.proofs.Refused.{passed_on, drop_next, next_accepted, next_refused, here_refused, all_accepted}
 use Rattle.module.proofs.accepting.accept_sources.Goals as goal

@@ -1,4 +1,4 @@
-use Rattle.std.proofs.Common.{◌≡◌, length, map}
+use Rattle.module.proofs.Prelude.{◌≡◌, length, map}
 use Rattle.module.proofs.Refused.{AreBefore, IsNoneBefore}
 use Rattle.module.proofs.accepting.accept_sources.Given as goal
 

@@ -1,8 +1,4 @@
-use Rattle.std.proofs.Common.{◌≡◌, ◌+◌, ◌∷◌, ◌∙◌, List, drop, ap, sym}
-use Rattle.std.proofs.lemmas.List.{drop_more}
-use Rattle.apex_types.specs.declared.device.DeviceLine.{DeviceLine}
-use Rattle.isolation.specs.Brought.{brought_in, brought_in_all}
-use Rattle.module.specs.Views.{plan_of}
+use Rattle.module.proofs.Prelude.{◌≡◌, ◌+◌, ◌∷◌, ◌∙◌, List, drop, ap, sym, drop_more, DeviceLine, brought_in, brought_in_all, plan_of}
 use Rattle.module.proofs.Collecting.{goes_on, one_line}
 use Rattle.module.proofs.bringing.bring_in_all.Goals as goal
 

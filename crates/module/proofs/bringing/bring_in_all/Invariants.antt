@@ -1,6 +1,4 @@
-use Rattle.std.proofs.Common.{drop}
-use Rattle.isolation.specs.Brought.{brought_in_all}
-use Rattle.module.specs.Views.{plan_of}
+use Rattle.module.proofs.Prelude.{drop, brought_in_all, plan_of}
 use Rattle.module.proofs.Collecting.{IsPartly}
 use Rattle.module.proofs.bringing.bring_in_all.Given as goal
 

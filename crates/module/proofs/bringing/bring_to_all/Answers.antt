@@ -1,7 +1,5 @@
-use Rattle.std.proofs.Common.{◌+◌, ◌∷◌, [], ◌∙◌, drop, get_or, ap}
-use Rattle.std.proofs.lemmas.List.{drop_more}
-use Rattle.apex_types.specs.declared.row.ChannelEnd.TheVariants.{Device}
-use Rattle.isolation.specs.Brought.{brought_to}
+use Rattle.module.proofs.Prelude.{◌+◌, ◌∷◌, ◌∙◌, drop, get_or, ap, drop_more, Device, brought_to}
+use Rattle.std.proofs.Common.{[]}
 use Rattle.module.proofs.Collecting.{goes_on, one_end}
 use Rattle.module.proofs.bringing.bring_to_all.Goals as goal
 

@@ -1,5 +1,4 @@
-use Rattle.std.proofs.Common.{drop}
-use Rattle.isolation.specs.Brought.{brought_to}
+use Rattle.module.proofs.Prelude.{drop, brought_to}
 use Rattle.module.proofs.Collecting.{IsPartly}
 use Rattle.module.proofs.bringing.bring_to_all.Given as goal
 

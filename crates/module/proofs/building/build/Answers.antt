@@ -1,5 +1,4 @@
-use Rattle.std.proofs.Common.{map}
-use Rattle.window_table.specs.Views.{table_of}
+use Rattle.module.proofs.Prelude.{map, table_of}
 use Rattle.module.proofs.Headline.{built_bytes, judged_table}
 use Rattle.module.proofs.Refused.{weaker, passed_on, table_refused, refused_with}
 use Rattle.module.proofs.building.build.Goals as goal

@@ -1,11 +1,7 @@
-use Rattle.std.proofs.Common.{rules, arith, ◌≡◌, ℕ, ◌+◌, ◌<◌, [], ◌∷◌, ◌++◌, List, length, Some, refl, ap, ◌∙◌}
-use Rattle.std.specs.Prelude.{slice_get}
+use Rattle.module.proofs.Prelude.{rules, arith, ◌≡◌, ℕ, ◌+◌, ◌<◌, ◌∷◌, ◌++◌, List, length, Some, refl, ap, ◌∙◌, slice_get, slice_get-map, program_of, PartitionRow, programs_of, Checked}
+use Rattle.std.proofs.Common.{[]}
 use Rattle.std.specs.Option.{option_map}
-use Rattle.std.proofs.lemmas.Option.{slice_get-map, slice_get_read}
-use Rattle.pal_base.specs.ProgramView.{program_of}
-use Rattle.window_table.specs.declared.table.PartitionRow.{PartitionRow}
-use Rattle.module.specs.Sources.{programs_of}
-use Rattle.pal_base.specs.declared.checked.Checked.{Checked}
+use Rattle.std.proofs.lemmas.Option.{slice_get_read}
 use Rattle.module.proofs.Built.{one_is_short, one_longer, one_more_item, one_more_program}
 use Rattle.module.proofs.building.build_items.Goals as goal
 

@@ -1,7 +1,4 @@
-use Rattle.std.proofs.Common.{◌≡◌, ◌+◌, map, take, length}
-use Rattle.image.specs.Items.{items_of, partition_of}
-use Rattle.module.specs.Built.{AreCoded, built_items}
-use Rattle.module.specs.Sources.{programs_of}
+use Rattle.module.proofs.Prelude.{◌≡◌, ◌+◌, map, take, length, items_of, partition_of, AreCoded, built_items, programs_of}
 use Rattle.module.proofs.building.build_items.Given as goal
 
 abbrev pub invariant-loop-row : goal.invariant-loop-row

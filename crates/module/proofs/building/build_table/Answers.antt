@@ -1,9 +1,5 @@
-use Rattle.std.proofs.Common.{rules, ◌≡◌, List, length, map, sym, subst, ◌∙◌}
-use Rattle.std.proofs.lemmas.List.{length-map}
-use Rattle.window_table.specs.Views.{partition_view, table_of}
-use Rattle.window_table.specs.declared.table.PartitionRow.{PartitionRow}
-use Rattle.module.specs.Building.{AreSourceRefusals, IsLengthRefusal}
-use Rattle.module.specs.Sources.{programs_of}
+use Rattle.module.proofs.Prelude.{rules, ◌≡◌, List, length, map, sym, ◌∙◌, length-map, partition_view, table_of, PartitionRow, AreSourceRefusals, IsLengthRefusal, programs_of}
+use Rattle.std.proofs.Common.{subst}
 use Rattle.module.proofs.Headline.{lawful_image}
 use Rattle.module.proofs.Refused.{passed_on, source_refused, are_accepted, as_many, all_short, built_from, same_sources, length_refused}
 use Rattle.module.proofs.building.build_table.Goals as goal

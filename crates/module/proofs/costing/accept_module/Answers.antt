@@ -1,5 +1,4 @@
-use Rattle.std.proofs.Common.{map}
-use Rattle.window_table.specs.Views.{table_of}
+use Rattle.module.proofs.Prelude.{map, table_of}
 use Rattle.module.proofs.Costed.{not_costed_with, table_not_costed}
 use Rattle.module.proofs.Refused.{passed_on}
 use Rattle.module.proofs.costing.accept_module.Goals as goal

@@ -1,9 +1,6 @@
-use Rattle.std.proofs.Common.{rules, ◌≡◌, List, length, map, sym, subst, ◌∙◌}
+use Rattle.module.proofs.Prelude.{rules, ◌≡◌, List, length, map, sym, ◌∙◌, length-map, partition_view, table_of, PartitionRow, AreSourceRefusals}
+use Rattle.std.proofs.Common.{subst}
 use Rattle.std.specs.Prelude.{IfErr}
-use Rattle.std.proofs.lemmas.List.{length-map}
-use Rattle.window_table.specs.Views.{partition_view, table_of}
-use Rattle.window_table.specs.declared.table.PartitionRow.{PartitionRow}
-use Rattle.module.specs.Building.{AreSourceRefusals}
 use Rattle.module.proofs.Costed.{source_not_costed}
 use Rattle.module.proofs.Refused.{weaker}
 use Rattle.module.proofs.costing.accept_with.Goals as goal

@@ -1,10 +1,5 @@
-use Rattle.std.proofs.Common.{List, map, sym, subst, ◌∙◌}
-use Rattle.std.proofs.lemmas.List.{length-map}
-use Rattle.image.specs.Items.{partition_of}
-use Rattle.window_table.specs.Views.{partition_view, table_of}
-use Rattle.window_table.specs.declared.table.PartitionRow.{PartitionRow}
-use Rattle.module.specs.Costs.{AreCostsOf}
-use Rattle.module.specs.Sources.{AreSources}
+use Rattle.module.proofs.Prelude.{List, map, sym, ◌∙◌, length-map, partition_of, partition_view, table_of, PartitionRow, AreCostsOf, AreSources}
+use Rattle.std.proofs.Common.{subst}
 use Rattle.module.proofs.Costed.{are_costed}
 use Rattle.module.proofs.Refused.{as_many}
 use Rattle.module.proofs.costing.costs.Goals as goal

@@ -1,4 +1,5 @@
-use Rattle.std.proofs.Common.{rules, ◌≡◌, ◌++◌, ◌∷◌, []}
+use Rattle.module.proofs.Prelude.{rules, ◌≡◌, ◌++◌, ◌∷◌}
+use Rattle.std.proofs.Common.{[]}
 use Rattle.module.proofs.Built.{one_longer}
 use Rattle.module.proofs.Costed.{next_costed, one_fewer, stands_within}
 use Rattle.module.proofs.costing.costs_of_sources.Goals as goal

@@ -1,6 +1,4 @@
-use Rattle.std.proofs.Common.{◌≡◌, ◌+◌, map, take, length}
-use Rattle.image.specs.Items.{partition_of}
-use Rattle.module.specs.Costs.{AreCostsOf}
+use Rattle.module.proofs.Prelude.{◌≡◌, ◌+◌, map, take, length, partition_of, AreCostsOf}
 use Rattle.module.proofs.costing.costs_of_sources.Given as goal
 
 abbrev pub invariant-loop-source : goal.invariant-loop-source

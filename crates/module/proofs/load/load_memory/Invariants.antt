@@ -1,6 +1,5 @@
-use Rattle.std.proofs.Common.{◌≡◌, map, take}
+use Rattle.module.proofs.Prelude.{◌≡◌, map, take, fresh_item}
 use Rattle.regions.specs.Space.{planned}
-use Rattle.lone_partition.specs.Loading.{fresh_item}
 use Rattle.module.proofs.load.load_memory.Given as goal
 
 abbrev pub invariant-loop-item : goal.invariant-loop-item

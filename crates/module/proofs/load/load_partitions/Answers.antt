@@ -1,15 +1,7 @@
-use Rattle.std.proofs.Common.{rules, ◌≡◌, ◌<◌, ◌+◌, List, ◌++◌, ◌∷◌, [], drop, take, length, get_or, map, ap, subst, sym, ◌∙◌, arith}
-use Rattle.std.proofs.lemmas.List.{drop_more, take_more, map-append}
-use Rattle.module_meaning.specs.Table.{fixed_of}
-use Rattle.machine_meaning.specs.MachineMeaning.{machine_member, machine_members}
-use Rattle.image.specs.Items.{item_of, items_of, partition_of, section_of}
-use Rattle.image.specs.declared.item.PartitionItem.{PartitionItem}
-use Rattle.partition.specs.Members.{member_of}
-use Rattle.partition_base.specs.contracts.machine.PartitionProcessorExecutor.TheImpl.{ghosts as machine}
-use Rattle.window_table.specs.Schedules.{schedule_of}
+use Rattle.module.proofs.Prelude.{rules, ◌≡◌, ◌<◌, ◌+◌, List, ◌++◌, ◌∷◌, drop, take, length, get_or, map, ap, sym, ◌∙◌, arith, drop_more, take_more, map-append, fixed_of, machine_member, machine_members, item_of, items_of, partition_of, PartitionItem, member_of, machine, schedule_of, fresh_item, members_of, AreFitting}
+use Rattle.std.proofs.Common.{[], subst}
+use Rattle.image.specs.Items.{section_of}
 use Rattle.lone_partition.proofs.Lawful.{item_fits_here}
-use Rattle.lone_partition.specs.Loading.{fresh_item}
-use Rattle.module.specs.Members.{members_of, AreFitting}
 use Rattle.module.proofs.Built.{one_longer}
 use Rattle.module.proofs.Loaded.{one_more_loaded}
 use Rattle.module.proofs.Members.{one_more_member, one_more_fits}

@@ -1,10 +1,4 @@
-use Rattle.std.proofs.Common.{◌≡◌, ◌+◌, ◌++◌, drop, length, map, take}
-use Rattle.machine_meaning.specs.MachineMeaning.{machine_members}
-use Rattle.image.specs.Items.{items_of}
-use Rattle.partition_base.specs.contracts.machine.PartitionProcessorExecutor.TheImpl.{ghosts as machine}
-use Rattle.window_table.specs.Schedules.{schedule_of}
-use Rattle.lone_partition.specs.Loading.{fresh_item}
-use Rattle.module.specs.Members.{members_of, AreFitting}
+use Rattle.module.proofs.Prelude.{◌≡◌, ◌+◌, ◌++◌, drop, length, map, take, machine_members, items_of, machine, schedule_of, fresh_item, members_of, AreFitting}
 use Rattle.module.proofs.load.load_partitions.Given as goal
 
 abbrev pub invariant-loop-item : goal.invariant-loop-item

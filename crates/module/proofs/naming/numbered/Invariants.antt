@@ -1,9 +1,5 @@
-use Rattle.std.proofs.Common.{◌≡◌, ◌+◌, drop}
+use Rattle.module.proofs.Prelude.{◌≡◌, ◌+◌, drop, same, items_of, image_of, numbered}
 use Rattle.module_meaning.specs.DeviceText.{first_from}
-use Rattle.engine_meaning.specs.Digits.{same}
-use Rattle.image.specs.Items.{items_of}
-use Rattle.image.specs.Views.{image_of}
-use Rattle.isolation.specs.Replays.{numbered}
 use Rattle.module.proofs.naming.numbered.Given as goal
 
 abbrev pub invariant-loop-place : goal.invariant-loop-place

@@ -1,10 +1,5 @@
-use Rattle.std.proofs.Common.{rules, ◌≡◌, ◌≤◌, ◌^◌, ℕ, Some, option_map}
-use Rattle.apex_types.specs.declared.limits.TheConstants.{MOST_TICKS}
-use Rattle.machine_meaning.specs.Image.{Item}
-use Rattle.machine_meaning.specs.ImageReading.{image_at}
-use Rattle.image.specs.Views.{image_of}
-use Rattle.isolation.specs.Replays.{numbered}
-use Rattle.module.specs.Replays.{Replays}
+use Rattle.module.proofs.Prelude.{rules, ◌≡◌, ◌≤◌, ◌^◌, ℕ, Some, MOST_TICKS, Item, image_at, image_of, numbered, Replays}
+use Rattle.std.proofs.Common.{option_map}
 use Rattle.module.proofs.Replayed.{replay_isolated, replayed}
 use Rattle.module.proofs.replaying.replay.Goals as goal
 

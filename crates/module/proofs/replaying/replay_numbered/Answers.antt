@@ -1,16 +1,6 @@
-use Rattle.std.proofs.Common.{rules, ◌≡◌, ◌-◌, List, Some, Ok, Err, Result, sym, ap, subst, ◌∙◌}
-use Rattle.std.proofs.lemmas.Option.{slice_get-get_or}
-use Rattle.std.specs.Prelude.{slice_get}
-use Rattle.image.specs.Items.{item_of}
-use Rattle.image.specs.Views.{image_of}
-use Rattle.isolation.specs.InputText.{AreInOrder}
-use Rattle.isolation.specs.ReplayText.{replay_verdict}
-use Rattle.isolation.specs.Slices.{Slice, slice, slice_of}
-use Rattle.isolation.specs.declared.input.InputLine.{InputLine}
+use Rattle.module.proofs.Prelude.{rules, ◌≡◌, ◌-◌, List, Some, Ok, Err, Result, sym, ap, ◌∙◌, slice_get-get_or, slice_get, item_of, image_of, AreInOrder, replay_verdict, Slice, slice, slice_of, InputLine, ReplaysSlice, fault_of_text, RunFault, Write}
+use Rattle.std.proofs.Common.{subst}
 use Rattle.lone_partition.specs.Lone.{alone_of}
-use Rattle.module.specs.Running.{ReplaysSlice, fault_of_text}
-use Rattle.module.specs.declared.fault.RunFault.{RunFault}
-use Rattle.module.specs.declared.fault.RunFault.TheVariants.{Write}
 use Rattle.module.proofs.Named.{for_slice, has_ports}
 use Rattle.module.proofs.Replayed.{in_order, inputs_taken, slice_cut_off, slice_written, text_refused}
 use Rattle.module.proofs.replaying.replay_numbered.Goals as goal

@@ -1,6 +1,5 @@
-use Rattle.std.proofs.Common.{Ok, Err, List, ℕ, map, sym, subst}
-use Rattle.module.specs.Building.{IsImageOf}
-use Rattle.module.specs.Promises.{Means}
+use Rattle.module.proofs.Prelude.{Ok, Err, List, ℕ, map, sym, IsImageOf, Means}
+use Rattle.std.proofs.Common.{subst}
 use Rattle.module.proofs.Headline.{run_means}
 use Rattle.module.proofs.Isolated.{sources_isolated}
 use Rattle.module.proofs.running.build_and_run.Goals as goal

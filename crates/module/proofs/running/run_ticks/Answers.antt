@@ -1,7 +1,5 @@
-use Rattle.std.proofs.Common.{rules, ◌≡◌, ◌≤◌, ◌+◌, ◌-◌, suc, refl, sym, ap, subst, ◌∙◌, arith}
-use Rattle.module_meaning.specs.Module.{of_tick}
-use Rattle.module.specs.Machines.{Machine, machine_of}
-use Rattle.module.specs.Written.{AreFrom}
+use Rattle.module.proofs.Prelude.{rules, ◌≡◌, ◌≤◌, ◌+◌, ◌-◌, suc, refl, sym, ap, ◌∙◌, arith, of_tick, Machine, machine_of, AreFrom}
+use Rattle.std.proofs.Common.{subst}
 use Rattle.module.proofs.Machines.{begins_with, goes_on, ends_early, only_write, run_fails, shut_down, kept_fails, kept_under_way}
 use Rattle.module.proofs.Runs.{only_broken, runs_by, breaks_by}
 use Rattle.module.proofs.running.run_ticks.Goals as goal

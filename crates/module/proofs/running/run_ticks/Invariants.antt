@@ -1,12 +1,5 @@
-use Rattle.std.proofs.Common.{◌≡◌, ◌≤◌, ◌+◌, ◌-◌, ◌^◌, ℕ, Bool, true, false}
-use Rattle.std.specs.Prelude.{if◌then◌else◌, is_none}
-use Rattle.apex_types.specs.declared.limits.TheConstants.{MOST_TICKS}
-use Rattle.apex_types.proofs.Writing.{IsUnderWay}
-use Rattle.apex_types.specs.Line.{text_of}
-use Rattle.machine_meaning.specs.MachineMeaning.{machine_module, machine_trace}
-use Rattle.module.specs.Machines.{machine_of}
-use Rattle.module.specs.Standing.{lines_of}
-use Rattle.module.specs.Written.{AreFrom}
+use Rattle.module.proofs.Prelude.{◌≡◌, ◌≤◌, ◌+◌, ◌-◌, ◌^◌, ℕ, Bool, true, false, is_none, MOST_TICKS, IsUnderWay, text_of, machine_module, machine_trace, machine_of, lines_of, AreFrom}
+use Rattle.std.specs.Prelude.{if◌then◌else◌}
 use Rattle.module.proofs.running.run_ticks.Given as goal
 
 abbrev pub invariant-loop-left-2 : goal.invariant-loop-left-2

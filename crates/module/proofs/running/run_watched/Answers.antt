@@ -1,13 +1,5 @@
-use Rattle.std.proofs.Common.{rules, ◌≡◌, ◌≤◌, List, Result, Err, sym, ap, subst}
-use Rattle.apex_types.specs.declared.limits.TheConstants.{MOST_TICKS}
-use Rattle.machine_meaning.specs.Image.{Image}
-use Rattle.machine_meaning.specs.ImageReading.{image_at}
-use Rattle.machine_meaning.specs.MachineMeaning.{verdict_for}
-use Rattle.image.specs.Views.{image_of}
-use Rattle.module.specs.Machines.{Machine}
-use Rattle.module.specs.Running.{AreRefused}
-use Rattle.module.specs.Runs.{Runs}
-use Rattle.module.specs.declared.fault.RunFault.{RunFault}
+use Rattle.module.proofs.Prelude.{rules, ◌≡◌, ◌≤◌, List, Result, Err, sym, ap, MOST_TICKS, Image, image_at, verdict_for, image_of, Machine, AreRefused, Runs, RunFault}
+use Rattle.std.proofs.Common.{subst}
 use Rattle.module.proofs.Isolated.{run_isolated}
 use Rattle.module.proofs.Runs.{device_refused}
 use Rattle.module.proofs.running.run_watched.Goals as goal

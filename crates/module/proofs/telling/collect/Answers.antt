@@ -1,19 +1,7 @@
-use Rattle.std.proofs.Common.{rules, ◌≡◌, ◌≤◌, ◌+◌, ◌-◌, ◌++◌, ℕ, suc, List, [], length, map, Result, Err, IfErr, refl, sym, ap, subst, ◌∙◌, arith}
-use Rattle.module_meaning.specs.Module.{Plan}
-use Rattle.machine_meaning.specs.MachineMeaning.{machine_module}
-use Rattle.image.specs.Views.{image_of}
-use Rattle.isolation.specs.Brought.{line_in}
-use Rattle.isolation.specs.Slices.{machine_inputs}
-use Rattle.isolation.specs.declared.input.InputLine.{InputLine}
-use Rattle.machine_meaning.specs.MachineControl.{MachineControl}
+use Rattle.module.proofs.Prelude.{rules, ◌≡◌, ◌≤◌, ◌+◌, ◌-◌, ◌++◌, ℕ, suc, List, length, map, Result, Err, IfErr, refl, sym, ap, ◌∙◌, arith, Plan, machine_module, image_of, line_in, machine_inputs, InputLine, MachineControl, machine, BringsNothing, HasNoRoom, brought_next, brought_of, Standing, after, ticks, members_in, plan_of, standing_of, AreFrom, InputsFault}
+use Rattle.std.proofs.Common.{[], subst}
 use Rattle.image.specs.declared.value.Image as code
-use Rattle.partition_base.specs.contracts.machine.PartitionProcessorExecutor.TheImpl.{ghosts as machine}
-use Rattle.module.specs.Collecting.{BringsNothing, HasNoRoom, brought_next, brought_of}
-use Rattle.module.specs.Standing.{Standing, after, ticks}
-use Rattle.module.specs.Views.{members_in, plan_of, standing_of}
-use Rattle.module.specs.Written.{AreFrom}
 use Rattle.module.specs.declared.collected.Collected.{Collected}
-use Rattle.module.specs.declared.inputs_fault.InputsFault.{InputsFault}
 use Rattle.module.proofs.Brought.{all_came, comes_further, is_brought, no_room_for_all, none_brought, tick_brings}
 use Rattle.module.proofs.Unbrought.{brought_after, lines_ahead}
 use Rattle.module.proofs.telling.collect.Goals as goal

@@ -1,12 +1,4 @@
-use Rattle.std.proofs.Common.{◌≡◌, ◌≤◌, ◌+◌, ◌++◌, ◌^◌}
-use Rattle.apex_types.specs.declared.limits.TheConstants.{MOST_TICKS}
-use Rattle.machine_meaning.specs.MachineMeaning.{machine_module}
-use Rattle.image.specs.Views.{image_of}
-use Rattle.isolation.specs.Slices.{machine_inputs}
-use Rattle.partition_base.specs.contracts.machine.PartitionProcessorExecutor.TheImpl.{ghosts as machine}
-use Rattle.module.specs.Collecting.{brought_of}
-use Rattle.module.specs.Views.{standing_of}
-use Rattle.module.specs.Written.{AreFrom}
+use Rattle.module.proofs.Prelude.{◌≡◌, ◌≤◌, ◌+◌, ◌++◌, ◌^◌, MOST_TICKS, machine_module, image_of, machine_inputs, machine, brought_of, standing_of, AreFrom}
 use Rattle.module.proofs.telling.collect.Given as goal
 
 abbrev pub invariant-loop-left : goal.invariant-loop-left

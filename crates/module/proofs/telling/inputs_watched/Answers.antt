@@ -1,9 +1,5 @@
-use Rattle.std.proofs.Common.{rules, ◌≡◌, ◌≤◌, ◌^◌, ℕ, Some, option_map}
-use Rattle.apex_types.specs.declared.limits.TheConstants.{MOST_TICKS}
-use Rattle.machine_meaning.specs.Image.{Item}
-use Rattle.machine_meaning.specs.ImageReading.{image_at}
-use Rattle.image.specs.Views.{image_of}
-use Rattle.isolation.specs.Replays.{numbered}
+use Rattle.module.proofs.Prelude.{rules, ◌≡◌, ◌≤◌, ◌^◌, ℕ, Some, MOST_TICKS, Item, image_at, image_of, numbered}
+use Rattle.std.proofs.Common.{option_map}
 use Rattle.module.proofs.Told.{told}
 use Rattle.module.proofs.telling.inputs_watched.Goals as goal
 

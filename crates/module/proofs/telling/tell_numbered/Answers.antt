@@ -1,23 +1,6 @@
-use Rattle.std.proofs.Common.{rules, ◌≡◌, ◌-◌, ◌≤◌, ℕ, length, List, Some, Ok, Err, Result, sym, ap, subst, ◌∙◌}
-use Rattle.std.proofs.lemmas.Option.{slice_get-get_or}
-use Rattle.std.specs.Prelude.{slice_get}
-use Rattle.std.specs.Io.KnownBytes.{Appends}
-use Rattle.apex_types.specs.declared.limits.TheConstants.{MOST_DEVICE_LINES}
-use Rattle.apex_types.specs.Line.{TakesBeginning}
-use Rattle.apex_types.specs.declared.device.DeviceLine.{DeviceLine}
-use Rattle.machine_meaning.specs.MachineMeaning.{verdict_for}
-use Rattle.machine_meaning.specs.Image.{Image}
-use Rattle.module_meaning.specs.Table.{Partition}
-use Rattle.image.specs.Items.{partition_of}
-use Rattle.image.specs.Views.{image_of}
+use Rattle.module.proofs.Prelude.{rules, ◌≡◌, ◌-◌, ◌≤◌, ℕ, length, List, Some, Ok, Err, Result, sym, ap, ◌∙◌, slice_get-get_or, slice_get, Appends, MOST_DEVICE_LINES, TakesBeginning, DeviceLine, verdict_for, Image, Partition, partition_of, image_of, replay_text, machine_inputs, slice, InputLine, HasNoRoom, TellsSlice, AreFrom, InputsFault}
+use Rattle.std.proofs.Common.{subst}
 use Rattle.image.specs.declared.value.Image as code
-use Rattle.isolation.specs.InputText.{replay_text}
-use Rattle.isolation.specs.Slices.{machine_inputs, slice}
-use Rattle.isolation.specs.declared.input.InputLine.{InputLine}
-use Rattle.module.specs.Collecting.{HasNoRoom}
-use Rattle.module.specs.Telling.{TellsSlice}
-use Rattle.module.specs.Written.{AreFrom}
-use Rattle.module.specs.declared.inputs_fault.InputsFault.{InputsFault}
 use Rattle.module.specs.declared.inputs_fault.InputsFault.TheVariants.{Write}
 use Rattle.module.proofs.Devices.{read_in_order}
 use Rattle.module.proofs.Named.{row_at, slice_number}

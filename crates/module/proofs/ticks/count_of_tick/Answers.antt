@@ -1,6 +1,5 @@
-use Rattle.std.proofs.Common.{◌≢◌, ap, subst, sym, ◌∙◌, rules, ℕ, ◌+◌, take, drop}
-use Rattle.module_meaning.specs.Module.{of_tick}
-use Rattle.module.specs.Written.{AreFrom}
+use Rattle.module.proofs.Prelude.{◌≢◌, ap, sym, ◌∙◌, rules, ℕ, ◌+◌, take, drop, of_tick, AreFrom}
+use Rattle.std.proofs.Common.{subst}
 use Rattle.module.proofs.DeviceLines.{front_now, front_later, front_rest, reached, reached_all}
 use Rattle.module.proofs.ticks.count_of_tick.Goals as goal
 

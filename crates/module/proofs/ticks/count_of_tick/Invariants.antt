@@ -1,4 +1,4 @@
-use Rattle.std.proofs.Common.{◌≡◌, ◌≤◌, ◌+◌, ◌-◌, length, drop}
+use Rattle.module.proofs.Prelude.{◌≡◌, ◌≤◌, ◌+◌, ◌-◌, length, drop}
 use Rattle.module.proofs.DeviceLines.{front}
 use Rattle.module.proofs.ticks.count_of_tick.Given as goal
 

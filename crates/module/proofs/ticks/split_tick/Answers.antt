@@ -1,6 +1,5 @@
-use Rattle.std.proofs.Common.{ap, subst, sym, ◌∙◌, ◌+◌}
-use Rattle.module_meaning.specs.Module.{of_tick}
-use Rattle.module.specs.Written.{AreFrom}
+use Rattle.module.proofs.Prelude.{ap, sym, ◌∙◌, ◌+◌, of_tick, AreFrom}
+use Rattle.std.proofs.Common.{subst}
 use Rattle.module.proofs.DeviceLines.{of_tick_again}
 use Rattle.module.proofs.ticks.split_tick.Goals as goal
 

@@ -1,10 +1,6 @@
-use Rattle.std.proofs.Common.{rules, ◌≡◌, ℕ, List, Ok, refl, ap, ◌∙◌}
+use Rattle.module.proofs.Prelude.{rules, ◌≡◌, ℕ, List, Ok, refl, ap, ◌∙◌, image_at, spelling, spelled_is_read, image_of}
 use Rattle.machine_meaning.specs.Image.{upgraded}
-use Rattle.machine_meaning.specs.ImageReading.{image_at}
-use Rattle.machine_meaning.specs.ImageSpelling.{spelling}
-use Rattle.machine_laws.proofs.ImageLaws.{spelled_is_read}
 use Rattle.machine_laws.proofs.Widened.{upgraded_lawful}
-use Rattle.image.specs.Views.{image_of}
 use Rattle.module.proofs.upgrading.upgrade.Goals as goal
 
 pub returns-clause-upgraded : goal.returns-clause-upgraded

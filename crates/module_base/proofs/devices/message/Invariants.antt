@@ -1,8 +1,4 @@
-use Rattle.std.proofs.Common.{◌≡◌, map, drop}
-use Rattle.module_meaning.specs.DeviceText.{first_from}
-use Rattle.engine_meaning.specs.Digits.{same}
-use Rattle.image.specs.Items.{channel_of}
-use Rattle.module_base.specs.Views.{channels_in}
+use Rattle.module_base.proofs.Prelude.{◌≡◌, map, drop, first_from, same, channel_of, channels_in}
 use Rattle.module_base.proofs.devices.message.Given as goal
 
 abbrev pub invariant-loop-place : goal.invariant-loop-place

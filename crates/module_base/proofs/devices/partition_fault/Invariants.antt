@@ -1,9 +1,4 @@
-use Rattle.std.proofs.Common.{◌≡◌, ◌+◌, map, drop}
-use Rattle.module_meaning.specs.DeviceText.{first_from}
-use Rattle.machine_meaning.specs.MachineMeaning.{row_of_item}
-use Rattle.engine_meaning.specs.Digits.{same}
-use Rattle.image.specs.Items.{items_of}
-use Rattle.module_base.specs.Views.{rows_in}
+use Rattle.module_base.proofs.Prelude.{◌≡◌, ◌+◌, map, drop, first_from, row_of_item, same, items_of, rows_in}
 use Rattle.module_base.proofs.devices.partition_fault.Given as goal
 
 abbrev pub invariant-loop-place : goal.invariant-loop-place

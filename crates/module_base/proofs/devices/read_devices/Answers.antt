@@ -1,9 +1,5 @@
-use Rattle.std.proofs.Common.{◌≡◌, List, Ok, Result, sym, subst}
-use Rattle.std.specs.Prelude.{IfOk, IfErr}
-use Rattle.apex_types.specs.declared.device.DeviceFault.{DeviceFault}
-use Rattle.apex_types.specs.declared.device.DeviceLine.{DeviceLine}
-use Rattle.module_base.specs.Refusals.{IsRefusal}
-use Rattle.module_base.specs.Views.{rows_in, channels_in}
+use Rattle.module_base.proofs.Prelude.{◌≡◌, List, Ok, Result, IfOk, IfErr, DeviceFault, DeviceLine, IsRefusal, rows_in, channels_in}
+use Rattle.std.proofs.Common.{sym, subst}
 use Rattle.module_base.proofs.Alike.{devices_read}
 use Rattle.module_base.proofs.devices.read_devices.Goals as goal
 

@@ -1,5 +1,5 @@
-use Rattle.std.proofs.Common.{sym, ◌∙◌}
-use Rattle.module_base.specs.Views.{rows_in, channels_in}
+use Rattle.module_base.proofs.Prelude.{◌∙◌, rows_in, channels_in}
+use Rattle.std.proofs.Common.{sym}
 use Rattle.module_base.proofs.Taken.{message_named, fault_named}
 use Rattle.module_base.proofs.devices.taken.Goals as goal
 

@@ -1,8 +1,5 @@
-use Rattle.std.proofs.Common.{rules, ◌≡◌, ap, sym, ◌∙◌, List, length, ◌<◌, Some}
-use Rattle.apex_types.specs.Places.{place_of_number}
-use Rattle.apex_types.specs.declared.row.PortRow.{PortRow}
-use Rattle.module_meaning.specs.DeviceText.{words_of_port}
-use Rattle.module_meaning.specs.Table.{at_number}
+use Rattle.module_base.proofs.Prelude.{rules, ◌≡◌, ◌∙◌, List, length, ◌<◌, Some, place_of_number, PortRow, words_of_port, at_number}
+use Rattle.std.proofs.Common.{ap, sym}
 use Rattle.module_base.proofs.Lawful.{words_at, words_past}
 use Rattle.module_base.proofs.devices.words_of_end.Goals as goal
 

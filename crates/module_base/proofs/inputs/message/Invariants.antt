@@ -1,6 +1,4 @@
-use Rattle.std.proofs.Common.{◌≡◌, ◌+◌, drop}
-use Rattle.module_meaning.specs.DeviceText.{first_from}
-use Rattle.engine_meaning.specs.Digits.{same}
+use Rattle.module_base.proofs.Prelude.{◌≡◌, ◌+◌, drop, first_from, same}
 use Rattle.module_base.proofs.inputs.message.Given as goal
 
 abbrev pub invariant-loop-place : goal.invariant-loop-place

@@ -1,10 +1,6 @@
-use Rattle.std.proofs.Common.{◌≡◌, List, Ok, Result, sym, subst, ◌∙◌}
-use Rattle.std.specs.Prelude.{IfOk, IfErr}
+use Rattle.module_base.proofs.Prelude.{◌≡◌, List, Ok, Result, ◌∙◌, IfOk, IfErr, DeviceFault, partition_of, InputLine, IsRefusal}
+use Rattle.std.proofs.Common.{sym, subst}
 use Rattle.std.proofs.lemmas.Result.{IfOk-weaker}
-use Rattle.apex_types.specs.declared.device.DeviceFault.{DeviceFault}
-use Rattle.image.specs.Items.{partition_of}
-use Rattle.isolation.specs.declared.input.InputLine.{InputLine}
-use Rattle.module_base.specs.Refusals.{IsRefusal}
 use Rattle.module_base.proofs.Alike.{inputs_read}
 use Rattle.module_base.proofs.InOrder.{read_in_order}
 use Rattle.module_base.proofs.inputs.read_inputs.Goals as goal

@@ -1,5 +1,5 @@
-use Rattle.std.proofs.Common.{sym, ◌∙◌}
-use Rattle.image.specs.Items.{partition_of}
+use Rattle.module_base.proofs.Prelude.{◌∙◌, partition_of}
+use Rattle.std.proofs.Common.{sym}
 use Rattle.module_base.proofs.Taken.{arrival_named, own_fault_named}
 use Rattle.module_base.proofs.inputs.taken.Goals as goal
 

@@ -1,4 +1,4 @@
-use Rattle.std.proofs.Common.{rules, ◌≡◌, ◌∙◌, None, option_copied}
+use Rattle.module_base.proofs.Prelude.{rules, ◌≡◌, ◌∙◌, None, option_copied}
 use Rattle.module_base.proofs.Taken.{held_line, unsaid_line}
 use Rattle.module_base.proofs.line.line_of.Goals as goal
 

@@ -1,5 +1,5 @@
-use Rattle.std.proofs.Common.{rules, ◌≡◌, ◌++◌, ◌∷◌, [], ◌∙◌, sym, ap, option_copied, length}
-use Rattle.apex_types.specs.declared.limits.TheConstants.{MOST_WORDS}
+use Rattle.module_base.proofs.Prelude.{rules, ◌≡◌, ◌++◌, ◌∷◌, ◌∙◌, option_copied, length, MOST_WORDS}
+use Rattle.std.proofs.Common.{[], sym, ap}
 use Rattle.module_base.proofs.LineWords.{keeps_one, drops_one, all_read}
 use Rattle.module_base.proofs.line.words.Goals as goal
 

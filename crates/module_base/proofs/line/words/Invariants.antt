@@ -1,10 +1,7 @@
-use Rattle.std.proofs.Common.{◌≡◌, ◌≤◌, option_map, option_copied, length}
-use Rattle.apex_types.specs.Line.{space}
-use Rattle.apex_types.specs.declared.limits.TheConstants.{MOST_WORDS}
-use Rattle.module_meaning.specs.DeviceText.{words, pieces}
-use Rattle.text_lines.specs.Pieces.{pieces_of}
+use Rattle.module_base.proofs.Prelude.{◌≡◌, ◌≤◌, option_copied, length, space, MOST_WORDS, pieces, pieces_of, fitting}
+use Rattle.std.proofs.Common.{option_map}
+use Rattle.module_meaning.specs.DeviceText.{words}
 use Rattle.text_lines.proofs.Pieces.{rest_length}
-use Rattle.module_base.specs.Seen.{fitting}
 use Rattle.module_base.proofs.LineWords.{read_on}
 use Rattle.module_base.proofs.line.words.Given as goal
 

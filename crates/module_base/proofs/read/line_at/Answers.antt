@@ -1,4 +1,4 @@
-use Rattle.module_base.specs.TextLines.{line_by}
+use Rattle.module_base.proofs.Prelude.{line_by}
 use Rattle.module_base.proofs.Taken.{taken_line, no_line}
 use Rattle.module_base.proofs.read.line_at.Goals as goal
 

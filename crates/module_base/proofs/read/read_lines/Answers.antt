@@ -1,6 +1,6 @@
-use Rattle.std.proofs.Common.{◌≡◌, rules, ap, ◌∙◌, Err, length, option_copied}
-use Rattle.text_lines.specs.Pieces.{pieces_of}
-use Rattle.module_base.specs.TextLines.{line_by, taken_by, verdict_by}
+use Rattle.module_base.proofs.Prelude.{◌≡◌, rules, ◌∙◌, Err, length, option_copied, pieces_of, line_by, taken_by}
+use Rattle.std.proofs.Common.{ap}
+use Rattle.module_base.specs.TextLines.{verdict_by}
 use Rattle.module_base.proofs.Reading.{wrong_line, refused_line}
 use Rattle.module_base.proofs.read.read_lines.Goals as goal
 

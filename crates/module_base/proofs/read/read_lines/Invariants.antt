@@ -1,5 +1,4 @@
-use Rattle.std.proofs.Common.{◌≡◌, length}
-use Rattle.module_meaning.specs.DeviceText.{pieces}
+use Rattle.module_base.proofs.Prelude.{◌≡◌, length, pieces}
 use Rattle.module_base.specs.TextLines.{lines_by, verdict_by}
 use Rattle.module_base.proofs.Reading.{put_lines}
 use Rattle.module_base.proofs.read.read_lines.Given as goal

@@ -1,4 +1,4 @@
-use Rattle.std.proofs.Common.{rules}
+use Rattle.module_base.proofs.Prelude.{rules}
 use Rattle.module_base.proofs.Taken.{later_line}
 use Rattle.module_base.proofs.read.taken.Goals as goal
 

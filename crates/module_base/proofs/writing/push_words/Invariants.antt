@@ -1,6 +1,6 @@
-use Rattle.std.proofs.Common.{◌≡◌, ◌+◌, ◌*◌, ◌≤◌, ◌++◌, length, take, drop}
+use Rattle.module_base.proofs.Prelude.{◌≡◌, ◌+◌, ◌≤◌, ◌++◌, length, take, drop, words_text}
+use Rattle.std.proofs.Common.{◌*◌}
 use Rattle.apex_types.specs.declared.limits.TheConstants.{MOST_WORD_BYTES}
-use Rattle.apex_types.specs.Line.{words_text}
 use Rattle.text_lines.specs.Words.{AreWords}
 use Rattle.module_base.proofs.writing.push_words.Given as goal
 

@@ -1,6 +1,5 @@
-use Rattle.std.proofs.Common.{rules, subst, sym}
-use Rattle.image.specs.Items.{partition_of}
-use Rattle.isolation.specs.InputText.{AreWritable, input_text, replay_text}
+use Rattle.module_base.proofs.Prelude.{rules, partition_of, AreWritable, input_text, replay_text}
+use Rattle.std.proofs.Common.{subst, sym}
 use Rattle.apex_types.specs.Line.{TakesBeginning}
 use Rattle.apex_types.proofs.Writing.{under_way_more, under_way_fails, err_at}
 use Rattle.module_base.proofs.writing.write_inputs.Goals as goal

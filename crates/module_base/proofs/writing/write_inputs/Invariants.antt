@@ -1,7 +1,5 @@
-use Rattle.std.proofs.Common.{◌≡◌, length}
+use Rattle.module_base.proofs.Prelude.{◌≡◌, length, partition_of, AreWritable, replay_text}
 use Rattle.apex_types.proofs.Writing.{IsUnderWay}
-use Rattle.image.specs.Items.{partition_of}
-use Rattle.isolation.specs.InputText.{AreWritable, replay_text}
 use Rattle.module_base.proofs.writing.write_inputs.Given as goal
 
 abbrev pub invariant-loop-line : goal.invariant-loop-line

@@ -1,6 +1,4 @@
-use Rattle.std.proofs.Common.{◌∙◌}
-use Rattle.apex_types.specs.declared.limits.TheConstants.{MOST_PROCESSES}
-use Rattle.links.specs.DueOrder.{due_at}
+use Rattle.links.proofs.Prelude.{◌∙◌, MOST_PROCESSES, due_at}
 use Rattle.links.proofs.DueOrder.{absent, room, behind-below, once-behind, behind-order}
 use Rattle.links.proofs.due_list.DueList.insert_by_due.Goals as goal
 

@@ -1,6 +1,6 @@
 use Rattle.links.proofs.DueOrder.{below-without, once-without, order-without}
 use Rattle.links.proofs.due_list.DueList.remove.Goals as goal
-use Rattle.apex_types.specs.declared.limits.TheConstants.{MOST_PROCESSES}
+use Rattle.links.proofs.Prelude.{MOST_PROCESSES}
 
 pub invariant_of-self : goal.invariant_of-self
 invariant_of-self c =

@@ -1,5 +1,4 @@
-use Rattle.std.proofs.Common.{refl}
-use Rattle.apex_types.specs.declared.limits.TheConstants.{MOST_PROCESSES}
+use Rattle.links.proofs.Prelude.{refl, MOST_PROCESSES}
 use Rattle.links.proofs.OneHome.{IsHomed-emptied}
 use Rattle.links.proofs.links.Links.clear.Goals as goal
 

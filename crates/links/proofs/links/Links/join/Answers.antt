@@ -1,7 +1,4 @@
-use Rattle.std.proofs.Common.{◌∙◌, length-set, arith}
-use Rattle.std.proofs.lemmas.List.{length-map}
-use Rattle.apex_types.specs.declared.limits.TheConstants.{MOST_PROCESSES}
-use Rattle.links.specs.OneHome.{entries_of}
+use Rattle.links.proofs.Prelude.{◌∙◌, length-set, arith, length-map, MOST_PROCESSES, entries_of}
 use Rattle.links.proofs.OneHome.{absent, room, IsHomed-joins}
 use Rattle.links.proofs.links.Links.join.Goals as goal
 

@@ -1,5 +1,4 @@
-use Rattle.std.proofs.Common.{◌∙◌, sym}
-use Rattle.apex_types.specs.declared.limits.TheConstants.{MOST_PROCESSES}
+use Rattle.links.proofs.Prelude.{◌∙◌, sym, MOST_PROCESSES}
 use Rattle.links.proofs.OneHome.{first_below, pops-seen}
 use Rattle.links.proofs.links.Links.pop_front.Goals as goal
 

@@ -1,4 +1,4 @@
-use Rattle.std.proofs.Common.{◌∙◌, sym, length-set}
+use Rattle.links.proofs.Prelude.{◌∙◌, sym, length-set}
 use Rattle.links.proofs.Leaving.{once-at-home}
 use Rattle.links.proofs.OneHome.{IsHomed-leaves, leaves-home, leaves-none}
 use Rattle.links.proofs.links.Links.remove.Goals as goal

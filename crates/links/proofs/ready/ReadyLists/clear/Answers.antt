@@ -1,6 +1,4 @@
-use Rattle.std.proofs.Common.{◌∙◌}
-use Rattle.std.proofs.lemmas.List.{length-map}
-use Rattle.links.specs.Lists.{emptied_each}
+use Rattle.links.proofs.Prelude.{◌∙◌, length-map, emptied_each}
 use Rattle.links.proofs.Levels.{at_emptied, in_order_emptied, levels_emptied}
 use Rattle.links.proofs.Bits.{marked_none}
 use Rattle.links.proofs.ready.ReadyLists.clear.Goals as goal

@@ -1,4 +1,4 @@
-use Rattle.std.proofs.Common.{◌∙◌}
+use Rattle.links.proofs.Prelude.{◌∙◌}
 use Rattle.links.proofs.Bits.{first_marked, first_none}
 use Rattle.links.proofs.ready.ReadyLists.first.Goals as goal
 

@@ -1,4 +1,4 @@
-use Rattle.std.proofs.Common.{replicate, []}
+use Rattle.links.proofs.Prelude.{replicate, []}
 use Rattle.apex_types.specs.declared.limits.TheConstants.{PRIORITY_LEVELS}
 use Rattle.links.proofs.Levels.{at_nothing, length_nothing, levels_nothing}
 use Rattle.links.proofs.Bits.{marked_none}

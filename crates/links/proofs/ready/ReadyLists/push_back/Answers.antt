@@ -1,8 +1,4 @@
-use Rattle.std.proofs.Common.{◌≡◌, ◌+◌, ◌-◌, ◌<◌, ◌++◌, ◌∷◌, [], length, ◌∙◌, ap, arith, length-set}
-use Rattle.kernel_meaning.specs.Queues.{list_in}
-use Rattle.links.specs.Lists.{put_in, without_in_each}
-use Rattle.kernel_laws.specs.Ready.{times_listed}
-use Rattle.links.specs.Levels.{in_order}
+use Rattle.links.proofs.Prelude.{◌≡◌, ◌+◌, ◌-◌, ◌<◌, ◌++◌, ◌∷◌, [], length, ◌∙◌, ap, arith, length-set, list_in, put_in, without_in_each, times_listed, in_order}
 use Rattle.links.proofs.Levels.{all_absent, in_order_put, levels_put, without_gone}
 use Rattle.links.proofs.Bits.{marked_push}
 use Rattle.links.proofs.ready.ReadyLists.push_back.Goals as goal

@@ -1,9 +1,4 @@
-use Rattle.std.proofs.Common.{◌≡◌, ℕ, nat_lt, nat_eq, cond, sym, ◌∙◌, ap}
-use Rattle.std.proofs.lemmas.List.{length-map}
-use Rattle.kernel_meaning.specs.Queues.{list_in}
-use Rattle.links.specs.Lists.{without_in_each}
-use Rattle.kernel_laws.specs.Ready.{times_listed}
-use Rattle.links.specs.Levels.{one_if_any}
+use Rattle.links.proofs.Prelude.{◌≡◌, ℕ, nat_lt, nat_eq, cond, sym, ◌∙◌, ap, length-map, list_in, without_in_each, times_listed, one_if_any}
 use Rattle.links.proofs.Levels.{in_order_without, levels_without}
 use Rattle.links.proofs.Bits.{marked_leave, marked_of, elsewhere_absent, nowhere_absent}
 use Rattle.links.proofs.ready.ReadyLists.remove.Goals as goal

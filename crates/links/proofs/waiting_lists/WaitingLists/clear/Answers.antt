@@ -1,4 +1,4 @@
-use Rattle.kernel_meaning.specs.Queues.{no_entries}
+use Rattle.links.proofs.Prelude.{no_entries}
 use Rattle.links.proofs.ByKind.{each_key}
 use Rattle.links.proofs.waiting_lists.WaitingLists.clear.Goals as goal
 

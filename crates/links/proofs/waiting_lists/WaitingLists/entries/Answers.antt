@@ -1,4 +1,4 @@
-use Rattle.std.proofs.Common.{refl}
+use Rattle.links.proofs.Prelude.{refl}
 use Rattle.links.proofs.ByKind.{list_of_key}
 use Rattle.links.proofs.waiting_lists.WaitingLists.entries.Goals as goal
 

@@ -1,4 +1,4 @@
-use Rattle.kernel_meaning.specs.Queues.{without}
+use Rattle.links.proofs.Prelude.{without}
 use Rattle.links.proofs.ByKind.{each_key}
 use Rattle.links.proofs.waiting_lists.WaitingLists.remove.Goals as goal
 

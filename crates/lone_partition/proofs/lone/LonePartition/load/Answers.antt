@@ -1,18 +1,4 @@
-use Rattle.std.proofs.Common.{rules, ◌≡◌, ◌-◌, List, suc, Some, ap, ◌∙◌, arith}
-use Rattle.std.specs.Prelude.{slice_get}
-use Rattle.std.proofs.lemmas.Option.{slice_get-get_or}
-use Rattle.apex_types.specs.declared.cost.Costs.{Costs}
-use Rattle.apex_types.specs.declared.row.PortRow.{PortRow}
-use Rattle.machine_meaning.specs.MachineMeaning.{machine_member, machine_module}
-use Rattle.image.specs.Items.{item_of}
-use Rattle.image.specs.Views.{image_of}
-use Rattle.isolation.specs.Surrounded.{surroundings_of}
-use Rattle.partition.specs.Members.{member_of}
-use Rattle.partition.specs.View.{fixed_of as view}
-use Rattle.partition_base.specs.contracts.machine.PartitionProcessorExecutor.TheImpl.{ghosts as machine}
-use Rattle.regions.specs.Space.{Space}
-use Rattle.lone_partition.specs.Around.{around}
-use Rattle.lone_partition.specs.Only.{only_part}
+use Rattle.lone_partition.proofs.Prelude.{rules, ◌≡◌, ◌-◌, List, suc, Some, ap, ◌∙◌, arith, slice_get, slice_get-get_or, Costs, PortRow, machine_member, machine_module, item_of, image_of, surroundings_of, member_of, view, machine, Space, around, only_part}
 use Rattle.lone_partition.proofs.Loaded.{alone_is, item_here}
 use Rattle.lone_partition.proofs.lone.LonePartition.load.Goals as goal
 

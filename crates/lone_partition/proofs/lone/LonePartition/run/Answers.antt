@@ -1,9 +1,4 @@
-use Rattle.std.proofs.Common.{sym, subst}
-use Rattle.isolation.specs.Alone.{trace_alone}
-use Rattle.partition.specs.Members.{member_of}
-use Rattle.partition_base.specs.contracts.machine.PartitionProcessorExecutor.TheImpl.{ghosts as machine}
-use Rattle.regions.specs.Space.{Space}
-use Rattle.lone_partition.specs.Around.{around}
+use Rattle.lone_partition.proofs.Prelude.{sym, subst, trace_alone, member_of, machine, Space, around}
 use Rattle.lone_partition.specs.Written.{AreWritten}
 use Rattle.lone_partition.proofs.Only.{only_lent}
 use Rattle.lone_partition.proofs.lone.LonePartition.run.Goals as goal

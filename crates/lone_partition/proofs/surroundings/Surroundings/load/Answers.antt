@@ -1,6 +1,4 @@
-use Rattle.std.proofs.Common.{◌≡◌, List, Option, ℕ, ap, ◌∙◌}
-use Rattle.image.specs.Items.{channels_of}
-use Rattle.isolation.specs.Surrounded.{ways_from}
+use Rattle.lone_partition.proofs.Prelude.{◌≡◌, List, Option, ℕ, ap, ◌∙◌, channels_of, ways_from}
 use Rattle.kernel_meaning.specs.Windows.{Schedule, schedule_of_partition}
 use Rattle.window_table.specs.Schedules.{schedule_of}
 use Rattle.lone_partition.proofs.surroundings.Surroundings.load.Goals as goal

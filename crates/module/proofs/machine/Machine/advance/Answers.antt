@@ -1,9 +1,6 @@
-use Rattle.std.proofs.Common.{◌≡◌, true, false, ap, subst, rules}
+use Rattle.module.proofs.Prelude.{◌≡◌, true, false, ap, rules, sent_of, Sent, IsBrokenOff, plan_of, standing_of}
+use Rattle.std.proofs.Common.{subst}
 use Rattle.partition_base.specs.contracts.machine.PartitionProcessorExecutor.TheImpl.{ghosts as executor}
-use Rattle.lone_partition.specs.Outputs.{sent_of}
-use Rattle.lone_partition.specs.Sent.{Sent}
-use Rattle.module.specs.Pieces.{IsBrokenOff}
-use Rattle.module.specs.Views.{plan_of, standing_of}
 use Rattle.module.proofs.Passed.{broken_there, passed_some}
 use Rattle.module.proofs.machine.Machine.advance.Goals as goal
 

@@ -1,10 +1,5 @@
-use Rattle.std.proofs.Common.{◌≡◌, ◌<◌, length, Option, Some, slice_get, slice_set, sym, subst, arith, rules}
-use Rattle.std.proofs.lemmas.Option.{slice_get-get_or}
-use Rattle.kernel_meaning.specs.Partition.{Member}
-use Rattle.lone_partition.specs.Outputs.{sent_of}
-use Rattle.partition.specs.Members.{member_of}
-use Rattle.module.specs.Members.{members_of}
-use Rattle.module.specs.Pieces.{HasMovedWritten}
+use Rattle.module.proofs.Prelude.{◌≡◌, ◌<◌, length, Option, Some, sym, arith, rules, slice_get-get_or, Member, sent_of, member_of, members_of, HasMovedWritten}
+use Rattle.std.proofs.Common.{slice_get, slice_set, subst}
 use Rattle.module.proofs.Members.{few_set, fit_at, fit_set, get_member, set_member, same_length}
 use Rattle.module.proofs.Bursts.{advances_some, has_moved}
 use Rattle.module.proofs.member.Members.advance_at.Goals as goal

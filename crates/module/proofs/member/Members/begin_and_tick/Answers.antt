@@ -1,5 +1,4 @@
-use Rattle.module_meaning.specs.Module.{module_tick}
-use Rattle.module.specs.Views.{members_in, plan_of}
+use Rattle.module.proofs.Prelude.{module_tick, members_in, plan_of}
 use Rattle.module.proofs.Written.{begun_made}
 use Rattle.module.proofs.member.Members.begin_and_tick.Goals as goal
 

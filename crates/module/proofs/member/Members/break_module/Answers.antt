@@ -1,6 +1,5 @@
-use Rattle.std.proofs.Common.{◌≡◌, rules}
+use Rattle.module.proofs.Prelude.{◌≡◌, rules, members_in}
 use Rattle.apex_types.specs.declared.codes.ModuleAction.TheVariants.{Ignore, Shutdown, Reset}
-use Rattle.module.specs.Views.{members_in}
 use Rattle.module.proofs.Shutdown.{fault_ignored, fault_shuts_down, fault_resets}
 use Rattle.module.proofs.member.Members.break_module.Goals as goal
 

@@ -1,11 +1,4 @@
-use Rattle.std.proofs.Common.{rules, ◌≡◌, ◌<◌, ◌+◌, ◌++◌, drop, length, Option, Some, Err, sym, ap, ◌∙◌, arith}
-use Rattle.module_meaning.specs.Table.{Channel, at_number}
-use Rattle.module_meaning.specs.Module.{channel_from, ports_from}
-use Rattle.kernel_meaning.specs.Partition.{messages_to_move}
-use Rattle.image.specs.Items.{channels_of}
-use Rattle.ports.specs.Held.{message_behind}
-use Rattle.module.specs.Collecting.{brought_found}
-use Rattle.module.specs.Views.{members_in}
+use Rattle.module.proofs.Prelude.{rules, ◌≡◌, ◌<◌, ◌+◌, ◌++◌, drop, length, Option, Some, Err, sym, ap, ◌∙◌, arith, Channel, at_number, channel_from, ports_from, messages_to_move, channels_of, message_behind, brought_found, members_in}
 use Rattle.module.proofs.Collecting.{collected_err, goes_on, held_messages, messages_bring, no_room_left, one_message, so_many_held}
 use Rattle.module.proofs.member.Members.bring_port.Goals as goal
 

@@ -1,9 +1,4 @@
-use Rattle.std.proofs.Common.{drop}
-use Rattle.module_meaning.specs.Table.{at_number}
-use Rattle.module_meaning.specs.Module.{channel_from, ports_from}
-use Rattle.image.specs.Items.{channels_of}
-use Rattle.module.specs.Collecting.{held_found}
-use Rattle.module.specs.Views.{members_in}
+use Rattle.module.proofs.Prelude.{drop, at_number, channel_from, ports_from, channels_of, held_found, members_in}
 use Rattle.module.proofs.Collecting.{IsPartly, held_messages, messages_bring}
 use Rattle.module.proofs.member.Members.bring_port.Given as goal
 

@@ -1,8 +1,4 @@
-use Rattle.std.proofs.Common.{rules, ◌≡◌, ◌<◌, ◌+◌, drop, length, Err, arith}
-use Rattle.module_meaning.specs.Module.{ports_from}
-use Rattle.image.specs.Items.{channels_of}
-use Rattle.isolation.specs.Brought.{held_ports}
-use Rattle.module.specs.Views.{members_in}
+use Rattle.module.proofs.Prelude.{rules, ◌≡◌, ◌<◌, ◌+◌, drop, length, Err, arith, ports_from, channels_of, held_ports, members_in}
 use Rattle.module.proofs.Collecting.{collected_err, goes_on, no_room_left, one_port}
 use Rattle.module.proofs.member.Members.bring_ports.Goals as goal
 

@@ -1,8 +1,4 @@
-use Rattle.std.proofs.Common.{◌+◌, drop}
-use Rattle.module_meaning.specs.Module.{ports_from}
-use Rattle.image.specs.Items.{channels_of}
-use Rattle.isolation.specs.Brought.{held_ports}
-use Rattle.module.specs.Views.{members_in}
+use Rattle.module.proofs.Prelude.{◌+◌, drop, ports_from, channels_of, held_ports, members_in}
 use Rattle.module.proofs.Collecting.{IsPartly}
 use Rattle.module.proofs.member.Members.bring_ports.Given as goal
 

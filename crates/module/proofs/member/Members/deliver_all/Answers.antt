@@ -1,10 +1,4 @@
-use Rattle.std.proofs.Common.{◌+◌, ◌≤◌, List, drop, length, ap, rules}
-use Rattle.std.proofs.lemmas.List.{drop_all, drop_more}
-use Rattle.apex_types.specs.declared.row.ChannelEnd.{ChannelEnd}
-use Rattle.apex_types.specs.declared.row.ChannelEnd.TheVariants.{Device}
-use Rattle.module_meaning.specs.Module.{delivers_all}
-use Rattle.image.specs.Items.{channel_of}
-use Rattle.module.specs.Views.{members_in}
+use Rattle.module.proofs.Prelude.{◌+◌, ◌≤◌, List, drop, length, ap, rules, drop_all, drop_more, ChannelEnd, Device, delivers_all, channel_of, members_in}
 use Rattle.module.proofs.Written.{goes_on, is_over}
 use Rattle.module.proofs.member.Members.deliver_all.Goals as goal
 

@@ -1,8 +1,4 @@
-use Rattle.std.proofs.Common.{drop}
-use Rattle.module_meaning.specs.Module.{delivers_all}
-use Rattle.image.specs.Items.{channel_of}
-use Rattle.lone_partition.specs.Outputs.{sent_of}
-use Rattle.module.specs.Views.{members_in}
+use Rattle.module.proofs.Prelude.{drop, delivers_all, channel_of, sent_of, members_in}
 use Rattle.module.proofs.Written.{Completes}
 use Rattle.module.proofs.member.Members.deliver_all.Given as goal
 

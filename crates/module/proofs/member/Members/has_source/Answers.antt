@@ -1,5 +1,4 @@
-use Rattle.std.proofs.Common.{◌≤◌, rules, arith}
-use Rattle.module.specs.Views.{members_in}
+use Rattle.module.proofs.Prelude.{◌≤◌, rules, arith, members_in}
 use Rattle.module.proofs.Edges.{no_source}
 use Rattle.module.proofs.member.Members.has_source.Goals as goal
 

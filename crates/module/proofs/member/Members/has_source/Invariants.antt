@@ -1,8 +1,4 @@
-use Rattle.std.proofs.Common.{◌≡◌, ◌<◌, ◌+◌, ℕ, None}
-use Rattle.module_meaning.specs.Module.{ports_from}
-use Rattle.module_meaning.specs.Table.{at_number}
-use Rattle.kernel_meaning.specs.Partition.{messages_to_move}
-use Rattle.module.specs.Views.{members_in}
+use Rattle.module.proofs.Prelude.{◌≡◌, ◌<◌, ◌+◌, ℕ, None, ports_from, at_number, messages_to_move, members_in}
 use Rattle.module.proofs.member.Members.has_source.Given as goal
 
 abbrev pub invariant-loop-place : goal.invariant-loop-place

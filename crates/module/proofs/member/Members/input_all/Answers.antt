@@ -1,9 +1,4 @@
-use Rattle.std.proofs.Common.{◌≡◌, ◌+◌, ◌∷◌, ◌∙◌, List, Some, drop, sym, ap, rules}
-use Rattle.std.proofs.lemmas.List.{drop_more}
-use Rattle.apex_types.specs.declared.device.DeviceLine.{DeviceLine}
-use Rattle.module_meaning.specs.Module.{inputs_all}
-use Rattle.lone_partition.specs.Outputs.{next_at}
-use Rattle.module.specs.Views.{members_in, plan_of}
+use Rattle.module.proofs.Prelude.{◌≡◌, ◌+◌, ◌∷◌, ◌∙◌, List, Some, drop, sym, ap, rules, drop_more, DeviceLine, inputs_all, next_at, members_in, plan_of}
 use Rattle.module.proofs.Shutdown.{lines_end_down}
 use Rattle.module.proofs.Written.{runs_on}
 use Rattle.module.proofs.member.Members.input_all.Goals as goal

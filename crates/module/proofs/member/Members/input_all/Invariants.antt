@@ -1,7 +1,4 @@
-use Rattle.std.proofs.Common.{drop}
-use Rattle.module_meaning.specs.Module.{inputs_all}
-use Rattle.lone_partition.specs.Outputs.{sent_of}
-use Rattle.module.specs.Views.{members_in, plan_of}
+use Rattle.module.proofs.Prelude.{drop, inputs_all, sent_of, members_in, plan_of}
 use Rattle.module.proofs.Written.{CompletesCourse}
 use Rattle.module.proofs.member.Members.input_all.Given as goal
 

@@ -1,7 +1,4 @@
-use Rattle.std.proofs.Common.{◌≡◌, ◌∙◌, ◌≤◌, length, Option, Some, ap, sym, rules}
-use Rattle.std.proofs.lemmas.Option.{slice_get-get_or}
-use Rattle.std.specs.Prelude.{slice_get, option_map}
-use Rattle.kernel_meaning.specs.Partition.{Member}
+use Rattle.module.proofs.Prelude.{◌≡◌, ◌∙◌, ◌≤◌, length, Option, Some, ap, sym, rules, slice_get-get_or, slice_get, option_map, Member}
 use Rattle.module.proofs.Members.{kernel_there, no_member}
 use Rattle.module.proofs.member.Members.kernel_at.Goals as goal
 

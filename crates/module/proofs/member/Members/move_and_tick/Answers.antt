@@ -1,10 +1,4 @@
-use Rattle.std.proofs.Common.{◌≡◌, ℕ, List, Option, sym, ap, ◌∙◌}
-use Rattle.module_meaning.specs.Table.{Channel}
-use Rattle.module_meaning.specs.Module.{then_goes, moves_ended, ticks_owner}
-use Rattle.kernel_meaning.specs.Windows.{owner}
-use Rattle.image.specs.Items.{channels_of}
-use Rattle.std.specs.Prelude.{option_map}
-use Rattle.module.specs.Views.{members_in, plan_of}
+use Rattle.module.proofs.Prelude.{◌≡◌, ℕ, List, Option, sym, ap, ◌∙◌, Channel, then_goes, moves_ended, ticks_owner, owner, channels_of, option_map, members_in, plan_of}
 use Rattle.module.proofs.Written.{then_made}
 use Rattle.module.proofs.member.Members.move_and_tick.Goals as goal
 

@@ -1,9 +1,4 @@
-use Rattle.std.proofs.Common.{◌≡◌, Some, None, rules}
-use Rattle.module_meaning.specs.Table.{at_number}
-use Rattle.module_meaning.specs.Module.{of_member}
-use Rattle.kernel_meaning.specs.Partition.{leaving}
-use Rattle.image.specs.Items.{channels_of}
-use Rattle.module.specs.Views.{members_in}
+use Rattle.module.proofs.Prelude.{◌≡◌, Some, None, rules, at_number, of_member, leaving, channels_of, members_in}
 use Rattle.module.proofs.Moves.{none_moved, one_moved}
 use Rattle.module.proofs.member.Members.move_message.Goals as goal
 

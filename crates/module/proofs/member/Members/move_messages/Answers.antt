@@ -1,8 +1,5 @@
-use Rattle.std.proofs.Common.{◌≡◌, ℕ, suc, ◌+◌, ◌-◌, ap, subst, arith}
-use Rattle.module_meaning.specs.Module.{moves_messages}
-use Rattle.image.specs.Items.{channels_of}
-use Rattle.lone_partition.specs.Outputs.{sent_of}
-use Rattle.module.specs.Views.{members_in}
+use Rattle.module.proofs.Prelude.{◌≡◌, ℕ, suc, ◌+◌, ◌-◌, ap, arith, moves_messages, channels_of, sent_of, members_in}
+use Rattle.std.proofs.Common.{subst}
 use Rattle.module.proofs.Written.{Completes, goes_on, is_over, starts_out}
 use Rattle.module.proofs.member.Members.move_messages.Goals as goal
 

@@ -1,8 +1,4 @@
-use Rattle.std.proofs.Common.{◌-◌}
-use Rattle.module_meaning.specs.Module.{moves_messages}
-use Rattle.image.specs.Items.{channels_of}
-use Rattle.lone_partition.specs.Outputs.{sent_of}
-use Rattle.module.specs.Views.{members_in}
+use Rattle.module.proofs.Prelude.{◌-◌, moves_messages, channels_of, sent_of, members_in}
 use Rattle.module.proofs.Written.{Completes}
 use Rattle.module.proofs.member.Members.move_messages.Given as goal
 

@@ -1,9 +1,5 @@
-use Rattle.std.proofs.Common.{◌≡◌, ℕ, Option, Some, ap, rules}
-use Rattle.module_meaning.specs.Table.{at_number}
-use Rattle.module_meaning.specs.Module.{steps, moves_so_many, ports_from}
-use Rattle.kernel_meaning.specs.Partition.{admits, messages_to_move}
-use Rattle.image.specs.Items.{channels_of}
-use Rattle.module.specs.Views.{members_in}
+use Rattle.module.proofs.Prelude.{◌≡◌, ℕ, Option, Some, ap, rules, at_number, steps, moves_so_many, ports_from, messages_to_move, channels_of, members_in}
+use Rattle.kernel_meaning.specs.Partition.{admits}
 use Rattle.module.proofs.Written.{then_made}
 use Rattle.module.proofs.member.Members.move_port.Goals as goal
 

@@ -1,7 +1,4 @@
-use Rattle.std.proofs.Common.{◌≡◌, ℕ, suc, ◌+◌, ◌-◌, ap, arith}
-use Rattle.module_meaning.specs.Module.{moves_ports}
-use Rattle.image.specs.Items.{channels_of}
-use Rattle.module.specs.Views.{members_in}
+use Rattle.module.proofs.Prelude.{◌≡◌, ℕ, suc, ◌+◌, ◌-◌, ap, arith, moves_ports, channels_of, members_in}
 use Rattle.module.proofs.Written.{goes_on, is_over}
 use Rattle.module.proofs.member.Members.move_ports.Goals as goal
 

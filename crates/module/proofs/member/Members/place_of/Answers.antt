@@ -1,7 +1,4 @@
-use Rattle.std.proofs.Common.{◌≡◌, ◌≤◌, Some, length, rules}
-use Rattle.std.specs.Prelude.{option_map}
-use Rattle.apex_types.specs.Places.{place_of_number}
-use Rattle.module.specs.Views.{members_in}
+use Rattle.module.proofs.Prelude.{◌≡◌, ◌≤◌, Some, length, rules, option_map, place_of_number, members_in}
 use Rattle.module.proofs.Edges.{nobody_there}
 use Rattle.module.proofs.Members.{no_member}
 use Rattle.module.proofs.member.Members.place_of.Goals as goal

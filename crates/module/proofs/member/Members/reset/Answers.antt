@@ -1,7 +1,5 @@
-use Rattle.std.proofs.Common.{refl}
+use Rattle.module.proofs.Prelude.{refl, as_origin, starts_all, members_in}
 use Rattle.apex_types.specs.declared.codes.StartCondition.TheVariants.{HmModuleRestart}
-use Rattle.module_meaning.specs.Module.{as_origin, starts_all}
-use Rattle.module.specs.Views.{members_in}
 use Rattle.module.proofs.Written.{then_made}
 use Rattle.module.proofs.member.Members.reset.Goals as goal
 

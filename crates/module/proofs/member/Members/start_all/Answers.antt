@@ -1,10 +1,5 @@
-use Rattle.std.proofs.Common.{rules, ◌≡◌, ◌≤◌, ◌+◌, length, drop, ◌∙◌}
-use Rattle.std.specs.List.{flat_map}
-use Rattle.std.specs.Prelude.{slice_get}
-use Rattle.module_meaning.specs.Module.{start_lines}
+use Rattle.module.proofs.Prelude.{rules, ◌≡◌, ◌≤◌, ◌+◌, length, drop, ◌∙◌, flat_map, slice_get, start_lines, sent_of, members_in}
 use Rattle.lone_partition.proofs.Outputs.{lines_are_over, lines_go_on}
-use Rattle.lone_partition.specs.Outputs.{sent_of}
-use Rattle.module.specs.Views.{members_in}
 use Rattle.module.proofs.Starting.{within_members, past_members, all_past, none_past, starts_member, step_members, step_lines}
 use Rattle.module.proofs.member.Members.start_all.Goals as goal
 

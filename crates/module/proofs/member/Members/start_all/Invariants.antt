@@ -1,9 +1,5 @@
-use Rattle.std.proofs.Common.{◌≡◌, ◌-◌, length, drop}
-use Rattle.std.specs.List.{flat_map}
-use Rattle.module_meaning.specs.Module.{start_lines}
+use Rattle.module.proofs.Prelude.{◌≡◌, ◌-◌, length, drop, flat_map, start_lines, sent_of, members_in}
 use Rattle.lone_partition.proofs.Outputs.{CompletesLines}
-use Rattle.lone_partition.specs.Outputs.{sent_of}
-use Rattle.module.specs.Views.{members_in}
 use Rattle.module.proofs.Starting.{started_to}
 use Rattle.module.proofs.member.Members.start_all.Given as goal
 

@@ -1,12 +1,6 @@
-use Rattle.std.proofs.Common.{◌≡◌, ◌≤◌, ◌<◌, length, Option, Some, None, slice_get, slice_set, ap, sym, subst, ◌∙◌, arith, rules}
-use Rattle.std.proofs.lemmas.Option.{slice_get-get_or}
-use Rattle.kernel_meaning.specs.Partition.{Member}
-use Rattle.lone_partition.specs.Outputs.{sent_of}
+use Rattle.module.proofs.Prelude.{◌≡◌, ◌≤◌, ◌<◌, length, Option, Some, None, ap, sym, ◌∙◌, arith, rules, slice_get-get_or, Member, sent_of, steps_member, member_of, members_of, IsMade}
+use Rattle.std.proofs.Common.{slice_get, slice_set, subst}
 use Rattle.lone_partition.specs.Steps.{step_of}
-use Rattle.module_meaning.specs.Module.{steps_member}
-use Rattle.partition.specs.Members.{member_of}
-use Rattle.module.specs.Members.{members_of}
-use Rattle.module.specs.Written.{IsMade}
 use Rattle.module.proofs.Members.{few_set, fit_at, fit_set, get_member, set_member, no_member, same_length}
 use Rattle.module.proofs.Written.{still_made}
 use Rattle.module.proofs.member.Members.step_at.Goals as goal

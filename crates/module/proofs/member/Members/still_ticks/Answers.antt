@@ -1,8 +1,5 @@
-use Rattle.std.proofs.Common.{◌≡◌, ◌≤◌, length, Some, ◌+◌, slice_get, subst, rules, arith}
-use Rattle.std.proofs.lemmas.Option.{slice_get-get_or}
-use Rattle.kernel_meaning.specs.Kernel.{Kernel}
-use Rattle.kernel_laws.specs.Quiet.{IsStill}
-use Rattle.module.specs.Views.{members_in}
+use Rattle.module.proofs.Prelude.{◌≡◌, ◌≤◌, length, Some, ◌+◌, rules, arith, slice_get-get_or, Kernel, IsStill, members_in}
+use Rattle.std.proofs.Common.{slice_get, subst}
 use Rattle.module.proofs.Members.{kernel_there, members_count}
 use Rattle.module.proofs.Bursts.{one_more_still, all_still}
 use Rattle.module.proofs.member.Members.still_ticks.Goals as goal

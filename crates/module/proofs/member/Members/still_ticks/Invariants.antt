@@ -1,5 +1,4 @@
-use Rattle.std.proofs.Common.{◌≤◌, ◌<◌, ◌-◌, length}
-use Rattle.module.specs.Views.{members_in}
+use Rattle.module.proofs.Prelude.{◌≤◌, ◌<◌, ◌-◌, length, members_in}
 use Rattle.module.proofs.Bursts.{AreStillBefore}
 use Rattle.module.proofs.member.Members.still_ticks.Given as goal
 

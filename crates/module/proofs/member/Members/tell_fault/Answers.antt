@@ -1,7 +1,6 @@
-use Rattle.std.proofs.Common.{◌≡◌, ◌++◌, ◌∷◌, [], List, ℕ, refl, ap, subst, ◌∙◌}
-use Rattle.apex_types.specs.Line.{text_of}
+use Rattle.module.proofs.Prelude.{◌≡◌, ◌++◌, ◌∷◌, List, ℕ, refl, ap, ◌∙◌, text_of, sent_of}
+use Rattle.std.proofs.Common.{[], subst}
 use Rattle.module_meaning.specs.Module.{fault_line}
-use Rattle.lone_partition.specs.Outputs.{sent_of}
 use Rattle.lone_partition.specs.Sent.{HasSent}
 use Rattle.module.proofs.member.Members.tell_fault.Goals as goal
 

@@ -1,7 +1,4 @@
-use Rattle.std.proofs.Common.{List, refl, ap}
-use Rattle.apex_types.specs.declared.device.DeviceLine.{DeviceLine}
-use Rattle.module_meaning.specs.Module.{then_runs, inputs_all, moves_and_ticks}
-use Rattle.module.specs.Views.{members_in, plan_of}
+use Rattle.module.proofs.Prelude.{List, refl, ap, DeviceLine, then_runs, inputs_all, moves_and_ticks, members_in, plan_of}
 use Rattle.module.proofs.Written.{then_runs_made}
 use Rattle.module.proofs.member.Members.tick.Goals as goal
 

@@ -1,9 +1,5 @@
-use Rattle.std.proofs.Common.{◌≡◌, ℕ, Some, Ok, sym, subst}
-use Rattle.isolation.specs.Brought.{brought_in_all, brought_moved, brought_tick}
-use Rattle.module_meaning.specs.Module.{inputs_all}
-use Rattle.module.specs.Collecting.{AreCollected}
-use Rattle.module.specs.Standing.{IsNow}
-use Rattle.module.specs.Views.{members_in, plan_of}
+use Rattle.module.proofs.Prelude.{◌≡◌, ℕ, Some, Ok, sym, brought_in_all, brought_moved, brought_tick, inputs_all, AreCollected, IsNow, members_in, plan_of}
+use Rattle.std.proofs.Common.{subst}
 use Rattle.module.proofs.Brought.{brought_all}
 use Rattle.module.proofs.DeviceLines.{inputs_now}
 use Rattle.module.proofs.Unseen.{tick_collected}

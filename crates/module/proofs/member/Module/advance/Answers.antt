@@ -1,10 +1,5 @@
-use Rattle.std.proofs.Common.{◌≡◌, ◌≤◌, ◌<◌, ◌+◌, Some, refl, ap, sym, subst, ◌∙◌, arith, rules}
-use Rattle.apex_types.specs.declared.identity.Ticks.{Ticks}
-use Rattle.lone_partition.specs.Outputs.{next_at, sent_of}
-use Rattle.module.specs.Pieces.{HasPassedSome}
-use Rattle.module.specs.Standing.{Standing, moment_of, ticks_in}
-use Rattle.module.specs.Views.{plan_of, standing_of}
-use Rattle.module.specs.Written.{AreFrom}
+use Rattle.module.proofs.Prelude.{◌≡◌, ◌≤◌, ◌<◌, ◌+◌, Some, refl, ap, sym, ◌∙◌, arith, rules, Ticks, next_at, sent_of, HasPassedSome, Standing, moment_of, ticks_in, plan_of, standing_of, AreFrom}
+use Rattle.std.proofs.Common.{subst}
 use Rattle.module.proofs.Bursts.{from_lower, run_fewer, run_still, still_ahead}
 use Rattle.module.proofs.Standing.{moment_now, moment_origin}
 use Rattle.module.proofs.member.Module.advance.Goals as goal

@@ -1,9 +1,5 @@
-use Rattle.std.proofs.Common.{inl, ◌≡◌, ◌+◌, ◌≤◌, ◌<◌, Some, suc, refl, ap, sym, subst, ◌∙◌, arith, rules}
-use Rattle.apex_types.specs.declared.identity.At.{At}
-use Rattle.lone_partition.specs.Outputs.{sent_of}
-use Rattle.module.specs.Pieces.{EndsQuietly, HasPassedSomeBehind}
-use Rattle.module.specs.Standing.{Standing, ticks_in}
-use Rattle.module.specs.Views.{members_in, plan_of, standing_of}
+use Rattle.module.proofs.Prelude.{inl, ◌≡◌, ◌+◌, ◌≤◌, ◌<◌, Some, suc, refl, ap, sym, ◌∙◌, arith, rules, At, sent_of, EndsQuietly, HasPassedSomeBehind, Standing, ticks_in, members_in, plan_of, standing_of}
+use Rattle.std.proofs.Common.{subst}
 use Rattle.module.proofs.Bursts.{from_lower, none_ended, owner_kept}
 use Rattle.module.proofs.Edges.{behind_fewer, edge_run, run_nobody}
 use Rattle.module.proofs.member.Module.advance_window.Goals as goal

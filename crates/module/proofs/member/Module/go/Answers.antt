@@ -1,9 +1,5 @@
-use Rattle.std.proofs.Common.{◌≡◌, None, Some, refl, sym, ap, subst, ◌∙◌, rules}
-use Rattle.module_meaning.specs.Module.{Course}
-use Rattle.lone_partition.proofs.Outputs.{nothing_sent}
-use Rattle.lone_partition.specs.Outputs.{next_at, sent_of}
-use Rattle.module.specs.Views.{members_in, plan_of}
-use Rattle.module.specs.Written.{IsCourse}
+use Rattle.module.proofs.Prelude.{◌≡◌, None, Some, refl, sym, ap, ◌∙◌, rules, Course, nothing_sent, next_at, sent_of, members_in, plan_of, IsCourse}
+use Rattle.std.proofs.Common.{subst}
 use Rattle.module.proofs.Standing.{goes_from, goes_nowhere}
 use Rattle.module.proofs.member.Module.go.Goals as goal
 

@@ -1,12 +1,5 @@
-use Rattle.std.proofs.Common.{◌≡◌, ◌++◌, append-nil, map, List, None, Some, IfOk, refl, sym, ap, subst, ◌∙◌, rules}
-use Rattle.apex_types.specs.declared.identity.Ticks.{Ticks}
-use Rattle.isolation.specs.declared.input.Input.{Input}
-use Rattle.isolation.specs.Brought.{brought_tick, line_in}
-use Rattle.module_meaning.specs.Module.{Course}
-use Rattle.lone_partition.specs.Outputs.{next_at}
-use Rattle.module.specs.Collecting.{AreCollected, IsMadeUnseen}
-use Rattle.module.specs.Standing.{begins, moment_of}
-use Rattle.module.specs.Views.{members_in, plan_of}
+use Rattle.module.proofs.Prelude.{◌≡◌, ◌++◌, append-nil, map, List, None, Some, IfOk, refl, sym, ap, ◌∙◌, rules, Ticks, Input, brought_tick, line_in, Course, next_at, AreCollected, IsMadeUnseen, begins, moment_of, members_in, plan_of}
+use Rattle.std.proofs.Common.{subst}
 use Rattle.module.proofs.Brought.{brought_at, brought_nowhere}
 use Rattle.module.proofs.Standing.{goes_from, goes_nowhere, moment_now}
 use Rattle.module.proofs.member.Module.go_watched.Goals as goal

@@ -1,10 +1,5 @@
-use Rattle.std.proofs.Common.{◌≡◌, ◌≤◌, ◌<◌, ◌+◌, ◌-◌, ℕ, Some, suc, refl, ap, sym, subst, ◌∙◌, arith}
-use Rattle.kernel_meaning.specs.Windows.{tick_from, owner}
-use Rattle.lone_partition.specs.Outputs.{sent_of}
-use Rattle.module.specs.Pieces.{EndsQuietly, HasPassedBehind, HasPassedSome}
-use Rattle.module.specs.Standing.{Standing, ticks_in}
-use Rattle.module.specs.Views.{members_in, plan_of, standing_of}
-use Rattle.module.specs.Written.{AreFrom}
+use Rattle.module.proofs.Prelude.{◌≡◌, ◌≤◌, ◌<◌, ◌+◌, ◌-◌, ℕ, Some, suc, refl, ap, sym, ◌∙◌, arith, tick_from, owner, sent_of, EndsQuietly, HasPassedBehind, HasPassedSome, Standing, ticks_in, members_in, plan_of, standing_of, AreFrom}
+use Rattle.std.proofs.Common.{subst}
 use Rattle.module.proofs.Edges.{behind_left, moved_sourceless, run_first, run_piece, stands, still_quiet}
 use Rattle.module.proofs.member.Module.piece.Goals as goal
 

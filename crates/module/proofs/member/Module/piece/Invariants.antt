@@ -1,9 +1,4 @@
-use Rattle.std.proofs.Common.{◌≡◌, ◌<◌, ◌+◌, ◌-◌, List, length, suc}
-use Rattle.apex_types.specs.declared.device.DeviceLine.{DeviceLine}
-use Rattle.lone_partition.specs.Outputs.{sent_of}
-use Rattle.module.specs.Pieces.{HasNoSource, HasPassedBehind}
-use Rattle.module.specs.Views.{members_in, plan_of, standing_of}
-use Rattle.module.specs.Written.{AreFrom}
+use Rattle.module.proofs.Prelude.{◌≡◌, ◌<◌, ◌+◌, ◌-◌, List, length, suc, DeviceLine, sent_of, HasNoSource, HasPassedBehind, members_in, plan_of, standing_of, AreFrom}
 use Rattle.module.proofs.member.Module.piece.Given as goal
 
 abbrev pub invariant-loop-left : goal.invariant-loop-left

@@ -1,11 +1,5 @@
-use Rattle.std.proofs.Common.{◌≡◌, ◌≤◌, ◌<◌, ◌+◌, Some, ap, sym, subst, ◌∙◌, arith, rules}
-use Rattle.apex_types.specs.declared.identity.Ticks.{Ticks}
-use Rattle.lone_partition.specs.Outputs.{next_at}
-use Rattle.module.specs.Collecting.{BringsNothing}
-use Rattle.module.specs.Pieces.{HasSkippedSome}
-use Rattle.module.specs.Standing.{Standing, moment_of, ticks_in}
-use Rattle.module.specs.Views.{plan_of, standing_of}
-use Rattle.module.specs.Written.{AreFrom}
+use Rattle.module.proofs.Prelude.{◌≡◌, ◌≤◌, ◌<◌, ◌+◌, Some, ap, sym, ◌∙◌, arith, rules, Ticks, next_at, BringsNothing, HasSkippedSome, Standing, moment_of, ticks_in, plan_of, standing_of, AreFrom}
+use Rattle.std.proofs.Common.{subst}
 use Rattle.module.proofs.Bursts.{skip_ticks}
 use Rattle.module.proofs.Standing.{moment_now, moment_origin}
 use Rattle.module.proofs.Unbrought.{skipped_bring_nothing}

@@ -1,5 +1,4 @@
-use Rattle.std.proofs.Common.{◌≡◌, ◌+◌, ap, sym, ◌∙◌, rules, arith}
-use Rattle.module.specs.Views.{members_in, plan_of}
+use Rattle.module.proofs.Prelude.{◌≡◌, ◌+◌, ap, sym, ◌∙◌, rules, arith, members_in, plan_of}
 use Rattle.module.proofs.Edges.{owned_longer, quiet_longer}
 use Rattle.module.proofs.member.Module.stay.Goals as goal
 

@@ -1,7 +1,4 @@
-use Rattle.std.proofs.Common.{◌≡◌, ◌≤◌, ◌<◌, ◌+◌, ◌-◌, ℕ, Some}
-use Rattle.kernel_meaning.specs.Windows.{owner, tick_from}
-use Rattle.module.specs.Pieces.{EndsQuietly}
-use Rattle.module.specs.Views.{members_in, plan_of}
+use Rattle.module.proofs.Prelude.{◌≡◌, ◌≤◌, ◌<◌, ◌+◌, ◌-◌, ℕ, Some, owner, tick_from, EndsQuietly, members_in, plan_of}
 use Rattle.module.proofs.member.Module.stay.Given as goal
 
 abbrev pub invariant-loop-ticks : goal.invariant-loop-ticks

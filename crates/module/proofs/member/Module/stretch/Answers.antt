@@ -1,11 +1,5 @@
-use Rattle.std.proofs.Common.{List, ap, sym, subst}
-use Rattle.std.specs.Prelude.{slice_get}
-use Rattle.kernel_meaning.specs.Partition.{Member}
-use Rattle.kernel_meaning.specs.Windows.{tick_from}
-use Rattle.lone_partition.specs.Outputs.{sent_of}
-use Rattle.module.specs.Pieces.{HasMovedWritten}
-use Rattle.module.specs.Standing.{Standing}
-use Rattle.module.specs.Views.{members_in}
+use Rattle.module.proofs.Prelude.{List, ap, sym, slice_get, Member, tick_from, sent_of, HasMovedWritten, Standing, members_in}
+use Rattle.std.proofs.Common.{subst}
 use Rattle.module.proofs.member.Module.stretch.Goals as goal
 
 pub returns-clause-moved : goal.returns-clause-moved

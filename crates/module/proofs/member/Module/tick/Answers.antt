@@ -1,8 +1,5 @@
-use Rattle.std.proofs.Common.{sym, subst}
-use Rattle.apex_types.specs.declared.identity.Ticks.{Ticks}
-use Rattle.lone_partition.specs.Outputs.{next_at}
-use Rattle.module.specs.Standing.{IsNow}
-use Rattle.module.specs.Views.{plan_of, standing_of}
+use Rattle.module.proofs.Prelude.{sym, Ticks, next_at, IsNow, plan_of, standing_of}
+use Rattle.std.proofs.Common.{subst}
 use Rattle.module.proofs.Standing.{ticks_now}
 use Rattle.module.proofs.member.Module.tick.Goals as goal
 
