@@ -1,11 +1,11 @@
 -- If the words of a thing are refused, those before that place begin a thing: some more words
 -- complete it.
-use Rattle.pal_laws.proofs.Prelude.{◌≡◌, ℕ, suc, ◌<◌, Bool, cond, ◌∷◌, ◌++◌, length, Option, Err, ◌∙◌, append_assoc, lt-ltb, Name, Number, ServiceWord, Stray, Each, Reading, ◌>>=◌, each, turned}
-use Rattle.std.proofs.Common.{zero, true, false, List, [], Some, None, Ok, refl, sym, ap, arith}
-use Rattle.pal_meaning.specs.Grammar.{Word, Mark}
-use Rattle.pal_meaning.specs.Grammar.{all_words}
+use Rattle.std.proofs.Common.{◌≡◌, ℕ, zero, suc, ◌<◌, Bool, true, false, cond, List, [], ◌∷◌, ◌++◌, length, Option, Some, None, Ok, Err, refl, sym, ap, ◌∙◌, arith, append_assoc}
+use Rattle.std.proofs.lemmas.Bool.{lt-ltb}
+use Rattle.pal_meaning.specs.Grammar.{Word, Name, Number, ServiceWord, Mark, Stray}
+use Rattle.pal_meaning.specs.Grammar.{all_words, Each}
 use Rattle.engine_meaning.specs.Digits.{same}
-use Rattle.pal_laws.specs.GrammarReading.{Answer, Turn, until, expect, name_at, number_at, repeat_within, repeat}
+use Rattle.pal_laws.specs.GrammarReading.{Answer, Reading, Turn, ◌>>=◌, each, until, expect, name_at, number_at, turned, repeat_within, repeat}
 use Rattle.pal_laws.proofs.Extended.{Extends}
 use Rattle.pal_laws.proofs.Spelled.{TurnSpells}
 use Rattle.pal_laws.proofs.Shaped.{TurnShapes}

@@ -1,11 +1,12 @@
 -- If the words of an expression are refused, those before that place begin one.
-use Rattle.pal_laws.proofs.Prelude.{◌≡◌, ℕ, suc, ◌-◌, ◌≤◌, Bool, cond, nat_eq, inl, ◌∷◌, ◌++◌, length, Err, ◌∙◌, codes, ◌⊎◌, BinaryOperator, Name, Number, Rank, operator_mark, links_words, rank_of, looseness, IsExpr, IsFew, AreArguments, Each, Reading, ◌>>=◌, operator_at, operators_of, links_of, chain_of, exprs_of}
-use Rattle.std.proofs.Common.{zero, true, false, inr, List, [], Some, Ok, refl, sym, ap, subst, arith}
+use Rattle.std.proofs.Common.{◌≡◌, ℕ, zero, suc, ◌-◌, ◌≤◌, Bool, true, false, cond, nat_eq, inl, inr, List, [], ◌∷◌, ◌++◌, length, Some, Ok, Err, refl, sym, ap, ◌∙◌, subst, arith}
+use Rattle.std.specs.Prelude.{codes, ◌⊎◌}
+use Rattle.apex_types.specs.declared.instruction.BinaryOperator.{BinaryOperator}
 use Rattle.apex_types.specs.declared.instruction.UnaryOperator.TheVariants as unary
-use Rattle.pal_meaning.specs.Grammar.{Word, Mark, Disjunction, Conjunction, Comparison, Sum, Product}
-use Rattle.pal_meaning.specs.Grammar.{all_words, expr_words}
+use Rattle.pal_meaning.specs.Grammar.{Word, Name, Number, Mark, Rank, Disjunction, Conjunction, Comparison, Sum, Product}
+use Rattle.pal_meaning.specs.Grammar.{all_words, operator_mark, expr_words, links_words, rank_of, looseness, IsExpr, IsFew, AreArguments, Each}
 use Rattle.pal_meaning.specs.Syntax as tree
-use Rattle.pal_laws.specs.GrammarReading.{Answer, no_level, expect, name_at, number_at, repeat, link_at, links_at, chain_with, products_with, sums_with, comparisons_with, conjunctions_with, operand_with, ranked, arguments_with, named_with, unary_with, unary_at, expr_at, nested_at, arguments_at}
+use Rattle.pal_laws.specs.GrammarReading.{Answer, Reading, no_level, ◌>>=◌, expect, name_at, number_at, repeat, operator_at, operators_of, links_of, chain_of, exprs_of, link_at, links_at, chain_with, products_with, sums_with, comparisons_with, conjunctions_with, operand_with, ranked, arguments_with, named_with, unary_with, unary_at, expr_at, nested_at, arguments_at}
 use Rattle.pal_laws.proofs.Extended.{all_extend, expr_extends}
 use Rattle.pal_laws.proofs.Longer.{expr_longer}
 use Rattle.pal_laws.proofs.Spelled.{one_way, Spells, link_words, one_of_spells, link_spells, links_list, chain_list, expect_spells, name_spells, closed_words, next_argument, argument_turn, next_argument_spells, arguments_list, repeat_spells, products_spell, sums_spell, comparisons_spell, conjunctions_spell, unary_at_spells, ranked_spells, expr_spells}

@@ -1,11 +1,12 @@
 -- If the words of a program are refused, those before that place begin one.
-use Rattle.pal_laws.proofs.Prelude.{◌-◌, ◌≡◌, ℕ, ◌∷◌, ◌++◌, length, Option, Err, ◌∙◌, codes, MOST_LEVELS, Name, Number, names_words, discipline_word, first_words, Each, IsHandler, IsProgram, declared, all_read}
-use Rattle.std.proofs.Common.{true, false, List, [], Some, None, refl, sym, ap, subst}
+use Rattle.std.proofs.Common.{◌-◌, ◌≡◌, ℕ, true, false, List, [], ◌∷◌, ◌++◌, length, Option, Some, None, Err, refl, sym, ap, ◌∙◌, subst}
+use Rattle.std.specs.Prelude.{codes}
+use Rattle.apex_types.specs.declared.limits.TheConstants.{MOST_LEVELS}
 use Rattle.apex_types.specs.declared.codes.Discipline.TheVariants as discipline
-use Rattle.pal_meaning.specs.Grammar.{Word, Mark}
-use Rattle.pal_meaning.specs.Grammar.{integer_words, all_words, local_words, body_words, declaration_words, stack_body_words, handler_words, process_words, IsBody}
+use Rattle.pal_meaning.specs.Grammar.{Word, Name, Number, Mark}
+use Rattle.pal_meaning.specs.Grammar.{integer_words, all_words, names_words, local_words, body_words, discipline_word, first_words, declaration_words, stack_body_words, handler_words, process_words, IsBody, Each, IsHandler, IsProgram}
 use Rattle.pal_meaning.specs.Syntax as tree
-use Rattle.pal_laws.specs.GrammarReading.{Answer, expect, name_at, number_at, integer_at, discipline_at, repeat, statements_at, names_at, local_at, locals_at, body_at, first_value_at, variable_at, integers_at, first_values_at, array_at, semaphore_at, event_at, buffer_at, blackboard_at, port_at, parameters_at, procedure_at, declaration_at, declarations_at, stack_body_at, handler_at, process_at, processes_at, program_at}
+use Rattle.pal_laws.specs.GrammarReading.{Answer, expect, name_at, number_at, integer_at, discipline_at, repeat, statements_at, names_at, local_at, locals_at, body_at, declared, first_value_at, variable_at, integers_at, first_values_at, array_at, semaphore_at, event_at, buffer_at, blackboard_at, port_at, parameters_at, procedure_at, declaration_at, declarations_at, stack_body_at, handler_at, process_at, processes_at, all_read, program_at}
 use Rattle.pal_laws.proofs.Extended.{all_extend, names_extend, integer_extends, local_extends, locals_extend, first_extends, declaration_extends, stack_body_extends, handler_extends, process_extends}
 use Rattle.pal_laws.proofs.Longer.{integer_longer, local_longer, declaration_longer, process_longer}
 use Rattle.pal_laws.proofs.Spelled.{one_way, expect_spells, name_spells, number_spells, integer_spells, discipline_spells, names_spells, braced_words, repeat_spells, local_turn, local_spells, locals_spell, first_spells, integer_turn, integer_turn_spells, ended_values, closed_names, parameters_spell, declaration_turn, declaration_turn_spells, declarations_spell, stack_body_spells, handler_spells, process_turn, process_spells, processes_spell}

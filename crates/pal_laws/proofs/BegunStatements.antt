@@ -1,10 +1,11 @@
 -- If the words of a statement or of a block are refused, those before that place begin one.
-use Rattle.pal_laws.proofs.Prelude.{◌≡◌, ℕ, suc, ◌≤◌, nat_eq, inl, ◌∷◌, length, Err, ◌∙◌, codes, ◌⊎◌, Service, Name, Number, ServiceWord, next_name, stmt_words, IsBlock, Each, Reading, ◌>>=◌, either, block_of}
-use Rattle.std.proofs.Common.{zero, inr, List, [], Some, Ok, refl, sym, ap, subst, arith}
-use Rattle.pal_meaning.specs.Grammar.{Word, Mark}
-use Rattle.pal_meaning.specs.Grammar.{all_words, targets_words, expr_words}
+use Rattle.std.proofs.Common.{◌≡◌, ℕ, zero, suc, ◌≤◌, nat_eq, inl, inr, List, [], ◌∷◌, length, Some, Ok, Err, refl, sym, ap, ◌∙◌, subst, arith}
+use Rattle.std.specs.Prelude.{codes, ◌⊎◌}
+use Rattle.apex_types.specs.declared.service.Service.{Service}
+use Rattle.pal_meaning.specs.Grammar.{Word, Name, Number, ServiceWord, Mark}
+use Rattle.pal_meaning.specs.Grammar.{all_words, next_name, targets_words, expr_words, stmt_words, IsBlock, Each}
 use Rattle.pal_meaning.specs.Syntax as tree
-use Rattle.pal_laws.specs.GrammarReading.{expect, name_at, number_at, service_at, repeat, expr_at, nested_at, arguments_at, names_at, targets_at, service_call_at, assignment_at, work_at, return_at, branch_with, while_with, stmt_with, statements_with, block_at, stmt_at, statements_at}
+use Rattle.pal_laws.specs.GrammarReading.{Reading, ◌>>=◌, either, expect, name_at, number_at, service_at, repeat, block_of, expr_at, nested_at, arguments_at, names_at, targets_at, service_call_at, assignment_at, work_at, return_at, branch_with, while_with, stmt_with, statements_with, block_at, stmt_at, statements_at}
 use Rattle.pal_laws.proofs.Extended.{all_extend, next_name_extends, targets_extend, expr_extends, closed_extends, stmt_extends, braced_extends}
 use Rattle.pal_laws.proofs.Longer.{next_name_longer, stmt_longer}
 use Rattle.pal_laws.proofs.ReadSteps.{Any}

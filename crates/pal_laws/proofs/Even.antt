@@ -1,12 +1,13 @@
 -- A reading never asks which name, which number or which service it reads: it goes the same way over the shapes of the
 -- words.
-use Rattle.pal_laws.proofs.Prelude.{◌≡◌, ℕ, suc, Bool, cond, ◌∷◌, length, Option, Err, ◌∙◌, nat_lt, BinaryOperator, Name, Number, ServiceWord, Stray, operator_mark, Reading, ◌>>=◌, either, each, turned}
-use Rattle.std.proofs.Common.{zero, true, false, List, [], map, Some, None, Ok, refl, sym, ap, subst}
+use Rattle.std.proofs.Common.{◌≡◌, ℕ, zero, suc, Bool, true, false, cond, List, [], ◌∷◌, length, map, Option, Some, None, Ok, Err, refl, sym, ap, ◌∙◌, subst}
+use Rattle.std.specs.Prelude.{nat_lt}
 use Rattle.std.proofs.lemmas.List.{length-map}
+use Rattle.apex_types.specs.declared.instruction.BinaryOperator.{BinaryOperator}
 use Rattle.apex_types.specs.declared.service.Service.TheVariants.{GetTime}
 use Rattle.engine_meaning.specs.Digits.{same}
-use Rattle.pal_meaning.specs.Grammar.{Word, Mark}
-use Rattle.pal_laws.specs.GrammarReading.{Answer, Turn, until, expect, name_at, number_at, service_at, one_of, repeat_within, repeat}
+use Rattle.pal_meaning.specs.Grammar.{Word, Name, Number, ServiceWord, Mark, Stray, operator_mark}
+use Rattle.pal_laws.specs.GrammarReading.{Answer, Reading, Turn, ◌>>=◌, either, each, until, expect, name_at, number_at, service_at, one_of, turned, repeat_within, repeat}
 
 -- a word without its difference from others of its kind
 abbrev pub shape : Word → Word

@@ -1,11 +1,14 @@
 -- Each part of a program is read without asking which name, which number or which service is at a place.
-use Rattle.pal_laws.proofs.Prelude.{◌≡◌, ℕ, suc, ◌-◌, nat_eq, ◌∷◌, ◌++◌, ◌++◌, Option, Err, ◌∙◌, codes, MOST_LEVELS, BinaryOperator, Service, Rank, IsWhole, IsBeginning, Reading, ◌>>=◌, either, each, operator_at, operators_of, one_or_none, links_of, all_read}
-use Rattle.std.proofs.Common.{zero, true, false, List, [], Some, None, Ok, refl, sym, ap}
-use Rattle.std.specs.Prelude.{is_ok}
+use Rattle.std.proofs.Common.{◌≡◌, ℕ, zero, suc, ◌-◌, true, false, nat_eq, List, [], ◌∷◌, ◌++◌, ◌++◌, Option, Some, None, Ok, Err, refl, sym, ap, ◌∙◌}
+use Rattle.std.specs.Prelude.{codes, is_ok}
 use Rattle.std.proofs.lemmas.List.{map-append}
-use Rattle.pal_meaning.specs.Grammar.{Word, Disjunction, Conjunction, Comparison, Sum, Product}
+use Rattle.apex_types.specs.declared.limits.TheConstants.{MOST_LEVELS}
+use Rattle.apex_types.specs.declared.instruction.BinaryOperator.{BinaryOperator}
+use Rattle.apex_types.specs.declared.service.Service.{Service}
+use Rattle.pal_meaning.specs.Grammar.{Word, Rank, Disjunction, Conjunction, Comparison, Sum, Product}
+use Rattle.pal_meaning.specs.Beginning.{IsWhole, IsBeginning}
 use Rattle.pal_meaning.specs.Syntax as tree
-use Rattle.pal_laws.specs.GrammarReading.{Answer, no_level, until, expect, name_at, number_at, service_at, integer_at, discipline_at, repeat, link_at, links_at, chain_with, products_with, sums_with, comparisons_with, conjunctions_with, operand_with, ranked, arguments_with, named_with, unary_with, unary_at, expr_at, nested_at, arguments_at, names_at, targets_at, service_call_at, assignment_at, work_at, return_at, branch_with, while_with, stmt_with, statements_with, block_at, stmt_at, statements_at, local_at, locals_at, body_at, first_value_at, variable_at, integers_at, first_values_at, array_at, semaphore_at, event_at, buffer_at, blackboard_at, port_at, parameters_at, procedure_at, declaration_at, declarations_at, stack_body_at, handler_at, process_at, processes_at, program_at}
+use Rattle.pal_laws.specs.GrammarReading.{Answer, Reading, no_level, ◌>>=◌, either, each, until, expect, name_at, number_at, service_at, integer_at, discipline_at, repeat, operator_at, operators_of, link_at, one_or_none, links_of, links_at, chain_with, products_with, sums_with, comparisons_with, conjunctions_with, operand_with, ranked, arguments_with, named_with, unary_with, unary_at, expr_at, nested_at, arguments_at, names_at, targets_at, service_call_at, assignment_at, work_at, return_at, branch_with, while_with, stmt_with, statements_with, block_at, stmt_at, statements_at, local_at, locals_at, body_at, first_value_at, variable_at, integers_at, first_values_at, array_at, semaphore_at, event_at, buffer_at, blackboard_at, port_at, parameters_at, procedure_at, declaration_at, declarations_at, stack_body_at, handler_at, process_at, processes_at, all_read, program_at}
 use Rattle.pal_laws.proofs.BegunStatements.{called_at}
 use Rattle.pal_laws.proofs.ReadPrograms.{written_is_read}
 use Rattle.pal_laws.proofs.Shaped.{program_is_written}

@@ -1,8 +1,8 @@
 -- More words after those that follow a thing also come after its own words.
-use Rattle.pal_laws.proofs.Prelude.{◌≡◌, ℕ, Bool, ◌∷◌, ◌++◌, Option, ◌∙◌, codes, Name, Number, ServiceWord, next_name, names_words, comma, sign_of, operator_mark, links_words, stmt_words, first_words, values_words, kind_words}
-use Rattle.std.proofs.Common.{true, false, List, [], Some, None, refl, ap}
-use Rattle.pal_meaning.specs.Grammar.{Word, Mark}
-use Rattle.pal_meaning.specs.Grammar.{integer_words, all_words, targets_words, expr_words, arguments_words, block_words, local_words, body_words, declaration_words, stack_body_words, handler_words, process_words}
+use Rattle.std.proofs.Common.{◌≡◌, ℕ, Bool, true, false, List, [], ◌∷◌, ◌++◌, Option, Some, None, refl, ap, ◌∙◌}
+use Rattle.std.specs.Prelude.{codes}
+use Rattle.pal_meaning.specs.Grammar.{Word, Name, Number, ServiceWord, Mark}
+use Rattle.pal_meaning.specs.Grammar.{integer_words, all_words, next_name, names_words, targets_words, comma, sign_of, operator_mark, expr_words, links_words, arguments_words, stmt_words, block_words, local_words, body_words, first_words, values_words, kind_words, declaration_words, stack_body_words, handler_words, process_words}
 use Rattle.pal_meaning.specs.Syntax as tree
 
 abbrev pub Extends : {X : Type 0} → (X → List Word → List Word) → Type 0

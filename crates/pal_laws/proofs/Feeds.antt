@@ -1,10 +1,12 @@
 -- Line feeds appear between words, and not within them.
-use Rattle.pal_laws.proofs.Prelude.{◌≡◌, ℕ, suc, ◌+◌, ◌<◌, ◌≤◌, Bool, ◌||◌, ◌∷◌, length, Option, ◌∙◌, cond, nat_eq, find, prefix_len, starts_with, behind, sign_or_stray, signs, is_lower, is_upper, in_name, in_service, is_blank, is_digit}
-use Rattle.std.proofs.Common.{zero, true, false, ◌&&◌, List, [], drop, Some, refl, sym, ap, arith}
+use Rattle.std.proofs.Common.{◌≡◌, ℕ, zero, suc, ◌+◌, ◌<◌, ◌≤◌, Bool, true, false, ◌&&◌, ◌||◌, List, [], ◌∷◌, length, drop, Option, Some, refl, sym, ap, ◌∙◌, arith, cond, nat_eq}
+use Rattle.std.specs.Prelude.{find}
+use Rattle.std.specs.List.{prefix_len, starts_with}
 use Rattle.std.proofs.lemmas.Bool.{eqb-true}
-use Rattle.pal_meaning.specs.Grammar.{Word, behind_blanks, word_at, sign_word}
+use Rattle.pal_meaning.specs.Grammar.{Word, behind_blanks, behind, word_at, sign_word, sign_or_stray, signs, is_lower, is_upper, in_name, in_service, is_blank}
 use Rattle.pal_meaning.specs.Lines.{feeds, from_word}
 use Rattle.pal_laws.proofs.WordsOf.{word_shorter}
+use Rattle.engine_meaning.specs.Digits.{is_digit}
 
 -- where a byte is no line feed
 skipped : (b : ℕ) (bs : List ℕ) → nat_eq b 10 ≡ false → feeds (b ∷ bs) ≡ feeds bs

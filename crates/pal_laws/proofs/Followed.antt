@@ -1,11 +1,12 @@
 -- The words that may follow an expression: none with which it would continue.
-use Rattle.pal_laws.proofs.Prelude.{◌≡◌, ℕ, suc, ◌-◌, ◌<◌, ◌≤◌, ◌∷◌, length, Err, codes, BinaryOperator, operator_at, Rank, operator_mark, rank_of, looseness, links_words, AreLinks}
-use Rattle.std.proofs.Common.{List, Ok, refl, arith, subst, ap}
+use Rattle.std.proofs.Common.{◌≡◌, ℕ, suc, ◌-◌, ◌<◌, ◌≤◌, List, ◌∷◌, length, Ok, Err, refl, arith, subst, ap}
+use Rattle.std.specs.Prelude.{codes}
+use Rattle.apex_types.specs.declared.instruction.BinaryOperator.{BinaryOperator}
 use Rattle.apex_types.specs.declared.instruction.BinaryOperator.TheVariants as binary
 use Rattle.pal_meaning.specs.Grammar.{Word, Mark}
-use Rattle.pal_laws.specs.GrammarReading.{expect, one_of}
-use Rattle.pal_meaning.specs.Grammar.{Disjunction, Conjunction, Comparison, Sum, Product}
-use Rattle.pal_meaning.specs.Grammar.{expr_words}
+use Rattle.pal_laws.specs.GrammarReading.{expect, one_of, operator_at}
+use Rattle.pal_meaning.specs.Grammar.{Rank, Disjunction, Conjunction, Comparison, Sum, Product, operator_mark}
+use Rattle.pal_meaning.specs.Grammar.{rank_of, looseness, expr_words, links_words, AreLinks}
 use Rattle.pal_meaning.specs.Syntax as tree
 
 -- no index, no arguments, and no operator that binds as loosely as this or more tightly

@@ -1,8 +1,9 @@
 -- Reading one level further in.
-use Rattle.pal_laws.proofs.Prelude.{◌≡◌, ℕ, suc, ◌-◌, length, Err, ◌∙◌, cond, Bool, Reading, ◌>>=◌, codes, ◌==◌, eqb-suc-zero}
-use Rattle.std.proofs.Common.{zero, List, refl, sym, ap, arith, false}
+use Rattle.std.proofs.Common.{◌≡◌, ℕ, zero, suc, ◌-◌, List, length, Err, refl, sym, ap, arith, ◌∙◌, cond, Bool, false}
 use Rattle.pal_meaning.specs.Grammar.{Word}
-use Rattle.pal_laws.specs.GrammarReading.{expect, no_level, unary_at, unary_with, unary_read, expr_at, deeper_at, nested_at, arguments_at, arguments_with, block_at, block_read, statements_at, statements_with, stmt_at, stmt_with}
+use Rattle.pal_laws.specs.GrammarReading.{Reading, ◌>>=◌, expect, no_level, unary_at, unary_with, unary_read, expr_at, deeper_at, nested_at, arguments_at, arguments_with, block_at, block_read, statements_at, statements_with, stmt_at, stmt_with}
+use Rattle.std.specs.Prelude.{codes, ◌==◌}
+use Rattle.std.proofs.Math.Dec.{eqb-suc-zero}
 use Rattle.pal_meaning.specs.Syntax as tree
 
 one_less : (k : ℕ) → k ≡ suc k - 1

@@ -1,4 +1,3 @@
-pub mod Prelude
 pub mod Levels
 pub mod Repeats
 pub mod WordsOf

@@ -1,8 +1,8 @@
 -- A thing is written with at least one word, before those that follow it.
-use Rattle.pal_laws.proofs.Prelude.{ℕ, ◌<◌, ◌≤◌, Bool, ◌∷◌, length, Option, codes, Number, next_name, names_words, comma, links_words, stmt_words, first_words, values_words, kind_words}
-use Rattle.std.proofs.Common.{true, false, List, [], Some, None, arith}
-use Rattle.pal_meaning.specs.Grammar.{Word, Mark}
-use Rattle.pal_meaning.specs.Grammar.{integer_words, all_words, targets_words, expr_words, arguments_words, block_words, local_words, body_words, declaration_words, process_words}
+use Rattle.std.proofs.Common.{ℕ, ◌<◌, ◌≤◌, Bool, true, false, List, [], ◌∷◌, length, Option, Some, None, arith}
+use Rattle.std.specs.Prelude.{codes}
+use Rattle.pal_meaning.specs.Grammar.{Word, Number, Mark}
+use Rattle.pal_meaning.specs.Grammar.{integer_words, all_words, next_name, names_words, targets_words, comma, expr_words, links_words, arguments_words, stmt_words, block_words, local_words, body_words, first_words, values_words, kind_words, declaration_words, process_words}
 use Rattle.pal_meaning.specs.Syntax as tree
 
 abbrev pub Longer : {X : Type 0} → (X → List Word → List Word) → Type 0

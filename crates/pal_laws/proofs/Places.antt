@@ -1,9 +1,8 @@
 -- If reading refuses a word, the words leave the grammar there.
-use Rattle.pal_laws.proofs.Prelude.{◌≡◌, ℕ, suc, ◌+◌, ◌-◌, ◌<◌, ◌≤◌, ◌∷◌, ◌++◌, length, length-append, append_assoc, Err, ◌∙◌, IsProgram, IsWhole, IsBeginning}
-use Rattle.std.proofs.Common.{List, [], take, Ok, refl, sym, ap, subst, arith}
+use Rattle.std.proofs.Common.{◌≡◌, ℕ, suc, ◌+◌, ◌-◌, ◌<◌, ◌≤◌, List, [], ◌∷◌, ◌++◌, length, length-append, append_assoc, take, Ok, Err, refl, sym, ap, ◌∙◌, subst, arith}
 use Rattle.std.proofs.lemmas.List.{take_at}
-use Rattle.pal_meaning.specs.Grammar.{Word, program_words}
-use Rattle.pal_meaning.specs.Beginning.{LeavesAt}
+use Rattle.pal_meaning.specs.Grammar.{Word, program_words, IsProgram}
+use Rattle.pal_meaning.specs.Beginning.{IsWhole, IsBeginning, LeavesAt}
 use Rattle.pal_meaning.specs.Syntax as tree
 use Rattle.pal_laws.specs.GrammarReading.{program_at}
 use Rattle.pal_laws.proofs.Begun.{Begun}

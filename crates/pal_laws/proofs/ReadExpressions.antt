@@ -1,13 +1,15 @@
 -- A written expression is read, if it would not continue with the words that follow.
-use Rattle.pal_laws.proofs.Prelude.{◌≡◌, ℕ, suc, ◌-◌, ◌≤◌, inl, cond, ◌∷◌, length, Option, Err, ◌∙◌, codes, ◌==◌, eqb-suc-zero, BinaryOperator, Name, Number, Reading, ◌>>=◌, each, operator_at, links_of, chain_of, exprs_of, Rank, operator_mark, sign_of, links_words, rank_of, looseness, IsFew, IsExpr, AreLinks, AreArguments}
-use Rattle.std.proofs.Common.{zero, inr, true, false, List, [], Some, None, Ok, refl, arith, subst, ap}
+use Rattle.std.proofs.Common.{◌≡◌, ℕ, zero, suc, ◌-◌, ◌≤◌, inl, inr, true, false, cond, List, [], ◌∷◌, length, Option, Some, None, Ok, Err, refl, arith, subst, ap, ◌∙◌}
+use Rattle.std.specs.Prelude.{codes, ◌==◌}
 use Rattle.std.proofs.Math.Nat.{eq-or-lt_of_le}
+use Rattle.std.proofs.Math.Dec.{eqb-suc-zero}
+use Rattle.apex_types.specs.declared.instruction.BinaryOperator.{BinaryOperator}
 use Rattle.apex_types.specs.declared.instruction.UnaryOperator.{UnaryOperator}
 use Rattle.apex_types.specs.declared.instruction.UnaryOperator.TheVariants as unary
-use Rattle.pal_meaning.specs.Grammar.{Word, Mark}
-use Rattle.pal_laws.specs.GrammarReading.{Answer, Turn, no_level, expect, name_at, number_at, repeat, link_at, links_at, chain_with, products_with, sums_with, comparisons_with, conjunctions_with, operand_with, ranked, arguments_with, named_with, unary_with, unary_at, expr_at, deeper_at, nested_at, arguments_at, unary_read}
-use Rattle.pal_meaning.specs.Grammar.{Disjunction, Conjunction, Comparison, Sum, Product}
-use Rattle.pal_meaning.specs.Grammar.{expr_words, arguments_words, HasLink}
+use Rattle.pal_meaning.specs.Grammar.{Word, Name, Number, Mark}
+use Rattle.pal_laws.specs.GrammarReading.{Answer, Reading, Turn, no_level, ◌>>=◌, each, expect, name_at, number_at, repeat, operator_at, links_of, chain_of, exprs_of, link_at, links_at, chain_with, products_with, sums_with, comparisons_with, conjunctions_with, operand_with, ranked, arguments_with, named_with, unary_with, unary_at, expr_at, deeper_at, nested_at, arguments_at, unary_read}
+use Rattle.pal_meaning.specs.Grammar.{Rank, Disjunction, Conjunction, Comparison, Sum, Product, operator_mark}
+use Rattle.pal_meaning.specs.Grammar.{sign_of, expr_words, links_words, arguments_words, rank_of, looseness, HasLink, IsFew, IsExpr, AreLinks, AreArguments}
 use Rattle.pal_meaning.specs.Syntax as tree
 use Rattle.pal_laws.proofs.Repeats.{repeat_ends}
 use Rattle.pal_laws.proofs.Levels.{unary_is}

@@ -1,10 +1,12 @@
 -- A program that is written is read as it.
-use Rattle.pal_laws.proofs.Prelude.{◌-◌, ◌≡◌, ℕ, Bool, ◌∷◌, length, Option, Err, ◌∙◌, codes, MOST_LEVELS, Discipline, Name, Number, ◌>>=◌, each, declared, names_words, discipline_word, first_words, values_words, kind_words, IsKind, Each, IsHandler, IsProgram, IsWritten}
-use Rattle.std.proofs.Common.{true, false, List, [], Some, None, Ok, refl, sym, ap}
+use Rattle.std.proofs.Common.{◌-◌, ◌≡◌, ℕ, Bool, true, false, List, [], ◌∷◌, length, Option, Some, None, Ok, Err, refl, sym, ap, ◌∙◌}
+use Rattle.std.specs.Prelude.{codes}
+use Rattle.apex_types.specs.declared.limits.TheConstants.{MOST_LEVELS}
+use Rattle.apex_types.specs.declared.codes.Discipline.{Discipline}
 use Rattle.apex_types.specs.declared.codes.Discipline.TheVariants as discipline
-use Rattle.pal_meaning.specs.Grammar.{Word, Mark}
-use Rattle.pal_laws.specs.GrammarReading.{Answer, Turn, until, expect, name_at, number_at, integer_at, discipline_at, repeat, names_at, statements_at, local_at, locals_at, body_at, first_value_at, variable_at, integers_at, first_values_at, array_at, semaphore_at, event_at, buffer_at, blackboard_at, port_at, parameters_at, procedure_at, declaration_at, declarations_at, stack_body_at, handler_at, process_at, processes_at, program_at}
-use Rattle.pal_meaning.specs.Grammar.{integer_words, all_words, block_words, local_words, body_words, declaration_words, stack_body_words, handler_words, process_words, program_words, IsBody}
+use Rattle.pal_meaning.specs.Grammar.{Word, Name, Number, Mark}
+use Rattle.pal_laws.specs.GrammarReading.{Answer, Turn, ◌>>=◌, each, until, expect, name_at, number_at, integer_at, discipline_at, repeat, names_at, statements_at, local_at, locals_at, body_at, declared, first_value_at, variable_at, integers_at, first_values_at, array_at, semaphore_at, event_at, buffer_at, blackboard_at, port_at, parameters_at, procedure_at, declaration_at, declarations_at, stack_body_at, handler_at, process_at, processes_at, program_at}
+use Rattle.pal_meaning.specs.Grammar.{integer_words, all_words, names_words, block_words, local_words, body_words, discipline_word, first_words, values_words, kind_words, declaration_words, stack_body_words, handler_words, process_words, program_words, IsBody, IsKind, Each, IsHandler, IsProgram, IsWritten}
 use Rattle.pal_meaning.specs.Syntax as tree
 use Rattle.pal_laws.proofs.Longer.{integer_longer, local_longer, declaration_longer, process_longer}
 use Rattle.pal_laws.proofs.ReadSteps.{then_reads, other_way, repeat_reads, Any, any_all}

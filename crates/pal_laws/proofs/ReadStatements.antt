@@ -1,10 +1,11 @@
 -- A statement that is written is read, and so is a block.
-use Rattle.pal_laws.proofs.Prelude.{◌≡◌, ℕ, suc, ◌-◌, ◌≤◌, cond, ◌∷◌, length, Option, Err, ◌∙◌, codes, ◌==◌, Service, ◌>>=◌, each, block_of, next_name, names_words, stmt_words, IsExpr, IsStmt, IsBlock}
-use Rattle.std.proofs.Common.{true, false, List, [], Some, None, Ok, refl, ap}
+use Rattle.std.proofs.Common.{◌≡◌, ℕ, suc, ◌-◌, ◌≤◌, true, false, cond, List, [], ◌∷◌, length, Option, Some, None, Ok, Err, refl, ap, ◌∙◌}
+use Rattle.std.specs.Prelude.{codes, ◌==◌}
+use Rattle.apex_types.specs.declared.service.Service.{Service}
 use Rattle.pal_meaning.specs.Grammar.{Word, Mark}
 use Rattle.engine_meaning.specs.Digits.{same}
-use Rattle.pal_laws.specs.GrammarReading.{Answer, Turn, until, expect, name_at, number_at, service_at, repeat, expr_at, nested_at, arguments_at, names_at, targets_at, service_call_at, assignment_at, work_at, return_at, branch_with, while_with, stmt_with, statements_with, block_at, stmt_at, statements_at, block_read}
-use Rattle.pal_meaning.specs.Grammar.{all_words, targets_words, expr_words, arguments_words, block_words}
+use Rattle.pal_laws.specs.GrammarReading.{Answer, Turn, ◌>>=◌, each, until, expect, name_at, number_at, service_at, repeat, block_of, expr_at, nested_at, arguments_at, names_at, targets_at, service_call_at, assignment_at, work_at, return_at, branch_with, while_with, stmt_with, statements_with, block_at, stmt_at, statements_at, block_read}
+use Rattle.pal_meaning.specs.Grammar.{all_words, next_name, names_words, targets_words, expr_words, arguments_words, stmt_words, block_words, IsExpr, IsStmt, IsBlock}
 use Rattle.pal_meaning.specs.Syntax as tree
 use Rattle.pal_laws.proofs.Repeats.{repeat_ends}
 use Rattle.pal_laws.proofs.Levels.{block_is}

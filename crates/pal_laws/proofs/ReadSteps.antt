@@ -1,9 +1,8 @@
 -- How a reading continues, step by step, where each part is read.
-use Rattle.pal_laws.proofs.Prelude.{◌≡◌, ℕ, ◌<◌, ◌∷◌, length, Err, ◌∙◌, ◌>>=◌, either, Each}
-use Rattle.std.proofs.Common.{List, [], Some, None, Ok, ap}
+use Rattle.std.proofs.Common.{◌≡◌, ℕ, ◌<◌, List, [], ◌∷◌, length, Some, None, Ok, Err, ap, ◌∙◌}
 use Rattle.pal_meaning.specs.Grammar.{Word}
-use Rattle.pal_laws.specs.GrammarReading.{Answer, Turn, repeat}
-use Rattle.pal_meaning.specs.Grammar.{all_words}
+use Rattle.pal_laws.specs.GrammarReading.{Answer, Turn, ◌>>=◌, either, repeat}
+use Rattle.pal_meaning.specs.Grammar.{all_words, Each}
 use Rattle.pal_laws.proofs.Repeats.{repeat_ends, repeat_goes_on}
 
 -- a reading at the front, then a reading after it

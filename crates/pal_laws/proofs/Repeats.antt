@@ -1,8 +1,9 @@
 -- How a repetition continues, whatever bounded it.
-use Rattle.pal_laws.proofs.Prelude.{◌≡◌, ℕ, suc, ◌<◌, Bool, ◌∷◌, ◌++◌, length, Option, Err, ◌∙◌, cond, nat_lt, ltb-true, lt-ltb, Reading, turned, ◌>>=◌}
-use Rattle.std.proofs.Common.{zero, true, false, List, [], Some, None, Ok, refl, ap, arith}
+use Rattle.std.proofs.Common.{◌≡◌, ℕ, zero, suc, ◌<◌, Bool, true, false, List, [], ◌∷◌, ◌++◌, length, Option, Some, None, Ok, Err, refl, ◌∙◌, ap, arith, cond}
+use Rattle.std.specs.Prelude.{nat_lt}
+use Rattle.std.proofs.lemmas.Bool.{ltb-true, lt-ltb}
 use Rattle.pal_meaning.specs.Grammar.{Word}
-use Rattle.pal_laws.specs.GrammarReading.{Answer, Turn, repeat, repeat_within}
+use Rattle.pal_laws.specs.GrammarReading.{Reading, Answer, Turn, repeat, repeat_within, turned, ◌>>=◌}
 
 guarded : {A : Type 0} (b : Bool) (p q none : A) → (b ≡ true → p ≡ q) → cond b p none ≡ cond b q none
 guarded true p q none h = h refl

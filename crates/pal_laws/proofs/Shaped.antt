@@ -1,12 +1,15 @@
 -- An expression that is read has its operators in the order of their ranks, and opens no more
 -- levels than it may.
-use Rattle.pal_laws.proofs.Prelude.{◌≡◌, ◌≤◌, ℕ, suc, ◌-◌, Bool, cond, nat_eq, ◌∷◌, length, Option, Err, codes, nat_lt, MOST_LEVELS, BinaryOperator, Service, Reading, ◌>>=◌, each, declared, turned, operators_of, links_of, chain_of, exprs_of, block_of, one_or_none, all_read, Rank, rank_of, looseness, IsFew, IsExpr, AreLinks, AreArguments, IsStmt, IsBlock, IsKind, Each, IsHandler, IsProgram, IsWritten}
-use Rattle.std.proofs.Common.{zero, true, false, List, [], Some, None, Ok, refl, arith, subst}
+use Rattle.std.proofs.Common.{◌≡◌, ◌≤◌, ℕ, zero, suc, ◌-◌, Bool, true, false, cond, nat_eq, List, [], ◌∷◌, length, Option, Some, None, Ok, Err, refl, arith, subst}
+use Rattle.std.specs.Prelude.{codes, nat_lt}
+use Rattle.apex_types.specs.declared.limits.TheConstants.{MOST_LEVELS}
+use Rattle.apex_types.specs.declared.instruction.BinaryOperator.{BinaryOperator}
 use Rattle.apex_types.specs.declared.instruction.UnaryOperator.TheVariants as unary
+use Rattle.apex_types.specs.declared.service.Service.{Service}
 use Rattle.pal_meaning.specs.Grammar.{Word}
-use Rattle.pal_laws.specs.GrammarReading.{Answer, Turn, no_level, until, expect, name_at, number_at, service_at, discipline_at, targets_at, locals_at, first_value_at, first_values_at, parameters_at, integer_at, repeat_within, repeat, one_of, link_at, links_at, chain_with, products_with, sums_with, comparisons_with, conjunctions_with, operand_with, ranked, arguments_with, named_with, unary_with, unary_at, expr_at, nested_at, arguments_at, service_call_at, assignment_at, work_at, return_at, branch_with, while_with, stmt_with, statements_with, block_at, stmt_at, statements_at, body_at, variable_at, array_at, semaphore_at, event_at, buffer_at, blackboard_at, port_at, procedure_at, declaration_at, declarations_at, stack_body_at, handler_at, process_at, processes_at, program_at}
-use Rattle.pal_meaning.specs.Grammar.{Disjunction, Conjunction, Comparison, Sum, Product}
-use Rattle.pal_meaning.specs.Grammar.{IsBody}
+use Rattle.pal_laws.specs.GrammarReading.{Answer, Reading, Turn, no_level, ◌>>=◌, each, until, expect, name_at, number_at, service_at, discipline_at, targets_at, locals_at, first_value_at, first_values_at, parameters_at, declared, integer_at, turned, repeat_within, repeat, operators_of, one_of, links_of, chain_of, exprs_of, block_of, link_at, one_or_none, links_at, chain_with, products_with, sums_with, comparisons_with, conjunctions_with, operand_with, ranked, arguments_with, named_with, unary_with, unary_at, expr_at, nested_at, arguments_at, service_call_at, assignment_at, work_at, return_at, branch_with, while_with, stmt_with, statements_with, block_at, stmt_at, statements_at, body_at, variable_at, array_at, semaphore_at, event_at, buffer_at, blackboard_at, port_at, procedure_at, declaration_at, declarations_at, stack_body_at, handler_at, process_at, processes_at, all_read, program_at}
+use Rattle.pal_meaning.specs.Grammar.{Rank, Disjunction, Conjunction, Comparison, Sum, Product}
+use Rattle.pal_meaning.specs.Grammar.{rank_of, looseness, IsFew, IsExpr, AreLinks, AreArguments, IsStmt, IsBlock, IsBody, IsKind, Each, IsHandler, IsProgram, IsWritten}
 use Rattle.pal_meaning.specs.Syntax as tree
 use Rattle.pal_laws.proofs.Spelled.{found, nothing, and_then, one_way, each_some, until_some, passed, allowed, program_spells}
 

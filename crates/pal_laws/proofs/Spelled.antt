@@ -1,14 +1,18 @@
 -- Words that are read are the words of the tree that is found, followed by the words that are left.
-use Rattle.pal_laws.proofs.Prelude.{◌≡◌, ℕ, suc, ◌-◌, Bool, cond, nat_eq, ◌∷◌, length, Option, Err, ◌∙◌, codes, nat_lt, MOST_LEVELS, BinaryOperator, Discipline, Service, Name, Number, ServiceWord, Stray, Reading, ◌>>=◌, either, each, turned, links_of, chain_of, exprs_of, block_of, one_or_none, declared, all_read, Rank, operator_mark, next_name, names_words, links_words, stmt_words, discipline_word, first_words, values_words}
-use Rattle.std.proofs.Common.{zero, true, false, List, [], Some, None, Ok, refl, sym, ap}
+use Rattle.std.proofs.Common.{◌≡◌, ℕ, zero, suc, ◌-◌, Bool, true, false, cond, nat_eq, List, [], ◌∷◌, length, Option, Some, None, Ok, Err, refl, sym, ◌∙◌, ap}
+use Rattle.std.specs.Prelude.{codes, nat_lt}
 use Rattle.std.specs.Cmp.Lexicographic.{same_text}
+use Rattle.apex_types.specs.declared.limits.TheConstants.{MOST_LEVELS}
+use Rattle.apex_types.specs.declared.instruction.BinaryOperator.{BinaryOperator}
 use Rattle.apex_types.specs.declared.instruction.UnaryOperator.TheVariants as unary
+use Rattle.apex_types.specs.declared.codes.Discipline.{Discipline}
 use Rattle.apex_types.specs.declared.codes.Discipline.TheVariants as discipline
-use Rattle.pal_meaning.specs.Grammar.{Word, Mark}
+use Rattle.apex_types.specs.declared.service.Service.{Service}
+use Rattle.pal_meaning.specs.Grammar.{Word, Name, Number, ServiceWord, Mark, Stray}
 use Rattle.engine_meaning.specs.Digits.{same}
-use Rattle.pal_laws.specs.GrammarReading.{Answer, Turn, no_level, until, expect, name_at, number_at, service_at, integer_at, discipline_at, repeat_within, repeat, one_of, link_at, links_at, chain_with, products_with, sums_with, comparisons_with, conjunctions_with, operand_with, ranked, arguments_with, named_with, unary_with, unary_at, expr_at, nested_at, arguments_at, names_at, targets_at, service_call_at, assignment_at, work_at, return_at, branch_with, while_with, stmt_with, statements_with, block_at, stmt_at, statements_at, local_at, locals_at, body_at, first_value_at, variable_at, integers_at, first_values_at, array_at, semaphore_at, event_at, buffer_at, blackboard_at, port_at, parameters_at, procedure_at, declaration_at, declarations_at, stack_body_at, handler_at, process_at, processes_at, program_at}
-use Rattle.pal_meaning.specs.Grammar.{Disjunction, Conjunction, Comparison, Sum, Product}
-use Rattle.pal_meaning.specs.Grammar.{integer_words, all_words, targets_words, expr_words, arguments_words, block_words, local_words, body_words, declaration_words, stack_body_words, handler_words, process_words, program_words}
+use Rattle.pal_laws.specs.GrammarReading.{Answer, Reading, Turn, no_level, ◌>>=◌, either, each, until, expect, name_at, number_at, service_at, integer_at, discipline_at, turned, repeat_within, repeat, one_of, links_of, chain_of, exprs_of, block_of, link_at, one_or_none, links_at, chain_with, products_with, sums_with, comparisons_with, conjunctions_with, operand_with, ranked, arguments_with, named_with, unary_with, unary_at, expr_at, nested_at, arguments_at, names_at, targets_at, service_call_at, assignment_at, work_at, return_at, branch_with, while_with, stmt_with, statements_with, block_at, stmt_at, statements_at, local_at, locals_at, body_at, declared, first_value_at, variable_at, integers_at, first_values_at, array_at, semaphore_at, event_at, buffer_at, blackboard_at, port_at, parameters_at, procedure_at, declaration_at, declarations_at, stack_body_at, handler_at, process_at, processes_at, all_read, program_at}
+use Rattle.pal_meaning.specs.Grammar.{Rank, Disjunction, Conjunction, Comparison, Sum, Product, operator_mark}
+use Rattle.pal_meaning.specs.Grammar.{integer_words, all_words, next_name, names_words, targets_words, expr_words, links_words, arguments_words, stmt_words, block_words, local_words, body_words, discipline_word, first_words, values_words, declaration_words, stack_body_words, handler_words, process_words, program_words}
 use Rattle.pal_meaning.specs.Syntax as tree
 
 abbrev pub Spells : (X : Type 0) → (X → List Word → List Word) → Reading X → Type 0

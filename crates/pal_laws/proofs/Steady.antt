@@ -1,10 +1,12 @@
 -- A reading looks at no word after the one where it stops: what it returns there does not change with the words that
 -- follow.
-use Rattle.pal_laws.proofs.Prelude.{◌≡◌, ℕ, suc, ◌+◌, ◌<◌, ◌≤◌, Bool, cond, inl, ◌∷◌, ◌++◌, length, length-append, Option, Err, ◌∙◌, nat_lt, ◌⊎◌, lt-ltb, ltb-true, BinaryOperator, Name, Number, ServiceWord, Stray, Rank, operator_mark, Reading, ◌>>=◌, either, each, operators_of, operator_at, turned}
-use Rattle.std.proofs.Common.{zero, true, false, inr, List, [], Some, None, Ok, refl, sym, ap, subst, arith}
-use Rattle.pal_meaning.specs.Grammar.{Word, Mark}
+use Rattle.std.proofs.Common.{◌≡◌, ℕ, zero, suc, ◌+◌, ◌<◌, ◌≤◌, Bool, true, false, cond, inl, inr, List, [], ◌∷◌, ◌++◌, length, length-append, Option, Some, None, Ok, Err, refl, sym, ap, ◌∙◌, subst, arith}
+use Rattle.std.specs.Prelude.{nat_lt, ◌⊎◌}
+use Rattle.std.proofs.lemmas.Bool.{lt-ltb, ltb-true}
+use Rattle.apex_types.specs.declared.instruction.BinaryOperator.{BinaryOperator}
+use Rattle.pal_meaning.specs.Grammar.{Word, Name, Number, ServiceWord, Mark, Stray, Rank, operator_mark}
 use Rattle.engine_meaning.specs.Digits.{same}
-use Rattle.pal_laws.specs.GrammarReading.{Answer, Turn, until, expect, name_at, number_at, service_at, one_of, repeat_within, repeat}
+use Rattle.pal_laws.specs.GrammarReading.{Answer, Reading, Turn, ◌>>=◌, either, each, until, expect, name_at, number_at, service_at, one_of, operators_of, operator_at, turned, repeat_within, repeat}
 use Rattle.pal_laws.proofs.Begun.{left_is}
 
 -- at most `n` words are left

@@ -1,9 +1,12 @@
 -- Each part of a program is read without looking at a word after the one where the reading stops.
-use Rattle.pal_laws.proofs.Prelude.{◌≡◌, ℕ, suc, ◌-◌, nat_eq, ◌∷◌, ◌++◌, length, Option, Err, ◌∙◌, ◌+◌, ◌<◌, ◌≤◌, codes, MOST_LEVELS, Service, Rank, Reading, ◌>>=◌, either, operator_at, one_or_none, links_of, all_read, BinaryOperator}
-use Rattle.std.proofs.Common.{zero, List, [], Some, None, Ok, refl, sym, ap, arith}
-use Rattle.pal_meaning.specs.Grammar.{Word, Disjunction, Conjunction, Comparison, Sum, Product}
+use Rattle.std.proofs.Common.{◌≡◌, ℕ, zero, suc, ◌-◌, nat_eq, List, [], ◌∷◌, ◌++◌, length, Option, Some, None, Ok, Err, refl, sym, ap, ◌∙◌, ◌+◌, ◌<◌, ◌≤◌, arith}
+use Rattle.std.specs.Prelude.{codes}
+use Rattle.apex_types.specs.declared.limits.TheConstants.{MOST_LEVELS}
+use Rattle.apex_types.specs.declared.service.Service.{Service}
+use Rattle.pal_meaning.specs.Grammar.{Word, Rank, Disjunction, Conjunction, Comparison, Sum, Product}
 use Rattle.pal_meaning.specs.Syntax as tree
-use Rattle.pal_laws.specs.GrammarReading.{Answer, no_level, expect, name_at, number_at, service_at, integer_at, discipline_at, repeat, link_at, links_at, chain_with, products_with, sums_with, comparisons_with, conjunctions_with, operand_with, ranked, arguments_with, named_with, unary_with, unary_at, expr_at, nested_at, arguments_at, names_at, targets_at, service_call_at, assignment_at, work_at, return_at, branch_with, while_with, stmt_with, statements_with, block_at, stmt_at, statements_at, local_at, locals_at, body_at, first_value_at, variable_at, integers_at, first_values_at, array_at, semaphore_at, event_at, buffer_at, blackboard_at, port_at, parameters_at, procedure_at, declaration_at, declarations_at, stack_body_at, handler_at, process_at, processes_at, program_at}
+use Rattle.pal_laws.specs.GrammarReading.{Answer, Reading, no_level, ◌>>=◌, either, expect, name_at, number_at, service_at, integer_at, discipline_at, repeat, operator_at, link_at, one_or_none, links_of, links_at, chain_with, products_with, sums_with, comparisons_with, conjunctions_with, operand_with, ranked, arguments_with, named_with, unary_with, unary_at, expr_at, nested_at, arguments_at, names_at, targets_at, service_call_at, assignment_at, work_at, return_at, branch_with, while_with, stmt_with, statements_with, block_at, stmt_at, statements_at, local_at, locals_at, body_at, first_value_at, variable_at, integers_at, first_values_at, array_at, semaphore_at, event_at, buffer_at, blackboard_at, port_at, parameters_at, procedure_at, declaration_at, declarations_at, stack_body_at, handler_at, process_at, processes_at, all_read, program_at}
+use Rattle.apex_types.specs.declared.instruction.BinaryOperator.{BinaryOperator}
 use Rattle.pal_laws.proofs.Begun.{left_is}
 use Rattle.pal_laws.proofs.BegunStatements.{called_at}
 use Rattle.pal_laws.proofs.Steady.{Steady, SteadyBehind, TurnSteady, steady_more, then_steady, ok_steady, mark_or, mark_then, one_or, one_steady, name_peeks, number_peeks, service_peeks, operator_peeks, level_steady, left_steady, blocked_steady, steady_same, viewed, Within, StaysFound, StaysRefused, Stays, statement_steady, each_steady, one_each_steady, until_steady, repeat_steady}

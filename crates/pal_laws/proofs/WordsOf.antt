@@ -1,7 +1,9 @@
 -- The words of a text, one after another: each step leaves fewer bytes.
-use Rattle.pal_laws.proofs.Prelude.{◌≡◌, ℕ, suc, ◌+◌, ◌<◌, ◌≤◌, Bool, ◌||◌, ◌∷◌, length, Option, cond, nat_eq, find, prefix_len, starts_with, behind, sign_or_stray, signs, is_lower, is_upper, in_name, in_service, is_blank, is_digit}
-use Rattle.std.proofs.Common.{zero, true, false, List, [], Some, refl, ap, arith, length-drop, lit<}
-use Rattle.pal_meaning.specs.Grammar.{Word, behind_blanks, word_at, words_within, words_from, sign_word}
+use Rattle.std.proofs.Common.{◌≡◌, ℕ, zero, suc, ◌+◌, ◌<◌, ◌≤◌, Bool, true, false, ◌||◌, List, [], ◌∷◌, length, Option, Some, refl, ap, arith, cond, nat_eq, length-drop, lit<}
+use Rattle.std.specs.Prelude.{find}
+use Rattle.std.specs.List.{prefix_len, starts_with}
+use Rattle.pal_meaning.specs.Grammar.{Word, behind_blanks, behind, word_at, words_within, words_from, sign_word, sign_or_stray, signs, is_lower, is_upper, in_name, in_service, is_blank}
+use Rattle.engine_meaning.specs.Digits.{is_digit}
 
 either_short : (b : Bool) (xs ys : List ℕ) (n : ℕ) → length xs ≤ n → length ys ≤ n → length (cond b xs ys) ≤ n
 either_short true xs ys n h k = h
@@ -28,6 +30,10 @@ run_shorter p b bs h =
 HasBytes : List (List ℕ) → Type 0
 HasBytes [] = Unit {0}
 HasBytes (s ∷ ss) = (0 < length s) × HasBytes ss
+
+chosen_short : (t : Bool) (x y : Word × List ℕ) (n : ℕ) → length x.1 ≤ n → length y.1 ≤ n → length (cond t x y).1 ≤ n
+chosen_short true x y n h k = h
+chosen_short false x y n h k = k
 
 picked_short : (t : Bool) (s : List ℕ) (o : Option (List ℕ)) (b : ℕ) (bs : List ℕ) → length (sign_or_stray (Some s) b bs).1 ≤ length bs → length (sign_or_stray o b bs).1 ≤ length bs → length (sign_or_stray (cond t (Some s) o) b bs).1 ≤ length bs
 picked_short true s o b bs h k = h

@@ -1,5 +1,5 @@
 use Rattle.std.proofs.Common.{refl}
-use Rattle.pal_laws.proofs.Prelude.{Name, Number, ServiceWord}
+use Rattle.pal_meaning.specs.Grammar.{Name, Number, ServiceWord}
 use Rattle.pal_laws.proofs.EvenReadings.{alike_begins}
 use Rattle.pal_laws.proofs.grammar.words_of_a_kind_are_alike.Goals as goal
 
