@@ -1,10 +1,17 @@
 -- An accepted table with lawful sections is a lawful image.
-use Rattle.machine_laws.proofs.Prelude.{◌≡◌, ℕ, ◌+◌, ◌≤◌, true, false, List, ◌∷◌, length, map, Ok, sym, list_any, AllByRecursion, or_from, le-ltb, third_limits, WindowRow, Members, Table, Partition, Item, TableText, has_odd_period, has_short_period, lacks_release, has_wrong_ends, is_wrong_window, has_wrong_window, has_unknown_port, IsSection, IsLawful}
-use Rattle.std.proofs.Common.{[], refl, subst}
-use Rattle.std.specs.List.{All}
-use Rattle.std.proofs.lemmas.Bool.{and_from, not_from_false}
-use Rattle.module_meaning.specs.ImageRules.{keeps_rules}
+use Rattle.std.proofs.Common.{◌≡◌, ℕ, ◌+◌, ◌≤◌, true, false, List, [], ◌∷◌, length, map, Ok, refl, sym, subst}
+use Rattle.std.specs.List.{list_any, AllByRecursion, All}
+use Rattle.std.proofs.lemmas.Bool.{and_from, or_from, not_from_false, le-ltb}
+use Rattle.apex_types.specs.Versions.{third_limits}
+use Rattle.apex_types.specs.declared.row.WindowRow.{WindowRow}
+use Rattle.toml.specs.Data.{Members}
+use Rattle.module_meaning.specs.Table.{Table, Partition}
+use Rattle.machine_meaning.specs.Image.{Item}
+use Rattle.module_meaning.specs.TableRules.{TableText}
+use Rattle.module_meaning.specs.Table.{has_odd_period, has_short_period, lacks_release, has_wrong_ends}
+use Rattle.module_meaning.specs.ImageRules.{is_wrong_window, has_wrong_window, has_unknown_port, keeps_rules}
 use Rattle.module_meaning.specs.TableRules.{numbered, verdict}
+use Rattle.machine_meaning.specs.ImageLimits.{IsSection, IsLawful}
 use Rattle.machine_meaning.proofs.Beside.{each_at}
 use Rattle.machine_laws.proofs.AcceptedTable.{AcceptedTable, accepted_table, image_of, table_limits, window_numbers}
 use Rattle.machine_laws.proofs.KnownPorts.{ports_known}

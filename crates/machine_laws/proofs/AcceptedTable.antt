@@ -1,16 +1,27 @@
 -- An accepted module table is within the limits of an image.
-use Rattle.machine_laws.proofs.Prelude.{◌≡◌, ℕ, suc, ◌+◌, ◌-◌, ◌≤◌, ◌<◌, ◌^◌, ℤ, pos, negsuc, Bool, true, false, not, cond, List, ◌∷◌, ◌++◌, length, map, Option, Some, Result, Ok, Err, sym, ◌∙◌, arith, length-append, ◌||◌, ◌==◌, slice_get, nat_lt, is_none, codes, unwrap_or, list_any, AllByRecursion, not-false, ltb-false, or_from, ne_eqb, length-map, third_limits, Third, MOST_CHANNELS, MOST_DEPTH, MOST_DESTINATIONS, MOST_FRAME_TICKS, MOST_PARTITIONS, MOST_PORTS, MOST_TICKS, MOST_WINDOWS, MOST_WORDS, is_name, PortRow, WindowRow, ChannelEnd, Members, Table, Partition, Channel, has_odd_period, has_short_period, lacks_release, has_wrong_ends, Item, Image, same, PartitionText, ChannelText, TableText, port_number, channel_row, port_row, partition_row, last_end, IsFrom, EachBeside, IsPortKind, IsPort, IsSection, IsItem, IsWindow, IsEnd, IsChannel, at_seam, AreInOrder}
-use Rattle.std.proofs.Common.{nat_abs, [], None, refl, ap, subst}
-use Rattle.std.specs.Prelude.{◌+ℤ◌, int_lt, bytes_eq}
-use Rattle.std.proofs.lemmas.Bool.{or_parts, and_left}
+use Rattle.std.proofs.Common.{◌≡◌, ℕ, suc, ◌+◌, ◌-◌, ◌≤◌, ◌<◌, ◌^◌, ℤ, pos, negsuc, nat_abs, Bool, true, false, not, cond, List, [], ◌∷◌, ◌++◌, length, map, Option, Some, None, Result, Ok, Err, refl, sym, ap, ◌∙◌, subst, arith, length-append}
+use Rattle.std.specs.Prelude.{◌||◌, ◌==◌, ◌+ℤ◌, slice_get, nat_lt, int_lt, bytes_eq, is_none, codes, unwrap_or}
+use Rattle.std.specs.List.{list_any, AllByRecursion, All}
+use Rattle.std.proofs.lemmas.Bool.{not-false, ltb-false, or_parts, or_from, and_left, ne_eqb}
+use Rattle.std.proofs.lemmas.List.{length-map}
 use Rattle.std.proofs.lemmas.List.Folds.{list_any-append}
+use Rattle.apex_types.specs.Versions.{third_limits}
+use Rattle.apex_types.specs.declared.version.ImageVersion.TheVariants.{Third}
+use Rattle.apex_types.specs.declared.limits.TheConstants.{MOST_CHANNELS, MOST_DEPTH, MOST_DESTINATIONS, MOST_FRAME_TICKS, MOST_PARTITIONS, MOST_PORTS, MOST_TICKS, MOST_WINDOWS, MOST_WORDS}
+use Rattle.apex_types.specs.NameText.{is_name}
+use Rattle.apex_types.specs.declared.row.PortRow.{PortRow}
+use Rattle.apex_types.specs.declared.row.WindowRow.{WindowRow}
+use Rattle.apex_types.specs.declared.row.ChannelEnd.{ChannelEnd}
 use Rattle.apex_types.specs.declared.row.ChannelEnd.TheVariants as ends
-use Rattle.module_meaning.specs.Table.{has_twice}
-use Rattle.module_meaning.specs.TableRules.{KindText, Sampling, Queuing, PortText, WindowText, table_text_of, Refusal, Shape, is_outside, is_count_outside, exceeds_kind, exceeds_port, exceeds_times, has_many_ports, exceeds_partition, exceeds_window, has_costs_outside, exceeds_channel, exceeds_counts, exceeds_rows, exceeds_limits, is_unknown_window, has_unknown_end, has_same_names, number_from, partition_number, port_from, end_of, has_unknown_name, window_row, kind_row, numbered, overlaps_after, overlaps, has_unknown_action, judge_table, judge_text, verdict}
+use Rattle.toml.specs.Data.{Members}
+use Rattle.module_meaning.specs.Table.{Table, Partition, Channel, has_twice, has_odd_period, has_short_period, lacks_release, has_wrong_ends}
+use Rattle.machine_meaning.specs.Image.{Item, Image}
+use Rattle.module_meaning.specs.TableRules.{same, KindText, Sampling, Queuing, PortText, PartitionText, WindowText, ChannelText, TableText, table_text_of, Refusal, Shape, is_outside, is_count_outside, exceeds_kind, exceeds_port, exceeds_times, has_many_ports, exceeds_partition, exceeds_window, has_costs_outside, exceeds_channel, exceeds_counts, exceeds_rows, exceeds_limits, is_unknown_window, has_unknown_end, has_same_names, number_from, partition_number, port_number, port_from, end_of, has_unknown_name, window_row, channel_row, kind_row, port_row, partition_row, numbered, overlaps_after, overlaps, has_unknown_action, judge_table, judge_text, verdict}
 use Rattle.kernel_meaning.specs.Windows.{Schedule}
-use Rattle.machine_meaning.specs.ImageReading.{end_of as image_end}
-use Rattle.machine_meaning.specs.ImageLimits.{IsWithinLimits}
-use Rattle.machine_meaning.proofs.Beside.{each_beside}
+use Rattle.machine_meaning.specs.ImageReading.{last_end, end_of as image_end}
+use Rattle.machine_meaning.specs.ImageLimits.{IsFrom, EachBeside, IsPortKind, IsPort, IsSection, IsItem, IsWindow, IsEnd, IsChannel, IsWithinLimits}
+use Rattle.machine_meaning.proofs.Beside.{at_seam, each_beside, each_at}
+use Rattle.kernel_laws.proofs.WindowOrder.{AreInOrder}
 use Rattle.kernel_laws.proofs.TableWindows.{window_keeps, windows_in_order}
 
 -- ---- the verdict
@@ -347,6 +358,12 @@ table_limits text t items a rows sections =
     let back = sym a.is in
     subst (λ (x : Table). IsWithinLimits (image_of x items) × HaveRoom x) a.is
     (text_limits text items a.limits a.names a.apart (subst (λ (x : Table). map (λ (it : Item). it.partition) items ≡ x.partitions) back rows) sections)
+
+-- An accepted table whose partitions have become lawful sections is within the limits of an image.
+pub accepted_limits : (ms : Members) (t : Table) (items : List Item) → verdict ms ≡ Ok t → map (λ (it : Item). it.partition) items ≡ t.partitions → All (λ (it : Item). IsSection third_limits it.partition.period it.section) items → IsWithinLimits (image_of t items)
+accepted_limits ms t items h rows sections =
+    let a = accepted_table ms t h in
+    (table_limits a.0 t items a.1 rows (each_at _ items sections)).0
 
 -- ---- the partitions of windows
 

@@ -1,14 +1,20 @@
 -- The bodies of a source and its code.
-use Rattle.machine_laws.proofs.Prelude.{◌≡◌, ℕ, ◌+◌, ◌^◌, ◌≤◌, ℤ, pos, negsuc, Bool, true, false, cond, eqb, List, ◌++◌, length, Option, Some, Result, Ok, Err, sym, ◌∙◌, append_assoc, arith, lit<, ◌<◌, ◌&&◌, FitsSigned, flat_map, w16, w32, w64, leb-true, eqb-true, Limits, MOST_TICKS, RoutineRow, Section, Bodies, u16, u32, i64, truth, Fault, Limit, Read, ◌>>=◌, number_at, chosen, truth_of, IsFrom, EachBeside, AreObjects, AreBodies, IsSection}
-use Rattle.std.proofs.Common.{leb, [], None, refl, ap, subst}
-use Rattle.std.proofs.lemmas.Bool.{le-leb}
+use Rattle.std.proofs.Common.{◌≡◌, ℕ, ◌+◌, ◌^◌, ◌≤◌, ℤ, pos, negsuc, Bool, true, false, cond, leb, eqb, List, [], ◌++◌, length, Option, Some, None, Result, Ok, Err, refl, sym, ap, subst, ◌∙◌, append_assoc, arith, lit<, ◌<◌}
+use Rattle.std.specs.Prelude.{◌&&◌, FitsSigned}
+use Rattle.std.specs.List.{flat_map}
+use Rattle.std.specs.Int.{w16, w32, w64}
+use Rattle.std.proofs.lemmas.Bool.{leb-true, le-leb, eqb-true}
+use Rattle.apex_types.specs.declared.limits.Limits.{Limits}
 use Rattle.machine_laws.proofs.VersionLimits.{AreBytes}
-use Rattle.apex_types.specs.declared.limits.TheConstants.{GREATEST_PRIORITY, INSTRUCTION_BYTES, LEAST_STACK_WORDS, MOST_INSTRUCTIONS, MOST_PARAMETERS, MOST_PROCEDURES, MOST_SLOTS, MOST_STACK_WORDS}
+use Rattle.apex_types.specs.declared.limits.TheConstants.{GREATEST_PRIORITY, INSTRUCTION_BYTES, LEAST_STACK_WORDS, MOST_INSTRUCTIONS, MOST_PARAMETERS, MOST_PROCEDURES, MOST_SLOTS, MOST_STACK_WORDS, MOST_TICKS}
+use Rattle.apex_types.specs.declared.row.RoutineRow.{RoutineRow}
 use Rattle.apex_types.specs.declared.row.BodyRow.{BodyRow}
 use Rattle.apex_types.specs.declared.row.ProcessRow.{ProcessRow}
-use Rattle.machine_meaning.specs.ImageSpelling.{objects_in, bodies_in, u8, name, list, routine, body, duration, process, handler, instruction, objects, bodies, section}
-use Rattle.machine_meaning.specs.ImageReading.{limited_at, small_at, word_at, bytes_at, fresh_name_at, choice_at, list_at, items_at, is_process, routine_at, body_at, duration_of, duration_at, is_infinite_or_multiple, period_at, process_at, handler_at, bodies_at, enter_within, code_at, objects_at, section_at}
-use Rattle.machine_meaning.specs.ImageLimits.{IsRoutine, IsBody, IsDuration, IsProcess, IsHandler, IsCode}
+use Rattle.machine_meaning.specs.Section.{Section}
+use Rattle.machine_meaning.specs.Image.{Bodies}
+use Rattle.machine_meaning.specs.ImageSpelling.{objects_in, bodies_in, u8, u16, u32, i64, name, list, truth, routine, body, duration, process, handler, instruction, objects, bodies, section}
+use Rattle.machine_meaning.specs.ImageReading.{Fault, Limit, Read, ◌>>=◌, number_at, limited_at, small_at, word_at, bytes_at, fresh_name_at, chosen, choice_at, truth_of, list_at, items_at, is_process, routine_at, body_at, duration_of, duration_at, is_infinite_or_multiple, period_at, process_at, handler_at, bodies_at, enter_within, code_at, objects_at, section_at}
+use Rattle.machine_meaning.specs.ImageLimits.{IsFrom, EachBeside, AreObjects, IsRoutine, IsBody, IsDuration, IsProcess, IsHandler, AreBodies, IsCode, IsSection}
 use Rattle.machine_laws.proofs.ImageFields.{IsBytes, bind_ok, ok_is, Takes, Takes-then, Reads, said, first, last, assoc3, assoc4, assoc5}
 use Rattle.machine_laws.proofs.ImageNumbers.{wide16, wide32, number_reads, limited_reads, small_reads}
 use Rattle.machine_laws.proofs.ImageNames.{word_reads, bytes_reads, held, fresh_reads}

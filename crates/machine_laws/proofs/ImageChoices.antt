@@ -1,12 +1,12 @@
 -- The choices that single bytes mean.
-use Rattle.machine_laws.proofs.Prelude.{◌≡◌, ℕ, Bool, true, false, cond, eqb, Option, Some, ◌∙◌, lit<, eqb-true, Fifo, discipline, direction, truth, module_action, partition_action, discipline_of, direction_of, truth_of, module_action_of, partition_action_of}
-use Rattle.std.proofs.Common.{None, refl, ap}
-use Rattle.apex_types.specs.declared.codes.Discipline.TheVariants.{Priority}
+use Rattle.std.proofs.Common.{◌≡◌, ℕ, Bool, true, false, cond, eqb, Option, Some, None, refl, ap, ◌∙◌, lit<}
+use Rattle.std.proofs.lemmas.Bool.{eqb-true}
+use Rattle.apex_types.specs.declared.codes.Discipline.TheVariants.{Fifo, Priority}
 use Rattle.apex_types.specs.declared.codes.ModuleAction.TheVariants as of_module
 use Rattle.apex_types.specs.declared.codes.PartitionAction.TheVariants as of_partition
 use Rattle.apex_types.specs.declared.row.PortDirection.TheVariants.{Source, Destination}
-use Rattle.machine_meaning.specs.ImageSpelling.{u8}
-use Rattle.machine_meaning.specs.ImageReading.{choice_at}
+use Rattle.machine_meaning.specs.ImageSpelling.{u8, discipline, direction, truth, module_action, partition_action}
+use Rattle.machine_meaning.specs.ImageReading.{choice_at, discipline_of, direction_of, truth_of, module_action_of, partition_action_of}
 use Rattle.machine_laws.proofs.ImageFields.{Reads}
 use Rattle.machine_laws.proofs.ImageNames.{Chooses, choice_reads}
 

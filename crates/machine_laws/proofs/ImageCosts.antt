@@ -1,13 +1,22 @@
 -- What an image has as one of its version: the costs of the second and the third.
-use Rattle.machine_laws.proofs.Prelude.{◌≡◌, ℕ, ◌^◌, ◌<◌, Bool, true, false, cond, eqb, ltb, List, ◌∷◌, ◌++◌, length, Option, Some, Ok, sym, ◌∙◌, arith, lit<, ◌||◌, nat_le, w16, flat_map, and_parts, eqb-true, leb-true, number_of, Costs, FIRST_VERSION, SECOND_VERSION, THIRD_VERSION, ImageVersion, First, Second, Third, u16, Read, ◌>>=◌, number_at, chosen, EachBeside}
-use Rattle.std.proofs.Common.{[], None, refl, ap, subst}
+use Rattle.std.proofs.Common.{◌≡◌, ℕ, ◌^◌, ◌<◌, Bool, true, false, cond, eqb, ltb, List, [], ◌∷◌, ◌++◌, length, Option, Some, None, Ok, refl, sym, ap, subst, ◌∙◌, arith, lit<}
+use Rattle.std.specs.Prelude.{◌||◌, nat_le}
+use Rattle.std.specs.Int.{w16}
+use Rattle.std.specs.List.{flat_map}
+use Rattle.std.proofs.lemmas.Bool.{and_parts, eqb-true, leb-true}
 use Rattle.apex_types.specs.Costs.{cost_if, cost_of_ticks, from_order, in_order, is_cost}
 use Rattle.apex_types.specs.declared.cost.TheConstants.{COST_KEYS}
+use Rattle.apex_types.specs.Versions.{number_of}
 use Rattle.apex_types.proofs.TickCosts.{is_of_ticks}
 use Rattle.apex_types.specs.declared.cost.TickCost.{TickCost}
+use Rattle.apex_types.specs.declared.cost.Costs.{Costs}
 use Rattle.apex_types.specs.declared.limits.TheConstants.{MOST_COST}
-use Rattle.machine_meaning.specs.ImageSpelling.{costs, own_fields}
-use Rattle.machine_meaning.specs.ImageReading.{cost_at, costs_at, items_at, own_fields_at}
+use Rattle.apex_types.specs.declared.version.TheConstants.{FIRST_VERSION, SECOND_VERSION, THIRD_VERSION}
+use Rattle.apex_types.specs.declared.version.ImageVersion.{ImageVersion}
+use Rattle.apex_types.specs.declared.version.ImageVersion.TheVariants.{First, Second, Third}
+use Rattle.machine_meaning.specs.ImageSpelling.{u16, costs, own_fields}
+use Rattle.machine_meaning.specs.ImageReading.{Read, ◌>>=◌, number_at, chosen, cost_at, costs_at, items_at, own_fields_at}
+use Rattle.machine_meaning.specs.ImageLimits.{EachBeside}
 use Rattle.machine_laws.proofs.ImageLists.{items_take, items_again}
 use Rattle.machine_laws.proofs.ImageFields.{IsBytes, bind_ok, ok_is, Takes, Reads}
 use Rattle.machine_laws.proofs.ImageNumbers.{wide16, number_reads}

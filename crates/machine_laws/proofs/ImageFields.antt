@@ -1,9 +1,9 @@
 -- Readers and spellings that belong together: what is read has this spelling, and what is lawful is
 -- read again from its spelling, whatever follows.
-use Rattle.machine_laws.proofs.Prelude.{◌≡◌, ℕ, suc, ◌+◌, ◌<◌, Bool, true, false, cond, List, ◌∷◌, ◌++◌, take, drop, Result, Ok, Err, sym, ◌∙◌, append_assoc, arith, inl, inr, ◌^◌, length-take, Fault, Read, ◌>>=◌}
-use Rattle.std.proofs.Common.{[], get_or, refl, ap, subst}
+use Rattle.std.proofs.Common.{◌≡◌, ℕ, suc, ◌+◌, ◌<◌, Bool, true, false, cond, List, [], ◌∷◌, ◌++◌, get_or, take, drop, Result, Ok, Err, refl, sym, ap, subst, ◌∙◌, append_assoc, arith, inl, inr, ◌^◌}
 use Rattle.std.proofs.lemmas.Bool.{cases_lt}
-use Rattle.std.proofs.lemmas.List.{get_or-drop, get_or-take, get_or_past}
+use Rattle.std.proofs.lemmas.List.{length-take, get_or-drop, get_or-take, get_or_past}
+use Rattle.machine_meaning.specs.ImageReading.{Fault, Read, ◌>>=◌}
 
 abbrev pub IsBytes : List ℕ → Type 0
 IsBytes bytes = (i : ℕ) → get_or bytes i 0 < 2 ^ 8

@@ -1,16 +1,21 @@
 -- An image that is read has these bytes as its spelling, and a lawful image is read again from its
 -- spelling.
-use Rattle.machine_laws.proofs.Prelude.{◌≡◌, ℕ, ◌^◌, Bool, true, false, cond, eqb, List, ◌++◌, length, Result, Ok, Err, sym, ◌∙◌, arith, lit<, ◌||◌, w16, w32, eqb-true, append-nil, FIRST_VERSION, SECOND_VERSION, THIRD_VERSION, MOST_CHANNELS, MOST_FRAME_TICKS, MOST_WINDOWS, Image, u16, u32, module_action, limits_of, number_of, Fault, Limit, Read, ◌>>=◌, number_at, module_action_of, IsFrom, IsItem, IsWindow, IsChannel, IsLawful}
-use Rattle.std.proofs.Common.{[], refl, ap, subst}
-use Rattle.std.specs.Prelude.{◌<◌}
+use Rattle.std.proofs.Common.{◌≡◌, ℕ, ◌^◌, Bool, true, false, cond, eqb, List, [], ◌++◌, length, Result, Ok, Err, refl, sym, ap, subst, ◌∙◌, arith, lit<}
+use Rattle.std.specs.Prelude.{◌||◌, ◌<◌}
+use Rattle.std.specs.Int.{w16, w32}
 use Rattle.std.specs.Str.{bytes_eq}
-use Rattle.std.proofs.lemmas.List.{nil_from_length}
+use Rattle.std.proofs.lemmas.Bool.{eqb-true}
+use Rattle.std.proofs.lemmas.List.{append-nil, nil_from_length}
 use Rattle.std.proofs.lemmas.Slice.Eq.{bytes_eq-Decides}
-use Rattle.machine_meaning.specs.ImageSpelling.{u8, list, item, window, channel, own_fields, front, head, spelling}
+use Rattle.apex_types.specs.declared.version.TheConstants.{FIRST_VERSION, SECOND_VERSION, THIRD_VERSION}
+use Rattle.apex_types.specs.declared.limits.TheConstants.{MOST_CHANNELS, MOST_FRAME_TICKS, MOST_WINDOWS}
+use Rattle.machine_meaning.specs.Image.{Image}
+use Rattle.machine_meaning.specs.ImageSpelling.{u8, u16, u32, list, module_action, item, window, channel, own_fields, front, head, spelling}
+use Rattle.apex_types.specs.Versions.{limits_of, number_of}
 use Rattle.machine_laws.proofs.VersionLimits.{limits_small}
 use Rattle.machine_meaning.specs.Image.{magic}
-use Rattle.machine_meaning.specs.ImageReading.{Foreign, Trailing, limited_at, bytes_at, choice_at, list_at, item_at, window_at, channel_at, magic_at, version_at, own_fields_at, fields_at, keeps_table_rules, image_at}
-use Rattle.machine_meaning.specs.ImageLimits.{IsWithinLimits}
+use Rattle.machine_meaning.specs.ImageReading.{Fault, Foreign, Limit, Trailing, Read, ◌>>=◌, number_at, limited_at, bytes_at, choice_at, module_action_of, list_at, item_at, window_at, channel_at, magic_at, version_at, own_fields_at, fields_at, keeps_table_rules, image_at}
+use Rattle.machine_meaning.specs.ImageLimits.{IsFrom, IsItem, IsWindow, IsChannel, IsWithinLimits, IsLawful}
 use Rattle.machine_laws.proofs.ImageFields.{IsBytes, bind_ok, ok_is, Takes, Takes-then, Reads, said, first, last, assoc4}
 use Rattle.machine_laws.proofs.ImageNumbers.{wide16, wide32, number_reads, limited_reads}
 use Rattle.machine_laws.proofs.ImageNames.{bytes_reads, held}
@@ -113,3 +118,8 @@ ok_read x = Ok x
 
 both_read : (one other : Image) (rest : List ℕ) → ok_read (other, []) ≡ ok_read (one, rest) → (one ≡ other) × (rest ≡ [])
 both_read one other rest e = let i = ok_is (other, []) (one, rest) e in (ap (λ (y : Image × List ℕ). y.0) (sym i), ap (λ (y : Image × List ℕ). y.1) (sym i))
+
+-- no spelling begins another
+pub none_begins_another : (one other : Image) (rest : List ℕ) → IsLawful one → IsLawful other → spelling other ≡ spelling one ++ rest → (one ≡ other) × (rest ≡ [])
+none_begins_another one other rest a b e =
+    both_read one other rest (sym (fields_reads.again other [] b.limits) ∙ ap fields_at (append-nil (spelling other) ∙ e) ∙ fields_reads.again one rest a.limits)

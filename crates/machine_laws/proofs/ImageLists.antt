@@ -1,9 +1,12 @@
 -- Lists of an image.
-use Rattle.machine_laws.proofs.Prelude.{◌≡◌, ℕ, suc, ◌^◌, ◌<◌, List, ◌∷◌, ◌++◌, length, Ok, sym, ◌∙◌, append_assoc, w32, flat_map, append-nil, u32, Read, ◌>>=◌, IsFrom, EachBeside}
-use Rattle.std.proofs.Common.{zero, [], refl, ap, subst}
+use Rattle.std.proofs.Common.{◌≡◌, ℕ, zero, suc, ◌^◌, ◌<◌, List, [], ◌∷◌, ◌++◌, length, Ok, refl, sym, ap, subst, ◌∙◌, append_assoc}
+use Rattle.std.specs.Int.{w32}
+use Rattle.std.specs.List.{flat_map}
+use Rattle.std.proofs.lemmas.List.{append-nil}
 use Rattle.std.proofs.lemmas.List.Concat.{flat_map-cons}
-use Rattle.machine_meaning.specs.ImageSpelling.{list}
-use Rattle.machine_meaning.specs.ImageReading.{limited_at, items_at, list_at}
+use Rattle.machine_meaning.specs.ImageSpelling.{u32, list}
+use Rattle.machine_meaning.specs.ImageReading.{Read, ◌>>=◌, limited_at, items_at, list_at}
+use Rattle.machine_meaning.specs.ImageLimits.{IsFrom, EachBeside}
 use Rattle.machine_laws.proofs.ImageFields.{IsBytes, bind_ok, ok_is, Takes, Takes-then, Reads}
 use Rattle.machine_laws.proofs.ImageNumbers.{wide32, limited_reads}
 

@@ -1,15 +1,17 @@
 -- Words, names and choices of an image.
-use Rattle.machine_laws.proofs.Prelude.{◌+◌, ◌≡◌, ℕ, ◌^◌, ◌<◌, ◌≤◌, ℤ, Bool, true, false, cond, ltb, List, ◌∷◌, ◌++◌, length, take, drop, Option, Some, Ok, Err, sym, ◌∙◌, arith, lit<, ◌&&◌, FitsSigned, nat_le, w64, ltb-false, le-ltb, leb-true, take_at, drop_at, take-append-drop, length-take, is_name, u64, i64, Fault, Truncated, Limit, Order, Read, ◌>>=◌, number_at, chosen, IsFrom}
-use Rattle.std.proofs.Common.{[], None, refl, ap, subst}
+use Rattle.std.proofs.Common.{◌+◌, ◌≡◌, ℕ, ◌^◌, ◌<◌, ◌≤◌, ℤ, Bool, true, false, cond, ltb, List, [], ◌∷◌, ◌++◌, length, take, drop, Option, Some, None, Ok, Err, refl, sym, ap, subst, ◌∙◌, arith, lit<}
+use Rattle.std.specs.Prelude.{◌&&◌, FitsSigned, nat_le}
 use Rattle.std.specs.List.{list_all}
-use Rattle.std.specs.Int.{cast_signed, cast_unsigned}
+use Rattle.std.specs.Int.{w64, cast_signed, cast_unsigned}
 use Rattle.std.proofs.Math.Facts.{Fits-of_z, sfits_to_z}
 use Rattle.std.proofs.lemmas.Int.{to_z-of_z, of_z-to_z}
-use Rattle.std.proofs.lemmas.List.{length-append}
+use Rattle.std.proofs.lemmas.Bool.{ltb-false, le-ltb, leb-true}
+use Rattle.std.proofs.lemmas.List.{take_at, drop_at, take-append-drop, length-append, length-take}
 use Rattle.apex_types.specs.declared.limits.TheConstants.{MOST_NAME_BYTES}
-use Rattle.apex_types.specs.NameText.{is_lower_case, is_name_byte}
-use Rattle.machine_meaning.specs.ImageSpelling.{u8, name}
-use Rattle.machine_meaning.specs.ImageReading.{byte_at, word_at, small_at, bytes_at, name_at, fresh_name_at, choice_at}
+use Rattle.apex_types.specs.NameText.{is_name, is_lower_case, is_name_byte}
+use Rattle.machine_meaning.specs.ImageSpelling.{u8, u64, i64, name}
+use Rattle.machine_meaning.specs.ImageReading.{Fault, Truncated, Limit, Order, Read, ◌>>=◌, number_at, byte_at, word_at, small_at, bytes_at, name_at, fresh_name_at, chosen, choice_at}
+use Rattle.machine_meaning.specs.ImageLimits.{IsFrom}
 use Rattle.machine_laws.proofs.ImageFields.{IsBytes-drop, bind_ok, guard_ok, ok_is, Takes, Takes-then, Reads}
 use Rattle.machine_laws.proofs.ImageNumbers.{wide64, number_reads, byte_reads, small_reads}
 

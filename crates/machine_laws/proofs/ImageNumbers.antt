@@ -1,11 +1,13 @@
 -- Numbers, names and choices of an image.
-use Rattle.machine_laws.proofs.Prelude.{◌≡◌, ℕ, ◌^◌, ◌<◌, ◌≤◌, Bool, true, false, cond, ltb, List, ◌∷◌, ◌++◌, length, take, drop, Ok, Err, sym, ◌∙◌, arith, ◌||◌, w16, w32, w64, ltb-false, le-ltb, take_at, drop_at, take-append-drop, length-take, Fault, Truncated, Limit, Read, ◌>>=◌, number_at, IsFrom}
-use Rattle.std.proofs.Common.{[], refl, ap, subst}
-use Rattle.std.specs.Int.{Width, byte_len, from_le_bytes, to_le_bytes}
-use Rattle.std.proofs.lemmas.List.{length-append}
+use Rattle.std.proofs.Common.{◌≡◌, ℕ, ◌^◌, ◌<◌, ◌≤◌, Bool, true, false, cond, ltb, List, [], ◌∷◌, ◌++◌, length, take, drop, Ok, Err, refl, sym, ap, subst, ◌∙◌, arith}
+use Rattle.std.specs.Prelude.{◌||◌}
+use Rattle.std.specs.Int.{Width, w16, w32, w64, byte_len, from_le_bytes, to_le_bytes}
+use Rattle.std.proofs.lemmas.Bool.{ltb-false, le-ltb}
+use Rattle.std.proofs.lemmas.List.{take_at, drop_at, take-append-drop, length-append, length-take}
 use Rattle.std.proofs.lemmas.Nat.{le_bytes_2, le_bytes_4, le_bytes_8, from_le_bytes-to_le_bytes_2, from_le_bytes-to_le_bytes_4, from_le_bytes-to_le_bytes_8}
 use Rattle.machine_meaning.specs.ImageSpelling.{u8}
-use Rattle.machine_meaning.specs.ImageReading.{byte_at, within, limited_at, small_at}
+use Rattle.machine_meaning.specs.ImageReading.{Fault, Truncated, Limit, Read, ◌>>=◌, number_at, byte_at, within, limited_at, small_at}
+use Rattle.machine_meaning.specs.ImageLimits.{IsFrom}
 use Rattle.machine_laws.proofs.ImageFields.{IsBytes, IsBytes-drop, IsBytes-take, IsBytes-rest, bind_ok, guard_ok, ok_is, Takes, Reads}
 
 pub record IsWide (w : Width) (limit : ℕ) : Type 0 where

@@ -1,11 +1,16 @@
 -- The objects of a source.
-use Rattle.machine_laws.proofs.Prelude.{◌^◌, ◌++◌, lit<, ◌<◌, FitsSigned, w32, w64, Limits, MOST_DEPTH, BufferRow, BlackboardRow, Objects, u32, i64, discipline, discipline_of, IsFrom, IsBuffer, IsBlackboard, AreObjects}
-use Rattle.std.proofs.Common.{max, refl, ap}
-use Rattle.apex_types.specs.declared.limits.TheConstants.{MOST_DATA_WORDS, MOST_OBJECTS, MOST_SEMAPHORE_VALUE}
+use Rattle.std.proofs.Common.{◌^◌, max, ◌++◌, refl, ap, lit<, ◌<◌}
+use Rattle.std.specs.Prelude.{FitsSigned}
+use Rattle.std.specs.Int.{w32, w64}
+use Rattle.apex_types.specs.declared.limits.Limits.{Limits}
+use Rattle.apex_types.specs.declared.limits.TheConstants.{MOST_DATA_WORDS, MOST_DEPTH, MOST_OBJECTS, MOST_SEMAPHORE_VALUE}
 use Rattle.apex_types.specs.declared.row.SemaphoreRow.{SemaphoreRow}
-use Rattle.machine_meaning.specs.ImageSpelling.{u8, list, semaphore, buffer, blackboard, objects}
-use Rattle.machine_meaning.specs.ImageReading.{limited_at, small_at, word_at, choice_at, list_at, semaphore_at, buffer_at, blackboard_at, objects_at}
-use Rattle.machine_meaning.specs.ImageLimits.{IsSemaphore}
+use Rattle.apex_types.specs.declared.row.BufferRow.{BufferRow}
+use Rattle.apex_types.specs.declared.row.BlackboardRow.{BlackboardRow}
+use Rattle.machine_meaning.specs.Image.{Objects}
+use Rattle.machine_meaning.specs.ImageSpelling.{u8, u32, i64, list, discipline, semaphore, buffer, blackboard, objects}
+use Rattle.machine_meaning.specs.ImageReading.{limited_at, small_at, word_at, choice_at, discipline_of, list_at, semaphore_at, buffer_at, blackboard_at, objects_at}
+use Rattle.machine_meaning.specs.ImageLimits.{IsFrom, IsSemaphore, IsBuffer, IsBlackboard, AreObjects}
 use Rattle.machine_laws.proofs.ImageFields.{Reads, said, first, last, assoc3, assoc5}
 use Rattle.machine_laws.proofs.ImageNumbers.{wide32, limited_reads, small_reads}
 use Rattle.machine_laws.proofs.ImageNames.{word_reads}

@@ -1,15 +1,26 @@
 -- Rows of the module table.
-use Rattle.machine_laws.proofs.Prelude.{◌≡◌, ℕ, suc, ◌-◌, ◌^◌, ◌<◌, ◌≤◌, Bool, true, false, cond, eqb, ltb, List, ◌++◌, Ok, sym, ◌∙◌, arith, lit<, ◌&&◌, ◌==◌, w32, w64, ltb-false, le-ltb, eqb-true, Limits, MOST_DEPTH, MOST_DESTINATIONS, MOST_PORTS, MOST_TICKS, Fifo, PortRow, WindowRow, ChannelEnd, Partition, Channel, Item, u32, u64, truth, direction, discipline, partition_action, Order, Read, ◌>>=◌, number_at, truth_of, direction_of, discipline_of, partition_action_of, last_end, IsFrom, IsPortKind, IsPort, IsPartition, IsSection, IsItem, IsWindow, IsEnd, IsChannel}
-use Rattle.std.proofs.Common.{zero, [], refl, ap, subst}
+use Rattle.std.proofs.Common.{◌≡◌, ℕ, zero, suc, ◌-◌, ◌^◌, ◌<◌, ◌≤◌, Bool, true, false, cond, eqb, ltb, List, [], ◌++◌, Ok, refl, sym, ap, subst, ◌∙◌, arith, lit<}
+use Rattle.std.specs.Prelude.{◌&&◌, ◌==◌}
+use Rattle.std.specs.Int.{w32, w64}
+use Rattle.std.proofs.lemmas.Bool.{ltb-false, le-ltb, eqb-true}
+use Rattle.apex_types.specs.declared.limits.Limits.{Limits}
 use Rattle.machine_laws.proofs.VersionLimits.{AreBytes}
+use Rattle.apex_types.specs.declared.limits.TheConstants.{MOST_DEPTH, MOST_DESTINATIONS, MOST_PORTS, MOST_TICKS}
 use Rattle.apex_types.specs.declared.codes.Discipline.{Discipline}
+use Rattle.apex_types.specs.declared.codes.Discipline.TheVariants.{Fifo}
 use Rattle.apex_types.specs.declared.codes.PartitionAction.{PartitionAction}
 use Rattle.apex_types.specs.declared.row.HealthTable.{HealthTable}
 use Rattle.apex_types.specs.declared.row.PortKind.{PortKind}
 use Rattle.apex_types.specs.declared.row.PortKind.TheVariants.{Sampling, Queuing}
+use Rattle.apex_types.specs.declared.row.PortRow.{PortRow}
+use Rattle.apex_types.specs.declared.row.WindowRow.{WindowRow}
+use Rattle.apex_types.specs.declared.row.ChannelEnd.{ChannelEnd}
 use Rattle.apex_types.specs.declared.row.ChannelEnd.TheVariants.{Device, Port}
-use Rattle.machine_meaning.specs.ImageSpelling.{u8, name, list, health, port_kind, port_fields, port, partition, section, window, channel_end, channel, item}
-use Rattle.machine_meaning.specs.ImageReading.{byte_at, limited_at, small_at, fresh_name_at, choice_at, list_at, health_at, sampling_at, queuing_at, kind_at, is_port, port_at, is_partition, partition_at, section_at, item_at, not_before, offset_at, window_at, end_between, channel_end_at, is_channel, channel_at}
+use Rattle.module_meaning.specs.Table.{Partition, Channel}
+use Rattle.machine_meaning.specs.Image.{Item}
+use Rattle.machine_meaning.specs.ImageSpelling.{u8, u32, u64, name, list, truth, direction, discipline, partition_action, health, port_kind, port_fields, port, partition, section, window, channel_end, channel, item}
+use Rattle.machine_meaning.specs.ImageReading.{Order, Read, ◌>>=◌, byte_at, number_at, limited_at, small_at, fresh_name_at, choice_at, truth_of, direction_of, discipline_of, partition_action_of, list_at, health_at, sampling_at, queuing_at, kind_at, is_port, port_at, is_partition, partition_at, section_at, item_at, last_end, not_before, offset_at, window_at, end_between, channel_end_at, is_channel, channel_at}
+use Rattle.machine_meaning.specs.ImageLimits.{IsFrom, IsPortKind, IsPort, IsPartition, IsSection, IsItem, IsWindow, IsEnd, IsChannel}
 use Rattle.machine_laws.proofs.ImageFields.{bind_ok, guard_ok, Takes, Reads, said, said_where, made, first, last, assoc3, assoc4, assoc5}
 use Rattle.machine_laws.proofs.ImageNumbers.{wide32, wide64, byte_reads, number_reads, limited_reads, small_reads}
 use Rattle.machine_laws.proofs.ImageNames.{fresh_reads}

@@ -1,12 +1,19 @@
 -- An end of a channel that a text names is a port of one of the table's partitions, or the device.
-use Rattle.machine_laws.proofs.Prelude.{◌≡◌, ℕ, suc, ◌+◌, ◌-◌, ◌≤◌, ◌<◌, Bool, true, false, cond, List, ◌∷◌, ◌++◌, length, map, Option, Some, sym, ◌∙◌, arith, length-append, append_assoc, ◌==◌, slice_get, is_none, codes, unwrap_or, list_any, or_from, ne_eqb, length-map, ChannelEnd, Partition, same, PartitionText, ChannelText, port_number, channel_row, port_row, partition_row, has_unknown_port, at_seam}
-use Rattle.std.proofs.Common.{zero, [], None, refl, ap, subst}
+use Rattle.std.proofs.Common.{◌≡◌, ℕ, zero, suc, ◌+◌, ◌-◌, ◌≤◌, ◌<◌, Bool, true, false, cond, List, [], ◌∷◌, ◌++◌, length, map, Option, Some, None, refl, sym, ap, ◌∙◌, arith, length-append, append_assoc, subst}
+use Rattle.std.specs.Prelude.{◌==◌, slice_get, is_none, codes, unwrap_or}
+use Rattle.std.specs.List.{list_any}
 use Rattle.std.specs.Option.{option_map}
+use Rattle.std.proofs.lemmas.Bool.{or_from, ne_eqb}
+use Rattle.std.proofs.lemmas.List.{length-map}
 use Rattle.std.proofs.lemmas.Option.{slice_get-map}
+use Rattle.apex_types.specs.declared.row.ChannelEnd.{ChannelEnd}
 use Rattle.apex_types.specs.declared.row.ChannelEnd.TheVariants as ends
+use Rattle.module_meaning.specs.Table.{Partition}
+use Rattle.module_meaning.specs.TableRules.{same, PartitionText, ChannelText}
 use Rattle.module_meaning.specs.Table.{◌>>=◌}
-use Rattle.module_meaning.specs.TableRules.{port_from, end_of}
-use Rattle.module_meaning.specs.ImageRules.{is_unknown_port}
+use Rattle.module_meaning.specs.TableRules.{port_number, port_from, end_of, channel_row, port_row, partition_row}
+use Rattle.module_meaning.specs.ImageRules.{is_unknown_port, has_unknown_port}
+use Rattle.machine_meaning.proofs.Beside.{at_seam}
 use Rattle.machine_laws.proofs.AcceptedTable.{number_small}
 
 there : {A : Type 0} (xs : List A) (k : ℕ) → k < length xs → is_none (slice_get xs k) ≡ false

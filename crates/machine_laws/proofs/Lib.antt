@@ -1,4 +1,3 @@
-pub mod Prelude
 pub mod StackLength
 pub mod VersionLimits
 pub mod ImageFields

@@ -1,13 +1,14 @@
 -- A tick of the processor and a reply change no length: not of the stack, not of the data.
-use Rattle.machine_laws.proofs.Prelude.{◌≡◌, ℕ, ◌+◌, ◌-◌, ℤ, pos, negsuc, Bool, true, false, cond, List, ◌∷◌, ◌++◌, length, Option, Some, ◌∙◌, slice_get, Costs, RoutineRow}
-use Rattle.std.proofs.Common.{[], None, refl, nat_lt, nat_eq, replicate}
-use Rattle.std.specs.Prelude.{slice_set}
+use Rattle.std.proofs.Common.{◌≡◌, ℕ, ◌+◌, ◌-◌, ℤ, pos, negsuc, Bool, true, false, cond, List, [], ◌∷◌, ◌++◌, length, Option, Some, None, refl, ◌∙◌, nat_lt, nat_eq, replicate}
+use Rattle.std.specs.Prelude.{slice_get, slice_set}
 use Rattle.std.proofs.lemmas.List.{length-set}
 use Rattle.apex_types.specs.declared.codes.ErrorKind.{ErrorKind}
 use Rattle.apex_types.specs.declared.codes.ErrorKind.TheVariants.{NumericError, IllegalRequest, StackOverflow, MemoryViolation}
+use Rattle.apex_types.specs.declared.cost.Costs.{Costs}
 use Rattle.apex_types.specs.declared.instruction.Instr.{Instr}
 use Rattle.apex_types.specs.declared.instruction.Instr.TheVariants as instr
 use Rattle.apex_types.specs.declared.service.Service.{Service}
+use Rattle.apex_types.specs.declared.row.RoutineRow.{RoutineRow}
 use Rattle.engine_meaning.specs.Engine.{Asks, Nothing, Ends, Ticked}
 use Rattle.machine_meaning.specs.Instructions.{cost_of, is_work}
 use Rattle.engine_meaning.specs.Operators.{apply_binary, apply_unary, is_zero, element_at}

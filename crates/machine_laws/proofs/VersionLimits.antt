@@ -1,6 +1,10 @@
 -- The limits of a version are small, and no greater than those of the third.
-use Rattle.machine_laws.proofs.Prelude.{ℕ, ◌≤◌, ◌<◌, arith, lit<, ◌^◌, Limits, MOST_PARTITIONS, MOST_WORDS, ImageVersion, First, Second, Third, limits_of, third_limits}
-use Rattle.apex_types.specs.declared.limits.TheConstants.{MOST_PROCESSES}
+use Rattle.std.proofs.Common.{ℕ, ◌≤◌, ◌<◌, arith, lit<, ◌^◌}
+use Rattle.apex_types.specs.declared.limits.Limits.{Limits}
+use Rattle.apex_types.specs.declared.limits.TheConstants.{MOST_PARTITIONS, MOST_PROCESSES, MOST_WORDS}
+use Rattle.apex_types.specs.declared.version.ImageVersion.{ImageVersion}
+use Rattle.apex_types.specs.declared.version.ImageVersion.TheVariants.{First, Second, Third}
+use Rattle.apex_types.specs.Versions.{limits_of, third_limits}
 
 -- each fits a byte
 pub record AreBytes (limits : Limits) : Type 0 where

@@ -1,8 +1,14 @@
 -- What is within the limits of a version is within those of the third. So an image may be upgraded.
-use Rattle.machine_laws.proofs.Prelude.{◌≡◌, ℕ, ◌≤◌, List, ◌∷◌, ◌++◌, length, arith, Limits, BlackboardRow, BufferRow, PortRow, limits_of, third_limits, Bodies, Image, Item, Objects, IsFrom, EachBeside, IsBuffer, IsBlackboard, AreObjects, AreBodies, IsSection, IsPort, IsPartition, IsItem, IsLawful, Section, Partition}
-use Rattle.std.proofs.Common.{[]}
-use Rattle.machine_meaning.specs.Image.{upgraded}
-use Rattle.machine_meaning.specs.ImageLimits.{IsWithinLimits}
+use Rattle.std.proofs.Common.{◌≡◌, ℕ, ◌≤◌, List, [], ◌∷◌, ◌++◌, length, arith}
+use Rattle.apex_types.specs.declared.limits.Limits.{Limits}
+use Rattle.apex_types.specs.declared.row.BlackboardRow.{BlackboardRow}
+use Rattle.apex_types.specs.declared.row.BufferRow.{BufferRow}
+use Rattle.apex_types.specs.declared.row.PortRow.{PortRow}
+use Rattle.apex_types.specs.Versions.{limits_of, third_limits}
+use Rattle.machine_meaning.specs.Image.{Bodies, Image, Item, Objects, upgraded}
+use Rattle.machine_meaning.specs.ImageLimits.{IsFrom, EachBeside, IsBuffer, IsBlackboard, AreObjects, AreBodies, IsSection, IsPort, IsPartition, IsItem, IsWithinLimits, IsLawful}
+use Rattle.machine_meaning.specs.Section.{Section}
+use Rattle.module_meaning.specs.Table.{Partition}
 use Rattle.machine_laws.proofs.VersionLimits.{AreNarrow, limits_narrow}
 
 each_widened : {A : Type 0} (P Q : List A → A → Type 0) → ((before : List A) (x : A) → P before x → Q before x) → (before xs : List A) → EachBeside P before xs → EachBeside Q before xs
