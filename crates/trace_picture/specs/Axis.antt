@@ -2,7 +2,9 @@
 use Rattle.std.specs.Prelude.{ℕ, ◌+◌, ◌-◌, ◌*◌, ◌/◌, ◌^◌, max, min, nat_le, if◌then◌else◌, List, [], ◌∷◌, map, Option, Some, None}
 use Rattle.std.specs.Int.{div_ceil}
 use Rattle.std.specs.List.{range_with_len}
+use Rattle.trace_picture.specs.Lengths.{tenths}
 use Rattle.trace_picture.specs.declared.axis.Axis.{Axis}
+use Rattle.trace_picture.specs.declared.length.Length.{Length}
 use Rattle.trace_stays.specs.Stays.{ticks_of}
 use Rattle.trace_stays.specs.declared.span.Span.{Span}
 
@@ -10,6 +12,14 @@ use Rattle.trace_stays.specs.declared.span.Span.{Span}
 -- proportion between. A tick outside the axis is at the nearer end.
 abbrev pub place : Axis → ℕ → ℕ
 place a t = 1500 + (min t a.span.until.0 - a.span.from.0) * a.long / max 1 (a.span.until.0 - a.span.from.0)
+
+-- the place where the bar of a stay begins
+abbrev pub left_of : Axis → Span → Length
+left_of axis stay = tenths (place axis stay.from.0)
+
+-- the width of the bar: as far as the axis has the stay's ticks, and at least a pixel
+abbrev pub width_of : Axis → Span → Length
+width_of axis stay = tenths (max (place axis stay.until.0 - place axis stay.from.0) 10)
 
 -- The multiples of a step among the ticks of the span and its end: k steps for each k from the first on that is
 -- no less than the beginning, up to the last one that is no more than the end.

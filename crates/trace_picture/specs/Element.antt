@@ -2,6 +2,8 @@
 use Rattle.std.specs.Prelude.{ℕ, ◌/◌, ◌%◌, List, [], ◌∷◌, ◌++◌, flat_map, codes, cond, ◌==◌}
 use Rattle.std.specs.Fmt.{decimal}
 use Rattle.trace_picture.specs.Escaped.{escaped}
+use Rattle.trace_picture.specs.Lengths.{behind}
+use Rattle.trace_picture.specs.declared.bars.Bar.{Bar}
 use Rattle.trace_picture.specs.declared.element.Attribute.{Attribute}
 use Rattle.trace_picture.specs.declared.element.Key.{Key}
 use Rattle.trace_picture.specs.declared.element.Key.TheVariants as key
@@ -88,6 +90,12 @@ attribute_of k text = codes " " ++ key_name k ++ codes "=\"" ++ escaped text ++ 
 
 abbrev pub place_text : Key → Length → List ℕ
 place_text k place = codes " " ++ key_name k ++ codes "=\"" ++ length_text place ++ codes "\""
+
+-- the attributes of a bar in the row with this top
+abbrev pub bar_tag : Bar → Length → Length → Length → List Attribute
+bar_tag bar left top wide =
+    record { key = key.Class; value = value.Text bar.class } ∷ record { key = key.X; value = value.Length left } ∷ record { key = key.Y; value = value.Length (behind top bar.down) }
+    ∷ record { key = key.Width; value = value.Length wide } ∷ record { key = key.Height; value = value.Length bar.high } ∷ []
 
 -- a line of this class from one place to another
 abbrev pub line_tag : List ℕ → Length → Length → Length → Length → List ℕ

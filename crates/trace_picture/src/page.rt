@@ -1,10 +1,9 @@
 //! The text of a picture while it is being written.
 
 ghost use Rattle.std.specs.Prelude.{◌≡◌, ◌-◌, ◌++◌, ◌∷◌, [], List, reverse, string_bytes, vec_len, IfOk, OnErr, OnOk};
-ghost use Rattle.std.specs.Fmt.{decimal};
 ghost use Rattle.trace_picture.specs.Element.{empty_text, end_text, start_text, titled, worded};
 ghost use Rattle.trace_picture.specs.Escaped.{escaped};
-ghost use Rattle.trace_picture.specs.Page.{GoesOn, IsBegun, IsPicture};
+ghost use Rattle.trace_picture.specs.Page.{IsBegun, IsPicture};
 ghost use Rattle.trace_picture.specs.declared.element.Tag.{Tag};
 
 use crate::element::{Attribute, Tag, push_end, push_start};
@@ -137,21 +136,6 @@ impl Page {
         Ok(())
     }
 
-    /// Writes a number into the innermost element.
-    ///
-    /// # Errors
-    ///
-    /// Memory ran out. Then the page is unchanged.
-    pub fn number(&mut self, number: u64) -> Result<(), AllocError>
-        ensures text { OnOk result
-            (string_bytes self.new.text ≡ string_bytes self.old.text ++ escaped (decimal number)) }
-        ensures unended { self.new.unended ≡ self.old.unended }
-        ensures kept { OnErr result (string_bytes self.new.text ≡ string_bytes self.old.text) }
-    {
-        let mut buffer = itoa::Buffer::new();
-        self.text(buffer.format(number))
-    }
-
     /// Ends the innermost element; the outermost one stays open.
     ///
     /// # Errors
@@ -161,8 +145,6 @@ impl Page {
         ensures text { OnOk result
             ((outer : List Tag) (tag : Tag) → self.old.unended.items ≡ outer ++ tag ∷ []
             → string_bytes self.new.text ≡ string_bytes self.old.text ++ end_text tag) }
-        ensures goes_on { OnOk result
-            (GoesOn (string_bytes self.old.text) (string_bytes self.new.text)) }
         ensures unended { OnOk result (vec_len self.new.unended ≡ vec_len self.old.unended - 1) }
         ensures left { OnOk result
             ((outer : List Tag) (tag : Tag) → self.old.unended.items ≡ outer ++ tag ∷ []
@@ -188,8 +170,6 @@ impl Page {
     /// Memory ran out.
     pub fn finish(mut self) -> Result<String, AllocError>
         ensures picture { IfOk result (λ text. ∥ IsPicture (string_bytes text) ∥₁) }
-        ensures goes_on { IfOk result
-            (λ text. GoesOn (string_bytes self.text) (string_bytes text)) }
         ensures whole { IfOk result
             (λ text. self.unended.items ≡ []
             → string_bytes text ≡ string_bytes self.text ++ end_text Tag.Svg) }
