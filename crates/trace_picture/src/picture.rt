@@ -146,11 +146,11 @@ impl Picture {
     /// Keeps the bars of the stays that end with the trace, unless the picture is full. Returns how many
     /// shapes the whole trace has.
     fn end(&mut self) -> Result<u64, MemoryFull> {
-        let before = self.shapes.len();
+        let kept = self.shapes.len();
         self.keep_rest()?;
-        let more = self.shapes.len().saturating_sub(before);
+        let more = self.shapes.len().saturating_sub(kept);
         if self.full.is_some() {
-            self.shapes.truncate(before);
+            self.shapes.truncate(kept);
         }
         Ok(self.count.saturating_add(more as u64))
     }
