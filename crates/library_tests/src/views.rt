@@ -3,7 +3,7 @@
 
 use apex_types::{Event, Ticks};
 use std::alloc::Global;
-use trace_page::laws::page_of;
+use trace_page::Page;
 use trace_picture::{Picture, Width, push_escaped};
 use trace_stays::laws::follow_all;
 use trace_stays::{Ended, Span};
@@ -147,8 +147,12 @@ fn tell_span(rt: &HostRuntime, kind: &str, place: usize, word: &str, span: Span)
 
 /// A page has the lines of the trace.
 fn tell_page(rt: &HostRuntime, events: &[Event]) -> Option<()> {
-    let page = page_of(rt.alloc(), None, b"", events).ok()?;
-    let shown = str::from_utf8(page.as_slice()).ok()?;
+    let mut page = Page::new(rt.alloc(), None);
+    for event in events {
+        page.add(event).ok()?;
+    }
+    let text = page.into_text(b"").ok()?;
+    let shown = str::from_utf8(text.as_slice()).ok()?;
     let begins = shown.starts_with("<!doctype html>");
     let is_there = shown.contains("0000000000008 a STATE p RUNNING");
     println!(rt; "page: begins {begins}, line {is_there}").ok()

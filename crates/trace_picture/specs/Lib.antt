@@ -4,6 +4,4 @@ pub mod Elements
 pub mod Escaped
 pub mod Lengths
 pub mod Marked
-pub mod Marks
 pub mod Page
-pub mod Style

@@ -1,8 +1,5 @@
 //! The bars of modes and states.
 
-ghost use Rattle.std.specs.Prelude.{◌≡◌, ◌++◌, OnOk, string_bytes};
-ghost use Rattle.trace_picture.specs.Element.{bar_tag, text_element};
-
 use crate::axis::Axis;
 use crate::drawing::Drawing;
 use crate::element::{Attribute, Key, Tag, at, set};
@@ -126,9 +123,12 @@ pub fn draw_bar(
 }
 
 /// The attributes of a bar in the row with this top.
-pub fn bar_attributes(bar: Bar, left: Length, top: Length, wide: Length) -> [Attribute<'static>; 5]
-    ensures { result ≡ bar_tag bar left top wide }
-{
+pub fn bar_attributes(
+    bar: Bar,
+    left: Length,
+    top: Length,
+    wide: Length,
+) -> [Attribute<'static>; 5] {
     [
         set(Key::Class, bar.class),
         at(Key::X, left),
@@ -145,12 +145,7 @@ pub fn draw_text(
     left: Length,
     line: Length,
     text: &str,
-) -> Result<(), AllocError>
-    ensures text { OnOk result
-        (string_bytes page.new.text
-        ≡ string_bytes page.old.text ++ text_element class.now left line text.now) }
-    ensures unended { OnOk result (page.new.unended.items ≡ page.old.unended.items) }
-{
+) -> Result<(), AllocError> {
     page.open(
         Tag::Text,
         &[set(Key::Class, class), at(Key::X, left), at(Key::Y, line)],

