@@ -3,14 +3,13 @@
 
 use apex_types::{Event, Ticks};
 use std::alloc::Global;
-use trace_page::laws::page_of;
-use trace_picture::reading::picture_of;
-use trace_picture::{Width, push_escaped};
+use trace_page::Page;
+use trace_picture::{Picture, Width, push_escaped};
 use trace_stays::laws::follow_all;
 use trace_stays::{Ended, Span};
 use trace_text::{TraceReader, check_trace, read_line};
 use trace_view::summary_of;
-use wave_dump::laws::dump_of;
+use wave_dump::Dump;
 
 const TRACE: &str = "0000000000000 a MODE NORMAL
 0000000000001 a STATE p READY
@@ -76,8 +75,10 @@ fn tell_events(rt: &HostRuntime, events: &[Event]) -> Option<()> {
 
 /// A picture of no ticks is empty. It begins and ends with the first tick.
 fn tell_picture(rt: &HostRuntime, events: &[Event], from: u64, to: u64) -> Option<()> {
-    let to = Some(Ticks(to));
-    let picture = picture_of(rt.alloc(), Ticks(from), to, events).ok()?;
+    let mut picture = Picture::new(rt.alloc(), Ticks(from), Some(Ticks(to)));
+    for event in events {
+        picture.add(event).ok()?;
+    }
     let drawing = picture.finish(None, Width::usual()).ok()?;
     let shapes = drawing.elements();
     let svg = drawing.text("a trace").ok()?;
@@ -106,8 +107,10 @@ fn tell_summary(rt: &HostRuntime, events: &[Event], from: u64, to: u64) -> Optio
 
 /// A dump has the tick where it begins and no other, and nothing changes after the first values.
 fn tell_dump(rt: &HostRuntime, events: &[Event], from: u64, to: u64) -> Option<()> {
-    let to = Some(Ticks(to));
-    let mut dump = dump_of(rt.alloc(), Ticks(from), to, events).ok()?;
+    let mut dump = Dump::new(rt.alloc(), Ticks(from), Some(Ticks(to)));
+    for event in events {
+        dump.add(event).ok()?;
+    }
     dump.finish().ok()?;
     let text = dump.text(rt.alloc()).ok()?;
     println!(rt; "{text}").ok()
@@ -144,8 +147,12 @@ fn tell_span(rt: &HostRuntime, kind: &str, place: usize, word: &str, span: Span)
 
 /// A page has the lines of the trace.
 fn tell_page(rt: &HostRuntime, events: &[Event]) -> Option<()> {
-    let page = page_of(rt.alloc(), None, b"", events).ok()?;
-    let shown = str::from_utf8(page.as_slice()).ok()?;
+    let mut page = Page::new(rt.alloc(), None);
+    for event in events {
+        page.add(event).ok()?;
+    }
+    let text = page.into_text(b"").ok()?;
+    let shown = str::from_utf8(text.as_slice()).ok()?;
     let begins = shown.starts_with("<!doctype html>");
     let is_there = shown.contains("0000000000008 a STATE p RUNNING");
     println!(rt; "page: begins {begins}, line {is_there}").ok()

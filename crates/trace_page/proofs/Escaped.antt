@@ -1,9 +1,7 @@
 -- Text that is escaped.
-use Rattle.std.proofs.Common.{◌≡◌, ℕ, Bool, true, false, cond, List, [], ◌∷◌, ◌++◌, flat_map, refl, sym, ap, ◌∙◌, append_assoc}
+use Rattle.std.proofs.Common.{◌≡◌, ℕ, Bool, true, false, cond, List, [], ◌∷◌, ◌++◌, refl, sym}
 use Rattle.std.specs.Prelude.{◌==◌, ◌||◌}
-use Rattle.apex_types.specs.Line.{line_of, text_of}
-use Rattle.apex_types.specs.declared.event.Event.{Event}
-use Rattle.trace_page.specs.Escaping.{ends_within, escaped, escaped_byte, escaped_line}
+use Rattle.trace_page.specs.Escaping.{ends_within, escaped, escaped_byte}
 
 stays_within : (b : ℕ) (rest : List ℕ) → ends_within false rest ≡ false → ends_within false (escaped_byte b ++ rest) ≡ false
 stays_within b rest h = go (b == 34) (b == 92) (b == 10) (b == 60) refl refl refl refl
@@ -26,11 +24,3 @@ stays_within b rest h = go (b == 34) (b == 92) (b == 10) (b == 60) refl refl ref
 pub never_ends : (text : List ℕ) → ends_within false (escaped text) ≡ false
 never_ends [] = refl
 never_ends (b ∷ text) = stays_within b (escaped text) (never_ends text)
-
-pub escaped_both : (one other : List ℕ) → escaped (one ++ other) ≡ escaped one ++ escaped other
-escaped_both [] other = refl
-escaped_both (b ∷ one) other = ap (λ (t : List ℕ). escaped_byte b ++ t) (escaped_both one other) ∙ sym (append_assoc (escaped_byte b) (escaped one) (escaped other))
-
-pub escaped_lines : (events : List Event) → flat_map escaped_line events ≡ escaped (text_of events)
-escaped_lines [] = refl
-escaped_lines (e ∷ es) = ap (λ (t : List ℕ). escaped (line_of e) ++ t) (escaped_lines es) ∙ sym (escaped_both (line_of e) (text_of es))

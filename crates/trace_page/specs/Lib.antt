@@ -1,3 +1,2 @@
 pub mod Escaping
-pub mod Ticks
 pub mod Windows

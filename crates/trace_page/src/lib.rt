@@ -5,10 +5,8 @@
 #![tactic(auto)]
 
 mod escaping;
-pub mod laws;
 mod page;
 mod text;
-mod ticks;
 mod windows;
 
 pub use page::Page;

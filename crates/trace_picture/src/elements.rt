@@ -1,6 +1,6 @@
 //! The elements of a picture, by the ticks in which they begin.
 
-ghost use Rattle.std.specs.Prelude.{◌≡◌, ◌<◌, ◌+◌, ◌++◌, length, IfOk, OnOk};
+ghost use Rattle.std.specs.Prelude.{◌≡◌, ◌<◌, ◌+◌, length};
 ghost use Rattle.trace_picture.specs.Elements as spec;
 
 use crate::excess::Excess;
@@ -8,13 +8,11 @@ use crate::shape::{MOST_SHAPES, Shape};
 use crate::windows::is_cut;
 use apex_types::Ticks;
 use std::alloc::{AllocError, Global};
-use trace_stays::{Span, Stay};
+use trace_stays::Span;
 use trace_windows::{Stretch, Windows};
 
 /// The first tick of a shape.
-fn first_tick(shape: &Shape) -> Ticks
-    ensures { result ≡ spec.first_tick shape.now }
-{
+fn first_tick(shape: &Shape) -> Ticks {
     match shape {
         Shape::Mode(_, stay) => stay.span.from,
         Shape::State(_, stay) => stay.span.from,
@@ -24,102 +22,49 @@ fn first_tick(shape: &Shape) -> Ticks
     }
 }
 
-/// Adds the first tick of the piece of a stay in a stretch, if they have ticks in common.
-fn push_piece(begun: &mut Vec<Ticks>, stay: Stay, stretch: &Stretch) -> Result<(), AllocError>
-    ensures { OnOk result
-        (begun.new.items ≡ begun.old.items ++ spec.piece_begins stay stretch.now) }
-{
-    let span = stay.span.within(stretch.span);
-    if span.ticks() == 0 {
-        return Ok(());
-    }
-    begun.push(span.from)?;
-    Ok(())
-}
-
-/// Adds the first ticks of the pieces of a stay.
-#[tactic(auto, using(std::proofs::lemmas::List::drop_more))]
-fn push_pieces(begun: &mut Vec<Ticks>, windows: &Windows, stay: Stay) -> Result<(), AllocError>
-    ensures { OnOk result
-        (begun.new.items ≡ begun.old.items ++ spec.pieces_begin windows.now stay) }
-{
-    for stretch in windows.stretches() {
-        push_piece(begun, stay, stretch)?;
+/// Adds the first of these ticks, if there are any.
+fn push_first(begun: &mut Vec<Ticks>, span: Span) -> Result<(), AllocError> {
+    if span.ticks() > 0 {
+        begun.push(span.from)?;
     }
     Ok(())
 }
 
-/// Adds the first ticks of the elements of a shape.
+/// Adds the first ticks of the elements of a shape: those of a stay that is cut at the ends of
+/// windows are its pieces.
 fn push_shape(
     begun: &mut Vec<Ticks>,
     windows: &Option<Windows>,
     shape: &Shape,
-) -> Result<(), AllocError>
-    ensures { OnOk result
-        (begun.new.items ≡ begun.old.items ++ spec.shape_begins windows.now shape.now) }
-{
+) -> Result<(), AllocError> {
     match (windows, shape) {
         (Some(windows), Shape::State(_, stay)) if is_cut(stay.state) => {
-            push_pieces(begun, windows, *stay)
+            for stretch in windows.stretches() {
+                push_first(begun, stay.span.within(stretch.span))?;
+            }
         }
-        _ => {
-            begun.push(first_tick(shape))?;
-            Ok(())
-        }
-    }
-}
-
-/// Adds the first tick of the window of a stretch, if some of its ticks are shown.
-fn push_window(begun: &mut Vec<Ticks>, shown: Span, stretch: &Stretch) -> Result<(), AllocError>
-    ensures { OnOk result
-        (begun.new.items ≡ begun.old.items ++ spec.window_begins shown stretch.now) }
-{
-    let span = stretch.span.within(shown);
-    if stretch.owner.is_none() || span.ticks() == 0 {
-        return Ok(());
-    }
-    begun.push(span.from)?;
-    Ok(())
-}
-
-/// Adds the first ticks of the windows.
-#[tactic(auto, using(std::proofs::lemmas::List::drop_more))]
-fn push_windows(
-    begun: &mut Vec<Ticks>,
-    shown: Span,
-    stretches: &[Stretch],
-) -> Result<(), AllocError>
-    ensures { OnOk result
-        (begun.new.items ≡ begun.old.items ++ spec.windows_begin shown stretches.now) }
-{
-    for stretch in stretches {
-        push_window(begun, shown, stretch)?;
+        _ => begun.push(first_tick(shape))?,
     }
     Ok(())
 }
 
-/// The windows and the times between them, if they are known.
-fn stretches_of(windows: &Option<Windows>) -> &[Stretch]
-    ensures { result.now ≡ spec.stretches_of windows.now }
-{
-    match windows {
-        Some(windows) => windows.stretches(),
-        None => &[],
-    }
-}
-
-/// The first ticks of the elements of a picture.
-#[tactic(auto, using(std::proofs::lemmas::List::drop_more))]
+/// The first ticks of the elements of a picture: its windows that are shown, and its shapes.
 pub fn beginnings(
     alloc: Global,
     shown: Span,
     windows: &Option<Windows>,
     shapes: &[Shape],
-) -> Result<Vec<Ticks>, AllocError>
-    ensures { IfOk result (λ begun. begun.items ≡ spec.beginnings shown windows.now shapes.now) }
-{
+) -> Result<Vec<Ticks>, AllocError> {
     let mut begun = Vec::new(alloc);
-    push_windows(&mut begun, shown, stretches_of(windows))?;
+    let stretches: &[Stretch] = match windows {
+        Some(windows) => windows.stretches(),
+        None => &[],
+    };
+    for stretch in stretches {
+        if stretch.owner.is_some() {
+            push_first(&mut begun, stretch.span.within(shown))?;
+        }
+    }
     for shape in shapes {
         push_shape(&mut begun, windows, shape)?;
     }

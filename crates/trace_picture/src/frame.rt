@@ -1,22 +1,19 @@
 //! The frame around the bars: names, the time axis and the legend.
 
-ghost use Rattle.std.specs.Prelude.{◌≡◌, ◌<◌, ◌≤◌, ◌/◌, ◌++◌, ℕ, OnOk, flat_map, string_bytes};
-ghost use Rattle.trace_picture.specs.Axis.{multiples_in};
-ghost use Rattle.trace_picture.specs.Marks.{HasMarks, axis_line, axis_text, mark_text};
-ghost use Rattle.trace_picture.specs.Titles.{heading_text};
-ghost use Rattle.trace_stays.specs.Stays.{ticks_of};
+ghost use Rattle.std.specs.Prelude.{◌<◌};
 
 use crate::axis::{Axis, LEFT};
 use crate::bars::{Bar, bar_attributes, bar_of_mode, bar_of_state, draw_text};
-use crate::element::{Key, Tag, at, moved, set};
+use crate::drawing::Drawing;
+use crate::element::{Key, Tag, at, line_attributes, outline_attributes, set};
 use crate::length::Length;
 use crate::marks::{FLAG, FLAG_DOWN, REPORT, REPORT_DOWN};
 use crate::page::Page;
-use crate::rows::{ROW, Rows};
+use crate::rows::ROW;
 use crate::windows::{RELEASE, RELEASE_DOWN, bar_of_window, bar_outside, word_outside};
 use apex_types::{Mode, ProcessState, Ticks};
 use std::alloc::AllocError;
-use trace_stays::{Lanes, subject_word};
+use trace_stays::subject_word;
 
 /// The distance of the ground of a partition from the edges, and the length by which it extends
 /// below its rows.
@@ -38,35 +35,25 @@ const AXIS: Length = Length(500);
 const COLUMN: Length = Length(1_700);
 
 /// Draws the title of a picture.
-pub fn draw_heading(page: &mut Page, heading: &str) -> Result<(), AllocError>
-    ensures text { OnOk result
-        (string_bytes page.new.text ≡ string_bytes page.old.text ++ heading_text heading.now) }
-    ensures unended { OnOk result (page.new.unended.items ≡ page.old.unended.items) }
-{
+pub fn draw_heading(page: &mut Page, heading: &str) -> Result<(), AllocError> {
     draw_text(page, "heading", NAMES, NAMES, heading)
 }
 
 /// Draws the names of the rows, and the ground of each partition.
-pub fn draw_names(
-    page: &mut Page,
-    axis: Axis,
-    lanes: &Lanes,
-    rows: &Rows,
-) -> Result<(), AllocError> {
+pub fn draw_names(page: &mut Page, drawing: &Drawing) -> Result<(), AllocError> {
+    let (axis, lanes, rows) = (drawing.axis, &drawing.lanes, &drawing.rows);
     if let Some(top) = rows.windows {
         draw_text(page, "partition", NAMES, top + LINE, "windows")?;
     }
     if let Some(top) = rows.outside {
-        draw_base(page, axis, top + ROW.half())?;
-        draw_text(page, "partition", NAMES, top + LINE, "outside")?;
+        draw_base(page, axis, top, "outside")?;
     }
     if let Some(top) = rows.module {
-        draw_base(page, axis, top + ROW.half())?;
-        draw_text(page, "partition", NAMES, top + LINE, "module")?;
+        draw_base(page, axis, top, "module")?;
     }
     for (partition, lane) in lanes.partitions().iter().enumerate() {
         if let Some(top) = rows.partition(partition) {
-            draw_ground(page, axis, top, rows.end_of(lanes, partition))?;
+            draw_ground(page, axis, top, rows.end_of(lanes, partition, top))?;
             draw_text(page, "partition", NAMES, top + LINE, lane.name.as_str())?;
         }
     }
@@ -79,18 +66,13 @@ pub fn draw_names(
     Ok(())
 }
 
-/// Draws a line through the row of what is outside, or of the module itself.
-fn draw_base(page: &mut Page, axis: Axis, height: Length) -> Result<(), AllocError> {
-    page.empty(
-        Tag::Line,
-        &[
-            set(Key::Class, "base"),
-            at(Key::X1, Length(LEFT)),
-            at(Key::Y1, height),
-            at(Key::X2, axis.end()),
-            at(Key::Y2, height),
-        ],
-    )
+/// Draws a line through the row with this top, which is of what is outside or of the module itself,
+/// and its name.
+fn draw_base(page: &mut Page, axis: Axis, top: Length, name: &str) -> Result<(), AllocError> {
+    let height = top + ROW.half();
+    let line = line_attributes("base", Length(LEFT), height, axis.end(), height);
+    page.empty(Tag::Line, &line)?;
+    draw_text(page, "partition", NAMES, top + LINE, name)
 }
 
 /// Draws the ground of a partition.
@@ -108,50 +90,17 @@ fn draw_ground(page: &mut Page, axis: Axis, top: Length, bottom: Length) -> Resu
 }
 
 /// Draws the axis with its numbers, and a line down at each of these.
-#[tactic(auto, unfolding(crate::specs::Marks::axis_text))]
-pub fn draw_axis(page: &mut Page, axis: Axis, bottom: Length) -> Result<(), AllocError>
-    ensures marks { OnOk result
-        ((step : ℕ)
-        × ((0 < step) × (ticks_of axis.span / step ≤ 10)
-        × HasMarks axis bottom step (string_bytes page.old.text)
-        (string_bytes page.new.text))) }
-    ensures text { OnOk result
-        (string_bytes page.new.text ≡ string_bytes page.old.text ++ axis_text axis bottom) }
-    ensures unended { OnOk result (page.new.unended.items ≡ page.old.unended.items) }
-{
-    draw_axis_line(page, axis)?;
+pub fn draw_axis(page: &mut Page, axis: Axis, bottom: Length) -> Result<(), AllocError> {
+    let line = line_attributes("axis", Length(LEFT), AXIS, axis.end(), AXIS);
+    page.empty(Tag::Line, &line)?;
     draw_text(page, "process", NAMES, AXIS - Length(90), "tick")?;
     draw_marks(page, axis, axis.step(), bottom)
-}
-
-/// Draws the line of the axis.
-#[tactic(auto, unfolding(crate::specs::Marks::axis_line))]
-fn draw_axis_line(page: &mut Page, axis: Axis) -> Result<(), AllocError>
-    ensures text { OnOk result
-        (string_bytes page.new.text ≡ string_bytes page.old.text ++ axis_line axis) }
-    ensures unended { page.new.unended ≡ page.old.unended }
-{
-    page.empty(
-        Tag::Line,
-        &[
-            set(Key::Class, "axis"),
-            at(Key::X1, Length(LEFT)),
-            at(Key::Y1, AXIS),
-            at(Key::X2, axis.end()),
-            at(Key::Y2, AXIS),
-        ],
-    )
 }
 
 /// Draws a mark at each multiple of the step among the ticks of the axis, and at its end if that is
 /// one.
 fn draw_marks(page: &mut Page, axis: Axis, step: u64, bottom: Length) -> Result<(), AllocError>
     requires { 0 < step }
-    ensures text { OnOk result
-        (string_bytes page.new.text
-        ≡ string_bytes page.old.text
-        ++ flat_map (mark_text axis bottom) (multiples_in step axis.span)) }
-    ensures unended { OnOk result (page.new.unended.items ≡ page.old.unended.items) }
 {
     let first = axis.span.from.0.div_ceil(step);
     let last = axis.span.until.0 / step;
@@ -165,23 +114,10 @@ fn draw_marks(page: &mut Page, axis: Axis, step: u64, bottom: Length) -> Result<
 }
 
 /// Draws a number of the axis, and a line down from it.
-fn draw_mark(page: &mut Page, axis: Axis, tick: Ticks, bottom: Length) -> Result<(), AllocError>
-    ensures text { OnOk result
-        (string_bytes page.new.text
-        ≡ string_bytes page.old.text ++ mark_text axis bottom tick.0) }
-    ensures unended { OnOk result (page.new.unended.items ≡ page.old.unended.items) }
-{
+fn draw_mark(page: &mut Page, axis: Axis, tick: Ticks, bottom: Length) -> Result<(), AllocError> {
     let x = axis.place(tick);
-    page.empty(
-        Tag::Line,
-        &[
-            set(Key::Class, "grid"),
-            at(Key::X1, x),
-            at(Key::Y1, AXIS - Length(40)),
-            at(Key::X2, x),
-            at(Key::Y2, bottom + Length(40)),
-        ],
-    )?;
+    let line = line_attributes("grid", x, AXIS - Length(40), x, bottom + Length(40));
+    page.empty(Tag::Line, &line)?;
     let mut buffer = itoa::Buffer::new();
     draw_text(page, "tick", x, AXIS - Length(90), buffer.format(tick.0))
 }
@@ -249,16 +185,8 @@ fn draw_arrow_sample(
 ) -> Result<(), AllocError> {
     let left = column_left(4);
     let middle = top + ROW.half();
-    page.empty(
-        Tag::Line,
-        &[
-            set(Key::Class, class),
-            at(Key::X1, left),
-            at(Key::Y1, middle),
-            at(Key::X2, left + Length(300)),
-            at(Key::Y2, middle),
-        ],
-    )?;
+    let line = line_attributes(class, left, middle, left + Length(300), middle);
+    page.empty(Tag::Line, &line)?;
     draw_text(page, "process", left + Length(400), top + LINE, word)
 }
 
@@ -267,18 +195,12 @@ fn draw_mark_sample(
     page: &mut Page,
     top: Length,
     down: Length,
-    class: &str,
-    path: &str,
+    class: &'static str,
+    path: &'static str,
     word: &str,
 ) -> Result<(), AllocError> {
     let left = column_left(5);
-    page.empty(
-        Tag::Path,
-        &[
-            set(Key::Class, class),
-            set(Key::Path, path),
-            moved(left + Length(150), top + down),
-        ],
-    )?;
+    let outline = outline_attributes(class, path, left + Length(150), top + down);
+    page.empty(Tag::Path, &outline)?;
     draw_text(page, "process", left + Length(400), top + LINE, word)
 }

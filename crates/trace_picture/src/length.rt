@@ -3,6 +3,7 @@
 ghost use Rattle.std.specs.Prelude.{◌≡◌, max};
 ghost use Rattle.trace_picture.specs.Lengths.{behind, before, half_of, times_of};
 
+use std::fmt::{self, Display, Formatter, Write};
 use std::ops::{Add, Sub};
 
 /// A length in tenths of a pixel. A sum that is too great is the greatest length, and a difference
@@ -50,5 +51,20 @@ impl Sub for Length {
 
     fn sub(self, other: Length) -> Length {
         Length(self.0.saturating_sub(other.0))
+    }
+}
+
+/// Displays in pixels, with one decimal where it is not whole.
+impl Display for Length {
+    ghost use Rattle.std.specs.Prelude.{Some};
+    ghost use Rattle.trace_picture.specs.Element.{length_text};
+
+    ghost output = { λ length. Some (length_text length) };
+
+    fn fmt<W: Write>(&self, f: &mut Formatter<W>) -> fmt::Result {
+        if self.0 % 10 == 0 {
+            return write!(f, "{}", self.0 / 10);
+        }
+        write!(f, "{}.{}", self.0 / 10, self.0 % 10)
     }
 }

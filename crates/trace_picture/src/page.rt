@@ -1,11 +1,8 @@
 //! The text of a picture while it is being written.
 
-ghost use Rattle.std.specs.Prelude.{◌≡◌, ◌-◌, ◌++◌, ◌∷◌, [], List, reverse, string_bytes, vec_len, IfOk, OnErr, OnOk};
-ghost use Rattle.std.specs.Fmt.{decimal};
-ghost use Rattle.trace_picture.specs.Element.{empty_text, end_text, start_text, titled, worded};
-ghost use Rattle.trace_picture.specs.Escaped.{escaped};
-ghost use Rattle.trace_picture.specs.Page.{GoesOn, IsBegun, IsPicture};
-ghost use Rattle.trace_picture.specs.declared.element.Tag.{Tag};
+ghost use Rattle.std.specs.Prelude.{◌≡◌, ◌-◌, reverse, string_bytes, vec_len, IfOk, OnOk};
+ghost use Rattle.trace_picture.specs.Element.{start_text, titled};
+ghost use Rattle.trace_picture.specs.Page.{IsBegun, IsPicture};
 
 use crate::element::{Attribute, Tag, push_end, push_start};
 use crate::escaped::push_escaped;
@@ -28,11 +25,7 @@ impl Page {
     /// # Errors
     ///
     /// Memory ran out.
-    pub fn new(alloc: Global, attributes: &[Attribute<'_>]) -> Result<Page, AllocError>
-        ensures text { IfOk result
-            (λ page. string_bytes page.text ≡ start_text Tag.Svg attributes.now) }
-        ensures unended { IfOk result (λ page. page.unended.items ≡ []) }
-    {
+    pub fn new(alloc: Global, attributes: &[Attribute<'_>]) -> Result<Page, AllocError> {
         let mut text = String::new(alloc);
         push_start(&mut text, Tag::Svg, attributes, ">")?;
         Ok(Page {
@@ -47,15 +40,7 @@ impl Page {
     /// # Errors
     ///
     /// Memory ran out. Then the page is unchanged.
-    pub fn open(&mut self, tag: Tag, attributes: &[Attribute<'_>]) -> Result<(), AllocError>
-        ensures text { OnOk result
-            (string_bytes self.new.text
-            ≡ string_bytes self.old.text ++ start_text tag attributes.now) }
-        ensures unended { OnOk result
-            (self.new.unended.items ≡ self.old.unended.items ++ tag ∷ []) }
-        ensures kept { OnErr result (string_bytes self.new.text ≡ string_bytes self.old.text) }
-        ensures kept_unended { OnErr result (self.new.unended.items ≡ self.old.unended.items) }
-    {
+    pub fn open(&mut self, tag: Tag, attributes: &[Attribute<'_>]) -> Result<(), AllocError> {
         let mut start = String::new(self.alloc);
         push_start(&mut start, tag, attributes, ">")?;
         self.unended.reserve(1)?;
@@ -69,13 +54,7 @@ impl Page {
     /// # Errors
     ///
     /// Memory ran out. Then the page is unchanged.
-    pub fn empty(&mut self, tag: Tag, attributes: &[Attribute<'_>]) -> Result<(), AllocError>
-        ensures text { OnOk result
-            (string_bytes self.new.text
-            ≡ string_bytes self.old.text ++ empty_text tag attributes.now) }
-        ensures unended { self.new.unended ≡ self.old.unended }
-        ensures kept { OnErr result (string_bytes self.new.text ≡ string_bytes self.old.text) }
-    {
+    pub fn empty(&mut self, tag: Tag, attributes: &[Attribute<'_>]) -> Result<(), AllocError> {
         let mut whole = String::new(self.alloc);
         push_start(&mut whole, tag, attributes, "/>\n")?;
         self.text.push_str(whole.as_str())?;
@@ -92,13 +71,7 @@ impl Page {
         tag: Tag,
         attributes: &[Attribute<'_>],
         title: &str,
-    ) -> Result<(), AllocError>
-        ensures text { OnOk result
-            (string_bytes self.new.text
-            ≡ string_bytes self.old.text ++ titled tag (start_text tag attributes.now) title.now) }
-        ensures unended { self.new.unended ≡ self.old.unended }
-        ensures kept { OnErr result (string_bytes self.new.text ≡ string_bytes self.old.text) }
-    {
+    ) -> Result<(), AllocError> {
         let whole = titled_element(self.alloc, tag, attributes, title)?;
         self.text.push_str(whole.as_str())?;
         Ok(())
@@ -109,11 +82,7 @@ impl Page {
     /// # Errors
     ///
     /// Memory ran out.
-    pub fn worded(&mut self, tag: Tag, words: &str) -> Result<(), AllocError>
-        ensures text { OnOk result
-            (string_bytes self.new.text ≡ string_bytes self.old.text ++ worded tag words.now) }
-        ensures unended { OnOk result (self.new.unended.items ≡ self.old.unended.items) }
-    {
+    pub fn worded(&mut self, tag: Tag, words: &str) -> Result<(), AllocError> {
         self.open(tag, &[])?;
         self.text(words)?;
         self.close()?;
@@ -125,31 +94,11 @@ impl Page {
     /// # Errors
     ///
     /// Memory ran out. Then the page is unchanged.
-    pub fn text(&mut self, text: &str) -> Result<(), AllocError>
-        ensures text { OnOk result
-            (string_bytes self.new.text ≡ string_bytes self.old.text ++ escaped text.now) }
-        ensures unended { self.new.unended ≡ self.old.unended }
-        ensures kept { OnErr result (string_bytes self.new.text ≡ string_bytes self.old.text) }
-    {
+    pub fn text(&mut self, text: &str) -> Result<(), AllocError> {
         let mut piece = String::new(self.alloc);
         push_escaped(&mut piece, text)?;
         self.text.push_str(piece.as_str())?;
         Ok(())
-    }
-
-    /// Writes a number into the innermost element.
-    ///
-    /// # Errors
-    ///
-    /// Memory ran out. Then the page is unchanged.
-    pub fn number(&mut self, number: u64) -> Result<(), AllocError>
-        ensures text { OnOk result
-            (string_bytes self.new.text ≡ string_bytes self.old.text ++ escaped (decimal number)) }
-        ensures unended { self.new.unended ≡ self.old.unended }
-        ensures kept { OnErr result (string_bytes self.new.text ≡ string_bytes self.old.text) }
-    {
-        let mut buffer = itoa::Buffer::new();
-        self.text(buffer.format(number))
     }
 
     /// Ends the innermost element; the outermost one stays open.
@@ -158,17 +107,7 @@ impl Page {
     ///
     /// Memory ran out. Then the page is unchanged.
     pub fn close(&mut self) -> Result<(), AllocError>
-        ensures text { OnOk result
-            ((outer : List Tag) (tag : Tag) → self.old.unended.items ≡ outer ++ tag ∷ []
-            → string_bytes self.new.text ≡ string_bytes self.old.text ++ end_text tag) }
-        ensures goes_on { OnOk result
-            (GoesOn (string_bytes self.old.text) (string_bytes self.new.text)) }
-        ensures unended { OnOk result (vec_len self.new.unended ≡ vec_len self.old.unended - 1) }
-        ensures left { OnOk result
-            ((outer : List Tag) (tag : Tag) → self.old.unended.items ≡ outer ++ tag ∷ []
-            → self.new.unended.items ≡ outer) }
-        ensures kept { OnErr result (string_bytes self.new.text ≡ string_bytes self.old.text) }
-        ensures kept_unended { OnErr result (self.new.unended.items ≡ self.old.unended.items) }
+        ensures { OnOk result (vec_len self.new.unended ≡ vec_len self.old.unended - 1) }
     {
         let Some(last) = self.unended.last() else {
             return Ok(());
@@ -187,12 +126,7 @@ impl Page {
     ///
     /// Memory ran out.
     pub fn finish(mut self) -> Result<String, AllocError>
-        ensures picture { IfOk result (λ text. ∥ IsPicture (string_bytes text) ∥₁) }
-        ensures goes_on { IfOk result
-            (λ text. GoesOn (string_bytes self.text) (string_bytes text)) }
-        ensures whole { IfOk result
-            (λ text. self.unended.items ≡ []
-            → string_bytes text ≡ string_bytes self.text ++ end_text Tag.Svg) }
+        ensures { IfOk result (λ text. ∥ IsPicture (string_bytes text) ∥₁) }
     {
         while !self.unended.as_slice().is_empty() {
             self.close()?;

@@ -1,9 +1,8 @@
 //! The events in the ticks of a picture.
 
-ghost use Rattle.std.specs.Prelude.{◌≡◌, ◌*◌, ◌-◌, ◌≤◌, ◌++◌, ◌∷◌, [], IfErr, IfOk, None, OnErr, OnOk, Some, true};
+ghost use Rattle.std.specs.Prelude.{◌≡◌, ◌*◌, ◌-◌, ◌≤◌, ◌++◌, ◌∷◌, [], IfOk, OnErr, OnOk, Some};
 ghost use Rattle.apex_types.specs.Line.{subject_text};
-ghost use Rattle.trace_picture.specs.Elements.{IsCrowded, beginnings};
-ghost use Rattle.trace_picture.specs.Marked.{bar_of_stay, bars_of_stays, beside, flag_at, is_port, is_under_way, marks_in, marks_of_module, message_at, one_of, owner_in, report_at, way_from, way_in, way_to};
+ghost use Rattle.trace_picture.specs.Marked.{bar_of_stay, bars_of_stays, flag_at, is_port, marks_in, marks_of_module, message_at, one_of, owner_in, report_at, way_from, way_in, way_to};
 ghost use Rattle.trace_stays.specs.Following.{AreKept, process_at};
 ghost use Rattle.trace_stays.specs.Shown.{open_ticks};
 
@@ -37,18 +36,13 @@ pub struct Picture {
 }
 
 impl Picture {
-    ghost use Rattle.trace_picture.specs.Added.{AreKeptFrom, IsAdded, IsFilled, IsGathered, IsLike, IsLikeButLanes, IsMarked, IsSteady, IsTaken, all_counted, all_shapes, bars_left, first_if, kept_ticks};
-    ghost use Rattle.trace_stays.specs.Shown.{shown_from, shown_ticks, with_read};
+    ghost use Rattle.trace_picture.specs.Marked.{IsLike, IsLikeButLanes, kept_ticks};
+    ghost use Rattle.trace_stays.specs.Shown.{shown_from, with_read};
 
     /// A picture of the ticks from the first one on and before the second; with none, up to the tick
     /// of the last line.
     pub fn new(alloc: Global, from: Ticks, to: Option<Ticks>) -> Picture
-        ensures lanes { result.lanes.partitions.items ≡ [] }
-        ensures way { result.way ≡ None }
-        ensures shown { result.shown ≡ shown_from from to }
-        ensures shapes { result.shapes.items ≡ [] }
-        ensures count { result.count ≡ 0 }
-        ensures full { result.full ≡ None }
+        ensures { result.shown ≡ shown_from from to }
     {
         Picture {
             alloc,
@@ -68,75 +62,34 @@ impl Picture {
     ///
     /// Memory ran out.
     pub fn add(&mut self, event: &Event) -> Result<(), MemoryFull>
-        ensures shown { self.new.shown ≡ with_read event.now.tick.0 self.old.shown }
-        ensures added { OnOk result (IsAdded event.now self.old self.new) }
+        ensures { self.new.shown ≡ with_read event.now.tick.0 self.old.shown }
     {
         if !self.shown.read(event.tick) {
             return Ok(());
         }
         let before = self.shapes.len();
-        self.take(event)?;
-        self.gather(before)?;
-        Ok(())
-    }
-
-    /// Keeps all shapes of an event whose tick is before the end of the ticks.
-    fn take(&mut self, event: &Event) -> Result<(), MemoryFull>
-        ensures taken { OnOk result (IsTaken event.now self.old self.new) }
-        ensures others { IsSteady self.old self.new }
-    {
         let mut ended = Vec::new(self.alloc);
         self.lanes.follow(event, &mut ended)?;
         self.keep_stays(ended.as_slice())?;
-        if event.tick.0 < self.shown.open().from.0 {
-            return Ok(());
+        if event.tick.0 >= self.shown.open().from.0 {
+            self.mark(event)?;
         }
-        self.mark(event)?;
-        Ok(())
-    }
-
-    /// Counts the shapes after the first ones, and lets go of them if the picture is full.
-    fn gather(&mut self, before: usize) -> Result<(), MemoryFull>
-        ensures gathered { OnOk result (IsGathered before self.old self.new) }
-        ensures shown { self.new.shown ≡ self.old.shown }
-        ensures lanes { self.new.lanes ≡ self.old.lanes }
-        ensures way { self.new.way ≡ self.old.way }
-    {
         let more = self.shapes.len().saturating_sub(before);
         self.count = self.count.saturating_add(more as u64);
         self.settle(before)
     }
 
-    /// Lets go of the shapes after the first ones if the picture is full already. Otherwise it is
-    /// full if it has too many now.
+    /// Lets go of the shapes after the first ones if the picture is full already. If it has too many
+    /// now, it keeps the bars of the stays that are not over, and is full.
     fn settle(&mut self, before: usize) -> Result<(), MemoryFull>
-        ensures settled { OnOk result (AreKeptFrom self.old.full before self.old self.new) }
-        ensures shown { self.new.shown ≡ self.old.shown }
-        ensures lanes { self.new.lanes ≡ self.old.lanes }
-        ensures way { self.new.way ≡ self.old.way }
-        ensures count { self.new.count ≡ self.old.count }
+        ensures { self.new.shown ≡ self.old.shown }
     {
-        match self.full {
-            Some(_) => {
-                self.shapes.truncate(before);
-                Ok(())
-            }
-            None if self.shapes.len() <= MOST_SHAPES => Ok(()),
-            None => self.fill(),
+        if self.full.is_some() {
+            self.shapes.truncate(before);
+        } else if self.shapes.len() > MOST_SHAPES {
+            self.keep_rest()?;
+            self.full = Some(self.shown);
         }
-    }
-
-    /// Keeps the bars of the stays that are not over. The picture is full.
-    fn fill(&mut self) -> Result<(), MemoryFull>
-        ensures filled { OnOk result (IsFilled true self.old.shapes.items self.new) }
-        ensures shown { self.new.shown ≡ self.old.shown }
-        ensures lanes { self.new.lanes ≡ self.old.lanes }
-        ensures way { self.new.way ≡ self.old.way }
-        ensures count { self.new.count ≡ self.old.count }
-    {
-        let until = self.shown.span().until;
-        self.keep_rest(until)?;
-        self.full = Some(self.shown);
         Ok(())
     }
 
@@ -167,12 +120,7 @@ impl Picture {
     pub fn finish(mut self, windows: Option<Windows>, width: Width) -> Result<Drawing, PictureFault>
         ensures windows { IfOk result (λ drawing. drawing.windows ≡ windows) }
         ensures wide { IfOk result (λ drawing. drawing.axis.long ≡ width.pixels * 10 - 1800) }
-        ensures refused { IfErr result
-            (IsCrowded (kept_ticks self)
-            (beginnings (kept_ticks self) windows (all_shapes self)) (all_counted self)) }
         ensures span { IfOk result (λ drawing. drawing.axis.span ≡ kept_ticks self) }
-        ensures lanes { IfOk result (λ drawing. drawing.lanes ≡ self.lanes) }
-        ensures shapes { IfOk result (λ drawing. drawing.shapes.items ≡ all_shapes self) }
     {
         let span = self.span();
         let count = self.end()?;
@@ -197,38 +145,21 @@ impl Picture {
 
     /// Keeps the bars of the stays that end with the trace, unless the picture is full. Returns how many
     /// shapes the whole trace has.
-    fn end(&mut self) -> Result<u64, MemoryFull>
-        ensures count { IfOk result (λ count. count ≡ all_counted self.old) }
-        ensures kept { OnOk result (self.new.shapes.items ≡ all_shapes self.old) }
-        ensures others { IsLike self.old self.new }
-    {
-        let before = self.shapes.len();
-        let until = self.shown.span().until;
-        self.keep_rest(until)?;
-        let more = self.shapes.len().saturating_sub(before);
-        self.leave(before);
+    fn end(&mut self) -> Result<u64, MemoryFull> {
+        let kept = self.shapes.len();
+        self.keep_rest()?;
+        let more = self.shapes.len().saturating_sub(kept);
+        if self.full.is_some() {
+            self.shapes.truncate(kept);
+        }
         Ok(self.count.saturating_add(more as u64))
     }
 
-    /// Lets go of the shapes after the first ones if the picture is full.
-    fn leave(&mut self, before: usize)
-        ensures shapes { self.new.shapes.items
-            ≡ first_if self.old.full before self.old.shapes.items }
-        ensures others { IsLike self.old self.new }
-    {
-        match self.full {
-            Some(_) => self.shapes.truncate(before),
-            None => {}
-        }
-    }
-
     /// Keeps the bars of the stays that are not over.
-    fn keep_rest(&mut self, until: Ticks) -> Result<(), MemoryFull>
-        requires { until ≡ (shown_ticks self.now.shown).until }
-        ensures kept { OnOk result
-            (self.new.shapes.items ≡ self.old.shapes.items ++ bars_left self.old) }
-        ensures others { IsLike self.old self.new }
+    fn keep_rest(&mut self) -> Result<(), MemoryFull>
+        ensures { self.new.shown ≡ self.old.shown }
     {
+        let until = self.shown.span().until;
         let mut ended = Vec::new(self.alloc);
         self.lanes.finish(until, &mut ended)?;
         self.keep_stays(ended.as_slice())
@@ -284,8 +215,7 @@ impl Picture {
 
     /// Keeps what an event of these ticks shows, without states and modes.
     fn mark(&mut self, event: &Event) -> Result<(), MemoryFull>
-        ensures others { IsSteady self.old self.new }
-        ensures marked { OnOk result (IsMarked event.now self.old self.new) }
+        ensures { self.new.shown ≡ self.old.shown }
     {
         match &event.partition {
             Some(name) => self.mark_in(name, &event.kind, event.tick),
@@ -295,7 +225,7 @@ impl Picture {
 
     /// Keeps what an event of the partition with this name shows.
     fn mark_in(&mut self, name: &Name, kind: &EventKind, tick: Ticks) -> Result<(), MemoryFull>
-        ensures others { IsSteady self.old self.new }
+        ensures shown { self.new.shown ≡ self.old.shown }
         ensures kept { OnOk result (AreKept self.old.lanes self.new.lanes) }
         ensures marks { OnOk result
             (self.new.shapes.items
@@ -393,7 +323,7 @@ impl Picture {
             ++ one_of (process_at partition.now (subject_text who.now) self.new.lanes)
             (report_at tick.0 words.now)) }
         ensures way { self.new.way ≡ self.old.way }
-        ensures others { IsSteady self.old self.new }
+        ensures shown { self.new.shown ≡ self.old.shown }
     {
         let process = self.lanes.process_place(partition, who)?;
         self.keep(Shape::Report(Report {
@@ -416,9 +346,11 @@ impl Picture {
             ≡ self.old.shapes.items ++ message_at tick.0 self.old.way to lost words.now ∷ []) }
         ensures way { self.new.way ≡ Some (way_to tick.0 self.old.way) }
         ensures lanes { self.new.lanes ≡ self.old.lanes }
-        ensures others { IsSteady self.old self.new }
+        ensures shown { self.new.shown ≡ self.old.shown }
     {
-        let Way { from, beside, .. } = self.take_way(tick);
+        let before = self.way;
+        self.way = Some(way_to(tick, &before));
+        let Way { from, beside, .. } = way_to(tick, &before);
         self.keep(Shape::Message(Message {
             tick,
             beside,
@@ -428,49 +360,30 @@ impl Picture {
             words: copied(words),
         }))
     }
-
-    /// The way of a message that arrives in this tick.
-    fn take_way(&mut self, tick: Ticks) -> Way
-        ensures value { result ≡ way_to tick.0 self.old.way }
-        ensures way { self.new.way ≡ Some (way_to tick.0 self.old.way) }
-        ensures shapes { self.new.shapes ≡ self.old.shapes }
-        ensures lanes { self.new.lanes ≡ self.old.lanes }
-        ensures others { IsSteady self.old self.new }
-    {
-        let before = self.way;
-        self.way = Some(way_to(tick, &before));
-        way_to(tick, &before)
-    }
-}
-
-/// The place of the next message of this tick among the others.
-fn beside(tick: Ticks, way: &Option<Way>) -> u64
-    ensures { result ≡ beside tick.0 way.now }
-{
-    match way {
-        Some(way) => {
-            if way.tick.0 == tick.0 {
-                way.beside.saturating_add(1)
-            } else {
-                0
-            }
-        }
-        None => 0,
-    }
 }
 
 /// The way of a message that leaves this place now.
 fn way_from(tick: Ticks, from: Stop, way: &Option<Way>) -> Way
     ensures { result ≡ way_from tick.0 from way.now }
 {
-    Way {
-        tick,
-        from,
-        beside: beside(tick, way),
+    let beside = match way {
+        Some(way) if way.tick.0 == tick.0 => way.beside.saturating_add(1),
+        _ => 0,
+    };
+    Way { tick, from, beside }
+}
+
+/// The way of a message that arrives in this tick: of the last message to move, if that left a port
+/// in this tick, or else from outside.
+fn way_to(tick: Ticks, way: &Option<Way>) -> Way
+    ensures { result ≡ way_to tick.0 way.now }
+{
+    match way {
+        Some(way) if way.tick.0 == tick.0 && is_port(&way.from) => *way,
+        _ => way_from(tick, Stop::Device, way),
     }
 }
 
-/// Returns true for the port of a partition.
 fn is_port(stop: &Stop) -> bool
     ensures { result ≡ is_port stop.now }
 {
@@ -478,27 +391,4 @@ fn is_port(stop: &Stop) -> bool
         Stop::Device | Stop::Channel(_) => false,
         Stop::Port(_, _) => true,
     }
-}
-
-/// Returns true if a message left a port in this tick, and was the last one to move.
-fn is_under_way(tick: Ticks, way: &Option<Way>) -> bool
-    ensures { result ≡ is_under_way tick.0 way.now }
-{
-    match way {
-        Some(way) => way.tick.0 == tick.0 && is_port(&way.from),
-        None => false,
-    }
-}
-
-/// The way of a message that arrives in this tick: of the last message that left a port in it or,
-/// without one, from outside.
-fn way_to(tick: Ticks, way: &Option<Way>) -> Way
-    ensures { result ≡ way_to tick.0 way.now }
-{
-    if is_under_way(tick, way) {
-        if let Some(way) = way {
-            return *way;
-        }
-    }
-    way_from(tick, Stop::Device, way)
 }

@@ -1,10 +1,7 @@
 //! The places of the rows of a picture.
 
-ghost use Rattle.std.specs.Prelude.{◌≡◌};
-ghost use Rattle.trace_picture.specs.Rows.{row_of_owner, row_of_partition, row_of_process, row_of_stop};
-
 use crate::length::Length;
-use crate::shape::{Owner, Shape, Stop};
+use crate::shape::{Message, Owner, Shape, Stop};
 use std::alloc::{AllocError, Global};
 use trace_stays::Lanes;
 
@@ -30,74 +27,10 @@ pub struct Rows {
     pub bottom: Length,
 }
 
-/// The lanes that have something to show.
-#[derive(Drop)]
-struct Shown {
-    outside: bool,
-    module: bool,
-    partitions: Vec<bool>,
-    processes: Vec<bool>,
-}
-
-impl Shown {
-    fn nobody(alloc: Global, lanes: &Lanes) -> Result<Shown, AllocError> {
-        Ok(Shown {
-            outside: false,
-            module: false,
-            partitions: vec![in alloc; false; lanes.partitions().len()]?,
-            processes: vec![in alloc; false; lanes.processes().len()]?,
-        })
-    }
-
-    fn show_partition(&mut self, partition: usize) {
-        if let Some(shown) = self.partitions.get_mut(partition) {
-            *shown = true;
-        }
-    }
-
-    fn show_process(&mut self, lanes: &Lanes, process: usize) {
-        if let Some(shown) = self.processes.get_mut(process) {
-            *shown = true;
-        }
-        if let Some(lane) = lanes.processes().get(process) {
-            self.show_partition(lane.partition);
-        }
-    }
-
-    fn show_stop(&mut self, stop: Stop) {
-        match stop {
-            Stop::Device | Stop::Channel(_) => self.outside = true,
-            Stop::Port(partition, _) => self.show_partition(partition),
-        }
-    }
-
-    fn show_owner(&mut self, lanes: &Lanes, owner: Owner) {
-        match owner {
-            Owner::Module => self.module = true,
-            Owner::Partition(partition) => self.show_partition(partition),
-            Owner::Process(process) => self.show_process(lanes, process),
-        }
-    }
-
-    fn show(&mut self, lanes: &Lanes, shape: &Shape) {
-        match shape {
-            Shape::Mode(partition, _) => self.show_partition(*partition),
-            Shape::State(process, _) => self.show_process(lanes, *process),
-            Shape::Message(message) => {
-                self.show_stop(message.from);
-                self.show_stop(message.to);
-            }
-            Shape::Flag(flag) => self.show_owner(lanes, flag.owner),
-            Shape::Report(report) => self.show_process(lanes, report.process),
-        }
-    }
-}
-
-/// Returns true for the place of a lane that has something to show.
-fn is_shown(lanes: &[bool], place: usize) -> bool {
-    match lanes.get(place) {
-        Some(shown) => *shown,
-        None => false,
+/// Gives the lane at this place a row with this top.
+fn put(tops: &mut Vec<Option<Length>>, place: usize, top: Length) {
+    if let Some(row) = tops.get_mut(place) {
+        *row = Some(top);
     }
 }
 
@@ -114,33 +47,85 @@ impl Rows {
         shapes: &[Shape],
         has_windows: bool,
     ) -> Result<Rows, AllocError> {
-        let mut shown = Shown::nobody(alloc, lanes)?;
-        for shape in shapes {
-            shown.show(lanes, shape);
-        }
         let mut rows = Rows {
             windows: None,
             outside: None,
             module: None,
-            partitions: Vec::new(alloc),
+            partitions: vec![in alloc; None; lanes.partitions().len()]?,
             processes: vec![in alloc; None; lanes.processes().len()]?,
             bottom: FIRST_ROW,
         };
+        for shape in shapes {
+            rows.show(lanes, shape);
+        }
+        rows.place(lanes, has_windows);
+        Ok(rows)
+    }
+
+    /// Gives the lanes of a shape some row, until all lanes with a row are known.
+    fn show(&mut self, lanes: &Lanes, shape: &Shape) {
+        match shape {
+            Shape::Mode(partition, _) => put(&mut self.partitions, *partition, FIRST_ROW),
+            Shape::State(process, _) => self.show_process(lanes, *process),
+            Shape::Message(message) => {
+                self.show_stop(message.from);
+                self.show_stop(message.to);
+            }
+            Shape::Flag(flag) => match flag.owner {
+                Owner::Module => self.module = Some(FIRST_ROW),
+                Owner::Partition(partition) => put(&mut self.partitions, partition, FIRST_ROW),
+                Owner::Process(process) => self.show_process(lanes, process),
+            },
+            Shape::Report(report) => self.show_process(lanes, report.process),
+        }
+    }
+
+    /// A partition has a row if one of its processes has one.
+    fn show_process(&mut self, lanes: &Lanes, process: usize) {
+        put(&mut self.processes, process, FIRST_ROW);
+        if let Some(lane) = lanes.processes().get(process) {
+            put(&mut self.partitions, lane.partition, FIRST_ROW);
+        }
+    }
+
+    fn show_stop(&mut self, stop: Stop) {
+        match stop {
+            Stop::Device | Stop::Channel(_) => self.outside = Some(FIRST_ROW),
+            Stop::Port(partition, _) => put(&mut self.partitions, partition, FIRST_ROW),
+        }
+    }
+
+    /// Gives each lane with a row its place.
+    fn place(&mut self, lanes: &Lanes, has_windows: bool) {
         if has_windows {
-            rows.windows = Some(rows.take_row());
-            rows.bottom = rows.bottom + GAP.half();
+            self.windows = Some(self.take_row());
+            self.bottom = self.bottom + GAP.half();
         }
-        if shown.outside {
-            rows.outside = Some(rows.take_row());
+        if self.outside.is_some() {
+            self.outside = Some(self.take_row());
         }
-        if shown.module {
-            rows.bottom = rows.bottom + GAP.half();
-            rows.module = Some(rows.take_row());
+        if self.module.is_some() {
+            self.bottom = self.bottom + GAP.half();
+            self.module = Some(self.take_row());
         }
         for (partition, _) in lanes.partitions().iter().enumerate() {
-            rows.add_partition(lanes, &shown, partition)?;
+            if self.partition(partition).is_some() {
+                self.bottom = self.bottom + GAP;
+                let top = self.take_row();
+                put(&mut self.partitions, partition, top);
+                self.place_processes(lanes, partition);
+            }
         }
-        Ok(rows)
+    }
+
+    /// Gives each process of a partition that has a row its place.
+    fn place_processes(&mut self, lanes: &Lanes, partition: usize) {
+        for (process, lane) in lanes.processes().iter().enumerate() {
+            if lane.partition == partition && self.process(process).is_some() {
+                let top = self.take_row();
+                put(&mut self.processes, process, top);
+            }
+        }
     }
 
     fn take_row(&mut self) -> Length {
@@ -149,51 +134,19 @@ impl Rows {
         top
     }
 
-    fn add_partition(
-        &mut self,
-        lanes: &Lanes,
-        shown: &Shown,
-        partition: usize,
-    ) -> Result<(), AllocError> {
-        if !is_shown(shown.partitions.as_slice(), partition) {
-            self.partitions.push(None)?;
-            return Ok(());
-        }
-        self.bottom = self.bottom + GAP;
-        let top = self.take_row();
-        self.partitions.push(Some(top))?;
-        for (process, lane) in lanes.processes().iter().enumerate() {
-            if lane.partition == partition && is_shown(shown.processes.as_slice(), process) {
-                self.add_process(process);
-            }
-        }
-        Ok(())
-    }
-
-    /// Gives the process at this place the next row.
-    fn add_process(&mut self, process: usize) {
-        let top = self.take_row();
-        if let Some(place) = self.processes.get_mut(process) {
-            *place = Some(top);
-        }
-    }
-
     /// The top of a partition's row of modes.
-    pub fn partition(&self, partition: usize) -> Option<Length>
-        ensures { result ≡ row_of_partition self.now partition }
-    {
-        match self.partitions.get(partition) {
-            Some(top) => *top,
-            None => None,
-        }
+    pub fn partition(&self, partition: usize) -> Option<Length> {
+        *self.partitions.get(partition)?
     }
 
-    /// The place where the last row of a partition ends.
-    pub fn end_of(&self, lanes: &Lanes, partition: usize) -> Length {
-        let mut end = match self.partition(partition) {
-            Some(top) => top + ROW,
-            None => FIRST_ROW,
-        };
+    /// The top of a process's row.
+    pub fn process(&self, process: usize) -> Option<Length> {
+        *self.processes.get(process)?
+    }
+
+    /// The place where the last row of the partition with this top ends.
+    pub fn end_of(&self, lanes: &Lanes, partition: usize, top: Length) -> Length {
+        let mut end = top + ROW;
         for (process, lane) in lanes.processes().iter().enumerate() {
             if lane.partition == partition {
                 if let Some(top) = self.process(process) {
@@ -204,20 +157,8 @@ impl Rows {
         end
     }
 
-    /// The top of a process's row.
-    pub fn process(&self, process: usize) -> Option<Length>
-        ensures { result ≡ row_of_process self.now process }
-    {
-        match self.processes.get(process) {
-            Some(top) => *top,
-            None => None,
-        }
-    }
-
     /// The top of the row of a flag.
-    pub fn owner(&self, owner: Owner) -> Option<Length>
-        ensures { result ≡ row_of_owner self.now owner }
-    {
+    pub fn owner(&self, owner: Owner) -> Option<Length> {
         match owner {
             Owner::Module => self.module,
             Owner::Partition(partition) => self.partition(partition),
@@ -225,10 +166,12 @@ impl Rows {
         }
     }
 
-    /// The top of the row where a message begins or ends its way.
-    pub fn stop(&self, stop: Stop) -> Option<Length>
-        ensures { result ≡ row_of_stop self.now stop }
-    {
+    /// The tops of the rows where a message begins and ends its way.
+    pub fn ends(&self, message: &Message) -> (Option<Length>, Option<Length>) {
+        (self.stop(message.from), self.stop(message.to))
+    }
+
+    fn stop(&self, stop: Stop) -> Option<Length> {
         match stop {
             Stop::Device | Stop::Channel(_) => self.outside,
             Stop::Port(partition, _) => self.partition(partition),

@@ -39,7 +39,7 @@ pub struct Message {
 }
 
 /// The row of a flag or a mark.
-#[derive(Clone, Copy)]
+#[derive(Clone, Copy, PartialEq, Eq)]
 pub enum Owner {
     /// The module itself.
     Module,

@@ -1,8 +1,5 @@
 //! The look of the picture.
 
-ghost use Rattle.std.specs.Prelude.{◌≡◌, ◌++◌, ◌∷◌, [], OnOk, string_bytes};
-ghost use Rattle.trace_picture.specs.Style.{definitions_text, fills_and_ends, ink_text, marker_text, pattern_start, pattern_text, style_text};
-
 use crate::element::{Key, Tag, at, set};
 use crate::length::Length;
 use crate::page::Page;
@@ -45,36 +42,15 @@ text{font:12px sans-serif;fill:#1f2933}
 ";
 
 /// Writes the look of the classes; draws nothing.
-#[tactic(auto, unfolding(crate::specs::Style::style_text))]
-pub fn draw_style(page: &mut Page) -> Result<(), AllocError>
-    ensures text { OnOk result
-        (string_bytes page.new.text ≡ string_bytes page.old.text ++ style_text) }
-    ensures unended { OnOk result (page.new.unended.items ≡ page.old.unended.items) }
-{
+pub fn draw_style(page: &mut Page) -> Result<(), AllocError> {
     page.worded(Tag::Style, STYLE)?;
     draw_definitions(page)
 }
 
-/// Writes what the look refers to.
-fn draw_definitions(page: &mut Page) -> Result<(), AllocError>
-    ensures text { OnOk result
-        (string_bytes page.new.text ≡ string_bytes page.old.text ++ definitions_text) }
-    ensures unended { OnOk result (page.new.unended.items ≡ page.old.unended.items) }
-{
-    page.open(Tag::Defs, &[])?;
-    draw_fills_and_ends(page)?;
-    page.close()?;
-    Ok(())
-}
-
-/// Draws the patterns that fill bars, and the ends of arrows.
-#[tactic(auto, unfolding(crate::specs::Style::fills_and_ends))]
-fn draw_fills_and_ends(page: &mut Page) -> Result<(), AllocError>
-    ensures text { OnOk result
-        (string_bytes page.new.text ≡ string_bytes page.old.text ++ fills_and_ends) }
-    ensures unended { OnOk result (page.new.unended.items ≡ page.old.unended.items) }
-{
+/// Writes what the look refers to: the patterns that fill bars, and the ends of arrows.
+fn draw_definitions(page: &mut Page) -> Result<(), AllocError> {
     let (four, five) = (Length(40), Length(50));
+    page.open(Tag::Defs, &[])?;
     draw_pattern(page, "ready", "ready-ink", four, "M2 0V4", "rotate(45)")?;
     draw_pattern(page, "cold", "cold-ink", five, "M2.5 0V5", "rotate(45)")?;
     draw_pattern(page, "warm", "warm-ink", five, "M2.5 0V5", "rotate(-45)")?;
@@ -87,7 +63,8 @@ fn draw_fills_and_ends(page: &mut Page) -> Result<(), AllocError>
         "rotate(0)",
     )?;
     draw_marker(page, "head", "head-ink", "M0 0L7 3L0 6Z")?;
-    draw_marker(page, "cross", "cross-ink", "M3 0L9 6M3 6L9 0")
+    draw_marker(page, "cross", "cross-ink", "M3 0L9 6M3 6L9 0")?;
+    page.close()
 }
 
 /// Draws a pattern that fills bars: a square that is repeated.
@@ -98,26 +75,7 @@ fn draw_pattern(
     size: Length,
     path: &str,
     turn: &str,
-) -> Result<(), AllocError>
-    ensures text { OnOk result
-        (string_bytes page.new.text
-        ≡ string_bytes page.old.text ++ pattern_text id.now class.now size path.now turn.now) }
-    ensures unended { OnOk result (page.new.unended.items ≡ page.old.unended.items) }
-{
-    begin_pattern(page, id, size, turn)?;
-    draw_ink(page, class, path)?;
-    page.close()?;
-    Ok(())
-}
-
-/// Begins a pattern.
-fn begin_pattern(page: &mut Page, id: &str, size: Length, turn: &str) -> Result<(), AllocError>
-    ensures text { OnOk result
-        (string_bytes page.new.text
-        ≡ string_bytes page.old.text ++ pattern_start id.now size turn.now) }
-    ensures unended { OnOk result
-        (page.new.unended.items ≡ page.old.unended.items ++ Tag.Pattern ∷ []) }
-{
+) -> Result<(), AllocError> {
     page.open(
         Tag::Pattern,
         &[
@@ -127,16 +85,13 @@ fn begin_pattern(page: &mut Page, id: &str, size: Length, turn: &str) -> Result<
             set(Key::PatternUnits, "userSpaceOnUse"),
             set(Key::PatternTransform, turn),
         ],
-    )
+    )?;
+    page.empty(Tag::Path, &[set(Key::Class, class), set(Key::Path, path)])?;
+    page.close()
 }
 
 /// Draws the ends of arrows.
-fn draw_marker(page: &mut Page, id: &str, class: &str, path: &str) -> Result<(), AllocError>
-    ensures text { OnOk result
-        (string_bytes page.new.text
-        ≡ string_bytes page.old.text ++ marker_text id.now class.now path.now) }
-    ensures unended { OnOk result (page.new.unended.items ≡ page.old.unended.items) }
-{
+fn draw_marker(page: &mut Page, id: &str, class: &str, path: &str) -> Result<(), AllocError> {
     page.open(
         Tag::Marker,
         &[
@@ -148,17 +103,6 @@ fn draw_marker(page: &mut Page, id: &str, class: &str, path: &str) -> Result<(),
             set(Key::Orient, "auto"),
         ],
     )?;
-    draw_ink(page, class, path)?;
-    page.close()?;
-    Ok(())
-}
-
-/// Draws the outline in a pattern or at the end of arrows.
-fn draw_ink(page: &mut Page, class: &str, path: &str) -> Result<(), AllocError>
-    ensures text { OnOk result
-        (string_bytes page.new.text
-        ≡ string_bytes page.old.text ++ ink_text class.now path.now) }
-    ensures unended { page.new.unended ≡ page.old.unended }
-{
-    page.empty(Tag::Path, &[set(Key::Class, class), set(Key::Path, path)])
+    page.empty(Tag::Path, &[set(Key::Class, class), set(Key::Path, path)])?;
+    page.close()
 }

@@ -1,5 +1,1 @@
 pub mod Dumps
-pub mod Headers
-pub mod Names
-pub mod Taken
-pub mod Texts

@@ -24,11 +24,6 @@ pub enum Value {
 /// Displays as written in a dump before the code of its variable: a digit, a word that viewers show
 /// by its name, or the 64 bits of a number without those before the first 1.
 impl Display for Value {
-    ghost use Rattle.std.specs.Prelude.{Some};
-    ghost use Rattle.wave_dump.specs.Names.{value_text};
-
-    ghost output = { λ value. Some (value_text value) };
-
     fn fmt<W: Write>(&self, f: &mut Formatter<W>) -> fmt::Result {
         match self {
             Value::Low => f.write_str("0"),

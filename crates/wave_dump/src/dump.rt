@@ -1,10 +1,8 @@
 //! The changes of a trace, gathered event by event.
 
-ghost use Rattle.std.specs.Prelude.{◌≡◌, ◌++◌, [], false, slice_get, string_bytes, IfOk, IfSome, OnOk, Some};
+ghost use Rattle.std.specs.Prelude.{◌≡◌, ◌++◌, OnOk};
 ghost use Rattle.std.specs.List.Sorted.{IsNonDecreasingBy, IsPermutation};
-ghost use Rattle.wave_dump.specs.Dumps.{changes_in, changes_of, names_of, pulse_at, window_changes, word_at};
-ghost use Rattle.wave_dump.specs.Taken.{AreInOrder, changes_of_stays, stay_changes};
-ghost use Rattle.wave_dump.specs.declared.pulse.PulseLane.{PulseLane};
+ghost use Rattle.wave_dump.specs.Dumps.{changes_in, changes_of, pulse_changes, stay_changes};
 
 use crate::change::{Change, Value};
 use crate::header::{Header, push_header};
@@ -15,123 +13,6 @@ use apex_types::{Event, Name, Ticks};
 use std::alloc::{AllocError, Global};
 use trace_stays::{Ended, Lanes, MemoryFull, ShownTicks, Span};
 use trace_windows::Stretch;
-
-/// Brings changes into the order of their ticks. Those of one tick stay in their order.
-fn in_order(changes: &mut Vec<Change>) -> Result<(), MemoryFull>
-    ensures sorted { OnOk result
-        (IsNonDecreasingBy (λ change. change.tick.0) changes.new.items) }
-    ensures all { IsPermutation changes.old.items changes.new.items }
-{
-    changes.sort_by_key(
-        |change| -> u64
-            ensures { result ≡ change.now.tick.0 }
-        { change.tick.0 },
-    )?;
-    Ok(())
-}
-
-/// Adds the changes of a wire that is 1 in these ticks.
-fn push_stay(changes: &mut Vec<Change>, variable: Variable, span: Span) -> Result<(), MemoryFull>
-    ensures { OnOk result (changes.new.items ≡ changes.old.items ++ changes_of variable span) }
-{
-    if span.until.0 <= span.from.0 {
-        return Ok(());
-    }
-    changes.push(Change {
-        tick: span.from,
-        variable,
-        value: Value::High,
-    })?;
-    changes.push(Change {
-        tick: span.until,
-        variable,
-        value: Value::Low,
-    })?;
-    Ok(())
-}
-
-/// Adds the changes of a variable that shows this name in these ticks.
-fn push_name(
-    changes: &mut Vec<Change>,
-    variable: Variable,
-    name: Value,
-    span: Span,
-) -> Result<(), MemoryFull>
-    ensures { OnOk result
-        (changes.new.items ≡ changes.old.items ++ names_of variable name span) }
-{
-    let Span { from, until } = span;
-    if until.0 <= from.0 {
-        return Ok(());
-    }
-    changes.push(Change {
-        tick: from,
-        variable,
-        value: name,
-    })?;
-    changes.push(Change {
-        tick: until,
-        variable,
-        value: Value::Nothing,
-    })?;
-    Ok(())
-}
-
-/// Adds the change of a variable that shows the first word of a message, if it has one.
-fn push_word(
-    changes: &mut Vec<Change>,
-    variable: Variable,
-    at: Ticks,
-    words: &[i64],
-) -> Result<(), MemoryFull>
-    ensures { OnOk result
-        (changes.new.items ≡ changes.old.items ++ word_at variable at words.now) }
-{
-    if let Some(word) = words.first() {
-        changes.push(Change {
-            tick: at,
-            variable,
-            value: Value::Word(*word),
-        })?;
-    }
-    Ok(())
-}
-
-/// Adds the change of an event in this tick.
-fn push_pulse(changes: &mut Vec<Change>, variable: Variable, tick: Ticks) -> Result<(), MemoryFull>
-    ensures { OnOk result (changes.new.items ≡ changes.old.items ++ pulse_at variable tick) }
-{
-    changes.push(Change {
-        tick,
-        variable,
-        value: Value::High,
-    })?;
-    Ok(())
-}
-
-/// Adds the changes of the wire of a window; none for ticks in no window.
-fn push_window(changes: &mut Vec<Change>, stretch: &Stretch) -> Result<(), MemoryFull>
-    ensures { OnOk result
-        (changes.new.items
-        ≡ changes.old.items ++ changes_in stretch.now.owner stretch.now.span) }
-{
-    match stretch.owner {
-        Some(owner) => push_stay(changes, Variable::Window(owner.0), stretch.span),
-        None => Ok(()),
-    }
-}
-
-/// Adds the changes of the wires of windows.
-#[tactic(auto, using(std::proofs::lemmas::List::drop_more))]
-fn push_windows(changes: &mut Vec<Change>, stretches: &[Stretch]) -> Result<(), MemoryFull>
-    ensures { OnOk result
-        (changes.new.items ≡ changes.old.items ++ window_changes stretches.now) }
-{
-    for stretch in stretches {
-        push_window(changes, stretch)?;
-    }
-    Ok(())
-}
 
 /// A value change dump of some ticks of a trace. It takes the events in their order, is finished
 /// after the last one, and can be written then.
@@ -149,18 +30,11 @@ pub struct Dump {
 }
 
 impl Dump {
-    ghost use Rattle.trace_stays.specs.Following.{AreInPlace, AreKept};
-    ghost use Rattle.trace_stays.specs.Shown.{open_ticks, shown_from, shown_ticks, with_read};
-    ghost use Rattle.wave_dump.specs.Names.{pulse_of};
-    ghost use Rattle.wave_dump.specs.Taken.{AreInOrder, AreLaid, HasPulse, IsTaken, all_changes, changes_of_stays, place_of};
-    ghost use Rattle.wave_dump.specs.Texts.{dump_text};
+    ghost use Rattle.trace_stays.specs.Shown.{shown_from, shown_ticks, with_read};
 
     /// A dump of the ticks from `from` on and before `to`; without it, all to the end of the trace.
     pub fn new(alloc: Global, from: Ticks, to: Option<Ticks>) -> Dump
-        ensures shown { result.shown ≡ shown_from from to }
-        ensures lanes { result.lanes.partitions.items ≡ [] }
-        ensures pulses { result.pulses.items ≡ [] }
-        ensures changes { result.changes.items ≡ [] }
+        ensures { result.shown ≡ shown_from from to }
     {
         Dump {
             shown: ShownTicks::new(from, to),
@@ -178,8 +52,7 @@ impl Dump {
     ///
     /// Memory ran out.
     pub fn add(&mut self, event: &Event) -> Result<(), MemoryFull>
-        ensures shown { self.new.shown ≡ with_read event.now.tick.0 self.old.shown }
-        ensures taken { OnOk result (IsTaken event.now self.old self.new) }
+        ensures { self.new.shown ≡ with_read event.now.tick.0 self.old.shown }
     {
         if !self.shown.read(event.tick) {
             return Ok(());
@@ -190,8 +63,10 @@ impl Dump {
         if event.tick.0 < self.shown.open().from.0 {
             return Ok(());
         }
-        self.add_pulse(event)?;
-        Ok(())
+        match Pulse::of(&event.kind) {
+            Some(pulse) => self.add_pulse(event, pulse),
+            None => Ok(()),
+        }
     }
 
     /// The tick before which the dump ends, if no line follows.
@@ -207,15 +82,12 @@ impl Dump {
     /// # Errors
     ///
     /// Memory ran out.
-    pub fn add_windows(&mut self, names: &[Name], stretches: &[Stretch]) -> Result<(), MemoryFull>
-        ensures changes { OnOk result
-            (self.new.changes.items ≡ self.old.changes.items ++ window_changes stretches.now) }
-        ensures names { OnOk result
-            (self.new.names.items ≡ self.old.names.items ++ names.now) }
-        ensures shown { self.new.shown ≡ self.old.shown }
-    {
+    pub fn add_windows(&mut self, names: &[Name], stretches: &[Stretch]) -> Result<(), MemoryFull> {
         self.names.extend_from_slice(names)?;
-        push_windows(&mut self.changes, stretches)
+        for stretch in stretches {
+            push_window(&mut self.changes, stretch)?;
+        }
+        Ok(())
     }
 
     /// Ends the stays that are not over, and brings the changes into the order of their ticks.
@@ -224,13 +96,13 @@ impl Dump {
     ///
     /// Memory ran out.
     pub fn finish(&mut self) -> Result<(), MemoryFull>
-        ensures in_order { OnOk result
+        ensures { OnOk result
             (IsNonDecreasingBy (λ change. change.tick.0) self.new.changes.items) }
-        ensures all { OnOk result
-            (IsPermutation (all_changes self.old) self.new.changes.items) }
-        ensures shown { self.new.shown ≡ self.old.shown }
     {
-        self.take_rest()?;
+        let until = self.shown.span().until;
+        self.ended.clear();
+        self.lanes.finish(until, &mut self.ended)?;
+        self.take_ended()?;
         in_order(&mut self.changes)
     }
 
@@ -239,10 +111,7 @@ impl Dump {
     /// # Errors
     ///
     /// Memory ran out.
-    #[tactic(auto, unfolding(crate::specs::Texts::dump_text))]
-    pub fn text(&self, alloc: Global) -> Result<String, AllocError>
-        ensures { IfOk result (λ text. string_bytes text ≡ dump_text self.now) }
-    {
+    pub fn text(&self, alloc: Global) -> Result<String, AllocError> {
         let span = self.shown.span();
         let header = Header {
             lanes: &self.lanes,
@@ -250,128 +119,73 @@ impl Dump {
             names: self.names.as_slice(),
         };
         let mut text = String::new(alloc);
-        push_header(alloc, span.from, header, &mut text)?;
+        push_header(span.from, header, &mut text)?;
         push_changes(self.changes.as_slice(), span, &mut text)?;
         Ok(text)
     }
 
-    /// Makes changes of the stays that are not over.
-    fn take_rest(&mut self) -> Result<(), MemoryFull>
-        ensures changes { OnOk result (self.new.changes.items ≡ all_changes self.old) }
-        ensures shown { self.new.shown ≡ self.old.shown }
-    {
-        let until = self.shown.span().until;
-        self.ended.clear();
-        self.lanes.finish(until, &mut self.ended)?;
-        self.take_ended()
-    }
-
     /// Makes changes of the stays that are over.
     fn take_ended(&mut self) -> Result<(), MemoryFull>
-        ensures changes { OnOk result
-            (self.new.changes.items
-            ≡ self.old.changes.items
-            ++ changes_of_stays (open_ticks self.old.shown) self.old.ended.items) }
-        ensures shown { self.new.shown ≡ self.old.shown }
-        ensures lanes { self.new.lanes ≡ self.old.lanes }
-        ensures pulses { self.new.pulses ≡ self.old.pulses }
+        ensures { self.new.shown ≡ self.old.shown }
     {
         let shown = self.shown.open();
         push_stays(&mut self.changes, shown, self.ended.as_slice())
     }
 
-    /// Adds the pulse of an event, if it has one.
-    fn add_pulse(&mut self, event: &Event) -> Result<(), MemoryFull>
-        ensures pulse { OnOk result
-            (HasPulse (pulse_of event.now.kind) event.now self.old.changes.items self.new) }
-        ensures laid { OnOk result (AreLaid self.old.lanes self.old self.new) }
-        ensures shown { self.new.shown ≡ self.old.shown }
-    {
-        match Pulse::of(&event.kind) {
-            Some(pulse) => self.push(event, pulse),
-            None => Ok(()),
-        }
-    }
-
     /// Adds the pulse of an event.
-    fn push(&mut self, event: &Event, pulse: Pulse) -> Result<(), MemoryFull>
-        ensures pulse { OnOk result
-            (HasPulse (Some pulse) event.now self.old.changes.items self.new) }
-        ensures laid { OnOk result (AreLaid self.old.lanes self.old self.new) }
-        ensures shown { self.new.shown ≡ self.old.shown }
+    fn add_pulse(&mut self, event: &Event, pulse: Pulse) -> Result<(), MemoryFull>
+        ensures { self.new.shown ≡ self.old.shown }
     {
-        let partition = self.owner_place(&event.partition)?;
-        let place = self.pulse_place(PulseLane { partition, pulse })?;
-        push_pulse(&mut self.changes, Variable::Pulse(place), event.tick)?;
-        let words = event.kind.words();
-        push_word(&mut self.changes, Variable::Word(place), event.tick, words)
-    }
-
-    /// The place of the partition of a line; the module has none.
-    fn owner_place(&mut self, owner: &Option<Name>) -> Result<Option<usize>, MemoryFull>
-        ensures place { IfOk result (λ place. place ≡ place_of owner.now self.new.lanes) }
-        ensures kept { OnOk result (AreKept self.old.lanes self.new.lanes) }
-        ensures places { OnOk result (AreInPlace self.old.lanes self.new.lanes) }
-        ensures pulses { self.new.pulses ≡ self.old.pulses }
-        ensures changes { self.new.changes ≡ self.old.changes }
-        ensures shown { self.new.shown ≡ self.old.shown }
-    {
-        match owner {
-            Some(name) => Ok(Some(self.lanes.partition_place(name)?)),
-            None => Ok(None),
-        }
-    }
-
-    /// The place of these pulses, which get one if they have none.
-    fn pulse_place(&mut self, lane: PulseLane) -> Result<usize, MemoryFull>
-        ensures place { IfOk result
-            (λ place. slice_get self.new.pulses.items place ≡ Some lane) }
-        ensures pulses { OnOk result
-            (AreInOrder self.old.pulses.items self.new.pulses.items) }
-        ensures lanes { self.new.lanes ≡ self.old.lanes }
-        ensures changes { self.new.changes ≡ self.old.changes }
-        ensures shown { self.new.shown ≡ self.old.shown }
-    {
-        place_of_pulse(&mut self.pulses, lane)
+        let partition = match &event.partition {
+            Some(name) => Some(self.lanes.partition_place(name)?),
+            None => None,
+        };
+        let place = place_of_pulse(&mut self.pulses, PulseLane { partition, pulse })?;
+        push_pulse(&mut self.changes, place, event)
     }
 }
 
 /// The place of these pulses, which become the last ones if they have none.
-#[tactic(auto, using(crate::proofs::Taken::pulse_found))]
-fn place_of_pulse(pulses: &mut Vec<PulseLane>, lane: PulseLane) -> Result<usize, MemoryFull>
-    ensures place { IfOk result (λ place. slice_get pulses.new.items place ≡ Some lane) }
-    ensures kept { OnOk result (AreInOrder pulses.old.items pulses.new.items) }
-{
-    match known_pulse(pulses.as_slice(), &lane) {
-        Some(place) => Ok(place),
-        None => {
-            let place = pulses.len();
-            pulses.push(lane)?;
-            Ok(place)
-        }
-    }
-}
-
-/// The place of these pulses; `None` if they have none.
-fn known_pulse(pulses: &[PulseLane], lane: &PulseLane) -> Option<usize>
-    ensures { IfSome result
-        (λ place. (one : PulseLane)
-        × ((slice_get pulses.now place ≡ Some one) × (one ≡ lane.now))) }
-{
+fn place_of_pulse(pulses: &mut Vec<PulseLane>, lane: PulseLane) -> Result<usize, MemoryFull> {
     for (place, known) in pulses.iter().enumerate() {
         if known.partition == lane.partition && is_same_pulse(&known.pulse, &lane.pulse) {
-            return Some(place);
+            return Ok(place);
         }
     }
-    None
+    pulses.push(lane)?;
+    Ok(pulses.len() - 1)
+}
+
+/// Adds the changes of a variable that has one value in these ticks, and another one after them.
+fn push_stay(
+    changes: &mut Vec<Change>,
+    variable: Variable,
+    during: Value,
+    after: Value,
+    span: Span,
+) -> Result<(), MemoryFull>
+    ensures { OnOk result
+        (changes.new.items ≡ changes.old.items ++ changes_of variable during after span) }
+{
+    let Span { from, until } = span;
+    if until.0 <= from.0 {
+        return Ok(());
+    }
+    changes.push(Change {
+        tick: from,
+        variable,
+        value: during,
+    })?;
+    changes.push(Change {
+        tick: until,
+        variable,
+        value: after,
+    })?;
+    Ok(())
 }
 
 /// Adds the changes of the stays that are over.
-#[tactic(auto, using(std::proofs::lemmas::List::drop_more))]
-fn push_stays(changes: &mut Vec<Change>, shown: Span, over: &[Ended]) -> Result<(), MemoryFull>
-    ensures { OnOk result
-        (changes.new.items ≡ changes.old.items ++ changes_of_stays shown over.now) }
-{
+fn push_stays(changes: &mut Vec<Change>, shown: Span, over: &[Ended]) -> Result<(), MemoryFull> {
     for ended in over {
         push_ended(changes, shown, ended)?;
     }
@@ -382,26 +196,70 @@ fn push_stays(changes: &mut Vec<Change>, shown: Span, over: &[Ended]) -> Result<
 fn push_ended(changes: &mut Vec<Change>, shown: Span, ended: &Ended) -> Result<(), MemoryFull>
     ensures { OnOk result (changes.new.items ≡ changes.old.items ++ stay_changes shown ended.now) }
 {
-    match ended {
-        Ended::State(place, stay) => {
-            let span = stay.span.within(shown);
-            push_stay(changes, Variable::State(*place, stay.state), span)?;
-            push_name(
-                changes,
-                Variable::StateName(*place),
-                Value::State(stay.state),
-                span,
-            )
+    let (wire, named, name, span) = match ended {
+        Ended::State(place, stay) => (
+            Variable::State(*place, stay.state),
+            Variable::StateName(*place),
+            Value::State(stay.state),
+            stay.span.within(shown),
+        ),
+        Ended::Mode(place, stay) => (
+            Variable::Mode(*place, stay.mode),
+            Variable::ModeName(*place),
+            Value::Mode(stay.mode),
+            stay.span.within(shown),
+        ),
+    };
+    push_stay(changes, wire, Value::High, Value::Low, span)?;
+    push_stay(changes, named, name, Value::Nothing, span)
+}
+
+/// Adds the changes of the wire of a window; none for ticks in no window.
+fn push_window(changes: &mut Vec<Change>, stretch: &Stretch) -> Result<(), MemoryFull>
+    ensures { OnOk result
+        (changes.new.items
+        ≡ changes.old.items ++ changes_in stretch.now.owner stretch.now.span) }
+{
+    match stretch.owner {
+        Some(owner) => {
+            let wire = Variable::Window(owner.0);
+            push_stay(changes, wire, Value::High, Value::Low, stretch.span)
         }
-        Ended::Mode(place, stay) => {
-            let span = stay.span.within(shown);
-            push_stay(changes, Variable::Mode(*place, stay.mode), span)?;
-            push_name(
-                changes,
-                Variable::ModeName(*place),
-                Value::Mode(stay.mode),
-                span,
-            )
-        }
+        None => Ok(()),
     }
+}
+
+/// Adds the changes of the pulse of an event, and of the first word of its message, if it has one.
+fn push_pulse(changes: &mut Vec<Change>, place: usize, event: &Event) -> Result<(), MemoryFull>
+    ensures { OnOk result
+        (changes.new.items ≡ changes.old.items ++ pulse_changes place event.now) }
+{
+    let tick = event.tick;
+    changes.push(Change {
+        tick,
+        variable: Variable::Pulse(place),
+        value: Value::High,
+    })?;
+    if let Some(word) = event.kind.words().first() {
+        changes.push(Change {
+            tick,
+            variable: Variable::Word(place),
+            value: Value::Word(*word),
+        })?;
+    }
+    Ok(())
+}
+
+/// Brings changes into the order of their ticks. Those of one tick stay in their order.
+fn in_order(changes: &mut Vec<Change>) -> Result<(), MemoryFull>
+    ensures sorted { OnOk result
+        (IsNonDecreasingBy (λ change. change.tick.0) changes.new.items) }
+    ensures all { IsPermutation changes.old.items changes.new.items }
+{
+    changes.sort_by_key(
+        |change| -> u64
+            ensures { result ≡ change.now.tick.0 }
+        { change.tick.0 },
+    )?;
+    Ok(())
 }

@@ -7,7 +7,6 @@
 mod change;
 mod dump;
 mod header;
-pub mod laws;
 mod pulse;
 mod text;
 mod variable;

@@ -1,11 +1,8 @@
 //! The events of a single tick: messages, reports and errors.
 
-ghost use Rattle.std.specs.Prelude.{◌≡◌, ◌↔◌, IsTrue};
-ghost use Rattle.wave_dump.specs.Names.{group_of, group_word, pulse_of};
-
 use apex_types::{ErrorKind, EventKind, Name, Subject};
 use std::fmt::{self, Display, Formatter, Write};
-use trace_stays::subject_word;
+use trace_stays::{is_same_subject, subject_word};
 
 /// The event that a pulse shows.
 #[derive(Clone, Copy)]
@@ -25,7 +22,7 @@ pub enum Pulse {
 }
 
 /// The groups in which viewers list pulses, in the order in which a dump lists them.
-#[derive(Clone, Copy)]
+#[derive(Clone, Copy, PartialEq, Eq)]
 pub enum Group {
     Messages,
     Reports,
@@ -34,9 +31,7 @@ pub enum Group {
 
 impl Group {
     /// The name of the group's scope. Names of a trace have lower-case letters, so none is like it.
-    pub fn word(self) -> &'static str
-        ensures { result.now ≡ group_word self }
-    {
+    pub fn word(self) -> &'static str {
         match self {
             Group::Messages => "MESSAGES",
             Group::Reports => "REPORTS",
@@ -52,11 +47,17 @@ pub struct PulseLane {
     pub pulse: Pulse,
 }
 
+impl PulseLane {
+    /// Returns true if these are pulses of this group and of this partition or, without one, of the
+    /// module.
+    pub fn is_in(&self, group: Group, owner: Option<usize>) -> bool {
+        self.partition == owner && self.pulse.group() == group
+    }
+}
+
 impl Pulse {
     /// The pulse of an event; none for a state, a mode and the end of a service.
-    pub fn of(kind: &EventKind) -> Option<Pulse>
-        ensures { result ≡ pulse_of kind.now }
-    {
+    pub fn of(kind: &EventKind) -> Option<Pulse> {
         match kind {
             EventKind::Move(port, _) => Some(Pulse::Move(*port)),
             EventKind::Arrive(port, _) => Some(Pulse::Arrive(*port)),
@@ -69,9 +70,7 @@ impl Pulse {
     }
 
     /// The group to which this pulse belongs.
-    pub fn group(&self) -> Group
-        ensures { result ≡ group_of self.now }
-    {
+    pub fn group(&self) -> Group {
         match self {
             Pulse::Move(_) | Pulse::Arrive(_) | Pulse::Lost(_) | Pulse::Out(_) => Group::Messages,
             Pulse::Report(_) => Group::Reports,
@@ -81,39 +80,20 @@ impl Pulse {
 }
 
 /// Returns true if both are pulses of one kind, port, channel or process.
-pub fn is_same_pulse(one: &Pulse, other: &Pulse) -> bool
-    ensures { IsTrue result ↔ (one.now ≡ other.now) }
-{
+pub fn is_same_pulse(one: &Pulse, other: &Pulse) -> bool {
     match (one, other) {
-        (Pulse::Move(one), Pulse::Move(other)) => one.as_bytes() == other.as_bytes(),
-        (Pulse::Arrive(one), Pulse::Arrive(other)) => one.as_bytes() == other.as_bytes(),
-        (Pulse::Lost(one), Pulse::Lost(other)) => one.as_bytes() == other.as_bytes(),
-        (Pulse::Out(one), Pulse::Out(other)) => one.as_bytes() == other.as_bytes(),
-        (Pulse::Report(one), Pulse::Report(other)) => is_same_process(one, other),
+        (Pulse::Move(one), Pulse::Move(other))
+        | (Pulse::Arrive(one), Pulse::Arrive(other))
+        | (Pulse::Lost(one), Pulse::Lost(other))
+        | (Pulse::Out(one), Pulse::Out(other)) => one.as_bytes() == other.as_bytes(),
+        (Pulse::Report(one), Pulse::Report(other)) => is_same_subject(one, other),
         (Pulse::Error(one), Pulse::Error(other)) => *one == *other,
-        _ => false,
-    }
-}
-
-/// Returns true if both are the same process, INIT or the error handler.
-fn is_same_process(one: &Subject, other: &Subject) -> bool
-    ensures { IsTrue result ↔ (one.now ≡ other.now) }
-{
-    match (one, other) {
-        (Subject::Process(one), Subject::Process(other)) => one.as_bytes() == other.as_bytes(),
-        (Subject::Init, Subject::Init) => true,
-        (Subject::Handler, Subject::Handler) => true,
         _ => false,
     }
 }
 
 /// The name of the variable within its group.
 impl Display for Pulse {
-    ghost use Rattle.std.specs.Prelude.{Some};
-    ghost use Rattle.wave_dump.specs.Names.{pulse_name};
-
-    ghost output = { λ pulse. Some (pulse_name pulse) };
-
     fn fmt<W: Write>(&self, f: &mut Formatter<W>) -> fmt::Result {
         match self {
             Pulse::Move(port) => write!(f, "{}_MOVE", port.as_str()),

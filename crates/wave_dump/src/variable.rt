@@ -23,20 +23,15 @@ pub enum Variable {
 }
 
 impl Display for Variable {
-    ghost use Rattle.std.specs.Prelude.{Some};
-    ghost use Rattle.wave_dump.specs.Names.{code_of};
-
-    ghost output = { λ variable. Some (code_of variable) };
-
     fn fmt<W: Write>(&self, f: &mut Formatter<W>) -> fmt::Result {
         match self {
-            Variable::State(place, state) => write!(f, "s{}.{}", place, *state as u8),
-            Variable::Mode(place, mode) => write!(f, "m{}.{}", place, *mode as u8),
-            Variable::StateName(place) => write!(f, "t{}", place),
-            Variable::ModeName(place) => write!(f, "n{}", place),
-            Variable::Pulse(place) => write!(f, "e{}", place),
-            Variable::Word(place) => write!(f, "v{}", place),
-            Variable::Window(number) => write!(f, "w{}", number),
+            Variable::State(place, state) => write!(f, "s{place}.{}", *state as u8),
+            Variable::Mode(place, mode) => write!(f, "m{place}.{}", *mode as u8),
+            Variable::StateName(place) => write!(f, "t{place}"),
+            Variable::ModeName(place) => write!(f, "n{place}"),
+            Variable::Pulse(place) => write!(f, "e{place}"),
+            Variable::Word(place) => write!(f, "v{place}"),
+            Variable::Window(number) => write!(f, "w{number}"),
         }
     }
 }

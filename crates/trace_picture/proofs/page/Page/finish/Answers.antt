@@ -4,7 +4,7 @@ use Rattle.std.proofs.lemmas.List.{nil_from_length}
 use Rattle.trace_picture.proofs.Pages.{finishes}
 use Rattle.trace_picture.proofs.page.Page.finish.Goals as goal
 
-pub returns-clause-picture : goal.returns-clause-picture
-returns-clause-picture c =
+pub returns : goal.returns
+returns c =
     let empty : length c.loop-self.self.unended.items ≡ 0 = grind (arith, nat_tests) in
     finishes c.loop-self.self.unended.items (string_bytes c.loop-self.self.text) (string_bytes c.push_end.new.out) (nil_from_length _ empty) (search rules) c.loop-self.self.begun

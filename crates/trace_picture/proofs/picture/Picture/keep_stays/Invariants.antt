@@ -1,6 +1,5 @@
 use Rattle.std.proofs.Common.{◌≡◌, ◌++◌, drop}
-use Rattle.trace_picture.specs.Added.{IsLike}
-use Rattle.trace_picture.specs.Marked.{bars_of_stays}
+use Rattle.trace_picture.specs.Marked.{IsLike, bars_of_stays}
 use Rattle.trace_picture.proofs.picture.Picture.keep_stays.Given as goal
 use Rattle.trace_stays.specs.Shown.{open_ticks}
 
