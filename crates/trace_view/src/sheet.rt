@@ -102,18 +102,14 @@ fn add_processes(report: &Report, sheet: &mut Sheet) -> Result<(), AllocError> {
 
 /// Adds the row of a port or a channel.
 fn add_route(total: &RouteTotal, sheet: &mut Sheet) -> Result<(), AllocError> {
-    let partition = total.partition.as_str();
     match &total.route {
         Route::Port(port) => {
-            sheet.add(
-                &["port", partition, port.as_str()],
-                44,
-                &[&port_cells(total.messages)],
-            )
+            let names = ["port", total.partition.as_str(), port.as_str()];
+            sheet.add(&names, 44, &[&port_cells(total.messages)])
         }
         Route::Channel(channel) => {
-            let out = [Cell::Number(total.messages.out)];
-            sheet.add(&["channel", partition, channel.as_str()], 47, &[&out])
+            let names = ["channel", total.partition.as_str(), channel.as_str()];
+            sheet.add(&names, 47, &[&[Cell::Number(total.messages.out)]])
         }
     }
 }
@@ -125,9 +121,6 @@ fn add_error(total: &ErrorTotal, sheet: &mut Sheet) -> Result<(), AllocError> {
         Cell::Word(total.response.action_word()),
         Cell::Number(total.lines),
     ];
-    sheet.add(
-        &["error", total.partition_word(), total.error_word()],
-        48,
-        &[&cells],
-    )
+    let names = ["error", total.partition_word(), total.error_word()];
+    sheet.add(&names, 48, &[&cells])
 }
