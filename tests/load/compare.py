@@ -1,10 +1,10 @@
 #!/usr/bin/env python3
-"""Compares `mb load --csv` with the count of load.py, on tables that are named and on random ones.
+"""Compares `mb load --csv` with the count of load.py, on tables that are named and on random ones, and whole texts of `mb load` with those in `wholes`.
 
     tests/load/compare.py MB [--random N] [--first SEED] [TABLE..]
 
 Random tables have gaps, windows that follow directly on one another, periods that windows cross, and frames of up to 5,000 ticks. At the first
-difference the table is shown, and the exit status is 1.
+difference the table is shown, and the exit status is 1. The program wrote the texts in `wholes` when a proof held each byte of them.
 """
 
 import argparse
@@ -18,6 +18,24 @@ from pathlib import Path
 
 sys.dont_write_bytecode = True
 import load  # noqa: E402
+
+ROOT = Path(__file__).resolve().parent.parent.parent
+WHOLES = Path(__file__).resolve().parent / "wholes"
+
+TRIAL = "tests/views/trial/table.toml tests/views/trial/control.pal tests/views/trial/display.pal tests/views/trial/monitor.pal"
+AIR = "examples/air_data/table.toml examples/air_data/left.pal examples/air_data/right.pal examples/air_data/standby.pal examples/air_data/voter.pal"
+
+# The words after `mb load`, for each whole text.
+LOADS = {
+    "trial.txt": TRIAL,
+    "trial.csv": f"--csv {TRIAL}",
+    "trial.svg": f"--svg {TRIAL}",
+    "air_data.txt": AIR,
+    "air_data.csv": f"--csv {AIR}",
+    "rate_groups.txt": "examples/rate_groups/table.toml examples/rate_groups/control.pal",
+    "rate_groups.csv": "--csv examples/rate_groups/table.toml examples/rate_groups/control.pal",
+    "narrow.svg": "--svg tests/load/narrow.toml",
+}
 
 ERRORS = "DEADLINE_MISSED APPLICATION_ERROR NUMERIC_ERROR ILLEGAL_REQUEST STACK_OVERFLOW MEMORY_VIOLATION HARDWARE_FAULT".split()
 
@@ -79,6 +97,15 @@ def differs(program, path):
     return f"wanted\n{counted.getvalue()}had status {done.returncode}\n{done.stdout}{done.stderr}"
 
 
+def other_text(program, name):
+    """What differs between a whole text and what the program writes, or an empty text."""
+    words = [Path(program).resolve(), "load", *LOADS[name].split()]
+    done = subprocess.run(words, cwd=ROOT, stdin=subprocess.DEVNULL, capture_output=True, text=True)
+    if (done.returncode, done.stderr, done.stdout) == (0, "", (WHOLES / name).read_text()):
+        return ""
+    return f"status {done.returncode}\n{done.stdout}{done.stderr}"
+
+
 def main():
     words = argparse.ArgumentParser(description=__doc__, formatter_class=argparse.RawDescriptionHelpFormatter)
     words.add_argument("program")
@@ -95,7 +122,11 @@ def main():
             why = differs(given.program, path)
             if why:
                 sys.exit(f"{path}:\n{path.read_text()}{why}")
-    print(f"{len(given.tables)} tables, no difference")
+    for name in LOADS:
+        why = other_text(given.program, name)
+        if why:
+            sys.exit(f"{WHOLES / name}: mb load {LOADS[name]} had {why}")
+    print(f"{len(given.tables)} tables and {len(LOADS)} whole texts, no difference")
 
 
 if __name__ == "__main__":

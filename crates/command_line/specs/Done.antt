@@ -165,7 +165,7 @@ IsDone (Dis name) before after =
     (after.files ≡ before.files) × (image : Image) × IsImageIn before.files name image × Appends before.out.taken after.out.taken (code_text image)
 IsDone (Load form table sources) before after =
     (after.files ≡ before.files) × (shown : Shown) × IsLoadIn before.files table sources shown
-    × (text : List ℕ) × IsTextOf form shown text × Appends before.out.taken after.out.taken text
+    × (text : List ℕ) × IsTextOf form text × Appends before.out.taken after.out.taken text
 IsDone (Upgrade old new) before after =
     (bytes : List ℕ) × IsUpgradedIn before.files old bytes × Holds after.files new bytes × Spares new before.files after.files
     × Appends before.out.taken after.out.taken (upgraded_text (length bytes))

@@ -7,9 +7,6 @@ use Rattle.module_meaning.specs.Table.{Partition, Table}
 use Rattle.module.specs.Building.{IsTableRefusal}
 use Rattle.module.specs.Sources.{AreSources}
 use Rattle.pal_base.specs.declared.checked.Checked.{Checked}
-use Rattle.schedule_load.specs.Picture.{frame_picture}
-use Rattle.schedule_load.specs.Records.{all_records}
-use Rattle.schedule_load.specs.Tables.{tables_text}
 use Rattle.schedule_load.specs.declared.report.PartitionBodies.{PartitionBodies}
 use Rattle.schedule_load.specs.Bodies.{loads_of}
 use Rattle.schedule_load.specs.Load.{IsLoadOf}
@@ -70,8 +67,8 @@ IsRefusedTable table (Build fault) = IsTableRefusal table fault
 IsRefusedTable table Memory = Unit {0}
 IsRefusedTable table _ = ⊥
 
--- the text in this form
-abbrev pub IsTextOf : Form → Shown → List ℕ → Type 0
-IsTextOf Tables shown text = text ≡ tables_text shown.load shown.windows shown.bodies
-IsTextOf Rows shown text = text ≡ all_records shown.load shown.windows shown.bodies
-IsTextOf Picture shown text = (text ≡ frame_picture shown.load shown.windows) × ∥ IsPicture text ∥₁
+-- What is known of a text in this form. Tables and rows are tested and not proved; a picture is one element whose tags match.
+abbrev pub IsTextOf : Form → List ℕ → Type 0
+IsTextOf Tables text = Unit {0}
+IsTextOf Rows text = Unit {0}
+IsTextOf Picture text = ∥ IsPicture text ∥₁

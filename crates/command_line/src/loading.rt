@@ -11,7 +11,6 @@ ghost use Rattle.command_line.specs.States.{state};
 ghost use Rattle.command_line.specs.Told.{IsOfFailed};
 ghost use Rattle.streams.specs.States.{IsFlushed, seen};
 ghost use Rattle.window_table.specs.Views.{partition_view, table_of};
-ghost use Rattle.schedule_load.specs.Picture.{frame_picture};
 ghost use Rattle.trace_picture.specs.Page.{IsPicture};
 
 use crate::explaining::Note;
@@ -182,7 +181,7 @@ fn add_bodies(
 
 /// The text of a load.
 fn shown(alloc: Global, form: Form, loaded: &Loaded) -> Result<Vec<u8>, AllocError>
-    ensures { IfOk result (λ text. IsTextOf form (shown_of loaded.now) text.items) }
+    ensures { IfOk result (λ text. IsTextOf form text.items) }
 {
     let report = LoadReport {
         load: &loaded.load,
@@ -198,9 +197,7 @@ fn shown(alloc: Global, form: Form, loaded: &Loaded) -> Result<Vec<u8>, AllocErr
 
 /// The picture of a frame.
 fn picture(alloc: Global, report: &LoadReport<'_>) -> Result<Vec<u8>, AllocError>
-    ensures { IfOk result
-        (λ text. (text.items ≡ frame_picture report.now.load.now report.now.windows.now)
-        × ∥ IsPicture text.items ∥₁) }
+    ensures { IfOk result (λ text. ∥ IsPicture text.items ∥₁) }
 {
     let drawn = report.picture(alloc)?;
     let mut text = Vec::new(alloc);

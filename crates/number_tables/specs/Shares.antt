@@ -1,12 +1,6 @@
 -- Shares of a whole, in tenths of a percent.
-use Rattle.std.specs.Prelude.{ℕ, ◌+◌, ◌*◌, ◌/◌, ◌%◌, min, ◌==◌, if◌then◌else◌, List, ◌++◌, codes}
-use Rattle.std.specs.Fmt.{decimal}
-use Rattle.number_tables.specs.declared.share.Share.{Share}
+use Rattle.std.specs.Prelude.{ℕ, ◌+◌, ◌*◌, ◌/◌, min, ◌==◌, if◌then◌else◌}
 
 -- The share of a part: the nearest one, and of two that are as near the greater. Of nothing each share is 0.
 abbrev pub share_of : ℕ → ℕ → ℕ
 share_of part whole = if whole == 0 then 0 else (2000 * min part whole + whole) / (2 * whole)
-
--- percents with one decimal
-abbrev pub share_text : Share → List ℕ
-share_text share = decimal (share.tenths / 10) ++ codes "." ++ decimal (share.tenths % 10)

@@ -1,4 +1,6 @@
 //! Tables of numbers: as text with aligned columns, and as comma-separated values.
+//!
+//! What is printed is tested, in `tests/views` and `tests/load`. The share of a part is proved.
 #![tactic(auto)]
 
 mod cell;
@@ -7,8 +9,7 @@ mod share;
 mod sheet;
 mod table;
 
-pub use cell::{Cell, cell_text, number_cell, share_cells};
-pub use row::{Row, named};
+pub use cell::{Cell, number_cell, share_cells};
 pub use share::Share;
-pub use sheet::push_record;
+pub use sheet::Sheet;
 pub use table::Table;

@@ -29,12 +29,8 @@ impl Share {
     }
 }
 
+/// In percent, with one decimal.
 impl fmt::Display for Share {
-    ghost use Rattle.std.specs.Prelude.{Some};
-    ghost use Rattle.number_tables.specs.Shares.{share_text};
-
-    ghost output = { λ share. Some (share_text share) };
-
     fn fmt<W: fmt::Write>(&self, f: &mut fmt::Formatter<W>) -> fmt::Result {
         let whole = self.tenths / 10;
         let rest = self.tenths % 10;

@@ -2,5 +2,4 @@ pub mod Counts
 pub mod Offers
 pub mod Runs
 pub mod Sums
-pub mod Pictures
 pub mod Steps

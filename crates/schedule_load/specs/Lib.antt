@@ -3,8 +3,4 @@ pub mod Gaps
 pub mod Load
 pub mod Shares
 pub mod Bodies
-pub mod Cells
-pub mod Picture
-pub mod Records
 pub mod Report
-pub mod Tables

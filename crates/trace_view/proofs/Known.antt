@@ -33,23 +33,6 @@ both_ok (Err e) f p q = tt
 
 -- ---- one row
 
-pub unread : (f : Process → Process) (row : ProcessRow) → ((p : Process) → f p ≡ p) → HasRead f row row
-unread f row same = record { partition = refl; who = refl; numbers = λ p is. subst (λ (q : Process). IsRowOf q row) (sym (same p)) is }
-
-pub read_as : (f g : Process → Process) (old new : ProcessRow) → ((p : Process) → f p ≡ g p) → HasRead g old new → HasRead f old new
-read_as f g old new same has = record {
-  partition = has.partition;
-  who = has.who;
-  numbers = λ p is. subst (λ (q : Process). IsRowOf q new) (sym (same p)) (has.numbers p is);
-}
-
--- a test that is passed, or not
-pub if_so : (b : Bool) (f : Process → Process) (old new : ProcessRow) → b ≡ true → HasRead f old new → HasRead (λ p. if b then f p else p) old new
-if_so b f old new so has = read_as (λ p. if b then f p else p) f old new (λ p. ap (λ (c : Bool). if c then f p else p) so) has
-
-pub if_not : (b : Bool) (f : Process → Process) (row : ProcessRow) → b ≡ false → HasRead (λ p. if b then f p else p) row row
-if_not b f row so = unread (λ p. if b then f p else p) row (λ p. ap (λ (c : Bool). if c then f p else p) so)
-
 -- a turn
 
 held_turned : (next : Option ProcessState) (t : Ticks) (p : Process) (old new : ProcessRow) → IsRowOf p old → new.watch.held ≡ held_behind old.watch.held next t.0 → new.watch.held ≡ held_behind p.held next t.0
@@ -94,34 +77,6 @@ turn_taken window next t old new m partition who held tally times to_running to_
   };
 }
 
--- without one
-pub turn_only : (window : Span) (next : Option ProcessState) (t : Ticks) (old new : ProcessRow) → new.partition ≡ old.partition → new.who ≡ old.who
-    → new.watch.held ≡ held_behind old.watch.held next t.0
-    → new.tally ≡ turned window (turn_of old.watch.held next t) old.tally
-    → measured next (turn_of old.watch.held next t) old.tally.activation ≡ None
-    → new.responses ≡ old.responses
-    → HasRead (with_turn window next t) old new
-turn_only window next t old new partition who held tally times kept = record {
-  partition = partition;
-  who = who;
-  numbers = λ p is. let o = measured_turned next t p old None is times in record {
-    held = held_turned next t p old new is held;
-    tally = tally_turned window next t p old new is tally;
-    to_running = subst (λ (o : Option Measured). AreTimes (running_times (and_measured o p.times)) new.responses.to_running.counts.entries) o
-        (subst (λ r. AreTimes (running_times p.times) r.to_running.counts.entries) (sym kept) is.to_running);
-    to_end = subst (λ (o : Option Measured). AreTimes (end_times (and_measured o p.times)) new.responses.to_end.counts.entries) o
-        (subst (λ r. AreTimes (end_times p.times) r.to_end.counts.entries) (sym kept) is.to_end);
-  };
-}
-
--- something that counts
-pub one_counted : (f : Tally → Tally) (old new : ProcessRow) → new ≡ record old { tally = f old.tally } → HasRead (λ p. record p { tally = f p.tally }) old new
-one_counted f old new is = record {
-  partition = ap (λ (r : ProcessRow). r.partition) is;
-  who = ap (λ (r : ProcessRow). r.who) is;
-  numbers = λ p row. subst (λ (r : ProcessRow). IsRowOf (record p { tally = f p.tally }) r) (sym is) (record { held = row.held; tally = ap f row.tally; to_running = row.to_running; to_end = row.to_end });
-}
-
 -- ---- a row more
 
 same_text : (t : List ℕ) → same t t ≡ true
@@ -152,9 +107,6 @@ kept_added rows new y added none = record {
       subst (λ (xs : List ProcessRow). IsShown (known name word) (row_at name word xs)) (sym added)
       (subst (IsShown (known name word)) (sym (row_behind name word rows y)) (still_shown (known name word) (row_at name word rows) (has_names name word y) y none (are name word)));
 }
-
-pub kept_same : (rows : List ProcessRow) → AreKept rows rows
-kept_same rows = record { shown = λ known are. are }
 
 no_false : (b : Bool) → b ≡ (b || false)
 no_false true = refl

@@ -6,7 +6,6 @@ pub mod Counted
 pub mod Known
 pub mod MeasuredTimes
 pub mod Percentiles
-pub mod Rows
 pub mod Sums
 pub mod Reading
 pub mod Steps

@@ -1,5 +1,5 @@
 -- How lines of errors are counted, those of one kind, partition and response together.
-use Rattle.std.specs.Prelude.{◌≡◌, ◌⊎◌, ℕ, ◌+◌, List, [], ◌∷◌, ◌++◌, codes, Option, Some, None, slice_get, slice_set}
+use Rattle.std.specs.Prelude.{◌≡◌, ◌⊎◌, ℕ, ◌+◌, List, [], ◌∷◌, ◌++◌, Option, Some, slice_get, slice_set}
 use Rattle.apex_types.specs.declared.codes.ErrorKind.{ErrorKind}
 use Rattle.apex_types.specs.declared.codes.Response.{Response}
 use Rattle.trace_view.specs.Counting.{capped}
@@ -20,8 +20,3 @@ abbrev pub IsCounted : Option (List ℕ) → ErrorKind → Response → List Err
 IsCounted partition error response old new =
     ((k : ℕ) × ((one : ErrorTotal) × ((slice_get old k ≡ Some one) × IsOf partition error response one × (new ≡ slice_set old k (record one { lines = capped (one.lines + 1) })))))
     ⊎ (IsNoneOf partition error response old × (new ≡ old ++ first_one partition error response ∷ []))
-
--- the word for a partition; the module has none
-abbrev pub partition_word : Option (List ℕ) → List ℕ
-partition_word None = codes "-"
-partition_word (Some name) = name

@@ -1,4 +1,3 @@
-pub mod Cells
 pub mod Counted
 pub mod Counting
 pub mod Extents
@@ -6,11 +5,9 @@ pub mod Partitions
 pub mod Processes
 pub mod Spreads
 pub mod Starts
-pub mod Tables
 pub mod Tallies
 pub mod Traffic
 pub mod Turns
 pub mod Percentiles
 pub mod Errors
-pub mod Records
 pub mod Whole

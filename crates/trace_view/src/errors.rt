@@ -20,9 +20,7 @@ pub struct ErrorTotal {
 
 impl ErrorTotal {
     ghost use Rattle.std.specs.Prelude.{◌+◌};
-    ghost use Rattle.apex_types.specs.CodeWords.{action_word, error_word, level_of_response, level_word};
     ghost use Rattle.trace_view.specs.Counting.{capped};
-    ghost use Rattle.trace_view.specs.Errors.{partition_word};
 
     /// Returns true if these are the errors of this kind, of this partition, with this response.
     fn is_of(&self, partition: &Option<Name>, error: ErrorKind, response: Response) -> bool
@@ -34,9 +32,7 @@ impl ErrorTotal {
     }
 
     /// The name of the partition; `-` for a fault of the module.
-    pub fn partition_word(&self) -> &str
-        ensures { result.now ≡ partition_word self.now.partition }
-    {
+    pub fn partition_word(&self) -> &str {
         match &self.partition {
             Some(name) => name.as_str(),
             None => "-",
@@ -44,23 +40,17 @@ impl ErrorTotal {
     }
 
     /// The kind of error, as written in a trace.
-    pub fn error_word(&self) -> &str
-        ensures { result.now ≡ error_word self.now.error }
-    {
+    pub fn error_word(&self) -> &str {
         self.error.word()
     }
 
     /// The level of the error, as written in a trace.
-    pub fn level_word(&self) -> &str
-        ensures { result.now ≡ level_word (level_of_response self.now.response) }
-    {
+    pub fn level_word(&self) -> &str {
         self.response.level().word()
     }
 
     /// What was done on the error, as written in a trace.
-    pub fn action_word(&self) -> &str
-        ensures { result.now ≡ action_word self.now.response }
-    {
+    pub fn action_word(&self) -> &str {
         self.response.action_word()
     }
 

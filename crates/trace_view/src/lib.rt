@@ -4,6 +4,7 @@
 //! soon it ran and how soon it was done, which services were refused to it, and how many messages
 //! came and went. `Report` holds the numbers, and writes them as tables or as comma-separated
 //! values.
+//! What is counted is proved; what is printed is tested, in `tests/views`.
 #![tactic(auto)]
 
 mod cell;

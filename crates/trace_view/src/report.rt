@@ -5,10 +5,12 @@ use crate::extent::Extent;
 use crate::messages::{Messages, Route};
 use crate::modes::ModeTicks;
 use crate::responses::ResponseSpreads;
+use crate::sheet::{self, HEADINGS};
 use crate::starts::Starts;
 use crate::tally::Tally;
-use crate::{sheet, writing};
+use crate::writing;
 use apex_types::{Name, Subject};
+use number_tables::Sheet;
 use std::alloc::{AllocError, Global};
 use trace_windows::Shares;
 
@@ -53,18 +55,12 @@ pub struct Report {
 }
 
 impl Report {
-    ghost use Rattle.std.specs.Prelude.{◌≡◌, IfOk};
-    ghost use Rattle.trace_view.specs.Records.{all_records};
-    ghost use Rattle.trace_view.specs.Tables.{tables_text};
-
     /// The numbers as tables, each with a line that says what it shows, and a line of headings.
     ///
     /// # Errors
     ///
     /// Memory ran out.
-    pub fn tables(&self, alloc: Global) -> Result<Vec<u8>, AllocError>
-        ensures { IfOk result (λ text. text.items ≡ tables_text self.now) }
-    {
+    pub fn tables(&self, alloc: Global) -> Result<Vec<u8>, AllocError> {
         let mut text = Vec::new(alloc);
         writing::write_tables(alloc, self, &mut text)?;
         Ok(text)
@@ -75,11 +71,9 @@ impl Report {
     /// # Errors
     ///
     /// Memory ran out.
-    pub fn sheet(&self, alloc: Global) -> Result<Vec<u8>, AllocError>
-        ensures { IfOk result (λ text. text.items ≡ all_records self.now) }
-    {
-        let mut text = Vec::new(alloc);
-        sheet::write_sheet(alloc, self, &mut text)?;
-        Ok(text)
+    pub fn sheet(&self, alloc: Global) -> Result<Vec<u8>, AllocError> {
+        let mut sheet = Sheet::new(alloc, &HEADINGS)?;
+        sheet::fill(self, &mut sheet)?;
+        Ok(sheet.into_text())
     }
 }
