@@ -5,3 +5,5 @@ pub mod UnderWay
 pub mod Pieces
 pub mod Waits
 pub mod UsedNames
+pub mod Lookups
+pub mod CallLookups

@@ -3,6 +3,7 @@
 ghost use Rattle.std.specs.Prelude.{◌≡◌, ◌++◌, option_map, OnOk};
 ghost use Rattle.pal_base.specs.View.{id_text, texts};
 ghost use Rattle.lint.specs.Arrays as meant;
+ghost use Rattle.lint.specs.DeclarationsView.{declared_in};
 ghost use Rattle.lint.specs.Seen.{id_seen};
 ghost use Rattle.lint.specs.Views.{call_of, calls_seen, found_all};
 
@@ -27,7 +28,7 @@ fn object_words(
 ) -> Option<u64>
     ensures { result
         ≡ meant.words_or_none
-        (meant.object_of declarations.now kind (id_seen (texts names.now.keys) id)) }
+        (meant.object_of (declared_in declarations.now) kind (id_seen (texts names.now.keys) id)) }
 {
     match id {
         Id::Numbered(number) => declarations.words_at(kind, number),
@@ -51,7 +52,7 @@ fn words_of(
     id: Id,
 ) -> Option<u64>
     ensures { result
-        ≡ meant.words_of ports.now declarations.now kind (id_seen (texts names.now.keys) id) }
+        ≡ meant.words_of ports.now (declared_in declarations.now) kind (id_seen (texts names.now.keys) id) }
 {
     if is_same_kind(kind, ObjectKind::Port) {
         match port_of_id(names, ports, id) {
@@ -70,7 +71,7 @@ fn array_of(
     name: Option<NameId>,
 ) -> Option<u64>
     ensures { result
-        ≡ meant.array_of declarations.now (option_map (id_text (texts names.now.keys)) name) }
+        ≡ meant.array_of (declared_in declarations.now) (option_map (id_text (texts names.now.keys)) name) }
 {
     match name {
         Some(name) => declarations.size_named(text_of(names, name)),
@@ -110,7 +111,7 @@ fn add_small_array<'a>(
     ensures { OnOk result
         (found_all findings.new.items
         ≡ found_all findings.old.items
-        ++ meant.small_array ports.now declarations.now (call_of (texts names.now.keys) call.now)) }
+        ++ meant.small_array ports.now (declared_in declarations.now) (call_of (texts names.now.keys) call.now)) }
 {
     let Some(kind) = stored_kind(call.service) else {
         return Ok(());
@@ -138,7 +139,7 @@ pub fn add_small_arrays<'a>(
     ensures { OnOk result
         (found_all findings.new.items
         ≡ found_all findings.old.items
-        ++ meant.small_arrays ports.now declarations.now (calls_seen (texts names.now.keys) calls.now)) }
+        ++ meant.small_arrays ports.now (declared_in declarations.now) (calls_seen (texts names.now.keys) calls.now)) }
 {
     for call in calls {
         add_small_array(names, ports, declarations, call, findings)?;

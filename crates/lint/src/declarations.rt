@@ -1,11 +1,12 @@
 //! The declarations of a program, for look-ups by name and by number.
 
-ghost use Rattle.std.specs.Prelude.{◌≡◌, ◌++◌, ℕ, List, flat_map, map, option_map, IfOk, OnOk};
+ghost use Rattle.std.specs.Prelude.{◌≡◌, ◌++◌, ℕ, List, map, IfOk, OnOk};
 ghost use Rattle.std.specs.HashMap.{get_by};
 ghost use Rattle.std.specs.Str.{bytes_eq};
+ghost use Rattle.apex_types.specs.declared.denotation.ObjectKind.TheVariants as object;
 ghost use Rattle.pal_base.specs.View.{declaration_of, declared_of, texts};
 ghost use Rattle.lint.specs.Arrays as meant;
-ghost use Rattle.lint.specs.ObjectWords.{object_words, words_numbered, words_of_kind};
+ghost use Rattle.lint.specs.Measures.{AreMeasured, object_words, words_numbered, words_of_kind};
 
 use crate::calls::value_of;
 use crate::names::text_of;
@@ -14,34 +15,40 @@ use apex_types::ObjectKind;
 use indexmap::{IndexMap, IndexSet};
 use pal_base::syntax::{Declaration, DeclarationKind};
 use std::alloc::{AllocError, Global};
-use std::marker::Model;
 
-/// The declarations of a program. A contract sees the list of them.
-#[derive(Drop)]
-pub struct Declarations<'a> {
-    names: &'a IndexSet<String>,
-    declarations: &'a [Declaration],
-    /// What is declared first, by its name.
-    kinds: IndexMap<&'a str, &'a DeclarationKind>,
-    /// The words of a message of each buffer.
-    buffers: Vec<Option<u64>>,
-    /// The words of a message of each blackboard.
-    blackboards: Vec<Option<u64>>,
+/// What is looked up of a declaration.
+#[derive(Clone, Copy)]
+pub struct Measure {
+    /// The size of an array.
+    pub size: Option<u64>,
+    /// The words of a message of a buffer or a blackboard.
+    pub words: Option<u64>,
 }
 
-impl<'a> Model for Declarations<'a> {
-    ghost use Rattle.std.specs.Prelude.{List};
-    ghost use Rattle.pal_meaning.specs.Syntax.{Declaration as Item};
-    ghost use Rattle.lint.specs.DeclarationsView.{IsTable, declarations_of};
-
-    ghost Value = { List Item };
-
-    ghost view = { declarations_of };
-
-    ghost invariant = { IsTable };
+/// The declarations of a program.
+#[derive(Drop)]
+pub struct Declarations<'a> {
+    pub names: &'a IndexSet<String>,
+    pub declarations: &'a [Declaration],
+    /// That of the first declaration of each name.
+    pub measures: IndexMap<&'a str, Measure>,
+    /// The words of a message of each buffer.
+    pub buffers: Vec<Option<u64>>,
+    /// The words of a message of each blackboard.
+    pub blackboards: Vec<Option<u64>>,
+    ghost measured: { AreMeasured (λ name. get_by (λ k. bytes_eq name k.now) measures)
+        (map (declaration_of (texts names.now.keys)) declarations.now) },
+    ghost has_buffers: { buffers.items
+        ≡ words_of_kind object.Buffer
+        (map (declaration_of (texts names.now.keys)) declarations.now) },
+    ghost has_blackboards: { blackboards.items
+        ≡ words_of_kind object.Blackboard
+        (map (declaration_of (texts names.now.keys)) declarations.now) },
 }
 
 impl<'a> Declarations<'a> {
+    ghost use Rattle.lint.specs.DeclarationsView.{declared_in};
+
     /// The table of these declarations.
     pub fn of(
         alloc: Global,
@@ -49,15 +56,16 @@ impl<'a> Declarations<'a> {
         declarations: &'a [Declaration],
     ) -> Result<Declarations<'a>, AllocError>
         ensures { IfOk result
-            (λ table. table ≡ map (declaration_of (texts names.now.keys)) declarations.now) }
+            (λ table. declared_in table
+            ≡ map (declaration_of (texts names.now.keys)) declarations.now) }
     {
-        let kinds = kinds_by_name(alloc, names, declarations)?;
+        let measures = measures_by_name(alloc, names, declarations)?;
         let buffers = words_of_kind(alloc, ObjectKind::Buffer, declarations)?;
         let blackboards = words_of_kind(alloc, ObjectKind::Blackboard, declarations)?;
         Ok(Declarations {
             names,
             declarations,
-            kinds,
+            measures,
             buffers,
             blackboards,
         })
@@ -65,27 +73,28 @@ impl<'a> Declarations<'a> {
 
     /// The size of the array with this name.
     pub fn size_named(&self, name: &str) -> Option<u64>
-        ensures { result ≡ meant.size_or_none (meant.declared name.now self.now) }
+        ensures { result ≡ meant.size_or_none (meant.declared name.now (declared_in self.now)) }
     {
-        match self.kinds.get(name) {
-            Some(kind) => size_in(kind),
+        match self.measures.get(name) {
+            Some(measure) => measure.size,
             None => None,
         }
     }
 
     /// The words of a message of the buffer or the blackboard with this name.
     pub fn words_named(&self, name: &str) -> Option<u64>
-        ensures { result ≡ meant.words_or_none (meant.declared name.now self.now) }
+        ensures { result ≡ meant.words_or_none (meant.declared name.now (declared_in self.now)) }
     {
-        match self.kinds.get(name) {
-            Some(kind) => words_in(kind),
+        match self.measures.get(name) {
+            Some(measure) => measure.words,
             None => None,
         }
     }
 
     /// The words of a message of the buffer or the blackboard with this number, from 1.
     pub fn words_at(&self, kind: ObjectKind, number: u64) -> Option<u64>
-        ensures { result ≡ meant.words_or_none (meant.declared_at kind number self.now) }
+        ensures { result
+            ≡ meant.words_or_none (meant.declared_at kind number (declared_in self.now)) }
     {
         match kind {
             ObjectKind::Buffer => words_numbered(&self.buffers, number),
@@ -95,27 +104,28 @@ impl<'a> Declarations<'a> {
     }
 }
 
-/// What is declared first, by its name.
-fn kinds_by_name<'a>(
+/// What is looked up of the first declaration of each name.
+fn measures_by_name<'a>(
     alloc: Global,
     names: &'a IndexSet<String>,
-    declarations: &'a [Declaration],
-) -> Result<IndexMap<&'a str, &'a DeclarationKind>, AllocError>
+    declarations: &[Declaration],
+) -> Result<IndexMap<&'a str, Measure>, AllocError>
     ensures { IfOk result
-        (λ kinds. (name : List ℕ)
-        → option_map (λ kind. declared_of (texts names.now.keys) kind.now)
-        (get_by (λ k. bytes_eq name k.now) kinds)
-        ≡ meant.declared name (map (declaration_of (texts names.now.keys)) declarations.now)) }
+        (λ measures. AreMeasured (λ name. get_by (λ k. bytes_eq name k.now) measures)
+        (map (declaration_of (texts names.now.keys)) declarations.now)) }
 {
-    let mut kinds = IndexMap::new(alloc);
+    let mut measures = IndexMap::new(alloc);
     let mut place = declarations.len();
     while place > 0 {
         place -= 1;
         let declaration = &declarations[place];
-        let name = text_of(names, declaration.name.name);
-        kinds.insert(name, &declaration.kind)?;
+        let measure = Measure {
+            size: size_in(&declaration.kind),
+            words: words_in(&declaration.kind),
+        };
+        measures.insert(text_of(names, declaration.name.name), measure)?;
     }
-    Ok(kinds)
+    Ok(measures)
 }
 
 /// The size of an array, as it is declared.

@@ -127,6 +127,31 @@ pub fn add_handler<'a>(
     expect(names, Wanted::HandlerCreation, calls, finding, findings)
 }
 
+/// Adds the finding that no call may start the process of this number and name.
+fn expect_start<'a>(
+    names: &'a IndexSet<String>,
+    table: &CallTable<'_>,
+    number: u64,
+    process: &Process,
+    findings: &mut Vec<Finding<'a>>,
+) -> Result<(), AllocError>
+    ensures { OnOk result
+        (found_all findings.new.items
+        ≡ found_all findings.old.items
+        ++ meant.lacking (meant.Start number (name_of (texts names.now.keys) process.now.name))
+        table.now
+        (meant.found FindingKind.NeverStarted
+        (name_of (texts names.now.keys) process.now.name))) }
+{
+    let subject = text_of(names, process.name.name);
+    let finding = Finding {
+        line: process.line,
+        kind: FindingKind::NeverStarted,
+        subject,
+    };
+    add_unless(table.starts(number, subject), finding, findings)
+}
+
 /// Adds the processes that no call may start. They are numbered from 1.
 #[tactic(auto, using(std::proofs::lemmas::List::drop_more))]
 pub fn add_unstarted<'a>(
@@ -143,13 +168,7 @@ pub fn add_unstarted<'a>(
 {
     let mut number: u64 = 1;
     for process in processes {
-        let subject = text_of(names, process.name.name);
-        let finding = Finding {
-            line: process.line,
-            kind: FindingKind::NeverStarted,
-            subject,
-        };
-        add_unless(table.starts(number, subject), finding, findings)?;
+        expect_start(names, table, number, process, findings)?;
         number += 1;
     }
     Ok(())

@@ -14,7 +14,7 @@ use crate::calls::Call;
 use crate::names::text_of;
 use crate::services::is_start;
 use crate::used::Used;
-use crate::uses::{Id, subject_of};
+use crate::uses::{Id, is_same_kind, subject_of};
 use apex_types::ObjectKind;
 use indexmap::IndexSet;
 use std::alloc::{AllocError, Global};
@@ -80,8 +80,11 @@ impl<'a> Starts<'a> {
             Id::Numbered(number) => {
                 self.numbers.insert(number)?;
             }
-            Id::Named(ObjectKind::Process, object) => self.names.add(text_of(names, object))?,
-            Id::Named(_, _) => (),
+            Id::Named(kind, object) => {
+                if is_same_kind(kind, ObjectKind::Process) {
+                    self.names.add(text_of(names, object))?;
+                }
+            }
             Id::Unseen => self.any = true,
         }
         Ok(())
