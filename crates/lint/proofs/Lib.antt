@@ -6,4 +6,3 @@ pub mod Pieces
 pub mod Waits
 pub mod UsedNames
 pub mod Lookups
-pub mod CallLookups

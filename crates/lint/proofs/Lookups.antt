@@ -1,5 +1,5 @@
--- Look-ups among declarations, by name and by number.
-use Rattle.std.proofs.Common.{◌≡◌, ℕ, zero, suc, ◌+◌, ◌-◌, ◌<◌, Bool, true, false, ◌&&◌, ◌==◌, cond, if◌then◌else◌, List, [], ◌∷◌, ◌++◌, length, map, drop, get_or, Option, Some, None, refl, sym, ap, ◌∙◌, inl, inr, arith}
+-- Look-ups among declarations, by name and by number, and among calls.
+use Rattle.std.proofs.Common.{◌≡◌, ℕ, zero, suc, ◌+◌, ◌-◌, ◌<◌, Bool, true, false, ◌&&◌, ◌||◌, ◌==◌, cond, if◌then◌else◌, List, [], ◌∷◌, ◌++◌, length, map, drop, get_or, Option, Some, None, refl, sym, ap, ◌∙◌, inl, inr, arith}
 use Rattle.std.specs.Str.{bytes_eq}
 use Rattle.std.proofs.lemmas.Bool.{cases_Bool}
 use Rattle.std.proofs.lemmas.List.{at_drop_more}
@@ -10,6 +10,7 @@ use Rattle.pal_base.specs.declared.syntax.Declaration as code
 use Rattle.pal_meaning.specs.Syntax as written
 use Rattle.lint.specs.Arrays.{declared, declared_at, is_of_kind, words_in, words_or_none}
 use Rattle.lint.specs.Measures.{words_numbered, words_of_kind}
+use Rattle.lint.specs.Uses.{is_name}
 use Rattle.lint.specs.declared.declarations.Measure.{Measure}
 
 -- ---- by name
@@ -77,3 +78,14 @@ no_words kind number no_buffer no_blackboard [] = refl
 no_words kind number no_buffer no_blackboard (d ∷ ds) =
     no_words kind number no_buffer no_blackboard ds
     ∙ sym (ap (λ (b : Bool). words_or_none (if b && (number == 1) then Some d.kind else declared_at kind (if b then number - 1 else number) ds)) (is_of_none kind no_buffer no_blackboard d.kind))
+
+-- ---- calls
+
+neither : (created b : Bool) → created ≡ (created || (b && false))
+neither true b = refl
+neither false true = refl
+neither false false = refl
+
+-- a call whose first argument is no name creates nothing
+pub no_name : (created b : Bool) (name : List ℕ) (argument : Option (List ℕ)) → argument ≡ None → created ≡ (created || (b && is_name name argument))
+no_name created b name argument none = neither created b ∙ ap (λ (o : Option (List ℕ)). created || (b && is_name name o)) (sym none)

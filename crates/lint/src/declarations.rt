@@ -30,7 +30,7 @@ pub struct Measure {
 pub struct Declarations<'a> {
     pub names: &'a IndexSet<String>,
     pub declarations: &'a [Declaration],
-    /// That of the first declaration of each name.
+    /// What is looked up of the first declaration of each name.
     pub measures: IndexMap<&'a str, Measure>,
     /// The words of a message of each buffer.
     pub buffers: Vec<Option<u64>>,

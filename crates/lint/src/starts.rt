@@ -22,11 +22,11 @@ use std::alloc::{AllocError, Global};
 /// The processes that calls may start.
 #[derive(Drop)]
 pub struct Starts<'a> {
-    /// Those of these numbers, as they are written.
+    /// The numbers that are written.
     pub numbers: IndexSet<u64>,
-    /// Those of these names, which were created last.
+    /// The names of those that were created last.
     pub names: Used<'a>,
-    /// Any process, since one of a call cannot be seen.
+    /// True if a call may start any process, since its argument cannot be seen.
     pub any: bool,
 }
 

@@ -4,7 +4,7 @@ use Rattle.lint.specs.Calls.{first_of, plains}
 use Rattle.lint.specs.Unused.{is_used}
 use Rattle.lint.specs.UsedNames.{used_names}
 use Rattle.lint.specs.Uses.{name_in}
-use Rattle.lint.proofs.CallLookups.{no_name}
+use Rattle.lint.proofs.Lookups.{no_name}
 use Rattle.lint.proofs.call_table.add_created.Goals as goal
 
 pub returns-in-None : goal.returns-in-None

@@ -20,6 +20,6 @@ loop-place-preserved c =
       within = omega (arith, l.invariant.within);
       measured = λ q. (
         measured_before size_of size_or_none names ds (l.place - 1) l.place d.result c.text_of.result.now _ _ _ q some next named (c.size_in.ensures names ∙ ap (λ x. size_in (declared_of names x.kind)) d.is) (grown q) (l.invariant.measured q).0,
-        measured_before words_of words_or_none names ds (l.place - 1) l.place d.result c.text_of.result.now _ _ _ q some next named (c.words_in.ensures names ∙ ap (λ x. words_in (declared_of names x.kind)) d.is) (grown q) (l.invariant.measured q).1
+        measured_before words_of words_or_none names ds (l.place - 1) l.place d.result c.text_of.result.now _ _ _ q some next named (c.words_in.ensures names ∙ ap (λ x. words_in (declared_of names x.kind)) d.is) (grown q) (l.invariant.measured q).1,
       );
     }
