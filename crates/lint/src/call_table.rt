@@ -22,6 +22,7 @@ use std::marker::Model;
 /// The calls of a program. A contract sees the list of them.
 #[derive(Drop)]
 pub struct CallTable<'a> {
+    /// Read by contracts only, as is `calls`.
     names: &'a IndexSet<String>,
     calls: &'a [Call<'a>],
     /// The names of what they create, by its kind.

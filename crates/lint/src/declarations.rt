@@ -25,9 +25,10 @@ pub struct Measure {
     pub words: Option<u64>,
 }
 
-/// The declarations of a program.
+/// The declarations of a program, with what is looked up of them.
 #[derive(Drop)]
 pub struct Declarations<'a> {
+    /// Read by contracts only, as is `declarations`.
     pub names: &'a IndexSet<String>,
     pub declarations: &'a [Declaration],
     /// What is looked up of the first declaration of each name.

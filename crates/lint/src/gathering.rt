@@ -88,6 +88,27 @@ fn add_port_findings<'a>(
     arrays::add_small_arrays(names, ports, &declarations, calls, findings)
 }
 
+/// Adds what is found about creation and starts, by a table of the calls.
+fn add_by_table<'a>(
+    program: &'a Program,
+    calls: &[Call<'a>],
+    table: &CallTable<'_>,
+    findings: &mut Vec<Finding<'a>>,
+) -> Result<(), AllocError>
+    requires calls { calls_seen (texts program.now.names.keys) calls.now
+        ≡ all_calls (program_of program.now) }
+    requires table { table.now ≡ all_calls (program_of program.now) }
+    ensures { OnOk result
+        (found_all findings.new.items
+        ≡ found_all findings.old.items ++ meant.creation_findings (program_of program.now)) }
+{
+    let names = &program.names;
+    lives::add_objects(names, table, &program.declarations, findings)?;
+    lives::add_uncreated(names, table, &program.processes, findings)?;
+    lives::add_handler(names, calls, &program.handler, findings)?;
+    lives::add_unstarted(names, table, &program.processes, findings)
+}
+
 /// Adds what is found about creation and starts.
 fn add_creations<'a>(
     alloc: Global,
@@ -101,12 +122,8 @@ fn add_creations<'a>(
         (found_all findings.new.items
         ≡ found_all findings.old.items ++ meant.creation_findings (program_of program.now)) }
 {
-    let names = &program.names;
-    let table = CallTable::of(alloc, names, calls)?;
-    lives::add_objects(names, &table, &program.declarations, findings)?;
-    lives::add_uncreated(names, &table, &program.processes, findings)?;
-    lives::add_handler(names, calls, &program.handler, findings)?;
-    lives::add_unstarted(names, &table, &program.processes, findings)
+    let table = CallTable::of(alloc, &program.names, calls)?;
+    add_by_table(program, calls, &table, findings)
 }
 
 /// Adds that neither INIT nor a procedure may enter NORMAL, if it is so.

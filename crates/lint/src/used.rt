@@ -1,4 +1,4 @@
-//! The names that appear in some statements, for look-ups by their texts.
+//! Names, for look-ups by their texts.
 
 ghost use Rattle.std.specs.Prelude.{◌≡◌, ◌||◌, [], ℕ, List, IfOk, OnOk};
 ghost use Rattle.std.specs.Str.{bytes_eq};
@@ -12,7 +12,7 @@ use indexmap::IndexSet;
 use pal_base::syntax::NameId;
 use std::alloc::{AllocError, Global};
 
-/// The texts of the names that appear in some statements, each of them once.
+/// The texts of some names, each of them once.
 #[derive(Drop)]
 pub struct Used<'a> {
     pub texts: IndexSet<&'a str>,
