@@ -122,7 +122,7 @@ fn add_creations<'a>(
         (found_all findings.new.items
         ≡ found_all findings.old.items ++ meant.creation_findings (program_of program.now)) }
 {
-    let table = CallTable::of(alloc, &program.names, calls)?;
+    let table = CallTable::of(alloc, &program.names, &*calls)?;
     add_by_table(program, calls, &table, findings)
 }
 
