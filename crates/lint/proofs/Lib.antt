@@ -5,3 +5,4 @@ pub mod UnderWay
 pub mod Pieces
 pub mod Waits
 pub mod UsedNames
+pub mod Lookups

@@ -1,19 +1,19 @@
 -- A table of the names that appear in some statements has those of a list.
-use Rattle.std.proofs.Common.{◌≡◌, ℕ, ◌+◌, ◌<◌, ◌≤◌, Bool, true, false, ◌||◌, if◌then◌else◌, List, [], ◌∷◌, ◌++◌, length, map, drop, get_or, Bor, refl, sym, ap, ◌∙◌, inl, inr}
+use Rattle.std.proofs.Common.{◌≡◌, ℕ, ◌+◌, ◌<◌, ◌≤◌, Bool, true, false, ◌||◌, if◌then◌else◌, List, [], ◌∷◌, ◌++◌, length, map, flat_map, drop, get_or, Bor, refl, sym, ap, ◌∙◌, inl, inr}
 use Rattle.std.specs.List.{list_any}
 use Rattle.std.specs.Prelude.{OnOk, Result, Ok, Err}
 use Rattle.std.specs.Str.{bytes_eq}
 use Rattle.std.proofs.lemmas.Bool.{cases_Bool}
 use Rattle.std.proofs.lemmas.List.{at_drop_all, at_drop_more}
+use Rattle.std.proofs.lemmas.List.Folds.{list_any-append}
 use Rattle.std.proofs.lemmas.Slice.Eq.{bytes_eq-Decides}
 use Rattle.indexmap.specs.IndexSet.{insert_key}
-use Rattle.pal_base.specs.View.{id_text}
-use Rattle.pal_base.specs.declared.syntax.NameId.{NameId}
 use Rattle.pal.proofs.Tables.{eq_sym}
 use Rattle.pal_meaning.specs.Syntax as written
 use Rattle.lint.specs.Lives.{found}
-use Rattle.lint.specs.Unused.{is_used, unused_declaration, unused_declarations}
-use Rattle.lint.specs.Views.{Found, names_seen, unless}
+use Rattle.lint.specs.Unused.{is_used, unused, unused_declaration, unused_declarations}
+use Rattle.lint.specs.Views.{Found, unless}
+use Rattle.lint.specs.declared.finding.FindingKind.{FindingKind}
 use Rattle.lint.specs.declared.finding.FindingKind.TheVariants as finding
 
 or_assoc : (a b c : Bool) → ((a || b) || c) ≡ (a || (b || c))
@@ -28,10 +28,6 @@ absorbed : (a b : Bool) → (b ≡ true → a ≡ true) → a ≡ (a || b)
 absorbed true b h = refl
 absorbed false true h = h refl
 absorbed false false h = refl
-
-used_append : (xs ys : List (List ℕ)) (q : List ℕ) → is_used (xs ++ ys) q ≡ (is_used xs q || is_used ys q)
-used_append [] ys q = refl
-used_append (x ∷ xs) ys q = ap (λ (b : Bool). bytes_eq x q || b) (used_append xs ys q) ∙ sym (or_assoc (bytes_eq x q) (is_used xs q) (is_used ys q))
 
 abbrev pub texts_of : List (Bor (List ℕ)) → List (List ℕ)
 texts_of ks = map (λ text. text.now) ks
@@ -64,7 +60,7 @@ inserted eq is k ks q = elim (cases_Bool (list_any (eq k) ks)) [
   | inr f ↦
       ap (λ (b : Bool). is_used (texts_of (if b then ks else ks ++ k ∷ [])) q) f
       ∙ ap (λ (l : List (List ℕ)). is_used l q) (map_append ks (k ∷ []))
-      ∙ used_append (texts_of ks) (k.now ∷ []) q
+      ∙ list_any-append (λ other. bytes_eq other q) (texts_of ks) (k.now ∷ [])
       ∙ ap (λ (b : Bool). is_used (texts_of ks) q || b) (or_false (bytes_eq k.now q))
 ]
 
@@ -73,18 +69,23 @@ pub known : (ks : List (Bor (List ℕ))) (q : List ℕ) → list_any (λ k. byte
 known [] q = refl
 known (k ∷ ks) q = ap (λ (b : Bool). b || list_any (λ k. bytes_eq q k.now) ks) (eq_sym q k.now) ∙ ap (λ (b : Bool). bytes_eq k.now q || b) (known ks q)
 
--- the next name of a list
-pub one_more : (names : List (List ℕ)) (used : List NameId) (i : ℕ) (d : NameId) (old new : Bool) (q : List ℕ) → i < length used → new ≡ (old || bytes_eq (id_text names (get_or used i d)) q)
-    → (old || is_used (names_seen names (drop i used)) q) ≡ is_used (names_seen names used) q → (new || is_used (names_seen names (drop (i + 1) used)) q) ≡ is_used (names_seen names used) q
-one_more names used i d old new q some grown before =
-    let rest = is_used (names_seen names (drop (i + 1) used)) q in
-    ap (λ (b : Bool). b || rest) grown ∙ or_assoc old (bytes_eq (id_text names (get_or used i d)) q) rest
-    ∙ ap (λ (b : Bool). old || b) (sym (at_drop_more (λ (xs : List NameId). is_used (names_seen names xs) q) used i d some))
+-- ---- one more of a list
+
+pub one_more : {A B : Type 0} (seen : A → B) (p : B → Bool) (xs : List A) (i : ℕ) (d : A) (old new whole : Bool) → i < length xs → new ≡ (old || p (seen (get_or xs i d)))
+    → (old || list_any p (map seen (drop i xs))) ≡ whole → (new || list_any p (map seen (drop (i + 1) xs))) ≡ whole
+one_more seen p xs i d old new whole some grown before =
+    let rest = list_any p (map seen (drop (i + 1) xs)) in
+    ap (λ (b : Bool). b || rest) grown ∙ or_assoc old (p (seen (get_or xs i d))) rest
+    ∙ ap (λ (b : Bool). old || b) (sym (at_drop_more (λ (ys : List _). list_any p (map seen ys)) xs i d some))
     ∙ before
 
-pub no_more : (names : List (List ℕ)) (used : List NameId) (i : ℕ) (now : Bool) (q : List ℕ) → length used ≤ i → (now || is_used (names_seen names (drop i used)) q) ≡ is_used (names_seen names used) q → now ≡ is_used (names_seen names used) q
-no_more names used i now q over h =
-    sym (or_false now) ∙ ap (λ (b : Bool). now || b) (sym (at_drop_all (λ (xs : List NameId). is_used (names_seen names xs) q) used i over)) ∙ h
+-- the same for an item that is read
+pub one_more_item : {A B : Type 0} (seen : A → B) (p : B → Bool) (xs : List A) (i : ℕ) (x : A) (old new whole : Bool) → i < length xs → x ≡ get_or xs i x → new ≡ (old || p (seen x))
+    → (old || list_any p (map seen (drop i xs))) ≡ whole → (new || list_any p (map seen (drop (i + 1) xs))) ≡ whole
+one_more_item seen p xs i x old new whole some is grown before = one_more seen p xs i x old new whole some (grown ∙ ap (λ (y : _). old || p (seen y)) is) before
+
+pub no_more : {A B : Type 0} (seen : A → B) (p : B → Bool) (xs : List A) (i : ℕ) (now whole : Bool) → length xs ≤ i → (now || list_any p (map seen (drop i xs))) ≡ whole → now ≡ whole
+no_more seen p xs i now whole over h = sym (or_false now) ∙ ap (λ (b : Bool). now || b) (sym (at_drop_all (λ (ys : List _). list_any p (map seen ys)) xs i over)) ∙ h
 
 -- ---- the same names, the same findings
 
@@ -99,6 +100,13 @@ same_unused us vs h [] = refl
 same_unused us vs h (d ∷ ds) =
     ap (λ (l : List Found). l ++ unused_declarations us ds) (same_kind us vs d.kind d.name (h d.name))
     ∙ ap (λ (l : List Found). unused_declaration vs d.kind d.name ++ l) (same_unused us vs h ds)
+
+-- the same of parameters and locals
+pub same_own : (us vs : List (List ℕ)) → ((q : List ℕ) → is_used us q ≡ is_used vs q) → (kind : FindingKind) (ns : List (List ℕ)) → flat_map (unused us kind) ns ≡ flat_map (unused vs kind) ns
+same_own us vs h kind [] = refl
+same_own us vs h kind (n ∷ ns) =
+    ap (λ (b : Bool). unless b (found kind n) ++ flat_map (unused us kind) ns) (h n)
+    ∙ ap (λ (l : List Found). unused vs kind n ++ l) (same_own us vs h kind ns)
 
 pub if_same : {E : Type 0} (us vs : List (List ℕ)) → ((q : List ℕ) → is_used us q ≡ is_used vs q) → (ds : List written.Declaration) (old new : List Found) (r : Result (Unit {0}) E)
     → OnOk r (new ≡ old ++ unused_declarations us ds) → OnOk r (new ≡ old ++ unused_declarations vs ds)

@@ -13,3 +13,7 @@ pub mod Listed
 pub mod Sentences
 pub mod Pieces
 pub mod UsedNames
+pub mod Measures
+pub mod DeclarationsView
+pub mod Started
+pub mod CallTableView

@@ -14,8 +14,6 @@ id_seen names (code_id.Named kind object) = meant.Named kind (id_text names obje
 id_seen names code_id.Unseen = meant.Unseen
 
 abbrev pub wanted_of : Wanted → lives.Wanted
-wanted_of (code_wanted.Creation kind name) = lives.Creation kind name.now
 wanted_of code_wanted.HandlerCreation = lives.HandlerCreation
-wanted_of (code_wanted.Start number name) = lives.Start number name.now
 wanted_of code_wanted.NormalMode = lives.NormalMode
 wanted_of code_wanted.PeriodicWait = lives.PeriodicWait

@@ -1,4 +1,4 @@
--- The names that appear in some statements, as a table of them holds them.
+-- The names that a table holds.
 use Rattle.std.specs.Prelude.{ℕ, List, map}
 use Rattle.lint.specs.declared.used.Used.{Used}
 

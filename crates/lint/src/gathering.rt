@@ -9,7 +9,9 @@ ghost use Rattle.lint.specs.Findings as meant;
 ghost use Rattle.lint.specs.Lives.{never_normal, waits_in_init, without_waits};
 ghost use Rattle.lint.specs.Views.{calls_seen, found_all};
 
+use crate::call_table::CallTable;
 use crate::calls::{Call, add_body, add_handler, add_procedures, add_processes};
+use crate::declarations::Declarations;
 use crate::finding::Finding;
 use crate::unused::add_unused;
 use crate::{arrays, lives, port_rules};
@@ -63,6 +65,7 @@ fn init_calls<'a>(alloc: Global, program: &'a Program) -> Result<Vec<Call<'a>>, 
 
 /// Adds what is found about ports.
 fn add_port_findings<'a>(
+    alloc: Global,
     rows: &'a [PartitionRow],
     ports: &'a [PortRow],
     program: &'a Program,
@@ -81,11 +84,34 @@ fn add_port_findings<'a>(
     port_rules::add_better_row(names, rows, ports, &program.declarations, findings)?;
     port_rules::add_undeclared(names, ports, &program.declarations, findings)?;
     port_rules::add_wrong_uses(names, ports, calls, findings)?;
-    arrays::add_small_arrays(names, ports, &program.declarations, calls, findings)
+    let declarations = Declarations::of(alloc, names, &program.declarations)?;
+    arrays::add_small_arrays(names, ports, &declarations, calls, findings)
+}
+
+/// Adds what is found about creation and starts, by a table of the calls.
+fn add_by_table<'a>(
+    program: &'a Program,
+    calls: &[Call<'a>],
+    table: &CallTable<'_>,
+    findings: &mut Vec<Finding<'a>>,
+) -> Result<(), AllocError>
+    requires calls { calls_seen (texts program.now.names.keys) calls.now
+        ≡ all_calls (program_of program.now) }
+    requires table { table.now ≡ all_calls (program_of program.now) }
+    ensures { OnOk result
+        (found_all findings.new.items
+        ≡ found_all findings.old.items ++ meant.creation_findings (program_of program.now)) }
+{
+    let names = &program.names;
+    lives::add_objects(names, table, &program.declarations, findings)?;
+    lives::add_uncreated(names, table, &program.processes, findings)?;
+    lives::add_handler(names, calls, &program.handler, findings)?;
+    lives::add_unstarted(names, table, &program.processes, findings)
 }
 
 /// Adds what is found about creation and starts.
 fn add_creations<'a>(
+    alloc: Global,
     program: &'a Program,
     calls: &[Call<'a>],
     findings: &mut Vec<Finding<'a>>,
@@ -96,11 +122,8 @@ fn add_creations<'a>(
         (found_all findings.new.items
         ≡ found_all findings.old.items ++ meant.creation_findings (program_of program.now)) }
 {
-    let names = &program.names;
-    lives::add_objects(names, calls, &program.declarations, findings)?;
-    lives::add_uncreated(names, calls, &program.processes, findings)?;
-    lives::add_handler(names, calls, &program.handler, findings)?;
-    lives::add_unstarted(names, calls, &program.processes, findings)
+    let table = CallTable::of(alloc, &program.names, &*calls)?;
+    add_by_table(program, calls, &table, findings)
 }
 
 /// Adds that neither INIT nor a procedure may enter NORMAL, if it is so.
@@ -182,8 +205,8 @@ pub fn findings<'a>(
 {
     let calls = all_calls(alloc, program)?;
     let mut findings = Vec::new(alloc);
-    add_port_findings(rows, ports, program, &calls, &mut findings)?;
-    add_creations(program, &calls, &mut findings)?;
+    add_port_findings(alloc, rows, ports, program, &calls, &mut findings)?;
+    add_creations(alloc, program, &calls, &mut findings)?;
     add_waits(alloc, program, &mut findings)?;
     add_unused(alloc, program, &mut findings)?;
     Ok(findings)

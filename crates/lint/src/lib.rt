@@ -4,7 +4,9 @@
 #![tactic(auto)]
 
 mod arrays;
+mod call_table;
 mod calls;
+mod declarations;
 mod finding;
 mod gathering;
 mod lives;
@@ -14,6 +16,7 @@ mod report;
 mod sentence;
 mod services;
 mod slow;
+mod starts;
 mod unused;
 mod used;
 mod uses;

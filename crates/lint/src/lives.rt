@@ -6,12 +6,13 @@ ghost use Rattle.lint.specs.Calls.{calls_of_procedures};
 ghost use Rattle.lint.specs.Lives as meant;
 ghost use Rattle.lint.specs.Views.{call_of, calls_seen, found_all};
 
+use crate::call_table::CallTable;
 use crate::calls::{Call, add_body, add_procedures, last_plain};
-use crate::finding::{Finding, FindingKind, add_if};
+use crate::finding::{Finding, FindingKind, add_if, add_unless};
 use crate::names::text_of;
 use crate::services::{always_waits, has_time_out};
 use crate::uses::is_zero;
-use crate::wanted::{Wanted, expect};
+use crate::wanted::{Wanted, expect, is_met};
 use apex_types::ObjectKind;
 use indexmap::IndexSet;
 use pal_base::syntax::{Declaration, DeclarationKind, Identifier, Process, StackBody};
@@ -36,7 +37,7 @@ fn object_kind(kind: &DeclarationKind) -> Option<ObjectKind>
 /// Adds the finding that what has this kind and name is never created.
 fn expect_creation<'a>(
     names: &'a IndexSet<String>,
-    calls: &[Call<'_>],
+    table: &CallTable<'_>,
     kind: Option<ObjectKind>,
     name: Identifier,
     line: u32,
@@ -45,8 +46,7 @@ fn expect_creation<'a>(
     ensures { OnOk result
         (found_all findings.new.items
         ≡ found_all findings.old.items
-        ++ meant.never_created (calls_seen (texts names.now.keys) calls.now) kind
-        (name_of (texts names.now.keys) name)) }
+        ++ meant.never_created table.now kind (name_of (texts names.now.keys) name)) }
 {
     let Some(kind) = kind else {
         return Ok(());
@@ -57,39 +57,27 @@ fn expect_creation<'a>(
         kind: FindingKind::NeverCreated,
         subject,
     };
-    expect(
-        names,
-        Wanted::Creation(kind, subject),
-        calls,
-        finding,
-        findings,
-    )
+    add_unless(table.creates(kind, subject), finding, findings)
 }
 
 /// Adds the objects and the ports that no call creates.
 #[tactic(auto, using(std::proofs::lemmas::List::drop_more))]
 pub fn add_objects<'a>(
     names: &'a IndexSet<String>,
-    calls: &[Call<'_>],
+    table: &CallTable<'_>,
     declarations: &[Declaration],
     findings: &mut Vec<Finding<'a>>,
 ) -> Result<(), AllocError>
     ensures { OnOk result
         (found_all findings.new.items
         ≡ found_all findings.old.items
-        ++ meant.objects_never_created (calls_seen (texts names.now.keys) calls.now)
+        ++ meant.objects_never_created table.now
         (map (declaration_of (texts names.now.keys)) declarations.now)) }
 {
     for declaration in declarations {
         let kind = object_kind(&declaration.kind);
-        expect_creation(
-            names,
-            calls,
-            kind,
-            declaration.name,
-            declaration.line,
-            findings,
-        )?;
+        let line = declaration.line;
+        expect_creation(names, table, kind, declaration.name, line, findings)?;
     }
     Ok(())
 }
@@ -98,19 +86,19 @@ pub fn add_objects<'a>(
 #[tactic(auto, using(std::proofs::lemmas::List::drop_more))]
 pub fn add_uncreated<'a>(
     names: &'a IndexSet<String>,
-    calls: &[Call<'_>],
+    table: &CallTable<'_>,
     processes: &[Process],
     findings: &mut Vec<Finding<'a>>,
 ) -> Result<(), AllocError>
     ensures { OnOk result
         (found_all findings.new.items
         ≡ found_all findings.old.items
-        ++ meant.processes_never_created (calls_seen (texts names.now.keys) calls.now)
+        ++ meant.processes_never_created table.now
         (map (process_of (texts names.now.keys)) processes.now)) }
 {
     for process in processes {
         let kind = Some(ObjectKind::Process);
-        expect_creation(names, calls, kind, process.name, process.line, findings)?;
+        expect_creation(names, table, kind, process.name, process.line, findings)?;
     }
     Ok(())
 }
@@ -139,35 +127,48 @@ pub fn add_handler<'a>(
     expect(names, Wanted::HandlerCreation, calls, finding, findings)
 }
 
+/// Adds the finding that no call may start the process of this number and name.
+fn expect_start<'a>(
+    names: &'a IndexSet<String>,
+    table: &CallTable<'_>,
+    number: u64,
+    process: &Process,
+    findings: &mut Vec<Finding<'a>>,
+) -> Result<(), AllocError>
+    ensures { OnOk result
+        (found_all findings.new.items
+        ≡ found_all findings.old.items
+        ++ meant.lacking (meant.Start number (name_of (texts names.now.keys) process.now.name))
+        table.now
+        (meant.found FindingKind.NeverStarted
+        (name_of (texts names.now.keys) process.now.name))) }
+{
+    let subject = text_of(names, process.name.name);
+    let finding = Finding {
+        line: process.line,
+        kind: FindingKind::NeverStarted,
+        subject,
+    };
+    add_unless(table.starts(number, subject), finding, findings)
+}
+
 /// Adds the processes that no call may start. They are numbered from 1.
 #[tactic(auto, using(std::proofs::lemmas::List::drop_more))]
 pub fn add_unstarted<'a>(
     names: &'a IndexSet<String>,
-    calls: &[Call<'_>],
+    table: &CallTable<'_>,
     processes: &[Process],
     findings: &mut Vec<Finding<'a>>,
 ) -> Result<(), AllocError>
     ensures { OnOk result
         (found_all findings.new.items
         ≡ found_all findings.old.items
-        ++ meant.never_started (calls_seen (texts names.now.keys) calls.now) 1
+        ++ meant.never_started table.now 1
         (map (process_of (texts names.now.keys)) processes.now)) }
 {
     let mut number: u64 = 1;
     for process in processes {
-        let subject = text_of(names, process.name.name);
-        let finding = Finding {
-            line: process.line,
-            kind: FindingKind::NeverStarted,
-            subject,
-        };
-        expect(
-            names,
-            Wanted::Start(number, subject),
-            calls,
-            finding,
-            findings,
-        )?;
+        expect_start(names, table, number, process, findings)?;
         number += 1;
     }
     Ok(())
@@ -195,27 +196,23 @@ pub fn add_never_normal<'a>(
     expect(names, Wanted::NormalMode, calls, finding, findings)
 }
 
-/// Adds a periodic process that has no call of PERIODIC_WAIT, as long as no procedure has.
+/// Adds a periodic process whose body has no call of PERIODIC_WAIT.
 fn add_without_wait<'a>(
     alloc: Global,
     names: &'a IndexSet<String>,
-    declarations: &[Declaration],
     process: &Process,
     findings: &mut Vec<Finding<'a>>,
 ) -> Result<(), AllocError>
     ensures { OnOk result
         (found_all findings.new.items
         ≡ found_all findings.old.items
-        ++ meant.without_wait
-        (calls_of_procedures (map (declaration_of (texts names.now.keys)) declarations.now))
-        (process_of (texts names.now.keys) process.now)) }
+        ++ meant.without_wait [] (process_of (texts names.now.keys) process.now)) }
 {
     if process.period.negative {
         return Ok(());
     }
     let mut calls = Vec::new(alloc);
     add_body(names, &mut calls, &process.body)?;
-    add_procedures(names, &mut calls, declarations)?;
     let finding = Finding {
         line: process.line,
         kind: FindingKind::NoPeriodicWait,
@@ -224,8 +221,27 @@ fn add_without_wait<'a>(
     expect(names, Wanted::PeriodicWait, &calls, finding, findings)
 }
 
-/// Adds the periodic processes that do not wait for their next release.
+/// Adds the periodic processes whose bodies have no call of PERIODIC_WAIT.
 #[tactic(auto, using(std::proofs::lemmas::List::drop_more))]
+fn add_each_without_wait<'a>(
+    alloc: Global,
+    names: &'a IndexSet<String>,
+    processes: &[Process],
+    findings: &mut Vec<Finding<'a>>,
+) -> Result<(), AllocError>
+    ensures { OnOk result
+        (found_all findings.new.items
+        ≡ found_all findings.old.items
+        ++ meant.without_waits [] (map (process_of (texts names.now.keys)) processes.now)) }
+{
+    for process in processes {
+        add_without_wait(alloc, names, process, findings)?;
+    }
+    Ok(())
+}
+
+/// Adds the periodic processes that do not wait for their next release, as long as no procedure
+/// does.
 pub fn add_without_waits<'a>(
     alloc: Global,
     names: &'a IndexSet<String>,
@@ -240,10 +256,12 @@ pub fn add_without_waits<'a>(
         (calls_of_procedures (map (declaration_of (texts names.now.keys)) declarations.now))
         (map (process_of (texts names.now.keys)) processes.now)) }
 {
-    for process in processes {
-        add_without_wait(alloc, names, declarations, process, findings)?;
+    let mut calls = Vec::new(alloc);
+    add_procedures(names, &mut calls, declarations)?;
+    if is_met(names, Wanted::PeriodicWait, &calls) {
+        return Ok(());
     }
-    Ok(())
+    add_each_without_wait(alloc, names, processes, findings)
 }
 
 /// Returns true if a service waits, or if its time-out is not written as 0.

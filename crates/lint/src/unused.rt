@@ -1,15 +1,14 @@
 //! Variables, procedures and parameters that no statement names.
 
-ghost use Rattle.std.specs.Prelude.{◌≡◌, ◌++◌, ◌∷◌, [], map, flat_map, option_map, OnOk, IfOk};
-ghost use Rattle.pal_base.specs.View.{texts, id_text, name_of, expr_of, exprs_of, links_of, kind_of, block_of, body_of, stack_body_of, process_of, declaration_of, declared_of};
+ghost use Rattle.std.specs.Prelude.{◌≡◌, ◌++◌, ◌∷◌, [], ℕ, List, map, flat_map, option_map, OnOk, IfOk};
+ghost use Rattle.pal_base.specs.View.{texts, name_of, expr_of, exprs_of, links_of, kind_of, block_of, body_of, stack_body_of, process_of, declaration_of, declared_of};
 ghost use Rattle.pal_base.specs.WrittenView.{program_of};
 ghost use Rattle.lint.specs.Unused as meant;
-ghost use Rattle.lint.specs.Lives.{found};
 ghost use Rattle.lint.specs.UsedNames.{used_names};
-ghost use Rattle.lint.specs.Views.{found_all, names_seen, unless};
+ghost use Rattle.lint.specs.Views.{found_all, names_seen};
 
 use crate::finding::{Finding, FindingKind, add_unless};
-use crate::names::{is_same_name, text_of};
+use crate::names::text_of;
 use crate::used::Used;
 use indexmap::IndexSet;
 use pal_base::syntax::{
@@ -283,46 +282,10 @@ fn all_names(alloc: Global, program: &Program) -> Result<Vec<NameId>, AllocError
     Ok(used)
 }
 
-/// Returns true if a name is among those that are used.
-#[tactic(auto, using(std::proofs::lemmas::List::drop_more))]
-fn is_used(names: &IndexSet<String>, used: &[NameId], name: NameId) -> bool
-    ensures { result
-        ≡ meant.is_used (names_seen (texts names.now.keys) used.now)
-        (id_text (texts names.now.keys) name) }
-{
-    for other in used {
-        if is_same_name(names, *other, name) {
-            return true;
-        }
-    }
-    false
-}
-
-/// Adds a finding, unless a name is used.
-fn expect_name<'a>(
-    names: &'a IndexSet<String>,
-    is_used: bool,
-    kind: FindingKind,
-    name: Identifier,
-    findings: &mut Vec<Finding<'a>>,
-) -> Result<(), AllocError>
-    ensures { OnOk result
-        (found_all findings.new.items
-        ≡ found_all findings.old.items
-        ++ unless is_used (found kind (name_of (texts names.now.keys) name))) }
-{
-    let finding = Finding {
-        line: name.line,
-        kind,
-        subject: text_of(names, name.name),
-    };
-    add_unless(is_used, finding, findings)
-}
-
 /// Adds a finding if a name is not used.
 fn expect_use<'a>(
     names: &'a IndexSet<String>,
-    used: &[NameId],
+    used: &Used<'_>,
     kind: FindingKind,
     name: Identifier,
     findings: &mut Vec<Finding<'a>>,
@@ -330,11 +293,15 @@ fn expect_use<'a>(
     ensures { OnOk result
         (found_all findings.new.items
         ≡ found_all findings.old.items
-        ++ meant.unused (names_seen (texts names.now.keys) used.now) kind
-        (name_of (texts names.now.keys) name)) }
+        ++ meant.unused (used_names used.now) kind (name_of (texts names.now.keys) name)) }
 {
-    let is_used = is_used(names, used, name.name);
-    expect_name(names, is_used, kind, name, findings)
+    let subject = text_of(names, name.name);
+    let finding = Finding {
+        line: name.line,
+        kind,
+        subject,
+    };
+    add_unless(used.has(subject), finding, findings)
 }
 
 /// Adds a variable, an array or a procedure that is not used.
@@ -352,13 +319,12 @@ fn add_declaration<'a>(
         (name_of (texts names.now.keys) declaration.now.name)) }
 {
     let name = declaration.name;
-    let is_used = used.has(text_of(names, name.name));
     match &declaration.kind {
         DeclarationKind::Variable(_) | DeclarationKind::Array { .. } => {
-            expect_name(names, is_used, FindingKind::UnusedVariable, name, findings)
+            expect_use(names, used, FindingKind::UnusedVariable, name, findings)
         }
         DeclarationKind::Procedure { .. } => {
-            expect_name(names, is_used, FindingKind::UnusedProcedure, name, findings)
+            expect_use(names, used, FindingKind::UnusedProcedure, name, findings)
         }
         DeclarationKind::Semaphore { .. } => Ok(()),
         DeclarationKind::Event => Ok(()),
@@ -410,7 +376,7 @@ fn add_unused_declarations<'a>(
 #[tactic(auto, using(std::proofs::lemmas::List::drop_more))]
 fn add_own<'a>(
     names: &'a IndexSet<String>,
-    used: &[NameId],
+    used: &Used<'_>,
     kind: FindingKind,
     own: &[Identifier],
     findings: &mut Vec<Finding<'a>>,
@@ -418,13 +384,29 @@ fn add_own<'a>(
     ensures { OnOk result
         (found_all findings.new.items
         ≡ found_all findings.old.items
-        ++ flat_map (meant.unused (names_seen (texts names.now.keys) used.now) kind)
+        ++ flat_map (meant.unused (used_names used.now) kind)
         (map (name_of (texts names.now.keys)) own.now)) }
 {
     for name in own {
         expect_use(names, used, kind, *name, findings)?;
     }
     Ok(())
+}
+
+/// The names that the statements of a body name.
+fn names_of_body<'a>(
+    alloc: Global,
+    names: &'a IndexSet<String>,
+    body: &Body,
+) -> Result<Used<'a>, AllocError>
+    ensures { IfOk result
+        (λ used. (name : List ℕ)
+        → meant.is_used (used_names used) name
+        ≡ meant.is_used (meant.names_of (body_of (texts names.now.keys) body.now)) name) }
+{
+    let mut used = Vec::new(alloc);
+    add_body(names, &mut used, body)?;
+    Used::of(alloc, names, &used)
 }
 
 /// Adds the parameters and the locals that no statement of their body names.
@@ -441,22 +423,10 @@ fn add_in_body<'a>(
         ++ meant.unused_in_body (map (name_of (texts names.now.keys)) parameters.now)
         (body_of (texts names.now.keys) body.now)) }
 {
-    let mut used = Vec::new(alloc);
-    add_body(names, &mut used, body)?;
-    add_own(
-        names,
-        &used,
-        FindingKind::UnusedParameter,
-        parameters,
-        findings,
-    )?;
-    add_own(
-        names,
-        &used,
-        FindingKind::UnusedVariable,
-        &body.locals,
-        findings,
-    )
+    let used = names_of_body(alloc, names, body)?;
+    let (parameter, local) = (FindingKind::UnusedParameter, FindingKind::UnusedVariable);
+    add_own(names, &used, parameter, parameters, findings)?;
+    add_own(names, &used, local, &body.locals, findings)
 }
 
 /// The same of the handler, if there is one.

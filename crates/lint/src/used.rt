@@ -1,6 +1,7 @@
-//! The names that appear in some statements, for look-ups by their texts.
+//! Names, for look-ups by their texts.
 
-ghost use Rattle.std.specs.Prelude.{◌≡◌, ℕ, List, IfOk};
+ghost use Rattle.std.specs.Prelude.{◌≡◌, ◌||◌, [], ℕ, List, IfOk, OnOk};
+ghost use Rattle.std.specs.Str.{bytes_eq};
 ghost use Rattle.pal_base.specs.View.{texts};
 ghost use Rattle.lint.specs.Unused.{is_used};
 ghost use Rattle.lint.specs.UsedNames.{used_names};
@@ -11,13 +12,22 @@ use indexmap::IndexSet;
 use pal_base::syntax::NameId;
 use std::alloc::{AllocError, Global};
 
-/// The texts of the names that appear in some statements, each of them once.
+/// The texts of some names, each of them once.
 #[derive(Drop)]
 pub struct Used<'a> {
     pub texts: IndexSet<&'a str>,
 }
 
 impl<'a> Used<'a> {
+    /// No texts.
+    pub fn new(alloc: Global) -> Used<'a>
+        ensures { used_names result ≡ [] }
+    {
+        Used {
+            texts: IndexSet::new(alloc),
+        }
+    }
+
     /// The texts of these names.
     pub fn of(
         alloc: Global,
@@ -29,11 +39,22 @@ impl<'a> Used<'a> {
             → is_used (used_names known) name
             ≡ is_used (names_seen (texts names.now.keys) used.now) name) }
     {
-        let mut texts = IndexSet::new(alloc);
+        let mut known = Used::new(alloc);
         for name in used {
-            texts.insert(text_of(names, *name))?;
+            known.add(text_of(names, *name))?;
         }
-        Ok(Used { texts })
+        Ok(known)
+    }
+
+    /// Adds a text.
+    pub fn add(&mut self, text: &'a str) -> Result<(), AllocError>
+        ensures { OnOk result
+            ((name : List ℕ)
+            → is_used (used_names self.new) name
+            ≡ (is_used (used_names self.old) name || bytes_eq text.now name)) }
+    {
+        self.texts.insert(text)?;
+        Ok(())
     }
 
     /// Returns true if a name is among them.

@@ -74,18 +74,6 @@ pub fn name_in(argument: Option<Plain>) -> Option<NameId>
     }
 }
 
-/// Returns true if the argument is a name of this text.
-pub fn is_name(names: &IndexSet<String>, text: &str, argument: Option<Plain>) -> bool
-    ensures { result
-        ≡ meant.is_name text.now
-        (meant.name_in (option_map (plain_of (texts names.now.keys)) argument)) }
-{
-    match argument {
-        Some(Plain::Name(name)) => text_of(names, name) == text,
-        _ => false,
-    }
-}
-
 /// Returns true if both kinds are the same.
 pub fn is_same_kind(found: ObjectKind, kind: ObjectKind) -> bool
     ensures { result ≡ well_formed.is_same_kind found kind }
@@ -98,18 +86,6 @@ pub fn is_same_kind(found: ObjectKind, kind: ObjectKind) -> bool
         | (ObjectKind::Port, ObjectKind::Port)
         | (ObjectKind::Process, ObjectKind::Process) => true,
         _ => false,
-    }
-}
-
-/// Returns true if what an argument denotes may be the object of this kind, number and name.
-pub fn may_be(names: &IndexSet<String>, kind: ObjectKind, number: u64, text: &str, id: Id) -> bool
-    ensures { result
-        ≡ meant.may_be kind number text.now (id_seen (texts names.now.keys) id) }
-{
-    match id {
-        Id::Numbered(other) => other == number,
-        Id::Named(other, object) => is_same_kind(other, kind) && text_of(names, object) == text,
-        Id::Unseen => true,
     }
 }
 

@@ -1,18 +1,18 @@
-use Rattle.std.proofs.Common.{◌||◌, ap, ◌∙◌, refl}
+use Rattle.std.proofs.Common.{◌||◌, ap, ◌∙◌}
 use Rattle.std.specs.Str.{bytes_eq}
-use Rattle.pal_base.specs.View.{texts}
+use Rattle.pal_base.specs.View.{id_text, texts}
 use Rattle.lint.specs.Unused.{is_used}
-use Rattle.lint.proofs.UsedNames.{inserted, no_more, one_more, texts_of}
+use Rattle.lint.specs.UsedNames.{used_names}
+use Rattle.lint.proofs.UsedNames.{no_more, one_more}
 use Rattle.lint.proofs.used.Used.of.Goals as goal
 
 pub loop-name-preserved : goal.loop-name-preserved
 loop-name-preserved c = λ q.
     let l = c.loop-name in
     let names = texts c.args.names.now.keys in
-    let grown = ap (λ ks. is_used (texts_of ks) q) c.in_ok-insert.ensures.keys ∙ inserted _ (λ x y. refl) c.text_of.result l.texts.keys q in
-    one_more names c.args.used.now l.name-index _ _ _ q c.loop-name-test.true (grown ∙ ap (λ t. is_used (texts_of l.texts.keys) q || bytes_eq t q) c.text_of.ensures) (l.invariant q)
+    one_more (id_text names) (λ other. bytes_eq other q) c.args.used.now l.name-index _ _ _ _ c.loop-name-test.true (c.in_ok-add.ensures q ∙ ap (λ t. is_used (used_names l.known) q || bytes_eq t q) c.text_of.ensures) (l.invariant q)
 
 pub returns : goal.returns
 returns c = λ q.
     let l = c.loop-name in
-    no_more (texts c.args.names.now.keys) c.args.used.now l.name-index _ q c.loop-name-test.false (l.invariant q)
+    no_more (id_text (texts c.args.names.now.keys)) (λ other. bytes_eq other q) c.args.used.now l.name-index _ _ c.loop-name-test.false (l.invariant q)
