@@ -5,11 +5,13 @@ use Rattle.std.specs.Fmt.{decimal}
 use Rattle.apex_types.specs.declared.row.WindowRow.{WindowRow}
 use Rattle.schedule_load.specs.declared.load.FrameLoad.{FrameLoad}
 use Rattle.schedule_load.specs.declared.load.PartitionLoad.{PartitionLoad}
-use Rattle.trace_picture.specs.Axis.{left_of, place, width_of}
+use Rattle.trace_picture.specs.Axis.{place}
+use Rattle.trace_picture.specs.Bars.{left_of, width_of}
 use Rattle.trace_picture.specs.Element.{attribute_of, class_text, end_text, key_name, line_tag, path_start, place_text, rect_start, tag_name, text_element, titled, value_text, worded}
 use Rattle.trace_picture.specs.Lengths.{behind, tenths, times_of}
-use Rattle.trace_picture.specs.Marks.{axis_text, heading_text}
+use Rattle.trace_picture.specs.Marks.{axis_text}
 use Rattle.trace_picture.specs.Style.{style_text}
+use Rattle.trace_picture.specs.Titles.{heading_text}
 use Rattle.trace_picture.specs.declared.axis.Axis.{Axis}
 use Rattle.trace_picture.specs.declared.element.Key.TheVariants as key
 use Rattle.trace_picture.specs.declared.element.Tag.TheVariants as tag
