@@ -1,5 +1,8 @@
 //! The cells of tables.
 
+ghost use Rattle.std.specs.Prelude.{◌≡◌};
+ghost use Rattle.number_tables.specs.Cells.{number_cell};
+
 use crate::share::Share;
 use std::alloc::{AllocError, Global};
 
@@ -30,7 +33,9 @@ impl Cell {
 }
 
 /// The cell of a number that may not be there.
-pub fn number_cell(number: Option<u64>) -> Cell {
+pub fn number_cell(number: Option<u64>) -> Cell
+    ensures { result ≡ number_cell number }
+{
     match number {
         Some(number) => Cell::Number(number),
         None => Cell::Absent,
