@@ -117,7 +117,7 @@ fn tell_numbered<S: Sink, W: Watch>(
     sink: &mut S,
     watch: &mut W,
 ) -> Result<(), InputsFault>
-    requires ticks { wanted.entry.ticks ≤ MOST_TICKS }
+    requires ticks { wanted.ticks ≤ MOST_TICKS }
     requires there { 0 < number.0 }
     requires within { number.0 ≤ length image.partitions.items }
     requires failures { S.failures sink.old < 2 ^ 64 - 1 }

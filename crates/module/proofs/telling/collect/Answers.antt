@@ -8,7 +8,7 @@ use Rattle.module.proofs.telling.collect.Goals as goal
 use Rattle.module.proofs.telling.collect.Goals.{then-loop-left-test+else-is_some, else-loop-left-test}
 
 pub loop-left-init : goal.loop-left-init
-loop-left-init c =
+loop-left-init g c =
     let m = c.args.running.now in
     let devices = c.args.devices.now in
     let watched = c.args.watched.0 in
@@ -24,7 +24,7 @@ loop-left-init c =
     }
 
 pub loop-left-preserved : goal.loop-left-preserved
-loop-left-preserved c =
+loop-left-preserved g c =
     let i = c.loop-left.invariant in
     let m0 = c.loop-left.running in
     let m = c.skip_still-count.new.self in
@@ -63,7 +63,7 @@ loop-left-preserved c =
     }
 
 pub loop-left-preserved-then-count-gt0 : goal.loop-left-preserved-then-count-gt0
-loop-left-preserved-then-count-gt0 c =
+loop-left-preserved-then-count-gt0 g c =
     let i = c.loop-left.invariant in
     let m0 = c.loop-left.running in
     let m = c.skip_still-count.new.self in
@@ -90,7 +90,7 @@ loop-left-preserved-then-count-gt0 c =
     }
 
 pub returns-clause-inputs : goal.returns-clause-inputs
-returns-clause-inputs c =
+returns-clause-inputs g c =
     let m = c.loop-left.running in
     let plan = plan_of c.args.running.now.image in
     let lines = c.loop-left.lines.now in
@@ -102,7 +102,7 @@ returns-clause-inputs c =
     all_came _ _ _ c.loop-left.invariant.so_far none
 
 pub returns-in_err-tick_watched-clause-refused : goal.returns-in_err-tick_watched-clause-refused
-returns-in_err-tick_watched-clause-refused c =
+returns-in_err-tick_watched-clause-refused g c =
     let i = c.loop-left.invariant in
     let m0 = c.loop-left.running in
     let m = c.skip_still-count.new.self in
@@ -132,12 +132,12 @@ returns-in_err-tick_watched-clause-refused c =
     subst (λ (r : Result Collected InputsFault). IfErr r (HasNoRoom (length (machine_inputs (image_of c.args.running.now.image) watched c.args.devices.now c.args.ticks)))) (sym answer) all
 
 pub overflow_sub-left : goal.overflow_sub-left
-overflow_sub-left c =
+overflow_sub-left g c =
     let within : c.skip_still-count.result ≤ c.until_line-quiet.result = (c.skip_still-count.ensures.skipped [] tt).0 in
     omega (arith, within, c.until_line-quiet.ensures.within, c.at_most.ensures.ticks, c.from-left.ensures)
 
 pub split_tick-requires : goal.split_tick-requires
-split_tick-requires c =
+split_tick-requires g c =
     let m0 = c.loop-left.running in
     let skipped = c.skip_still-count.ensures.skipped [] tt in
     record {
@@ -145,7 +145,7 @@ split_tick-requires c =
     }
 
 pub tick_watched-requires-clause-now : goal.tick_watched-requires-clause-now
-tick_watched-requires-clause-now c =
+tick_watched-requires-clause-now g c =
     let none : c.skip_still-count.result ≡ 0 = omega (arith, c.if-count-gt0.false) in
     let here : c.skip_still-count.new.self.now.0 ≡ c.loop-left.running.now.0 + c.skip_still-count.result = (c.skip_still-count.ensures.skipped [] tt).1 in
     omega (arith, here, none, c.loop-left.invariant.limit, c.loop-left-test.true)

@@ -2,7 +2,7 @@ use Rattle.module.proofs.Prelude.{◌≡◌, ◌≤◌, ◌+◌, ◌++◌, ◌^�
 use Rattle.module.proofs.telling.collect.Given as goal
 
 abbrev pub invariant-loop-left : goal.invariant-loop-left
-invariant-loop-left l = record {
+invariant-loop-left g l = record {
   image : l.running.image ≡ l.fn.running.image;
   order : AreFrom l.running.now.0 l.lines;
   limit : l.running.now.0 + l.left ≤ MOST_TICKS;
@@ -10,4 +10,4 @@ invariant-loop-left l = record {
 }
 
 abbrev pub decreases-loop-left : goal.decreases-loop-left
-decreases-loop-left l = l.left
+decreases-loop-left g l = l.left
