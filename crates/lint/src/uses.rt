@@ -8,7 +8,7 @@ ghost use Rattle.lint.specs.Seen.{id_seen};
 ghost use Rattle.lint.specs.Views.{call_of, created_of, plain_of};
 
 use crate::calls::{Call, Created, Plain, first_plain};
-use crate::names::{is_same_name, text_of};
+use crate::names::is_same_name;
 use apex_types::ObjectKind;
 use indexmap::IndexSet;
 use pal_base::syntax::NameId;
