@@ -61,6 +61,7 @@ order_failed kinds own order before after answer none same h = go answer (subst 
     go (Err (Refused (refusal.Replay fault))) h = (none, h)
     go (Err (Refused (refusal.Inputs fault))) h = (none, h)
     go (Err (Refused (refusal.File name reason))) h = (none, h)
+    go (Err (Refused (refusal.LongTable name))) h = (none, h)
     go (Err (Refused refusal.Memory)) h = h
     go (Err (Refused refusal.Write)) h = (none, h)
     go (Err (Usage e)) h = (h.0, inr (none, h.1, h.2))

@@ -1,12 +1,11 @@
--- Tables and sources of which a beginning was read: these are accepted or refused as the whole files.
-use Rattle.std.proofs.Common.{◌≡◌, ◌⊎◌, inl, inr, ℕ, ◌+◌, Bool, true, List, [], ◌∷◌, ◌++◌, length, map, take, drop, suc, Bor, false, ◌≤◌, ◌<◌, append_assoc, arith, Option, Some, None, Result, Ok, Err, IfOk, IfErr, refl, sym, ap, subst, ◌∙◌, append-nil}
+-- Tables that were read whole, and sources of which a beginning was read: these are accepted or refused as the whole files.
+use Rattle.std.proofs.Common.{◌≡◌, ◌⊎◌, inl, inr, ℕ, ◌+◌, Bool, true, List, [], ◌∷◌, ◌++◌, length, map, take, drop, suc, Bor, false, ◌≤◌, ◌<◌, append_assoc, length-append, true≢false, arith, Option, Some, None, Result, Ok, Err, IfOk, IfErr, refl, sym, ap, subst, ◌∙◌, append-nil}
 use Rattle.apex_types.specs.declared.cost.Costs.{Costs}
 use Rattle.apex_types.specs.declared.limits.TheConstants.{MOST_SOURCE_BYTES}
 use Rattle.std.specs.Prelude.{nat_lt}
 use Rattle.std.proofs.lemmas.Bool.{lt-ltb, ltb-false, ltb-true}
 use Rattle.std.proofs.lemmas.List.{length-take-le, take-append-drop, take_all}
-use Rattle.toml.specs.Data.{Members}
-use Rattle.module_meaning.specs.Accepted.{AreAccepted, IsAccepted, IsDocument, IsTable}
+use Rattle.module_meaning.specs.Accepted.{AreAccepted, IsAccepted}
 use Rattle.module_meaning.specs.Table.{Partition, Table}
 use Rattle.pal_base.specs.Answers.{IsRefused}
 use Rattle.pal_base.specs.declared.fault.Refusal.{Refusal}
@@ -21,9 +20,6 @@ use Rattle.module.specs.Sources.{AreSources, IsSource}
 use Rattle.command_line.specs.Linting.{AreTrees, IsReadModule}
 use Rattle.command_line.specs.Loading.{AreLoaded, Shown}
 use Rattle.command_line.specs.declared.linting.ReadModule.{ReadModule}
-use Rattle.window_table.specs.Refusals as table_refusals
-use Rattle.window_table.specs.declared.fault.TableFault.{TableFault}
-use Rattle.window_table.specs.declared.fault.TableFault.TheVariants as table
 use Rattle.module.specs.Building.{IsImageOf}
 use Rattle.module.specs.Costs.{AreCosted, AreCosts, IsCosted, IsCostRefusal}
 use Rattle.module.specs.Refusals.{IsFirstRefused, IsRefusal, IsRefusedWith, IsSourceRefused}
@@ -32,44 +28,16 @@ use Rattle.module.specs.declared.fault.BuildFault.{BuildFault}
 use Rattle.module.specs.declared.fault.BuildFault.TheVariants as fault
 use Rattle.streams.specs.Beginnings.{HoldsFrom, IsBeginningOf}
 use Rattle.streams.specs.Contents.{Contents, HoldAll, Holds}
-use Rattle.text_beginnings.specs.Settled.{settles_source, settles_table, table_end}
-use Rattle.text_beginnings.proofs.Ends.{all_of_table, stray_at_end}
-use Rattle.text_beginnings.proofs.Tables.{no_document, no_source}
+use Rattle.text_beginnings.specs.Settled.{settles_source, settles_table}
+use Rattle.text_beginnings.specs.declared.beginning.TheConstants.{MOST_TABLE_BYTES}
+use Rattle.text_beginnings.proofs.Sources.{no_source}
 use Rattle.command_line.proofs.Begun.{all_of, whole_of}
-use Rattle.command_line.specs.Done.{IsBuilt, Texts}
+use Rattle.command_line.specs.Done.{IsBuilt, IsLongTable, IsTableIn, Texts}
 use Rattle.command_line.specs.Done as done
 use Rattle.command_line.specs.Reading.{HoldAllFrom, IsRefusedText, IsUncostedText}
 use Rattle.command_line.specs.Refusals.{IsNotBuilt, IsNotCosted}
 use Rattle.command_line.specs.declared.refusal.Refusal as refusal
 use Rattle.command_line.specs.declared.refusal.Refusal.TheVariants as refusals
-
--- ---- a table
-
-module _ (whole bytes : List ℕ) (begun : IsBeginningOf settles_table whole bytes) where
-  exact_table : (ms : Members) → IsDocument bytes ms → whole ≡ bytes
-  exact_table ms d = go begun
-    where
-      go : IsBeginningOf settles_table whole bytes → whole ≡ bytes
-      go (rest, is, inl none) = all_of whole bytes rest is none
-      go (rest, is, inr enough) = absurd (no_document bytes [] ms enough (subst (λ t. IsDocument t ms) (sym (append-nil bytes)) d))
-
-  no_whole : ((ms : Members) → IsDocument bytes ms → ⊥) → (ms : Members) → IsDocument whole ms → ⊥
-  no_whole lacks ms d = go begun
-    where
-      go : IsBeginningOf settles_table whole bytes → ⊥
-      go (rest, is, inl none) = lacks ms (subst (λ t. IsDocument t ms) (all_of whole bytes rest is none) d)
-      go (rest, is, inr enough) = no_document bytes rest ms enough (subst (λ t. IsDocument t ms) is d)
-
-  document_whole : (ms : Members) → IsDocument bytes ms → IsDocument whole ms
-  document_whole ms d = subst (λ t. IsDocument t ms) (sym (exact_table ms d)) d
-
-  pub table_whole : (t : Table) → IsTable bytes t → IsTable whole t
-  table_whole t (ms, d, judged) = (ms, document_whole ms d, judged)
-
-  pub table_refused : (f : TableFault) → table_refusals.IsRefused bytes f → table_refusals.IsRefused whole f
-  table_refused table.Memory h = h
-  table_refused table.Document h = no_whole h
-  table_refused f (ms, d, of) = (ms, document_whole ms d, of)
 
 -- ---- a source
 
@@ -174,7 +142,7 @@ all_trees (w ∷ ws) [] ps begun h = absurd begun
 
 -- ---- a module
 
-module _ (table bytes : List ℕ) (wholes texts : List (List ℕ)) (begun : IsBeginningOf settles_table table bytes) (all : AllBegun wholes texts) where
+module _ (table : List ℕ) (wholes texts : List (List ℕ)) (all : AllBegun wholes texts) where
   refused_with : (t : Table) (f : BuildFault) → IsRefusedWith t texts f → IsRefusedWith t wholes f
   refused_with t (fault.Table f) h = absurd h
   refused_with t fault.Sources h = λ e. h (sym (same_length wholes texts all) ∙ e)
@@ -183,25 +151,25 @@ module _ (table bytes : List ℕ) (wholes texts : List (List ℕ)) (begun : IsBe
       (h.0, record { programs = h.1.programs; accepted = all_accepted t.partitions wholes texts h.1.programs all h.1.accepted; first = h.1.first })
   refused_with t fault.Memory h = h
 
-  refusal_whole : (f : BuildFault) → IsRefusal bytes texts f → IsRefusal table wholes f
-  refusal_whole (fault.Table f) h = (h.0, table_refused table bytes begun f h.1)
+  refusal_whole : (f : BuildFault) → IsRefusal table texts f → IsRefusal table wholes f
+  refusal_whole (fault.Table f) h = h
   refusal_whole fault.Memory h = h
-  refusal_whole fault.Sources (t, is, with) = (t, table_whole table bytes begun t is, refused_with t fault.Sources with)
-  refusal_whole (fault.Pal name f) (t, is, with) = (t, table_whole table bytes begun t is, refused_with t (fault.Pal name f) with)
-  refusal_whole (fault.Compile name f) (t, is, with) = (t, table_whole table bytes begun t is, refused_with t (fault.Compile name f) with)
+  refusal_whole fault.Sources (t, is, with) = (t, is, refused_with t fault.Sources with)
+  refusal_whole (fault.Pal name f) (t, is, with) = (t, is, refused_with t (fault.Pal name f) with)
+  refusal_whole (fault.Compile name f) (t, is, with) = (t, is, refused_with t (fault.Compile name f) with)
 
-  cost_refusal_whole : (f : BuildFault) → IsCostRefusal bytes texts f → IsCostRefusal table wholes f
+  cost_refusal_whole : (f : BuildFault) → IsCostRefusal table texts f → IsCostRefusal table wholes f
   cost_refusal_whole (fault.Compile name f) h = absurd h
-  cost_refusal_whole (fault.Table f) h = refusal_whole (fault.Table f) h
+  cost_refusal_whole (fault.Table f) h = h
   cost_refusal_whole fault.Sources h = refusal_whole fault.Sources h
   cost_refusal_whole (fault.Pal name f) h = refusal_whole (fault.Pal name f) h
   cost_refusal_whole fault.Memory h = h
 
-  image_whole : (image : List ℕ) → IsImageOf bytes texts image → IsImageOf table wholes image
+  image_whole : (image : List ℕ) → IsImageOf table texts image → IsImageOf table wholes image
   image_whole image h = record {
     rows = h.rows;
     programs = h.programs;
-    accepted = record { rows = table_whole table bytes begun h.rows h.accepted.rows; accepted = all_accepted h.rows.partitions wholes texts h.programs all h.accepted.accepted };
+    accepted = record { rows = h.accepted.rows; accepted = all_accepted h.rows.partitions wholes texts h.programs all h.accepted.accepted };
     short = h.short;
     image = h.image;
     loaded = h.loaded;
@@ -210,25 +178,17 @@ module _ (table bytes : List ℕ) (wholes texts : List (List ℕ)) (begun : IsBe
     meaning = h.meaning;
   }
 
-  costs_whole : (costs : List PartitionCosts) → AreCosts bytes texts costs → AreCosts table wholes costs
-  costs_whole costs h = record { rows = h.rows; accepted = table_whole table bytes begun h.rows h.accepted; costed = all_costed h.rows.costs h.rows.partitions wholes texts costs all h.costed }
+  costs_whole : (costs : List PartitionCosts) → AreCosts table texts costs → AreCosts table wholes costs
+  costs_whole costs h = record { rows = h.rows; accepted = h.accepted; costed = all_costed h.rows.costs h.rows.partitions wholes texts costs all h.costed }
 
-  module_whole : (m : ReadModule) → IsReadModule bytes texts m → IsReadModule table wholes m
-  module_whole m h =
-      let rows : Table = table_of m.accepted.table in
-      record {
-        accepted = record { accepted = table_whole table bytes begun rows h.accepted.accepted; programs = all_sources rows.partitions wholes texts m.accepted.sources.items all h.accepted.programs };
-        trees = all_trees wholes texts (map program_of m.trees.items) all h.trees;
-      }
-
-  load_whole : (shown : Shown) → AreLoaded bytes texts shown → AreLoaded table wholes shown
-  load_whole shown h = record {
-    rows = h.rows;
-    accepted = table_whole table bytes begun h.rows h.accepted;
-    given = h.given;
-    programs = all_sources h.rows.partitions wholes texts h.given all h.programs;
-    loaded = h.loaded;
+  module_whole : (m : ReadModule) → IsReadModule table texts m → IsReadModule table wholes m
+  module_whole m h = record {
+    accepted = record { accepted = h.accepted.accepted; programs = all_sources (table_of m.accepted.table).partitions wholes texts m.accepted.sources.items all h.accepted.programs };
+    trees = all_trees wholes texts (map program_of m.trees.items) all h.trees;
   }
+
+  load_whole : (shown : Shown) → AreLoaded table texts shown → AreLoaded table wholes shown
+  load_whole shown h = record { rows = h.rows; accepted = h.accepted; given = h.given; programs = all_sources h.rows.partitions wholes texts h.given all h.programs; loaded = h.loaded }
 
 -- the whole files
 pub wholes_of : (files : Option Contents) (names texts : List (List ℕ)) → HoldAllFrom settles_source files names texts → (wholes : List (List ℕ)) × HoldAll files names wholes × AllBegun wholes texts
@@ -243,57 +203,54 @@ wholes_of files (name ∷ names) [] held = absurd held
 -- ---- what is made of the files
 
 module _ (files now : Option Contents) (table : List ℕ) (names : List (List ℕ)) (bytes given : List ℕ) (texts : List (List ℕ))
-    (same : now ≡ files) (is : given ≡ bytes) (in_table : HoldsFrom settles_table files table bytes) (in_sources : HoldAllFrom settles_source now names texts)
+    (same : now ≡ files) (is : given ≡ bytes) (in_table : IsTableIn files table bytes) (in_sources : HoldAllFrom settles_source now names texts)
   where
-    own_table : (table_text : List ℕ) × Holds files table table_text × IsBeginningOf settles_table table_text given
-    own_table =
-        let whole = whole_of settles_table files table bytes in_table in
-        (whole.0, whole.1, subst (λ b. IsBeginningOf settles_table whole.0 b) (sym is) whole.2)
-
     own_sources : (wholes : List (List ℕ)) × HoldAll files names wholes × AllBegun wholes texts
     own_sources = wholes_of files names texts (subst (λ f. HoldAllFrom settles_source f names texts) same in_sources)
 
     texts_of_files : Texts files table names
-    texts_of_files = record { table_text = own_table.0; source_texts = own_sources.0; in_table = own_table.1; in_sources = own_sources.1 }
+    texts_of_files = record { table_text = given; source_texts = own_sources.0; in_table = subst (IsTableIn files table) (sym is) in_table; in_sources = own_sources.1 }
 
     pub built_of_files : {A E : Type 0} (view : A → List ℕ) (answer : Result A E) → IfOk answer (λ image. IsImageOf given texts (view image)) → IfOk answer (λ image. IsBuilt files table names (view image))
-    unfolding texts_of_files own_table own_sources
-    built_of_files view (Ok image) h = record { texts = texts_of_files; built = image_whole own_table.0 given own_sources.0 texts own_table.2 own_sources.2 (view image) h }
+    unfolding texts_of_files own_sources
+    built_of_files view (Ok image) h = record { texts = texts_of_files; built = image_whole given own_sources.0 texts own_sources.2 (view image) h }
     built_of_files view (Err e) h = tt
 
     pub costed_of_files : {A E : Type 0} (view : A → List PartitionCosts) (answer : Result A E) → IfOk answer (λ costs. AreCosts given texts (view costs)) → IfOk answer (λ costs. done.AreCosted files table names (view costs))
-    unfolding texts_of_files own_table own_sources
-    costed_of_files view (Ok costs) h = record { texts = texts_of_files; costed = costs_whole own_table.0 given own_sources.0 texts own_table.2 own_sources.2 (view costs) h }
+    unfolding texts_of_files own_sources
+    costed_of_files view (Ok costs) h = record { texts = texts_of_files; costed = costs_whole given own_sources.0 texts own_sources.2 (view costs) h }
     costed_of_files view (Err e) h = tt
 
     pub read_of_files : {E : Type 0} (answer : Result ReadModule E) → IfOk answer (λ m. IsReadModule given texts m) → IfOk answer (λ m. done.IsModuleIn files table names m)
-    unfolding texts_of_files own_table own_sources
-    read_of_files (Ok m) h = record { texts = texts_of_files; read = module_whole own_table.0 given own_sources.0 texts own_table.2 own_sources.2 m h }
+    unfolding texts_of_files own_sources
+    read_of_files (Ok m) h = record { texts = texts_of_files; read = module_whole given own_sources.0 texts own_sources.2 m h }
     read_of_files (Err e) h = tt
 
     pub loaded_of_files : (shown : Shown) → AreLoaded given texts shown → (whole : Texts files table names) × AreLoaded whole.table_text whole.source_texts shown
-    unfolding texts_of_files own_table own_sources
-    loaded_of_files shown h = (texts_of_files, load_whole own_table.0 given own_sources.0 texts own_table.2 own_sources.2 shown h)
+    unfolding texts_of_files own_sources
+    loaded_of_files shown h = (texts_of_files, load_whole given own_sources.0 texts own_sources.2 shown h)
 
     pub refused_of_files : {A : Type 0} (answer : Result A refusal.Refusal) → IfErr answer (λ r. IsRefusedText given texts r) → IfErr answer (λ r. IsNotBuilt files table names r)
-    unfolding texts_of_files own_table own_sources
+    unfolding texts_of_files own_sources
     refused_of_files (Ok image) h = tt
-    refused_of_files (Err (refusals.Build fault)) h = (texts_of_files, refusal_whole own_table.0 given own_sources.0 texts own_table.2 own_sources.2 fault h)
+    refused_of_files (Err (refusals.Build fault)) h = (texts_of_files, refusal_whole given own_sources.0 texts own_sources.2 fault h)
     refused_of_files (Err (refusals.Run fault)) h = absurd h
     refused_of_files (Err (refusals.Replay fault)) h = absurd h
     refused_of_files (Err (refusals.Inputs fault)) h = absurd h
     refused_of_files (Err (refusals.File name reason)) h = absurd h
+    refused_of_files (Err (refusals.LongTable name)) h = absurd h
     refused_of_files (Err refusals.Memory) h = tt
     refused_of_files (Err refusals.Write) h = absurd h
 
     pub uncosted_of_files : {A : Type 0} (answer : Result A refusal.Refusal) → IfErr answer (λ r. IsUncostedText given texts r) → IfErr answer (λ r. IsNotCosted files table names r)
-    unfolding texts_of_files own_table own_sources
+    unfolding texts_of_files own_sources
     uncosted_of_files (Ok image) h = tt
-    uncosted_of_files (Err (refusals.Build fault)) h = (texts_of_files, cost_refusal_whole own_table.0 given own_sources.0 texts own_table.2 own_sources.2 fault h)
+    uncosted_of_files (Err (refusals.Build fault)) h = (texts_of_files, cost_refusal_whole given own_sources.0 texts own_sources.2 fault h)
     uncosted_of_files (Err (refusals.Run fault)) h = absurd h
     uncosted_of_files (Err (refusals.Replay fault)) h = absurd h
     uncosted_of_files (Err (refusals.Inputs fault)) h = absurd h
     uncosted_of_files (Err (refusals.File name reason)) h = absurd h
+    uncosted_of_files (Err (refusals.LongTable name)) h = absurd h
     uncosted_of_files (Err refusals.Memory) h = tt
     uncosted_of_files (Err refusals.Write) h = absurd h
 
@@ -322,13 +279,20 @@ cut_at suffices n text bytes enough whole (rest, begun, why) = go (suffices byte
         begun ∙ ap (λ b. b ++ rest) (sym (take-append-drop n bytes)) ∙ append_assoc (take n bytes) (drop n bytes) rest in
         (drop n bytes ++ rest, split, inr (enough settled))
 
--- a table that is cut after the first byte that it may not have
-pub cut_table : (files : Option Contents) (name bytes : List ℕ) (n : ℕ) → n ≡ table_end bytes → HoldsFrom settles_table files name bytes → HoldsFrom settles_table files name (take n bytes)
-cut_table None name bytes n is held = tt
-cut_table (Some files) name bytes n is (text, in_file, begun) =
-    let enough : settles_table bytes ≡ true → settles_table (take n bytes) ≡ true = λ s. ap (λ k. settles_table (take k bytes)) is ∙ stray_at_end bytes s in
-    let whole : settles_table bytes ≡ false → take n bytes ≡ bytes = λ s. ap (λ k. take k bytes) is ∙ all_of_table bytes s in
-    (text, in_file, cut_at settles_table n text bytes enough whole begun)
+-- a table that was read to its end
+pub read_whole : (files : Option Contents) (name bytes : List ℕ) → settles_table bytes ≡ false → HoldsFrom settles_table files name bytes → IsTableIn files name bytes
+read_whole None name bytes short held = (tt, omega (arith, ltb-false MOST_TABLE_BYTES (length bytes) short))
+read_whole (Some files) name bytes short (text, is, (rest, begun, inl none)) = (is ∙ ap (λ t. Some t) (all_of text bytes rest begun none), omega (arith, ltb-false MOST_TABLE_BYTES (length bytes) short))
+read_whole (Some files) name bytes short (text, is, (rest, begun, inr enough)) = absurd (true≢false (sym enough ∙ short))
+
+-- a table that was not
+pub read_too_much : (files : Option Contents) (name bytes : List ℕ) → settles_table bytes ≡ true → HoldsFrom settles_table files name bytes → IsLongTable files name
+read_too_much files name bytes long held =
+    let whole = whole_of settles_table files name bytes held in
+    (whole.0, whole.1, longer whole.2)
+  where
+    longer : {text : List ℕ} → IsBeginningOf settles_table text bytes → MOST_TABLE_BYTES < length text
+    longer (rest, is, why) = omega (arith, ap length is, length-append bytes rest, ltb-true MOST_TABLE_BYTES (length bytes) long)
 
 -- a text that is cut after this many bytes and one more
 cut_by : (most : ℕ) (text bytes : List ℕ) → IsBeginningOf (λ b. nat_lt most (length b)) text bytes → IsBeginningOf (λ b. nat_lt most (length b)) text (take (most + 1) bytes)

@@ -31,7 +31,7 @@ use Rattle.command_line.specs.declared.linting.ReadModule.{ReadModule}
 use Rattle.command_line.specs.declared.outcome.Outcome.{Outcome}
 use Rattle.command_line.specs.declared.outcome.Outcome.TheVariants.{Usual, Remarkable}
 use Rattle.command_line.specs.declared.refusal.Refusal.{Refusal}
-use Rattle.command_line.specs.declared.refusal.Refusal.TheVariants.{Build, Run, Replay, Inputs, File, Memory, Write}
+use Rattle.command_line.specs.declared.refusal.Refusal.TheVariants.{Build, Run, Replay, Inputs, File, LongTable, Memory, Write}
 
 -- one more tree, and one more partition with what is found of it
 pub more_trees : (text : List ℕ) (texts : List (List ℕ)) (p : tree.Program) (old mid new : List tree.Program) → mid ≡ old ++ p ∷ [] → AreTrees (text ∷ []) (program_of p ∷ []) → AddsTrees texts mid new → AddsTrees (text ∷ texts) old new
@@ -135,6 +135,7 @@ lint_refused table sources m before after (Err (Run fault)) same is h = absurd h
 lint_refused table sources m before after (Err (Replay fault)) same is h = absurd h
 lint_refused table sources m before after (Err (Inputs fault)) same is h = absurd h
 lint_refused table sources m before after (Err (File name reason)) same is h = absurd h
+lint_refused table sources m before after (Err (LongTable name)) same is h = absurd h
 
 -- no file is named where findings are not written
 pub unnamed_findings : (old new : List (List ℕ)) (m : ReadModule) (before after : Seen) (answer : Result Outcome Refusal) → new ≡ old → IfErr answer (λ r. AreNotShown m before after r) → IfErr answer (λ r. IsOfFailed old new r)
@@ -146,6 +147,7 @@ unnamed_findings old new m before after (Err (Run fault)) same h = absurd h
 unnamed_findings old new m before after (Err (Replay fault)) same h = absurd h
 unnamed_findings old new m before after (Err (Inputs fault)) same h = absurd h
 unnamed_findings old new m before after (Err (File name reason)) same h = absurd h
+unnamed_findings old new m before after (Err (LongTable name)) same h = absurd h
 
 -- ---- sources that are read a second time
 

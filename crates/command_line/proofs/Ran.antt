@@ -16,8 +16,7 @@ use Rattle.std.specs.Prelude.{IsErr, IsErrAnd, IsErrOf, IfErr, not}
 use Rattle.std.specs.Str.Parse.{IsNumeral, digits_value}
 use Rattle.command_line.specs.Stops.{IsBegun, RunsUntil, text_to}
 use Rattle.machine_meaning.specs.ImageReading.{image_at}
-use Rattle.streams.specs.Contents.{Contents, Holds}
-use Rattle.command_line.specs.Done.{ImageAndText, IsDoneWith, IsRunDone, IsFirstRun, IsTraced, is_ok}
+use Rattle.command_line.specs.Done.{IsDoneWith, IsRunDone, IsFirstRun, IsTraced, is_ok}
 use Rattle.command_line.specs.Orders.{Run}
 use Rattle.command_line.specs.Outcomes.{is_remarkable}
 use Rattle.command_line.specs.declared.outcome.Outcome.{Outcome}
@@ -136,16 +135,6 @@ failed_by_both old new (Err (both.Run Failed)) write quiet = quiet (λ e. cc)
 pub kept_stored : (old mid new : Option (List ℕ)) → IsFirstRun old mid is_ok → Keeps mid new → IsFirstRun old new is_ok
 kept_stored old mid new h kept = kept_first TABLE.now (SOURCE.now ∷ []) [] TICKS old mid new h kept
 
--- the bytes that were read are those of the files
-abbrev pub given_of : (files now : Option Contents) (image text bytes read given_bytes given_text : List ℕ)
-    → now ≡ files → given_bytes ≡ bytes → given_text ≡ read → Holds files image bytes → Holds now text read → ImageAndText files image text
-given_of files now image text bytes read given_bytes given_text same same_bytes same_text in_image in_text = record {
-  image_bytes = given_bytes;
-  text_bytes = given_text;
-  in_image = subst (Holds files image) (sym same_bytes) in_image;
-  in_text = subst (Holds files text) (sym same_text) (subst (λ f. Holds f text read) same in_text);
-}
-
 pub run_done_by : (image devices : List ℕ) (until : List (List ℕ)) (n v : ℕ) (outcome : Outcome) (before after : State) → n ≡ min v (2 ^ 64 - 1) → IsRunDone image devices until n outcome before after → IsRunDone image devices until v outcome before after
 run_done_by image devices until n v outcome before after is (same, given, run) =
     (same, given, traced_by (image_at given.image_bytes) given.text_bytes until n v before.out.taken after.out.taken (Ok outcome) is run)
@@ -159,6 +148,7 @@ pub run_refused_by : (image devices : List ℕ) (until : List (List ℕ)) (n v :
 run_refused_by image devices until n v before after (refusal.File name reason) is h = h
 run_refused_by image devices until n v before after (refusal.Run fault) is (failed, same, given, run) =
     (failed, same, given, traced_by (image_at given.image_bytes) given.text_bytes until n v before.out.taken after.out.taken (Err fault) is run)
+run_refused_by image devices until n v before after (refusal.LongTable name) is h = absurd h
 run_refused_by image devices until n v before after refusal.Memory is h = h
 run_refused_by image devices until n v before after refusal.Write is (failed, outcome, done) = (failed, outcome, run_done_by image devices until n v outcome before after is done)
 run_refused_by image devices until n v before after (refusal.Build fault) is h = absurd h

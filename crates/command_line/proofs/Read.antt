@@ -3,7 +3,7 @@ use Rattle.std.proofs.Common.{◌≡◌, ℕ, List, Result, Ok, Err, IfErr}
 use Rattle.command_line.specs.Reading.{IsRefusedText, IsUncostedText}
 use Rattle.command_line.specs.Told.{IsOfFailed}
 use Rattle.command_line.specs.declared.refusal.Refusal.{Refusal}
-use Rattle.command_line.specs.declared.refusal.Refusal.TheVariants.{Build, Run, Replay, Inputs, File, Memory, Write}
+use Rattle.command_line.specs.declared.refusal.Refusal.TheVariants.{Build, Run, Replay, Inputs, File, LongTable, Memory, Write}
 
 pub unnamed_text : {A : Type 0} (old new : List (List ℕ)) (table_text : List ℕ) (texts : List (List ℕ)) (answer : Result A Refusal)
     → new ≡ old → IfErr answer (λ r. IsRefusedText table_text texts r) → IfErr answer (λ r. IsOfFailed old new r)
@@ -13,6 +13,7 @@ unnamed_text old new table_text texts (Err (Run fault)) same h = same
 unnamed_text old new table_text texts (Err (Replay fault)) same h = same
 unnamed_text old new table_text texts (Err (Inputs fault)) same h = same
 unnamed_text old new table_text texts (Err (File name reason)) same h = absurd h
+unnamed_text old new table_text texts (Err (LongTable name)) same h = absurd h
 unnamed_text old new table_text texts (Err Memory) same h = same
 unnamed_text old new table_text texts (Err Write) same h = same
 
@@ -24,5 +25,6 @@ unnamed_costs old new table_text texts (Err (Run fault)) same h = same
 unnamed_costs old new table_text texts (Err (Replay fault)) same h = same
 unnamed_costs old new table_text texts (Err (Inputs fault)) same h = same
 unnamed_costs old new table_text texts (Err (File name reason)) same h = absurd h
+unnamed_costs old new table_text texts (Err (LongTable name)) same h = absurd h
 unnamed_costs old new table_text texts (Err Memory) same h = same
 unnamed_costs old new table_text texts (Err Write) same h = same

@@ -71,6 +71,7 @@ pub replay_refused_by : (image partition text : List ℕ) (n v : ℕ) (before af
 replay_refused_by image partition text n v before after (refusal.File name reason) is h = h
 replay_refused_by image partition text n v before after (refusal.Replay fault) is (failed, same, given, replay) =
     (failed, same, given, replays_by (image_at given.image_bytes) partition given.text_bytes n v before.out.taken after.out.taken (Err fault) is replay)
+replay_refused_by image partition text n v before after (refusal.LongTable name) is h = absurd h
 replay_refused_by image partition text n v before after refusal.Memory is h = h
 replay_refused_by image partition text n v before after refusal.Write is (failed, done) = (failed, replay_done_by image partition text n v before after is done)
 replay_refused_by image partition text n v before after (refusal.Build fault) is h = absurd h
@@ -85,6 +86,7 @@ pub inputs_refused_by : (image partition devices : List ℕ) (n v : ℕ) (before
 inputs_refused_by image partition devices n v before after (refusal.File name reason) is h = h
 inputs_refused_by image partition devices n v before after (refusal.Inputs fault) is (failed, same, given, told) =
     (failed, same, given, tells_by (image_at given.image_bytes) partition given.text_bytes n v before.out.taken after.out.taken (Err fault) is told)
+inputs_refused_by image partition devices n v before after (refusal.LongTable name) is h = absurd h
 inputs_refused_by image partition devices n v before after refusal.Memory is h = h
 inputs_refused_by image partition devices n v before after refusal.Write is (failed, done) = (failed, inputs_done_by image partition devices n v before after is done)
 inputs_refused_by image partition devices n v before after (refusal.Build fault) is h = absurd h

@@ -1,5 +1,5 @@
 -- The effect of a command that is done.
-use Rattle.std.specs.Prelude.{◌≡◌, ℕ, Bool, true, false, List, [], ◌∷◌, ◌++◌, length, Option, Result, Ok, Err, codes}
+use Rattle.std.specs.Prelude.{◌≡◌, ◌≤◌, ◌<◌, ℕ, Bool, true, false, List, [], ◌∷◌, ◌++◌, length, Option, Result, Ok, Err, codes}
 use Rattle.std.specs.Fmt.{decimal}
 use Rattle.std.specs.Io.KnownBytes.{Appends}
 use Rattle.std.specs.Str.Parse.{IsNumeral, digits_value}
@@ -19,6 +19,7 @@ use Rattle.module.specs.declared.fault.BuildAndRunFault.{BuildAndRunFault}
 use Rattle.module.specs.declared.inputs_fault.InputsFault.{InputsFault}
 use Rattle.module.specs.declared.fault.RunFault.{RunFault}
 use Rattle.streams.specs.Contents.{Contents, Holds, HoldAll, Spares}
+use Rattle.text_beginnings.specs.declared.beginning.TheConstants.{MOST_TABLE_BYTES}
 use Rattle.command_line.specs.Stops.{RunsUntil}
 use Rattle.command_line.specs.Orders.{Order, First, Check, Build, Run, Replay, Inputs, Cost, Dis, Upgrade, Load, Lint, Dashed}
 use Rattle.command_line.specs.Loading.{AreLoaded, IsLoadOfText, IsTextOf, Shown}
@@ -33,11 +34,19 @@ use Rattle.command_line.specs.declared.first_run.TheConstants.{SOURCE, TABLE, TI
 
 -- ---- the texts that are named
 
+-- A table, in the file of this name: the whole text. It is read if it has at most this many bytes.
+abbrev pub IsTableIn : Option Contents → List ℕ → List ℕ → Type 0
+IsTableIn files name text = Holds files name text × (length text ≤ MOST_TABLE_BYTES)
+
+-- The file of this name is longer than a table that is read.
+abbrev pub IsLongTable : Option Contents → List ℕ → Type 0
+IsLongTable files name = (text : List ℕ) × Holds files name text × (MOST_TABLE_BYTES < length text)
+
 -- The texts of a module, in the files of these names.
 pub record Texts (files : Option Contents) (table : List ℕ) (sources : List (List ℕ)) : Type 0 where
   pub table_text : List ℕ
   pub source_texts : List (List ℕ)
-  pub in_table : Holds files table table_text
+  pub in_table : IsTableIn files table table_text
   pub in_sources : HoldAll files sources source_texts
 
 -- They are accepted, and this is their image.
@@ -62,7 +71,7 @@ pub record AreFoundIn (files : Option Contents) (table : List ℕ) (sources : Li
 
 -- This is shown of a table; of a table with its sources, all of them accepted.
 abbrev pub IsLoadIn : Option Contents → List ℕ → List (List ℕ) → Shown → Type 0
-IsLoadIn files table [] shown = (text : List ℕ) × Holds files table text × IsLoadOfText text shown
+IsLoadIn files table [] shown = (text : List ℕ) × IsTableIn files table text × IsLoadOfText text shown
 IsLoadIn files table (source ∷ sources) shown = (texts : Texts files table (source ∷ sources)) × AreLoaded texts.table_text texts.source_texts shown
 
 -- This image, in the file of this name.

@@ -33,7 +33,7 @@ use Rattle.command_line.specs.declared.explaining.SourceFile.{SourceFile}
 use Rattle.command_line.specs.declared.explaining.Note.{Note}
 use Rattle.command_line.specs.declared.explaining.Note.TheVariants.{Unwanted, Wanted, Explained}
 use Rattle.command_line.specs.declared.refusal.Refusal.{Refusal}
-use Rattle.command_line.specs.declared.refusal.Refusal.TheVariants.{Build, Run, Replay, Inputs, File, Memory, Write}
+use Rattle.command_line.specs.declared.refusal.Refusal.TheVariants.{Build, Run, Replay, Inputs, File, LongTable, Memory, Write}
 
 abbrev pub build_sentence : BuildFault → List ℕ
 build_sentence (build.Table fault) = table_sentence fault
@@ -72,6 +72,7 @@ sentence_of (Run fault) = run_sentence fault
 sentence_of (Replay fault) = sentence_of_replay fault
 sentence_of (Inputs fault) = inputs_sentence fault
 sentence_of (File name reason) = file_sentence reason
+sentence_of (LongTable name) = command_sentence command.LongTable
 sentence_of Memory = command_sentence command.Memory
 sentence_of Write = command_sentence command.Write
 

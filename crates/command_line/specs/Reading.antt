@@ -4,9 +4,10 @@ use Rattle.module.specs.Refusals.{IsRefusal}
 use Rattle.module.specs.Costs.{IsCostRefusal}
 use Rattle.streams.specs.Beginnings.{HoldsFrom}
 use Rattle.streams.specs.Contents.{Contents, Holds}
+use Rattle.command_line.specs.Done.{IsLongTable}
 use Rattle.command_line.specs.Refusals.{IsFirstUnread}
 use Rattle.command_line.specs.declared.refusal.Refusal.{Refusal}
-use Rattle.command_line.specs.declared.refusal.Refusal.TheVariants.{Build, File, Memory}
+use Rattle.command_line.specs.declared.refusal.Refusal.TheVariants.{Build, File, LongTable, Memory}
 use Rattle.std.specs.Global.{Vec}
 
 -- the bytes of each
@@ -22,6 +23,13 @@ abbrev pub IsUnread : List ℕ → Refusal → Type 0
 IsUnread name (File shown reason) = string_bytes shown ≡ name
 IsUnread name Memory = Unit {0}
 IsUnread name _ = ⊥
+
+-- the file of this name is not read, or is longer than a table that is read
+abbrev pub IsNoTable : Option Contents → List ℕ → Refusal → Type 0
+IsNoTable files name (File shown reason) = string_bytes shown ≡ name
+IsNoTable files name (LongTable shown) = (string_bytes shown ≡ name) × IsLongTable files name
+IsNoTable files name Memory = Unit {0}
+IsNoTable files name _ = ⊥
 
 -- one of the files of these names is not read
 abbrev pub IsUnreadAmong : Option Contents → List (List ℕ) → Refusal → Type 0

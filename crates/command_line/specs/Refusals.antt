@@ -21,7 +21,7 @@ use Rattle.module.specs.declared.inputs_fault.InputsFault.TheVariants as input_f
 use Rattle.module.specs.declared.fault.RunFault.{RunFault}
 use Rattle.module.specs.declared.fault.RunFault.TheVariants as faults
 use Rattle.streams.specs.Contents.{Contents, Holds, Spares}
-use Rattle.command_line.specs.Done.{Texts, IsBuilt, AreCosted, AreFoundIn, IsLoadIn, IsImageIn, IsUpgradedIn, ImageAndText, IsRunOf, IsRunDone, IsReplayOf, IsReplayDone, AreInputsOf, AreInputsDone, IsFirstRun, is_ok}
+use Rattle.command_line.specs.Done.{Texts, IsTableIn, IsLongTable, IsBuilt, AreCosted, AreFoundIn, IsLoadIn, IsImageIn, IsUpgradedIn, ImageAndText, IsRunOf, IsRunDone, IsReplayOf, IsReplayDone, AreInputsOf, AreInputsDone, IsFirstRun, is_ok}
 use Rattle.command_line.specs.Orders.{Order, First as first, Check as check, Build as build, Run as run, Replay as replay, Inputs as inputs, Cost as cost, Dis as dis, Upgrade as upgrade, Load as load, Lint as lint, Dashed as dashed}
 use Rattle.command_line.specs.Loading.{IsRefusedTable, Shown}
 use Rattle.lint.specs.Sentences.{findings_text}
@@ -29,7 +29,7 @@ use Rattle.lint.specs.declared.report.PartitionFindings.{PartitionFindings}
 use Rattle.command_line.specs.States.{IsSilent, IsUntouched, State}
 use Rattle.command_line.specs.declared.outcome.Outcome.{Outcome}
 use Rattle.command_line.specs.declared.refusal.Refusal.{Refusal}
-use Rattle.command_line.specs.declared.refusal.Refusal.TheVariants.{Build, Run, Replay, Inputs, File, Memory, Write}
+use Rattle.command_line.specs.declared.refusal.Refusal.TheVariants.{Build, Run, Replay, Inputs, File, LongTable, Memory, Write}
 use Rattle.command_words.specs.declared.failure.Failure.{Failure}
 use Rattle.command_words.specs.declared.failure.Failure.TheVariants.{Refused, Usage}
 
@@ -53,6 +53,7 @@ IsFirstUnread files (next ∷ rest) name = (name ≡ next) ⊎ (((text : List �
 -- why no image is built of the texts in these files
 abbrev pub IsNotBuilt : Option Contents → List ℕ → List (List ℕ) → Refusal → Type 0
 IsNotBuilt files table sources (File name reason) = IsFirstUnread files (table ∷ sources) (string_bytes name)
+IsNotBuilt files table sources (LongTable name) = (string_bytes name ≡ table) × IsLongTable files table
 IsNotBuilt files table sources (Build fault) = (texts : Texts files table sources) × IsRefusal texts.table_text texts.source_texts fault
 IsNotBuilt files table sources Memory = Unit {0}
 IsNotBuilt files table sources _ = ⊥
@@ -60,6 +61,7 @@ IsNotBuilt files table sources _ = ⊥
 -- why no costs are found of the texts in these files
 abbrev pub IsNotCosted : Option Contents → List ℕ → List (List ℕ) → Refusal → Type 0
 IsNotCosted files table sources (File name reason) = IsFirstUnread files (table ∷ sources) (string_bytes name)
+IsNotCosted files table sources (LongTable name) = (string_bytes name ≡ table) × IsLongTable files table
 IsNotCosted files table sources (Build fault) = (texts : Texts files table sources) × IsCostRefusal texts.table_text texts.source_texts fault
 IsNotCosted files table sources Memory = Unit {0}
 IsNotCosted files table sources _ = ⊥
@@ -67,7 +69,8 @@ IsNotCosted files table sources _ = ⊥
 -- why no table is taken of the file of this name
 abbrev pub IsNoTableIn : Option Contents → List ℕ → Refusal → Type 0
 IsNoTableIn files name (File shown reason) = string_bytes shown ≡ name
-IsNoTableIn files name (Build fault) = (text : List ℕ) × Holds files name text × IsRefusedTable text (Build fault)
+IsNoTableIn files name (LongTable shown) = (string_bytes shown ≡ name) × IsLongTable files name
+IsNoTableIn files name (Build fault) = (text : List ℕ) × IsTableIn files name text × IsRefusedTable text (Build fault)
 IsNoTableIn files name Memory = Unit {0}
 IsNoTableIn files name _ = ⊥
 

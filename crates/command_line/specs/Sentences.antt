@@ -67,6 +67,7 @@ command_sentence command.Compile = codes "The program of the partition has more 
 command_sentence command.Ticks = codes "The number of ticks is above 1,099,511,627,776, which is 2^40."
 command_sentence command.Partition = codes "The image has no partition of this name."
 command_sentence command.Inputs = codes "More than 65,536 inputs come to the partition, and a replay text has no more lines."
+command_sentence command.LongTable = codes "The table has more than 16,777,216 bytes."
 command_sentence command.Memory = codes "Memory ran out; this says nothing about the files."
 command_sentence command.Write = codes "Standard output took no more bytes."
 

@@ -492,6 +492,7 @@ pub fn sentence_of(refusal: &Refusal) -> &'static str
         Refusal::Replay(fault) => sentence_of_replay(fault),
         Refusal::Inputs(fault) => inputs_sentence(fault),
         Refusal::File(_, reason) => file_sentence(*reason),
+        Refusal::LongTable(_) => command_sentence(CommandFault::LongTable),
         Refusal::Memory => command_sentence(CommandFault::Memory),
         Refusal::Write => command_sentence(CommandFault::Write),
     }

@@ -5,9 +5,9 @@ ghost use Rattle.machine_meaning.specs.ImageReading.{image_at};
 ghost use Rattle.image.specs.Views.{image_of};
 ghost use Rattle.streams.specs.Beginnings.{HoldsFrom};
 ghost use Rattle.text_beginnings.specs.Kinds.{settles};
-ghost use Rattle.text_beginnings.specs.Settled.{settles_source, settles_table};
-ghost use Rattle.command_line.specs.Done.{AreCosted, IsBuilt, IsImageIn, IsUpgradedIn};
-ghost use Rattle.command_line.specs.Reading.{IsRefusedText, HoldAllFrom, IsHeld, IsUncostedText, IsUnread, IsUnreadAmong, texts_of};
+ghost use Rattle.text_beginnings.specs.Settled.{settles_source};
+ghost use Rattle.command_line.specs.Done.{AreCosted, IsBuilt, IsImageIn, IsTableIn, IsUpgradedIn};
+ghost use Rattle.command_line.specs.Reading.{IsRefusedText, HoldAllFrom, IsHeld, IsNoTable, IsUncostedText, IsUnread, IsUnreadAmong, texts_of};
 ghost use Rattle.module.specs.Building.{IsImageOf};
 ghost use Rattle.module.specs.Costs.{AreCosts, IsAcceptedModule};
 ghost use Rattle.module.specs.Running.{IsRefused};
@@ -22,7 +22,7 @@ use image::{Image, load_image};
 use module::{AcceptedModule, PartitionCosts, RunFault, upgrade};
 use std::alloc::{AllocError, Global};
 use streams::Files;
-use text_beginnings::{TextKind, table_end};
+use text_beginnings::{TextKind, is_longer_than_a_table};
 
 /// The bytes of the file of that name, as far as a text of this kind needs them.
 pub fn read_as<F: Files>(
@@ -46,19 +46,20 @@ pub fn read_as<F: Files>(
     }
 }
 
-/// The bytes of the table of that name: all of them, or those up to the first that is in no TOML
-/// document. So what is said of it does not depend on how much one call reads.
+/// All bytes of the table of that name, if there are not too many.
 pub fn read_table<F: Files>(alloc: Global, name: &str, files: &mut F) -> Result<Vec<u8>, Refusal>
     ensures held { IfOk result
-        (λ bytes. HoldsFrom settles_table (F.contents files.old) name.now bytes.items) }
+        (λ bytes. IsTableIn (F.contents files.old) name.now bytes.items) }
     ensures known { OnOk result (IsHeld (F.contents files.old) name.now) }
-    ensures refused { IfErr result (λ r. IsUnread name.now r) }
+    ensures refused { IfErr result (λ r. IsNoTable (F.contents files.old) name.now r) }
     ensures unchanged { F.contents files.new ≡ F.contents files.old }
     ensures noted { OnOk result (F.failed files.new ≡ F.failed files.old) }
     ensures named { IfErr result (λ r. IsOfFailed (F.failed files.old) (F.failed files.new) r) }
 {
-    let mut bytes = read_as(alloc, TextKind::Table, name, files)?;
-    bytes.truncate(table_end(bytes.as_slice()));
+    let bytes = read_as(alloc, TextKind::Table, name, files)?;
+    if is_longer_than_a_table(bytes.as_slice()) {
+        return Err(Refusal::LongTable(String::from_str(alloc, name)?));
+    }
     Ok(bytes)
 }
 

@@ -23,6 +23,8 @@ pub enum Refusal {
     Inputs(InputsFault),
     /// The file of that name was not read or not written, for that reason.
     File(String, Reason),
+    /// The file of that name is longer than a table that is read.
+    LongTable(String),
     Memory,
     /// Standard output took no more bytes.
     Write,
@@ -54,7 +56,7 @@ impl<'a> fmt::Display for Rule<'a> {
             Refusal::Build(fault) => write!(f, "{fault}"),
             Refusal::Run(fault) | Refusal::Replay(fault) => write!(f, "{fault}"),
             Refusal::Inputs(fault) => write!(f, "{fault}"),
-            Refusal::File(name, _) => write!(f, "file {name}"),
+            Refusal::File(name, _) | Refusal::LongTable(name) => write!(f, "file {name}"),
             Refusal::Memory => write!(f, "memory"),
             Refusal::Write => write!(f, "write"),
         }

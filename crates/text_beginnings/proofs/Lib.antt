@@ -1,7 +1,4 @@
 pub mod Stained
 pub mod Images
 pub mod Inputs
-pub mod Strays
-pub mod Documents
-pub mod Ends
-pub mod Tables
+pub mod Sources

@@ -1,11 +1,12 @@
 -- Beginnings of texts that settle how these are judged, whatever follows.
-use Rattle.std.specs.Prelude.{ℕ, ◌+◌, Bool, not, ◌&&◌, ◌||◌, ◌==◌, nat_lt, nat_le, if◌then◌else◌, List, [], ◌∷◌, length, take, drop}
+use Rattle.std.specs.Prelude.{ℕ, Bool, not, ◌&&◌, ◌||◌, ◌==◌, nat_lt, nat_le, List, length, take, drop}
 use Rattle.std.specs.Int.{from_le_bytes, w16}
 use Rattle.std.specs.List.{list_any}
 use Rattle.std.specs.Str.{bytes_eq}
 use Rattle.apex_types.specs.declared.limits.TheConstants.{MOST_SOURCE_BYTES}
 use Rattle.apex_types.specs.declared.version.TheConstants.{FIRST_VERSION, SECOND_VERSION, THIRD_VERSION}
 use Rattle.machine_meaning.specs.Image.{magic}
+use Rattle.text_beginnings.specs.declared.beginning.TheConstants.{MOST_TABLE_BYTES}
 
 -- a control character, which appears in no line of a device or replay text
 abbrev pub is_control : ℕ → Bool
@@ -15,18 +16,9 @@ is_control b = nat_lt b 32 && not (b == 10)
 abbrev pub settles_inputs : List ℕ → Bool
 settles_inputs bytes = list_any is_control bytes
 
--- a control character that appears in no TOML document: any but tab, line feed and carriage return
-abbrev pub is_stray : ℕ → Bool
-is_stray b = (nat_lt b 32 && not ((b == 9 || b == 10) || b == 13)) || b == 127
-
--- a table with a byte that appears in no TOML document
+-- a table that is longer than one that is read
 abbrev pub settles_table : List ℕ → Bool
-settles_table bytes = list_any is_stray bytes
-
--- how many bytes of a table there are up to the first that appears in no TOML document, including it
-abbrev pub table_end : List ℕ → ℕ
-table_end [] = 0
-table_end (b ∷ bs) = if is_stray b then 1 else 1 + table_end bs
+settles_table bytes = nat_lt MOST_TABLE_BYTES (length bytes)
 
 -- a source that is longer than it may be
 abbrev pub settles_source : List ℕ → Bool

@@ -2,41 +2,20 @@
 
 ghost use Rattle.std.specs.Int.{from_le_bytes, w16};
 ghost use Rattle.std.specs.Prelude.{◌≡◌, ◌≤◌, drop, length, take};
-ghost use Rattle.text_beginnings.specs.Settled.{has_other_magic, has_other_version, is_control, is_stray, is_version, settles_image, settles_inputs, settles_source, settles_table, table_end};
+ghost use Rattle.text_beginnings.specs.Settled.{has_other_magic, has_other_version, is_control, is_version, settles_image, settles_inputs, settles_source, settles_table};
 
 use apex_types::limits::MOST_SOURCE_BYTES;
 use apex_types::{FIRST_VERSION, MAGIC, SECOND_VERSION, THIRD_VERSION};
 
-/// Returns true if one of the bytes is in no TOML document.
-#[tactic(auto, using(std::proofs::lemmas::List::drop_more))]
-pub fn has_stray(bytes: &[u8]) -> bool
+/// The most bytes of a table that is read: 16 MiB. All that the limits allow takes some hundred KiB,
+/// so comments have room, and a file without an end is not read for ever.
+pub const MOST_TABLE_BYTES: usize = 1 << 24;
+
+/// Returns true if there are more bytes than a table that is read has.
+pub fn is_longer_than_a_table(bytes: &[u8]) -> bool
     ensures { result ≡ settles_table bytes.now }
 {
-    for byte in bytes {
-        if is_stray(*byte) {
-            return true;
-        }
-    }
-    false
-}
-
-/// How many bytes of a table there are up to the first that is in no TOML document, with it.
-#[tactic(auto, using(std::proofs::lemmas::List::drop_more))]
-pub fn table_end(bytes: &[u8]) -> usize
-    ensures { result ≡ table_end bytes.now }
-{
-    for (place, &byte) in bytes.iter().enumerate() {
-        if is_stray(byte) {
-            return place + 1;
-        }
-    }
-    bytes.len()
-}
-
-fn is_stray(byte: u8) -> bool
-    ensures { result ≡ is_stray byte }
-{
-    byte < 32 && !(byte == b'\t' || byte == b'\n' || byte == b'\r') || byte == 127
+    bytes.len() > MOST_TABLE_BYTES
 }
 
 /// Returns true if there are more bytes than a source may have.

@@ -2,7 +2,7 @@
 
 ghost use Rattle.text_beginnings.specs.Kinds.{settles};
 
-use crate::beginning::{has_control, has_stray, is_foreign, is_longer_than_a_source};
+use crate::beginning::{has_control, is_foreign, is_longer_than_a_source, is_longer_than_a_table};
 use streams::Reading;
 
 /// What a text is judged as.
@@ -20,7 +20,7 @@ impl Reading for TextKind {
 
     fn is_enough(&self, bytes: &[u8]) -> bool {
         match self {
-            TextKind::Table => has_stray(bytes),
+            TextKind::Table => is_longer_than_a_table(bytes),
             TextKind::Source => is_longer_than_a_source(bytes),
             TextKind::Image => is_foreign(bytes),
             TextKind::Inputs => has_control(bytes),

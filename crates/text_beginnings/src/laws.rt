@@ -1,14 +1,12 @@
 //! The laws: what a beginning settles holds, whatever follows.
 
-ghost use Rattle.std.specs.Prelude.{◌≡◌, ◌++◌, ℕ, false, true, List, take};
+ghost use Rattle.std.specs.Prelude.{◌≡◌, ◌++◌, ℕ, true, List};
 ghost use Rattle.isolation.specs.ReplayText.{replay_verdict};
 ghost use Rattle.machine_meaning.specs.ImageReading.{image_at};
-ghost use Rattle.module_meaning.specs.Accepted.{IsDocument};
 ghost use Rattle.module_meaning.specs.DeviceText.{verdict};
 ghost use Rattle.module_meaning.specs.Table.{Channel, Partition};
 ghost use Rattle.pal_meaning.specs.Grammar.{IsText};
-ghost use Rattle.text_beginnings.specs.Settled.{settles_image, settles_inputs, settles_source, settles_table, table_end};
-ghost use Rattle.toml.specs.Data.{Members};
+ghost use Rattle.text_beginnings.specs.Settled.{settles_image, settles_inputs, settles_source};
 
 /// Bytes that begin so are read as these.
 #[tactic(auto, using(crate::proofs::Images::no_image))]
@@ -25,21 +23,6 @@ pub fn inputs_are_settled()
         → verdict rows channels (bytes ++ rest) ≡ verdict rows channels bytes }
     ensures replay { (row : Partition) (bytes rest : List ℕ) → settles_inputs bytes ≡ true
         → replay_verdict row (bytes ++ rest) ≡ replay_verdict row bytes }
-{}
-
-/// No text that begins so is a TOML document.
-pub fn table_is_settled()
-    ensures { (bytes rest : List ℕ) (ms : Members) → settles_table bytes ≡ true
-        → IsDocument (bytes ++ rest) ms → ⊥ }
-{}
-
-/// A table that is settled is so by its bytes up to its end; of another one these are all bytes.
-#[tactic(auto, using(crate::proofs::Ends::stray_at_end, crate::proofs::Ends::all_of_table))]
-pub fn cut_table_is_settled()
-    ensures settled { (bytes : List ℕ) → settles_table bytes ≡ true
-        → settles_table (take (table_end bytes) bytes) ≡ true }
-    ensures whole { (bytes : List ℕ) → settles_table bytes ≡ false
-        → take (table_end bytes) bytes ≡ bytes }
 {}
 
 /// No text that begins so is that of a source.

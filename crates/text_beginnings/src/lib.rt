@@ -1,13 +1,11 @@
-//! Texts whose beginning settles how they are judged, whatever follows: the tests on beginnings, and
-//! the laws that they keep.
+//! How far texts are read: the beginnings that settle how a text is judged, whatever follows, with the
+//! laws that they keep, and the most bytes of a table.
 #![tactic(auto)]
 
 mod beginning;
 mod kind;
 mod laws;
 
-pub use beginning::table_end;
+pub use beginning::{MOST_TABLE_BYTES, is_longer_than_a_table};
 pub use kind::TextKind;
-pub use laws::{
-    cut_table_is_settled, image_is_settled, inputs_are_settled, source_is_settled, table_is_settled,
-};
+pub use laws::{image_is_settled, inputs_are_settled, source_is_settled};

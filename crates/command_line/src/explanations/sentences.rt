@@ -23,6 +23,8 @@ pub enum CommandFault {
     Partition,
     /// A partition gets more than 65,536 inputs.
     Inputs,
+    /// A table has more bytes than one that is read.
+    LongTable,
     Memory,
     /// Standard output took no more bytes.
     Write,
@@ -144,6 +146,7 @@ pub fn command_sentence(fault: CommandFault) -> &'static str
         CommandFault::Inputs => {
             "More than 65,536 inputs come to the partition, and a replay text has no more lines."
         }
+        CommandFault::LongTable => "The table has more than 16,777,216 bytes.",
         CommandFault::Memory => "Memory ran out; this says nothing about the files.",
         CommandFault::Write => "Standard output took no more bytes.",
     }

@@ -1,4 +1,4 @@
-use Rattle.text_beginnings.proofs.Tables.{no_source}
+use Rattle.text_beginnings.proofs.Sources.{no_source}
 use Rattle.text_beginnings.proofs.laws.source_is_settled.Goals as goal
 
 pub returns : goal.returns
