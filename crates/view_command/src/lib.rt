@@ -12,6 +12,7 @@ ghost use Rattle.view_command.specs.Words.{view_app};
 
 mod comparing;
 mod differences;
+mod dumping;
 mod grammar;
 mod options;
 mod pages;
@@ -24,6 +25,7 @@ mod windows;
 
 use command_words::{Failure, page_of};
 use comparing::compare;
+use dumping::dump;
 use pages::tell_page;
 pub use refusal::Refusal;
 use request::{Request, request_of};
@@ -108,6 +110,7 @@ fn perform<S: AsStr, F: Sources, O: Stream>(
 {
     match request_of(alloc, words)? {
         Request::Show(view, showing) => Ok(show(alloc, view, &showing, sources, out)?),
+        Request::Dump(showing) => Ok(dump(alloc, &showing, sources, out)?),
         Request::Compare(pair) => Ok(compare(alloc, &pair, sources, out)?),
     }
 }
