@@ -9,7 +9,7 @@ use trace_stays::laws::follow_all;
 use trace_stays::{Ended, Span};
 use trace_text::{TraceReader, check_trace, read_line};
 use trace_view::summary_of;
-use wave_dump::Dump;
+use wave_dump::{Dump, Wires};
 
 const TRACE: &str = "0000000000000 a MODE NORMAL
 0000000000001 a STATE p READY
@@ -107,12 +107,17 @@ fn tell_summary(rt: &HostRuntime, events: &[Event], from: u64, to: u64) -> Optio
 
 /// A dump has the tick where it begins and no other, and nothing changes after the first values.
 fn tell_dump(rt: &HostRuntime, events: &[Event], from: u64, to: u64) -> Option<()> {
-    let mut dump = Dump::new(rt.alloc(), Ticks(from), Some(Ticks(to)));
+    let mut wires = Wires::new(rt.alloc(), Ticks(from), Some(Ticks(to)));
     for event in events {
-        dump.add(event).ok()?;
+        wires.add(event).ok()?;
     }
-    dump.finish().ok()?;
-    let text = dump.text(rt.alloc()).ok()?;
+    let mut dump = Dump::new(rt.alloc(), wires, None);
+    let mut text = String::new(rt.alloc());
+    dump.begin(&mut text).ok()?;
+    for event in events {
+        dump.add(event, &mut text).ok()?;
+    }
+    dump.finish(&mut text).ok()?;
     println!(rt; "{text}").ok()
 }
 

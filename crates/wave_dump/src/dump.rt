@@ -24,10 +24,11 @@ struct Begun {
 #[derive(Drop)]
 pub struct Dump {
     wires: Wires,
-    /// How much the first reading found, and where the dump ends by it.
+    /// How much was found before, and the sum of it.
     size: Size,
+    sum: u64,
+    /// The tick before which the dump ends.
     until: Ticks,
-    lines: u64,
     windows: Option<Windows>,
     /// How many stretches of the windows have begun.
     begun_windows: usize,
@@ -47,13 +48,14 @@ pub struct Dump {
 impl Dump {
     /// The dump of a trace with these variables, and with the windows of a module table, if one is
     /// given: each partition of the table has a wire that is 1 in its windows.
-    pub fn new(alloc: Global, wires: Wires, windows: Option<Windows>) -> Dump {
-        let (size, lines, span) = (wires.size(), wires.lines, wires.shown.span());
+    pub fn new(alloc: Global, mut wires: Wires, windows: Option<Windows>) -> Dump {
+        let (size, sum, span) = (wires.size(), wires.sum, wires.shown.span());
+        wires.sum = 0;
         Dump {
-            wires: Wires { lines: 0, ..wires },
+            wires,
             size,
+            sum,
             until: span.until,
-            lines,
             windows,
             begun_windows: 0,
             begun: Vec::new(alloc),
@@ -107,7 +109,7 @@ impl Dump {
     ///
     /// The trace is another one than before, or memory ran out.
     pub fn finish(&mut self, text: &mut String) -> Result<(), DumpFault> {
-        if self.wires.lines != self.lines || self.wires.until() != self.until {
+        if self.wires.sum != self.sum {
             return Err(DumpFault::Changed);
         }
         self.pass_to(self.until, text)?;

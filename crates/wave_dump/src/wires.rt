@@ -7,6 +7,9 @@ use apex_types::{Event, EventKind, Name, Ticks};
 use std::alloc::Global;
 use trace_stays::{Lanes, MemoryFull, ShownTicks};
 
+/// An odd factor, so that no two sums become one.
+const FACTOR: u64 = 0x9E37_79B9_7F4A_7C15;
+
 /// What has variables in a dump, and the ticks of the dump. It takes the events of a trace in their
 /// order. Its size is that of the module, and not that of the trace.
 #[derive(Drop)]
@@ -15,8 +18,8 @@ pub struct Wires {
     pub(crate) shown: ShownTicks,
     pub(crate) lanes: Lanes,
     pub(crate) pulses: Vec<PulseLane>,
-    /// The number of lines before the end of the ticks.
-    pub(crate) lines: u64,
+    /// A sum of all that the dump depends on, by which another trace is noticed.
+    pub(crate) sum: u64,
 }
 
 /// How many partitions, processes and pulses have variables.
@@ -39,7 +42,7 @@ impl Wires {
             shown: ShownTicks::new(from, to),
             lanes: Lanes::new(alloc),
             pulses: Vec::new(alloc),
-            lines: 0,
+            sum: 0,
         }
     }
 
@@ -55,13 +58,17 @@ impl Wires {
         if !self.shown.read(event.tick) {
             return Ok(false);
         }
-        self.lines = self.lines.saturating_add(1);
+        self.note(event.tick.0);
         if let Some(name) = &event.partition {
-            self.find_lane(name, &event.kind)?;
+            let place = self.lane_place(name, &event.kind)?;
+            self.note(place as u64);
         }
         if event.tick.0 >= self.shown.open().from.0 {
-            self.pulse_place(event)?;
+            if let Some(place) = self.pulse_place(event)? {
+                self.note(place as u64);
+            }
         }
+        self.note(number_in(&event.kind));
         Ok(true)
     }
 
@@ -95,15 +102,34 @@ impl Wires {
         Ok(Some(place))
     }
 
-    /// Finds the partition of a line, and the process if its state is said.
-    fn find_lane(&mut self, partition: &Name, kind: &EventKind) -> Result<(), MemoryFull>
+    /// The place of the process whose state a line of this partition says; for other lines that of the
+    /// partition.
+    fn lane_place(&mut self, partition: &Name, kind: &EventKind) -> Result<usize, MemoryFull>
         ensures { self.new.shown ≡ self.old.shown }
     {
         match kind {
-            EventKind::State(who, _) => self.lanes.process_place(partition, who)?,
-            _ => self.lanes.partition_place(partition)?,
-        };
-        Ok(())
+            EventKind::State(who, _) => self.lanes.process_place(partition, who),
+            _ => self.lanes.partition_place(partition),
+        }
+    }
+
+    /// Adds a number to the sum, which then differs from that with any other number.
+    fn note(&mut self, number: u64)
+        ensures { self.new.shown ≡ self.old.shown }
+    {
+        self.sum = (self.sum ^ number).wrapping_mul(FACTOR);
+    }
+}
+
+/// The state, the mode or the first word of a line.
+fn number_in(kind: &EventKind) -> u64 {
+    match kind {
+        EventKind::State(_, state) => *state as u64,
+        EventKind::Mode(mode) => *mode as u64,
+        _ => match kind.words().first() {
+            Some(word) => word.unsigned_abs(),
+            None => 0,
+        },
     }
 }
 
