@@ -3,7 +3,7 @@
 ghost use Rattle.std.specs.Prelude.{◌≡◌, ◌⊎◌, ◌-◌, ◌^◌, ◌<◌, IfErr, OnOk, string_bytes};
 ghost use Rattle.streams.specs.States.{IsFlushed, seen};
 ghost use Rattle.view_command.specs.Answers.{IsCutShort, IsRefused, IsTableRefused};
-ghost use Rattle.view_command.specs.Dumping.{IsCut, IsCutBy};
+ghost use Rattle.view_command.specs.Dumping.{IsCut, IsCutAgain, IsCutBy};
 ghost use Rattle.view_command.specs.Orders.{asked_text, number_of};
 ghost use Rattle.view_command.specs.States.{state};
 ghost use Rattle.view_command.specs.Texts.{IsTableAsked, IsTraceIn};
@@ -148,25 +148,43 @@ pub fn dump<F: Sources, O: Stream>(
     };
     let mut found = Found::new(alloc, request, table, sources.is_file(trace))?;
     read_all(alloc, name, reader, request.ran, &request.kept, &mut found)?;
+    read_again(alloc, request, found, sources, out)?;
+    Ok(Outcome::Shown)
+}
+
+/// Reads the trace again, or the lines that were kept, and writes the dump of what was found.
+fn read_again<F: Sources, O: Stream>(
+    alloc: Global,
+    request: &Showing,
+    found: Found,
+    sources: &mut F,
+    out: &mut O,
+) -> Result<(), Refusal>
+    requires { O.failures out.old < 2 ^ 64 - 1 }
+    ensures opened { OnOk result (F.unopened sources.new ≡ F.unopened sources.old) }
+    ensures flushed { OnOk result
+        (IsFlushed (seen O.taken O.failures O.is_flushed out.old)
+        (seen O.taken O.failures O.is_flushed out.new)) }
+    ensures cut { IfErr result
+        (λ r. IsCutAgain (string_bytes request.now.trace)
+        (state (F.unopened sources.old) (seen O.taken O.failures O.is_flushed out.old))
+        (state (F.unopened sources.new) (seen O.taken O.failures O.is_flushed out.new)) r) }
+{
     let (dump, lines) = match found.into_dump(alloc) {
         Ok(all) => all,
         Err(fault) => return Err(of_view(fault)),
     };
+    let trace = request.trace.as_str();
     let name = String::from_str(alloc, called(trace))?;
-    match lines {
-        Some(lines) => {
-            let text = lines.into_text();
-            write_dump(alloc, name, text.as_slice(), &request.kept, dump, out)?
-        }
-        None => {
-            let reader = match sources.open(trace) {
-                Ok(reader) => reader,
-                Err(fault) => return Err(of_source(name, fault)),
-            };
-            write_dump(alloc, name, reader, &request.kept, dump, out)?
-        }
-    }
-    Ok(Outcome::Shown)
+    let Some(lines) = lines else {
+        let reader = match sources.open(trace) {
+            Ok(reader) => reader,
+            Err(fault) => return Err(of_source(name, fault)),
+        };
+        return write_dump(alloc, name, reader, &request.kept, dump, out);
+    };
+    let text = lines.into_text();
+    write_dump(alloc, name, text.as_slice(), &request.kept, dump, out)
 }
 
 /// Writes a dump while the trace `name` is read again.
