@@ -1,5 +1,7 @@
 //! The text of a dump, written line by line.
 
+ghost use Rattle.std.specs.Prelude.{◌≤◌, length};
+
 use crate::change::{Change, in_order, push_pulse, push_window};
 use crate::fault::DumpFault;
 use crate::header::{Header, push_header};
@@ -148,12 +150,12 @@ impl Dump {
         let Some(windows) = &self.windows else {
             return Ok(());
         };
-        while let Some(stretch) = windows.stretches().get(self.begun_windows) {
+        for stretch in windows.stretches().iter().skip(self.begun_windows) {
             if stretch.span.from.0 >= tick.0 {
                 break;
             }
             push_window(&mut self.changes, stretch)?;
-            self.begun_windows += 1;
+            self.begun_windows = self.begun_windows.saturating_add(1);
         }
         Ok(())
     }
@@ -254,7 +256,9 @@ fn after(ended: &[Ended], tick: Ticks) -> Ticks {
 }
 
 /// The number of changes before a tick, if they are in order.
-fn count_before(changes: &[Change], tick: Ticks) -> usize {
+fn count_before(changes: &[Change], tick: Ticks) -> usize
+    ensures { result ≤ length changes.now }
+{
     for (place, change) in changes.iter().enumerate() {
         if change.tick.0 >= tick.0 {
             return place;
