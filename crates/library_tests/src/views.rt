@@ -69,6 +69,7 @@ fn tell_events(rt: &HostRuntime, events: &[Event]) -> Option<()> {
         tell_summary(rt, events, *from, *to)?;
         tell_dump(rt, events, *from, *to)?;
     }
+    tell_changed(rt, events)?;
     tell_stays(rt, events)?;
     tell_page(rt, events)
 }
@@ -119,6 +120,32 @@ fn tell_dump(rt: &HostRuntime, events: &[Event], from: u64, to: u64) -> Option<(
     }
     dump.finish(&mut text).ok()?;
     println!(rt; "{text}").ok()
+}
+
+/// A dump takes the lines in which its variables were found, and no others.
+fn tell_changed(rt: &HostRuntime, events: &[Event]) -> Option<()> {
+    let (_, rest) = events.split_first()?;
+    let same = is_taken(rt.alloc(), events, events)?;
+    let shorter = is_taken(rt.alloc(), events, rest)?;
+    let longer = is_taken(rt.alloc(), rest, events)?;
+    let other = is_taken(rt.alloc(), &[], events)?;
+    println!(rt; "dump takes: same {same}, shorter {shorter}, longer {longer}, other {other}").ok()
+}
+
+/// Returns true if a dump of the lines `found` takes these events.
+fn is_taken(alloc: Global, found: &[Event], events: &[Event]) -> Option<bool> {
+    let mut wires = Wires::new(alloc, Ticks(0), None);
+    for event in found {
+        wires.add(event).ok()?;
+    }
+    let mut dump = Dump::new(alloc, wires, None);
+    let mut text = String::new(alloc);
+    for event in events {
+        if dump.add(event, &mut text).is_err() {
+            return Some(false);
+        }
+    }
+    Some(dump.finish(&mut text).is_ok())
 }
 
 /// Prints the stays of the trace, of which the last ones end with the run.

@@ -69,9 +69,9 @@ fn requested(alloc: Global, matches: &ArgMatches<'_>) -> Result<Request, Failure
 {
     match matches.subcommand() {
         Some(("diff", found)) => compared(alloc, found),
-        Some(("vcd", found)) => Ok(Request::Dump(showing(alloc, "vcd", found)?)),
+        Some(("vcd", found)) => Ok(Request::Dump(showing_in(alloc, "vcd", found)?)),
         Some((command, found)) => match view_of(alloc, command, found)? {
-            Some(view) => Ok(Request::Show(view, showing(alloc, command, found)?)),
+            Some(view) => Ok(Request::Show(view, showing_in(alloc, command, found)?)),
             None => Err(Failure::Usage(no_command(alloc)?)),
         },
         None => Err(Failure::Usage(no_command(alloc)?)),
@@ -108,7 +108,7 @@ fn table_or_rows(found: &ArgMatches<'_>) -> View {
 }
 
 /// The trace and the ticks that were found.
-fn showing(
+fn showing_in(
     alloc: Global,
     command: &str,
     found: &ArgMatches<'_>,
