@@ -9,7 +9,7 @@ use trace_stays::laws::follow_all;
 use trace_stays::{Ended, Span};
 use trace_text::{TraceReader, check_trace, read_line};
 use trace_view::summary_of;
-use wave_dump::Dump;
+use wave_dump::{Dump, Wires};
 
 const TRACE: &str = "0000000000000 a MODE NORMAL
 0000000000001 a STATE p READY
@@ -69,6 +69,7 @@ fn tell_events(rt: &HostRuntime, events: &[Event]) -> Option<()> {
         tell_summary(rt, events, *from, *to)?;
         tell_dump(rt, events, *from, *to)?;
     }
+    tell_changed(rt, events)?;
     tell_stays(rt, events)?;
     tell_page(rt, events)
 }
@@ -107,13 +108,44 @@ fn tell_summary(rt: &HostRuntime, events: &[Event], from: u64, to: u64) -> Optio
 
 /// A dump has the tick where it begins and no other, and nothing changes after the first values.
 fn tell_dump(rt: &HostRuntime, events: &[Event], from: u64, to: u64) -> Option<()> {
-    let mut dump = Dump::new(rt.alloc(), Ticks(from), Some(Ticks(to)));
+    let mut wires = Wires::new(rt.alloc(), Ticks(from), Some(Ticks(to)));
     for event in events {
-        dump.add(event).ok()?;
+        wires.add(event).ok()?;
     }
-    dump.finish().ok()?;
-    let text = dump.text(rt.alloc()).ok()?;
+    let mut dump = Dump::new(rt.alloc(), wires, None);
+    let mut text = String::new(rt.alloc());
+    dump.begin(&mut text).ok()?;
+    for event in events {
+        dump.add(event, &mut text).ok()?;
+    }
+    dump.finish(&mut text).ok()?;
     println!(rt; "{text}").ok()
+}
+
+/// A dump takes the lines in which its variables were found, and no others.
+fn tell_changed(rt: &HostRuntime, events: &[Event]) -> Option<()> {
+    let (_, rest) = events.split_first()?;
+    let same = is_taken(rt.alloc(), events, events)?;
+    let shorter = is_taken(rt.alloc(), events, rest)?;
+    let longer = is_taken(rt.alloc(), rest, events)?;
+    let other = is_taken(rt.alloc(), &[], events)?;
+    println!(rt; "dump takes: same {same}, shorter {shorter}, longer {longer}, other {other}").ok()
+}
+
+/// Returns true if a dump of the lines `found` takes these events.
+fn is_taken(alloc: Global, found: &[Event], events: &[Event]) -> Option<bool> {
+    let mut wires = Wires::new(alloc, Ticks(0), None);
+    for event in found {
+        wires.add(event).ok()?;
+    }
+    let mut dump = Dump::new(alloc, wires, None);
+    let mut text = String::new(alloc);
+    for event in events {
+        if dump.add(event, &mut text).is_err() {
+            return Some(false);
+        }
+    }
+    Some(dump.finish(&mut text).is_ok())
 }
 
 /// Prints the stays of the trace, of which the last ones end with the run.

@@ -25,4 +25,8 @@ pub trait Sources {
             (λ reader. Opens (texts self.old) name.now (Self.Reader.remaining reader)) }
         ensures kept { texts self.new ≡ texts self.old }
         ensures noted { IsNoted name.now (unopened self.old) (unopened self.new) result };
+
+    /// Returns true if the text of that name is a file, which each reader reads from its front. What
+    /// one reader has of a pipe or of the standard input, another one does not get.
+    fn is_file(&self, name: &str) -> bool;
 }

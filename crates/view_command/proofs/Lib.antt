@@ -4,3 +4,4 @@ pub mod Found
 pub mod SoFar
 pub mod Tables
 pub mod PageTexts
+pub mod Dumped

@@ -10,7 +10,7 @@ use Rattle.streams.specs.Contents.{Contents}
 use Rattle.streams.specs.States.{HasFailed, IsFlushed, IsWritten, Seen, TakesLine}
 use Rattle.view_command.specs.Lines.{called, line_of}
 use Rattle.clap.specs.Walk.{Row}
-use Rattle.view_command.specs.Orders.{AreWrongWords, AsksForNothing, EndsBefore, IsDiff, IsNoKind, IsNoLimit, IsNoRun, IsNoTick, IsNoWidth, other_of, ran_of, table_of, trace_of}
+use Rattle.view_command.specs.Orders.{AreWrongWords, AsksForNothing, EndsBefore, IsDiff, IsDump, IsNoKind, IsNoLimit, IsNoRun, IsNoTick, IsNoWidth, other_of, ran_of, table_of, trace_of}
 use Rattle.view_command.specs.Pages.{IsPageTold}
 use Rattle.view_command.specs.States.{IsUntouched, State}
 use Rattle.view_command.specs.Texts.{IsLateIn, IsLateLine, IsRefusedIn, IsRefusedLine, IsRefusedTableIn, IsTableAsked, IsTraceIn}
@@ -61,16 +61,27 @@ abbrev pub IsTableRefused : Option Contents → Option (List ℕ) → State → 
 IsTableRefused texts None before after r = ⊥
 IsTableRefused texts (Some name) before after r = IsRefusedByTable texts name before after r
 
+-- The trace was read to its end, and could not be read again while its dump was written. A beginning of the dump may be
+-- written; the output did not fail.
+abbrev pub IsCutShort : Option Contents → Option ℕ → List ℕ → State → State → Refusal → Type 0
+IsCutShort texts ran name before after (Read shown) =
+    (after.unopened ≡ before.unopened) × (after.out.failures ≡ before.out.failures) × (string_bytes shown ≡ called name) × IsTraceIn texts ran name
+IsCutShort texts ran name before after Memory = (after.unopened ≡ before.unopened) × (after.out.failures ≡ before.out.failures) × IsTraceIn texts ran name
+IsCutShort texts ran name before after _ = ⊥
+
+abbrev pub IsDumpRefused : Option Contents → Entered → State → State → Refusal → Type 0
+IsDumpRefused texts entered before after r = IsDump entered × IsCutShort texts (ran_of entered) (trace_of entered) before after r
+
 -- Two traces are compared, and one of them is not taken.
 abbrev pub IsDiffRefused : Option Contents → Entered → State → State → Refusal → Type 0
 IsDiffRefused texts entered before after r =
     IsDiff entered × (IsRefused texts None (trace_of entered) before after r ⊎ IsRefused texts None (other_of entered) before after r)
 
--- The trace, one of two that are compared, or the module table is not taken.
+-- The trace, one of two that are compared, or the module table is not taken; or a dump is cut short.
 abbrev pub IsRefusedOf : Option Contents → Entered → State → State → Refusal → Type 0
 IsRefusedOf texts entered before after r =
     IsRefused texts (ran_of entered) (trace_of entered) before after r ⊎ IsDiffRefused texts entered before after r
-    ⊎ IsTableRefused texts (table_of entered) before after r
+    ⊎ IsTableRefused texts (table_of entered) before after r ⊎ IsDumpRefused texts entered before after r
 
 -- Both traces were read to their ends, if they were compared; else the trace was, with no line after the end of its
 -- run, and so was the module table, if one is asked for.

@@ -2,6 +2,7 @@ pub mod Answers
 pub mod Compared
 pub mod DifferenceTexts
 pub mod Differences
+pub mod Dumping
 pub mod Faults
 pub mod Lines
 pub mod Orders

@@ -13,7 +13,8 @@ use Rattle.trace_lines.specs.KindSets.{no_kinds, with_words}
 use Rattle.trace_lines.specs.declared.filter.Filter.{Filter}
 use Rattle.trace_lines.specs.declared.kinds.Kinds.{Kinds}
 use Rattle.view_command.specs.declared.request.Request.{Request}
-use Rattle.view_command.specs.declared.request.Request.TheVariants.{Compare, Show}
+use Rattle.view_command.specs.declared.request.Request.TheVariants.{Compare, Dump, Show}
+use Rattle.view_command.specs.declared.request.Showing.{Showing}
 
 -- the words of the command
 abbrev pub rows_in : Entered → List Row
@@ -86,23 +87,33 @@ abbrev pub IsDiff : Entered → Type 0
 IsDiff None = ⊥
 IsDiff (Some entered) = entered.0 ≡ codes "diff"
 
+-- a trace is to be shown as waves
+abbrev pub IsDump : Entered → Type 0
+IsDump None = ⊥
+IsDump (Some entered) = entered.0 ≡ codes "vcd"
+
 -- the words of a command that shows a trace
-abbrev pub IsShown : List Row → Request → Type 0
-IsShown rows (Show view showing) =
+abbrev pub IsShown : List Row → Showing → Type 0
+IsShown rows showing =
     (string_bytes showing.trace ≡ word_at (codes "TRACE") rows) × (asked_text showing.table ≡ first_of (codes "table") rows)
     × AreTicksIn rows showing.from showing.to showing.ran × AreNamesIn rows showing.kept
-IsShown rows (Compare pair) = ⊥
 
 -- the words of a command that compares two
 abbrev pub IsCompared : List Row → Request → Type 0
 IsCompared rows (Show view showing) = ⊥
+IsCompared rows (Dump showing) = ⊥
 IsCompared rows (Compare pair) = (string_bytes pair.first ≡ word_at (codes "TRACE") rows) × (string_bytes pair.second ≡ word_at (codes "OTHER") rows)
+
+-- the trace that the words found name, and what of it they ask for
+abbrev pub IsAsked : Entered → Showing → Type 0
+IsAsked entered showing =
+    (IsDiff entered → ⊥) × (string_bytes showing.trace ≡ trace_of entered) × (asked_text showing.table ≡ table_of entered)
+    × AreTicksIn (rows_in entered) showing.from showing.to showing.ran × AreNamesIn (rows_in entered) showing.kept
 
 -- the request that the words found make
 abbrev pub IsRequest : Entered → Request → Type 0
-IsRequest entered (Show view showing) =
-    (IsDiff entered → ⊥) × (string_bytes showing.trace ≡ trace_of entered) × (asked_text showing.table ≡ table_of entered)
-    × AreTicksIn (rows_in entered) showing.from showing.to showing.ran × AreNamesIn (rows_in entered) showing.kept
+IsRequest entered (Show view showing) = IsAsked entered showing
+IsRequest entered (Dump showing) = IsDump entered × IsAsked entered showing
 IsRequest entered (Compare pair) = IsDiff entered × (string_bytes pair.first ≡ trace_of entered) × (string_bytes pair.second ≡ other_of entered)
 
 -- the tick of an optional word
@@ -180,11 +191,11 @@ AreWrongWords rows =
 
 -- the command of this name shows no trace
 abbrev pub IsNoView : List ℕ → Type 0
-IsNoView name = (name ≢ codes "summary") × (name ≢ codes "svg") × (name ≢ codes "vcd") × (name ≢ codes "html") × (name ≢ codes "list") × (name ≢ codes "check")
+IsNoView name = (name ≢ codes "summary") × (name ≢ codes "svg") × (name ≢ codes "html") × (name ≢ codes "list") × (name ≢ codes "check")
 
--- the command has none of these names, and not that of comparing two traces
+-- the command has none of these names, and not that of a dump or of comparing two traces
 abbrev pub IsNoCommand : List ℕ → Type 0
-IsNoCommand name = IsNoView name × (name ≢ codes "diff")
+IsNoCommand name = IsNoView name × (name ≢ codes "vcd") × (name ≢ codes "diff")
 
 -- the words found ask for nothing
 abbrev pub AsksForNothing : Entered → Type 0

@@ -27,12 +27,11 @@ windows_fault windows.Memory = fault.Memory
 windows_fault windows.TooMany = fault.TooMany
 windows_fault (windows.Unknown name) = fault.Foreign name
 
--- a picture or a dump is shown
+-- a picture is shown
 abbrev pub IsOfPicture : Shown → Type 0
 IsOfPicture (shown.Table summary) = ⊥
 IsOfPicture (shown.Rows summary) = ⊥
 IsOfPicture (shown.Picture picture width windows) = Unit {0}
-IsOfPicture (shown.Waves dump windows) = Unit {0}
 IsOfPicture (shown.Page page windows) = ⊥
 IsOfPicture (shown.Lines listing) = ⊥
 IsOfPicture (shown.Check check) = ⊥

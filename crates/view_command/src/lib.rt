@@ -12,6 +12,7 @@ ghost use Rattle.view_command.specs.Words.{view_app};
 
 mod comparing;
 mod differences;
+mod dumping;
 mod grammar;
 mod options;
 mod pages;
@@ -24,6 +25,7 @@ mod windows;
 
 use command_words::{Failure, page_of};
 use comparing::compare;
+use dumping::dump;
 use pages::tell_page;
 pub use refusal::Refusal;
 use request::{Request, request_of};
@@ -39,7 +41,8 @@ use views::Outcome;
 /// the usage on `err`; 3 if the trace has what it may not have. Help goes to `out`, with status 0, and
 /// so do the program's own manual page and its completion for a shell.
 ///
-/// Nothing is written to `out` before the whole trace was read. With status 0 or 3 all of it was
+/// Nothing is written to `out` before the whole trace was read. The trace of a dump is then read again,
+/// if it is a file; if that fails, a beginning of the dump is written. With status 0 or 3 all of it was
 /// written and flushed. If `err` cannot be written, only the status reports the failure.
 pub fn view<S: AsStr, F: Sources, O: Stream, E: Stream>(
     alloc: Global,
@@ -108,6 +111,7 @@ fn perform<S: AsStr, F: Sources, O: Stream>(
 {
     match request_of(alloc, words)? {
         Request::Show(view, showing) => Ok(show(alloc, view, &showing, sources, out)?),
+        Request::Dump(showing) => Ok(dump(alloc, &showing, sources, out)?),
         Request::Compare(pair) => Ok(compare(alloc, &pair, sources, out)?),
     }
 }

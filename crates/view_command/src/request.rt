@@ -26,6 +26,8 @@ use trace_lines::Filter;
 pub enum Request {
     /// A trace is shown, in this way.
     Show(View, Showing),
+    /// A trace is shown as waves.
+    Dump(Showing),
     /// Two traces are compared.
     Compare(Pair),
 }
@@ -67,8 +69,9 @@ fn requested(alloc: Global, matches: &ArgMatches<'_>) -> Result<Request, Failure
 {
     match matches.subcommand() {
         Some(("diff", found)) => compared(alloc, found),
+        Some(("vcd", found)) => Ok(Request::Dump(showing_in(alloc, "vcd", found)?)),
         Some((command, found)) => match view_of(alloc, command, found)? {
-            Some(view) => shown(alloc, command, view, found),
+            Some(view) => Ok(Request::Show(view, showing_in(alloc, command, found)?)),
             None => Err(Failure::Usage(no_command(alloc)?)),
         },
         None => Err(Failure::Usage(no_command(alloc)?)),
@@ -87,7 +90,6 @@ fn view_of(
     let view = match command {
         "summary" => table_or_rows(found),
         "svg" => View::Picture(width(alloc, command, found)?),
-        "vcd" => View::Waves,
         "html" => View::Page,
         "list" => View::Lines(chosen(alloc, command, found)?),
         "check" => checked(alloc, command, found)?,
@@ -106,12 +108,11 @@ fn table_or_rows(found: &ArgMatches<'_>) -> View {
 }
 
 /// The trace and the ticks that were found.
-fn shown(
+fn showing_in(
     alloc: Global,
     command: &str,
-    view: View,
     found: &ArgMatches<'_>,
-) -> Result<Request, Failure<Refusal>>
+) -> Result<Showing, Failure<Refusal>>
     ensures request { IfOk result (IsShown (rows_of (found_of found.now))) }
     ensures failed { IfErr result (λ f. IsWordsFailure (rows_of (found_of found.now)) f) }
 {
@@ -119,15 +120,14 @@ fn shown(
     let table = text(alloc, found, "table")?;
     let asked = ticks(alloc, command, found)?;
     let kept = named(alloc, command, found)?;
-    let showing = Showing {
+    Ok(Showing {
         trace,
         table,
         from: asked.from,
         to: asked.to,
         ran: asked.ran,
         kept,
-    };
-    Ok(Request::Show(view, showing))
+    })
 }
 
 /// The traces that were found.

@@ -11,7 +11,7 @@ ghost use Rattle.view_command.specs.Texts.{IsTableAsked, IsTraceIn, IsTraceOf, i
 
 use crate::refusal::Refusal;
 use crate::request::Showing;
-use crate::views::{Outcome, Shown, View, ViewFault};
+use crate::views::{Outcome, Shown, TakeEvents, View, ViewFault};
 use crate::windows::table_asked;
 use apex_types::Ticks;
 use std::alloc::Global;
@@ -69,13 +69,13 @@ pub fn show<F: Sources, O: Stream>(
 }
 
 /// Reads every line of the trace `name`. None may be after the end of the run, if it is known.
-fn read_all<R: Read + Drop>(
+pub fn read_all<R: Read + Drop, T: TakeEvents>(
     alloc: Global,
     name: String,
     reader: R,
     ran: Option<Ticks>,
     kept: &Filter,
-    shown: &mut Shown,
+    taker: &mut T,
 ) -> Result<(), Refusal>
     ensures trace { OnOk result (IsTraceOf (R.remaining reader) (number_of ran)) }
     ensures refused { IfErr result
@@ -94,7 +94,7 @@ fn read_all<R: Read + Drop>(
                         trace: name,
                     });
                 }
-                if let Err(fault) = shown.read(kept, &event) {
+                if let Err(fault) = taker.take(kept, &event) {
                     return Err(of_view(fault));
                 }
             }
@@ -140,7 +140,7 @@ pub fn of_stream(name: String, fault: StreamFault) -> Refusal
 }
 
 /// The refusal of an event, or of all of them, that the view did not take.
-fn of_view(fault: ViewFault) -> Refusal
+pub fn of_view(fault: ViewFault) -> Refusal
     ensures { result ≡ faults.of_view fault }
 {
     match fault {

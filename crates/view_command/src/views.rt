@@ -12,13 +12,10 @@ use std::io;
 use trace_lines::{Check, Filter, Limits, Listing};
 use trace_page::Page;
 use trace_picture::{Excess, Picture, PictureFault, Width};
+use trace_stays::MemoryFull;
 use trace_view::Summary;
 use trace_windows::{SharesFault, Windows, WindowsFault};
-use wave_dump::{Dump, MemoryFull};
 use window_table::ModuleTable;
-
-/// The most windows, and ticks between them, of a dump.
-const MOST_WINDOWS: usize = 100_000;
 
 /// The most windows, and ticks between them, of a picture, which also counts its elements.
 const MOST_OF_PICTURE: usize = 20_000;
@@ -32,7 +29,6 @@ pub enum View {
     Rows,
     /// A picture of this width.
     Picture(Width),
-    Waves,
     /// A page for a browser.
     Page,
     /// The chosen lines, unchanged.
@@ -62,6 +58,12 @@ pub enum ViewFault {
     Foreign(Name),
 }
 
+/// What takes the events of a trace while it is read.
+pub trait TakeEvents {
+    /// Takes the next event, if the filter lets it through or all lines count.
+    fn take(&mut self, kept: &Filter, event: &Event) -> Result<(), ViewFault>;
+}
+
 /// The report of the events so far.
 #[derive(Drop)]
 pub enum Shown {
@@ -69,8 +71,6 @@ pub enum Shown {
     Rows(Summary),
     /// The picture and its width, and the windows of the module table, if one is given.
     Picture(Picture, Width, Option<Windows>),
-    /// The dump, and the windows of the module table, if one is given.
-    Waves(Dump, Option<Windows>),
     /// The page, and its windows.
     Page(Page, Vec<u8>),
     Lines(Listing),
@@ -107,10 +107,6 @@ impl Shown {
                 let windows = windows_of(alloc, table, (from, to), MOST_OF_PICTURE)?;
                 Shown::Picture(Picture::new(alloc, from, to), width, windows)
             }
-            View::Waves => {
-                let windows = windows_of(alloc, table, (from, to), MOST_WINDOWS)?;
-                Shown::Waves(Dump::new(alloc, from, to), windows)
-            }
             View::Page => Shown::Page(Page::new(alloc, to), page_windows(alloc, &table)?),
             View::Lines(filter) => Shown::Lines(Listing::new(alloc, filter)),
             View::Check(filter, limits) => Shown::Check(Check::new(alloc, filter, limits)),
@@ -119,7 +115,7 @@ impl Shown {
     }
 
     /// Reads the next event, if the filter lets it through. Only what the processor did and the
-    /// windows of a picture or a dump go by all lines.
+    /// windows of a picture go by all lines.
     pub fn read(&mut self, kept: &Filter, event: &Event) -> Result<(), ViewFault>
         ensures many { IsErrOf result ViewFault.TooMany → IsOfPicture self.old }
         ensures crowded { (excess : Excess) → IsErrOf result (ViewFault.Crowded excess)
@@ -130,15 +126,13 @@ impl Shown {
         }
         match self {
             Shown::Table(summary) | Shown::Rows(summary) => summary.pass(event)?,
-            Shown::Waves(_, windows) | Shown::Picture(_, _, windows) => {
-                read_windows(windows, event)?
-            }
+            Shown::Picture(_, _, windows) => read_windows(windows, event)?,
             _ => {}
         }
         Ok(())
     }
 
-    /// Takes the next event. Only a picture or a dump may have too many elements.
+    /// Takes the next event. Only a picture may have too many elements.
     pub fn add(&mut self, event: &Event) -> Result<(), ViewFault>
         ensures many { IsErrOf result ViewFault.TooMany → IsOfPicture self.old }
         ensures crowded { (excess : Excess) → IsErrOf result (ViewFault.Crowded excess)
@@ -149,10 +143,6 @@ impl Shown {
             Shown::Picture(picture, _, windows) => {
                 read_windows(windows, event)?;
                 picture.add(event)?
-            }
-            Shown::Waves(dump, windows) => {
-                read_windows(windows, event)?;
-                dump.add(event)?
             }
             Shown::Page(page, _) => page.add(event)?,
             Shown::Lines(listing) => listing.add(event)?,
@@ -184,7 +174,6 @@ impl Shown {
             Shown::Picture(picture, width, windows) => {
                 write_picture(picture, width, windows, name, &mut bytes)?
             }
-            Shown::Waves(dump, windows) => write_waves(alloc, dump, windows, &mut bytes)?,
             Shown::Page(page, windows) => bytes = page.into_text(windows.as_slice())?,
             Shown::Lines(listing) => bytes = listing.into_text(),
             Shown::Check(check) => bytes = check.into_text(alloc),
@@ -193,8 +182,14 @@ impl Shown {
     }
 }
 
+impl TakeEvents for Shown {
+    fn take(&mut self, kept: &Filter, event: &Event) -> Result<(), ViewFault> {
+        self.read(kept, event)
+    }
+}
+
 /// Reads a line for the windows of the module table, if one is given.
-fn read_windows(windows: &mut Option<Windows>, event: &Event) -> Result<(), WindowsFault> {
+pub fn read_windows(windows: &mut Option<Windows>, event: &Event) -> Result<(), WindowsFault> {
     match windows {
         Some(windows) => windows.read(event),
         None => Ok(()),
@@ -213,23 +208,6 @@ fn write_picture(
         windows.pass_to(picture.until())?;
     }
     picture.finish(windows, width)?.write(name, bytes)?;
-    Ok(())
-}
-
-/// Writes the waves that were gathered, with the windows of the module table, if one is given.
-fn write_waves(
-    alloc: Global,
-    mut dump: Dump,
-    windows: Option<Windows>,
-    bytes: &mut Vec<u8>,
-) -> Result<(), ViewFault> {
-    if let Some(mut windows) = windows {
-        windows.pass_to(dump.until())?;
-        dump.add_windows(windows.names(), windows.stretches())?;
-    }
-    dump.finish()?;
-    let text = dump.text(alloc)?;
-    bytes.extend_from_slice(text.as_bytes())?;
     Ok(())
 }
 

@@ -1,265 +1,268 @@
-//! The changes of a trace, gathered event by event.
+//! The text of a dump, written line by line.
 
-ghost use Rattle.std.specs.Prelude.{◌≡◌, ◌++◌, OnOk};
-ghost use Rattle.std.specs.List.Sorted.{IsNonDecreasingBy, IsPermutation};
-ghost use Rattle.wave_dump.specs.Dumps.{changes_in, changes_of, pulse_changes, stay_changes};
+ghost use Rattle.std.specs.Prelude.{◌≤◌, length};
 
-use crate::change::{Change, Value};
+use crate::change::{Change, in_order, push_pulse, push_window};
+use crate::fault::DumpFault;
 use crate::header::{Header, push_header};
-use crate::pulse::{Pulse, PulseLane, is_same_pulse};
-use crate::text::push_changes;
-use crate::variable::Variable;
-use apex_types::{Event, Name, Ticks};
+use crate::marks::Marks;
+use crate::text::{push_changes, push_time};
+use crate::wires::{Size, Wires};
+use apex_types::{Event, EventKind, Name, Ticks};
 use std::alloc::{AllocError, Global};
-use trace_stays::{Ended, Lanes, MemoryFull, ShownTicks, Span};
-use trace_windows::Stretch;
+use trace_stays::{Ended, MemoryFull, Span};
+use trace_windows::Windows;
 
-/// A value change dump of some ticks of a trace. It takes the events in their order, is finished
-/// after the last one, and can be written then.
+/// A stay whose beginning is not written yet.
+#[derive(Clone, Copy)]
+struct Begun {
+    marks: Marks,
+    since: Ticks,
+}
+
+/// A value change dump. It takes the events of a trace, in whose lines its variables were found
+/// before, and appends to a text what no later line changes: all ticks before that of the event, and
+/// the pulse of the event itself.
 #[derive(Drop)]
 pub struct Dump {
-    /// The ticks that the dump has.
-    shown: ShownTicks,
-    lanes: Lanes,
-    pulses: Vec<PulseLane>,
+    wires: Wires,
+    /// How much was found before, and the sum of it.
+    size: Size,
+    sum: u64,
+    /// The tick before which the dump ends.
+    until: Ticks,
+    windows: Option<Windows>,
+    /// How many stretches of the windows have begun.
+    begun_windows: usize,
+    /// The stays that have begun and are not written. Each process and each partition has one at most.
+    begun: Vec<Begun>,
+    /// The changes that are not written. None is more than a tick after the last line, but the end of a window.
     changes: Vec<Change>,
-    /// The partitions of the module table, whose windows are known.
-    names: Vec<Name>,
-    /// Room for the stays that one event ends.
+    /// Room for the stays that one event ends, and for the changes of its pulse.
     ended: Vec<Ended>,
+    pulse: Vec<Change>,
+    /// The tick before which all changes are written.
+    next: Ticks,
+    /// The last time that is written.
+    time: Ticks,
 }
 
 impl Dump {
-    ghost use Rattle.trace_stays.specs.Shown.{shown_from, shown_ticks, with_read};
-
-    /// A dump of the ticks from `from` on and before `to`; without it, all to the end of the trace.
-    pub fn new(alloc: Global, from: Ticks, to: Option<Ticks>) -> Dump
-        ensures { result.shown ≡ shown_from from to }
-    {
+    /// The dump of a trace with these variables, and with the windows of a module table, if one is
+    /// given: each partition of the table has a wire that is 1 in its windows.
+    pub fn new(alloc: Global, mut wires: Wires, windows: Option<Windows>) -> Dump {
+        let (size, sum, span) = (wires.size(), wires.sum, wires.shown.span());
+        wires.sum = 0;
         Dump {
-            shown: ShownTicks::new(from, to),
-            lanes: Lanes::new(alloc),
-            pulses: Vec::new(alloc),
+            wires,
+            size,
+            sum,
+            until: span.until,
+            windows,
+            begun_windows: 0,
+            begun: Vec::new(alloc),
             changes: Vec::new(alloc),
-            names: Vec::new(alloc),
             ended: Vec::new(alloc),
+            pulse: Vec::new(alloc),
+            next: Ticks(0),
+            time: span.from,
         }
+    }
+
+    /// Appends what comes before the first change.
+    ///
+    /// # Errors
+    ///
+    /// Memory ran out.
+    pub fn begin(&self, text: &mut String) -> Result<(), AllocError> {
+        let header = Header {
+            lanes: &self.wires.lanes,
+            pulses: self.wires.pulses.as_slice(),
+            names: self.names(),
+        };
+        push_header(self.wires.shown.span().from, header, text)
     }
 
     /// Takes the next event; an event after the ticks of the dump changes nothing.
     ///
     /// # Errors
     ///
-    /// Memory ran out.
-    pub fn add(&mut self, event: &Event) -> Result<(), MemoryFull>
-        ensures { self.new.shown ≡ with_read event.now.tick.0 self.old.shown }
-    {
-        if !self.shown.read(event.tick) {
+    /// The trace is another one than before, or memory ran out.
+    pub fn add(&mut self, event: &Event, text: &mut String) -> Result<(), DumpFault> {
+        if !self.wires.add(event)? {
             return Ok(());
+        }
+        if self.wires.size() != self.size {
+            return Err(DumpFault::Changed);
+        }
+        if self.next.0 < event.tick.0 {
+            self.pass_to(event.tick, text)?;
         }
         self.ended.clear();
-        self.lanes.follow(event, &mut self.ended)?;
-        self.take_ended()?;
-        if event.tick.0 < self.shown.open().from.0 {
-            return Ok(());
-        }
-        match Pulse::of(&event.kind) {
-            Some(pulse) => self.add_pulse(event, pulse),
-            None => Ok(()),
-        }
+        self.wires.lanes.follow(event, &mut self.ended)?;
+        self.end_stays()?;
+        self.begin_stay(event)?;
+        self.write_pulse(event, text)
     }
 
-    /// The tick before which the dump ends, if no line follows.
-    pub fn until(&self) -> Ticks
-        ensures { result ≡ (shown_ticks self.now.shown).until }
-    {
-        self.shown.span().until
-    }
-
-    /// Adds a wire for each partition of the module table, with these names: it is 1 in its windows,
-    /// which are those of the stretches.
+    /// Appends the last changes, after the last event.
     ///
     /// # Errors
     ///
-    /// Memory ran out.
-    pub fn add_windows(&mut self, names: &[Name], stretches: &[Stretch]) -> Result<(), MemoryFull> {
-        self.names.extend_from_slice(names)?;
-        for stretch in stretches {
+    /// The trace is another one than before, or memory ran out.
+    pub fn finish(&mut self, text: &mut String) -> Result<(), DumpFault> {
+        if self.wires.sum != self.sum {
+            return Err(DumpFault::Changed);
+        }
+        self.pass_to(self.until, text)?;
+        self.ended.clear();
+        self.wires.lanes.finish(self.until, &mut self.ended)?;
+        self.end_stays()?;
+        in_order(&mut self.changes)?;
+        push_changes(self.changes.as_slice(), &mut self.time, text)?;
+        push_time(&mut self.time, self.until, text)?;
+        Ok(())
+    }
+
+    /// The partitions of the module table; none without one.
+    fn names(&self) -> &[Name] {
+        match &self.windows {
+            Some(windows) => windows.names(),
+            None => &[],
+        }
+    }
+
+    /// Writes the changes before this tick.
+    fn pass_to(&mut self, tick: Ticks, text: &mut String) -> Result<(), DumpFault> {
+        self.begin_windows(tick)?;
+        self.take_begun(tick)?;
+        in_order(&mut self.changes)?;
+        let count = count_before(self.changes.as_slice(), tick);
+        let rest = self.changes.split_off(count)?;
+        push_changes(self.changes.as_slice(), &mut self.time, text)?;
+        self.changes = rest;
+        self.next = tick;
+        Ok(())
+    }
+
+    /// Adds the changes of the windows that begin before this tick.
+    fn begin_windows(&mut self, tick: Ticks) -> Result<(), MemoryFull> {
+        let Some(windows) = &self.windows else {
+            return Ok(());
+        };
+        for stretch in windows.stretches().iter().skip(self.begun_windows) {
+            if stretch.span.from.0 >= tick.0 {
+                break;
+            }
             push_window(&mut self.changes, stretch)?;
+            self.begun_windows = self.begun_windows.saturating_add(1);
         }
         Ok(())
     }
 
-    /// Ends the stays that are not over, and brings the changes into the order of their ticks.
-    ///
-    /// # Errors
-    ///
-    /// Memory ran out.
-    pub fn finish(&mut self) -> Result<(), MemoryFull>
-        ensures { OnOk result
-            (IsNonDecreasingBy (λ change. change.tick.0) self.new.changes.items) }
-    {
-        let until = self.shown.span().until;
-        self.ended.clear();
-        self.lanes.finish(until, &mut self.ended)?;
-        self.take_ended()?;
-        in_order(&mut self.changes)
+    /// Adds the beginnings of the stays that have a tick of the dump before this one.
+    fn take_begun(&mut self, tick: Ticks) -> Result<(), MemoryFull> {
+        let shown = self.wires.shown.open();
+        for begun in &self.begun {
+            let span = Span {
+                from: begun.since,
+                until: tick,
+            };
+            begun
+                .marks
+                .push_begin(&mut self.changes, span.within(shown))?;
+        }
+        let first = shown.from;
+        self.begun
+            .retain(|begun| tick.0 <= begun.since.0.max(first.0));
+        Ok(())
     }
 
-    /// The text of the dump.
-    ///
-    /// # Errors
-    ///
-    /// Memory ran out.
-    pub fn text(&self, alloc: Global) -> Result<String, AllocError> {
-        let span = self.shown.span();
-        let header = Header {
-            lanes: &self.lanes,
-            pulses: self.pulses.as_slice(),
-            names: self.names.as_slice(),
+    /// Adds the ends of the stays that are over; and their beginnings, if these are not written.
+    fn end_stays(&mut self) -> Result<(), MemoryFull> {
+        let shown = self.wires.shown.open();
+        for ended in &self.ended {
+            let marks = Marks::of(ended);
+            let span = ended_span(ended).within(shown);
+            if has_taken(&mut self.begun, &marks) {
+                marks.push_begin(&mut self.changes, span)?;
+            }
+            marks.push_end(&mut self.changes, span)?;
+        }
+        Ok(())
+    }
+
+    /// Notes the stay that begins with a line.
+    fn begin_stay(&mut self, event: &Event) -> Result<(), MemoryFull> {
+        let Some(name) = &event.partition else {
+            return Ok(());
         };
-        let mut text = String::new(alloc);
-        push_header(span.from, header, &mut text)?;
-        push_changes(self.changes.as_slice(), span, &mut text)?;
-        Ok(text)
-    }
-
-    /// Makes changes of the stays that are over.
-    fn take_ended(&mut self) -> Result<(), MemoryFull>
-        ensures { self.new.shown ≡ self.old.shown }
-    {
-        let shown = self.shown.open();
-        push_stays(&mut self.changes, shown, self.ended.as_slice())
-    }
-
-    /// Adds the pulse of an event.
-    fn add_pulse(&mut self, event: &Event, pulse: Pulse) -> Result<(), MemoryFull>
-        ensures { self.new.shown ≡ self.old.shown }
-    {
-        let partition = match &event.partition {
-            Some(name) => Some(self.lanes.partition_place(name)?),
-            None => None,
+        let (marks, since) = match &event.kind {
+            EventKind::State(who, state) => {
+                let place = self.wires.lanes.process_place(name, who)?;
+                (
+                    Marks::of_state(place, *state),
+                    after(self.ended.as_slice(), event.tick),
+                )
+            }
+            EventKind::Mode(mode) => {
+                let place = self.wires.lanes.partition_place(name)?;
+                (Marks::of_mode(place, *mode), event.tick)
+            }
+            _ => return Ok(()),
         };
-        let place = place_of_pulse(&mut self.pulses, PulseLane { partition, pulse })?;
-        push_pulse(&mut self.changes, place, event)
+        self.begun.push(Begun { marks, since })?;
+        Ok(())
+    }
+
+    /// Writes the pulse of an event, if it is one in the ticks of the dump.
+    fn write_pulse(&mut self, event: &Event, text: &mut String) -> Result<(), DumpFault> {
+        if event.tick.0 < self.wires.shown.open().from.0 {
+            return Ok(());
+        }
+        let Some(place) = self.wires.pulse_place(event)? else {
+            return Ok(());
+        };
+        self.pulse.clear();
+        push_pulse(&mut self.pulse, place, event)?;
+        push_changes(self.pulse.as_slice(), &mut self.time, text)?;
+        Ok(())
     }
 }
 
-/// The place of these pulses, which become the last ones if they have none.
-fn place_of_pulse(pulses: &mut Vec<PulseLane>, lane: PulseLane) -> Result<usize, MemoryFull> {
-    for (place, known) in pulses.iter().enumerate() {
-        if known.partition == lane.partition && is_same_pulse(&known.pulse, &lane.pulse) {
-            return Ok(place);
+/// Takes out the stay of a process or a partition, of which the other marks are too. Returns true if it
+/// was there.
+fn has_taken(begun: &mut Vec<Begun>, marks: &Marks) -> bool {
+    let before = begun.len();
+    begun.retain(|other| !other.marks.are_of_same(marks));
+    begun.len() < before
+}
+
+/// The ticks of a stay.
+fn ended_span(ended: &Ended) -> Span {
+    match ended {
+        Ended::State(_, stay) => stay.span,
+        Ended::Mode(_, stay) => stay.span,
+    }
+}
+
+/// The first tick of the state that a line of this tick says: that after the stay that it ends, if it
+/// ends one.
+fn after(ended: &[Ended], tick: Ticks) -> Ticks {
+    match ended.first() {
+        Some(ended) => ended_span(ended).until,
+        None => tick,
+    }
+}
+
+/// The number of changes before a tick, if they are in order.
+fn count_before(changes: &[Change], tick: Ticks) -> usize
+    ensures { result ≤ length changes.now }
+{
+    for (place, change) in changes.iter().enumerate() {
+        if change.tick.0 >= tick.0 {
+            return place;
         }
     }
-    pulses.push(lane)?;
-    Ok(pulses.len() - 1)
-}
-
-/// Adds the changes of a variable that has one value in these ticks, and another one after them.
-fn push_stay(
-    changes: &mut Vec<Change>,
-    variable: Variable,
-    during: Value,
-    after: Value,
-    span: Span,
-) -> Result<(), MemoryFull>
-    ensures { OnOk result
-        (changes.new.items ≡ changes.old.items ++ changes_of variable during after span) }
-{
-    let Span { from, until } = span;
-    if until.0 <= from.0 {
-        return Ok(());
-    }
-    changes.push(Change {
-        tick: from,
-        variable,
-        value: during,
-    })?;
-    changes.push(Change {
-        tick: until,
-        variable,
-        value: after,
-    })?;
-    Ok(())
-}
-
-/// Adds the changes of the stays that are over.
-fn push_stays(changes: &mut Vec<Change>, shown: Span, over: &[Ended]) -> Result<(), MemoryFull> {
-    for ended in over {
-        push_ended(changes, shown, ended)?;
-    }
-    Ok(())
-}
-
-/// Adds the changes of a stay: those of the wire of its state or mode, and of the name of it.
-fn push_ended(changes: &mut Vec<Change>, shown: Span, ended: &Ended) -> Result<(), MemoryFull>
-    ensures { OnOk result (changes.new.items ≡ changes.old.items ++ stay_changes shown ended.now) }
-{
-    let (wire, named, name, span) = match ended {
-        Ended::State(place, stay) => (
-            Variable::State(*place, stay.state),
-            Variable::StateName(*place),
-            Value::State(stay.state),
-            stay.span.within(shown),
-        ),
-        Ended::Mode(place, stay) => (
-            Variable::Mode(*place, stay.mode),
-            Variable::ModeName(*place),
-            Value::Mode(stay.mode),
-            stay.span.within(shown),
-        ),
-    };
-    push_stay(changes, wire, Value::High, Value::Low, span)?;
-    push_stay(changes, named, name, Value::Nothing, span)
-}
-
-/// Adds the changes of the wire of a window; none for ticks in no window.
-fn push_window(changes: &mut Vec<Change>, stretch: &Stretch) -> Result<(), MemoryFull>
-    ensures { OnOk result
-        (changes.new.items
-        ≡ changes.old.items ++ changes_in stretch.now.owner stretch.now.span) }
-{
-    match stretch.owner {
-        Some(owner) => {
-            let wire = Variable::Window(owner.0);
-            push_stay(changes, wire, Value::High, Value::Low, stretch.span)
-        }
-        None => Ok(()),
-    }
-}
-
-/// Adds the changes of the pulse of an event, and of the first word of its message, if it has one.
-fn push_pulse(changes: &mut Vec<Change>, place: usize, event: &Event) -> Result<(), MemoryFull>
-    ensures { OnOk result
-        (changes.new.items ≡ changes.old.items ++ pulse_changes place event.now) }
-{
-    let tick = event.tick;
-    changes.push(Change {
-        tick,
-        variable: Variable::Pulse(place),
-        value: Value::High,
-    })?;
-    if let Some(word) = event.kind.words().first() {
-        changes.push(Change {
-            tick,
-            variable: Variable::Word(place),
-            value: Value::Word(*word),
-        })?;
-    }
-    Ok(())
-}
-
-/// Brings changes into the order of their ticks. Those of one tick stay in their order.
-fn in_order(changes: &mut Vec<Change>) -> Result<(), MemoryFull>
-    ensures sorted { OnOk result
-        (IsNonDecreasingBy (λ change. change.tick.0) changes.new.items) }
-    ensures all { IsPermutation changes.old.items changes.new.items }
-{
-    changes.sort_by_key(
-        |change| -> u64
-            ensures { result ≡ change.now.tick.0 }
-        { change.tick.0 },
-    )?;
-    Ok(())
+    changes.len()
 }

@@ -6,10 +6,14 @@
 
 mod change;
 mod dump;
+mod fault;
 mod header;
+mod marks;
 mod pulse;
 mod text;
 mod variable;
+mod wires;
 
 pub use dump::Dump;
-pub use trace_stays::MemoryFull;
+pub use fault::DumpFault;
+pub use wires::Wires;

@@ -4,7 +4,7 @@ use apex_types::{Mode, ProcessState};
 use std::fmt::{self, Display, Formatter, Write};
 
 /// A variable of a dump. Shown, it is its code in the dump: no two variables have the same.
-#[derive(Clone, Copy)]
+#[derive(Clone, Copy, PartialEq, Eq)]
 pub enum Variable {
     /// True while the process at this place is in this state.
     State(usize, ProcessState),

@@ -57,4 +57,11 @@ impl<'a> Sources for HostSources<'a> {
             ),
         }
     }
+
+    fn is_file(&self, name: &str) -> bool {
+        match fs::metadata(self.runtime, name) {
+            Ok(data) => name != "-" && data.is_file(),
+            Err(_) => false,
+        }
+    }
 }

@@ -1,0 +1,83 @@
+-- A trace that is read again while its dump is written.
+use Rattle.std.proofs.Common.{◌≡◌, ◌⊎◌, inl, inr, ℕ, List, [], ◌∷◌, ◌++◌, Option, Result, Ok, Err, IfErr, sym, ap, subst, ◌∙◌}
+use Rattle.std.specs.Prelude.{IsErr, IsErrAnd, string_bytes}
+use Rattle.std.specs.declared.alloc.Global.{Global}
+use Rattle.std.specs.declared.string.String.{String}
+use Rattle.streams.specs.Contents.{Contents}
+use Rattle.streams.specs.Noted.{IsNotedFault}
+use Rattle.streams.specs.States.{HasFailed, Seen}
+use Rattle.streams.specs.declared.names.NameFault.{NameFault}
+use Rattle.streams.specs.declared.names.NameFault.TheVariants as source
+use Rattle.view_command.specs.Answers.{IsCutShort, IsRefused}
+use Rattle.view_command.specs.Dumping.{IsCut, IsCutAgain}
+use Rattle.view_command.specs.Faults.{of_source, of_view}
+use Rattle.view_command.specs.Lines.{called}
+use Rattle.view_command.specs.States.{IsUntouched, State}
+use Rattle.view_command.specs.Texts.{IsTraceIn}
+use Rattle.view_command.specs.declared.refusal.Refusal.{Refusal}
+use Rattle.view_command.specs.declared.refusal.Refusal.TheVariants.{Open, Read, Line, Late, TooMany, Crowded, Table, Foreign, Memory, Write}
+use Rattle.view_command.specs.declared.views.ViewFault.{ViewFault}
+use Rattle.view_command.specs.declared.views.ViewFault.TheVariants as view
+
+-- what was found makes no dump
+pub not_taken : (name : List ℕ) (before after : State) (f : ViewFault) (r : Refusal) → r ≡ of_view f → IsUntouched before after → IsCutAgain name before after r
+not_taken name before after f r told same = subst (IsCutAgain name before after) (sym told) (go f)
+  where
+    go : (f : ViewFault) → IsCutAgain name before after (of_view f)
+    go view.Memory = (same.0, ap (λ (s : Seen). s.failures) same.1)
+    go view.TooMany = same
+    go (view.Crowded excess) = same
+    go (view.Foreign partition) = same
+
+-- it is not opened again
+pub not_opened : (name : List ℕ) (shown : String Global) (before after : State) (f : NameFault) (r : Refusal) → r ≡ of_source shown f
+    → string_bytes shown ≡ called name → after.out ≡ before.out → IsNotedFault name before.unopened after.unopened f → IsCutAgain name before after r
+not_opened name shown before after f r told is out noted = subst (IsCutAgain name before after) (sym told) (go f noted)
+  where
+    go : (f : NameFault) → IsNotedFault name before.unopened after.unopened f → IsCutAgain name before after (of_source shown f)
+    go (source.Unavailable reason) noted = (out, is, noted)
+    go source.Memory noted = (noted, ap (λ (s : Seen). s.failures) out)
+
+-- its dump ends before its end
+pub cut_again : (name shown : List ℕ) (before after : State) (r : Refusal) → shown ≡ called name → after.unopened ≡ before.unopened → IsCut shown before.out after.out r → IsCutAgain name before after r
+cut_again name shown before after (Open s) is same h = absurd h
+cut_again name shown before after (Read s) is same h = (same, h.1, h.0 ∙ is)
+cut_again name shown before after (Line number s) is same h = absurd h
+cut_again name shown before after (Late number s) is same h = absurd h
+cut_again name shown before after TooMany is same h = absurd h
+cut_again name shown before after (Crowded shapes from until elements) is same h = absurd h
+cut_again name shown before after (Table fault s) is same h = absurd h
+cut_again name shown before after (Foreign partition) is same h = absurd h
+cut_again name shown before after Memory is same h = (same, h)
+cut_again name shown before after Write is same h = (h, same)
+
+pub cut_of : {A : Type 0} (name shown : List ℕ) (before after : State) (answer : Result A Refusal) → shown ≡ called name → after.unopened ≡ before.unopened
+    → IfErr answer (λ r. IsCut shown before.out after.out r) → IfErr answer (λ r. IsCutAgain name before after r)
+cut_of name shown before after (Ok x) is same h = tt
+cut_of name shown before after (Err r) is same h = cut_again name shown before after r is same h
+
+-- a trace that was read once to its end
+short : (texts : Option Contents) (ran : Option ℕ) (name : List ℕ) (before after : State) (r : Refusal) → IsTraceIn texts ran name → IsCutAgain name before after r
+    → IsRefused texts ran name before after r ⊎ IsCutShort texts ran name before after r
+short texts ran name before after (Open s) trace h = inl h
+short texts ran name before after (Read s) trace h = inr (h.0, h.1, h.2, trace)
+short texts ran name before after (Line number s) trace h = absurd h
+short texts ran name before after (Late number s) trace h = absurd h
+short texts ran name before after TooMany trace h = inl h
+short texts ran name before after (Crowded shapes from until elements) trace h = inl h
+short texts ran name before after (Table fault s) trace h = absurd h
+short texts ran name before after (Foreign partition) trace h = inl h
+short texts ran name before after Memory trace h = inr (h.0, h.1, trace)
+short texts ran name before after Write trace h = inl (h.0, h.1, trace)
+
+pub cut_or : {A : Type 0} (Q : Refusal → Type 0) (texts : Option Contents) (ran : Option ℕ) (name : List ℕ) (before mid after : State) (r : Refusal) (answer : Result A Refusal)
+    → mid ≡ before → IsTraceIn texts ran name → IsCutAgain name mid after r → IsErr answer × IsErrAnd answer (λ e. e ≡ r)
+    → IfErr answer (λ e. IsRefused texts ran name before after e ⊎ IsCutShort texts ran name before after e ⊎ Q e)
+cut_or Q texts ran name before mid after r (Ok x) same trace h passed = tt
+cut_or Q texts ran name before mid after r (Err e) same trace h passed =
+    subst (λ (v : Refusal). IsRefused texts ran name before after v ⊎ IsCutShort texts ran name before after v ⊎ Q v) (sym passed.1)
+    (go (short texts ran name before after r trace (subst (λ (s : State). IsCutAgain name s after r) same h)))
+  where
+    go : IsRefused texts ran name before after r ⊎ IsCutShort texts ran name before after r → IsRefused texts ran name before after r ⊎ IsCutShort texts ran name before after r ⊎ Q r
+    go (inl one) = inl one
+    go (inr two) = inr (inl two)
