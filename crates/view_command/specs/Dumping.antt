@@ -1,18 +1,33 @@
 -- Why a dump ends before its end, while its trace is read again.
 use Rattle.std.specs.Prelude.{◌≡◌, ℕ, List, [], ◌∷◌, ◌++◌, string_bytes}
 use Rattle.streams.specs.States.{HasFailed, Seen}
+use Rattle.trace_text.specs.declared.stream.StreamFault.{StreamFault}
+use Rattle.trace_text.specs.declared.stream.StreamFault.TheVariants as stream
+use Rattle.wave_dump.specs.declared.fault.DumpFault.{DumpFault}
+use Rattle.wave_dump.specs.declared.fault.DumpFault.TheVariants as dump
 use Rattle.view_command.specs.Lines.{called}
 use Rattle.view_command.specs.States.{IsUntouched, State}
 use Rattle.view_command.specs.declared.dumping.Cut.{Cut}
 use Rattle.view_command.specs.declared.dumping.Cut.TheVariants as cut
+use Rattle.view_command.specs.declared.dumping.Unread.{Unread}
+use Rattle.view_command.specs.declared.dumping.Unread.TheVariants as unread
 use Rattle.view_command.specs.declared.refusal.Refusal.{Refusal}
 use Rattle.view_command.specs.declared.refusal.Refusal.TheVariants.{Open, Read, TooMany, Crowded, Foreign, Memory, Write}
 
 -- the output failed, or it did not
 abbrev pub IsCutBy : Seen → Seen → Cut → Type 0
 IsCutBy old new cut.Write = HasFailed old new
-IsCutBy old new cut.Read = new.failures ≡ old.failures
-IsCutBy old new cut.Memory = new.failures ≡ old.failures
+IsCutBy old new (cut.Unread why) = new.failures ≡ old.failures
+
+-- why a trace is not read again, of what its lines or its dump say
+abbrev pub unread_of_stream : StreamFault → Unread
+unread_of_stream (stream.Line fault) = unread.Read
+unread_of_stream (stream.Read error) = unread.Read
+unread_of_stream stream.Memory = unread.Memory
+
+abbrev pub unread_of_dump : DumpFault → Unread
+unread_of_dump dump.Changed = unread.Read
+unread_of_dump dump.Memory = unread.Memory
 
 -- the text of this name is told, if it was not read
 abbrev pub IsCut : List ℕ → Seen → Seen → Refusal → Type 0

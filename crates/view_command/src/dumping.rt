@@ -3,7 +3,9 @@
 ghost use Rattle.std.specs.Prelude.{◌≡◌, ◌⊎◌, ◌-◌, ◌^◌, ◌<◌, IfErr, OnOk, string_bytes};
 ghost use Rattle.streams.specs.States.{IsFlushed, seen};
 ghost use Rattle.view_command.specs.Answers.{IsCutShort, IsRefused, IsTableRefused};
-ghost use Rattle.view_command.specs.Dumping.{IsCut, IsCutAgain, IsCutBy};
+ghost use Rattle.view_command.specs.Dumping.{IsCut, IsCutAgain, IsCutBy, unread_of_dump, unread_of_stream};
+ghost use Rattle.view_command.specs.declared.dumping.Cut.TheVariants as cut;
+ghost use Rattle.view_command.specs.declared.dumping.Unread.TheVariants as unread;
 ghost use Rattle.view_command.specs.Orders.{asked_text, number_of};
 ghost use Rattle.view_command.specs.States.{state};
 ghost use Rattle.view_command.specs.Texts.{IsTableAsked, IsTraceIn};
@@ -101,11 +103,18 @@ fn all_lines() -> Filter {
 /// Why a dump ends before its end.
 #[derive(Clone, Copy)]
 enum Cut {
-    /// The trace was not read to its end again, or is another one than before.
-    Read,
-    Memory,
+    /// The trace was not read again.
+    Unread(Unread),
     /// The output took no more bytes.
     Write,
+}
+
+/// Why a trace is not read again.
+#[derive(Clone, Copy)]
+enum Unread {
+    /// It was not read to its end, or is another one than before.
+    Read,
+    Memory,
 }
 
 /// Reads the trace to its end, and then again, and writes its dump while it reads. A trace that is no
@@ -206,8 +215,8 @@ fn write_dump<R: Read + Drop, O: Stream>(
 {
     match write_changes(alloc, reader, kept, dump, out) {
         Ok(()) => Ok(out.flush()?),
-        Err(Cut::Memory) => Err(Refusal::Memory),
-        Err(Cut::Read) => Err(Refusal::Read(name)),
+        Err(Cut::Unread(Unread::Memory)) => Err(Refusal::Memory),
+        Err(Cut::Unread(Unread::Read)) => Err(Refusal::Read(name)),
         Err(Cut::Write) => Err(Refusal::Write),
     }
 }
@@ -246,34 +255,42 @@ fn write_changes<R: Read + Drop, O: Stream>(
             text.clear();
         }
     }
-    Err(Cut::Read)
+    Err(Cut::Unread(Unread::Read))
 }
 
 impl From<StreamFault> for Cut {
+    ghost from_gives = { λ fault c. c ≡ cut.Unread (unread_of_stream fault) };
+
     fn from(fault: StreamFault) -> Self {
         match fault {
-            StreamFault::Line(_) | StreamFault::Read(_) => Cut::Read,
-            StreamFault::Memory => Cut::Memory,
+            StreamFault::Line(_) | StreamFault::Read(_) => Cut::Unread(Unread::Read),
+            StreamFault::Memory => Cut::Unread(Unread::Memory),
         }
     }
 }
 
 impl From<DumpFault> for Cut {
+    ghost from_gives = { λ fault c. c ≡ cut.Unread (unread_of_dump fault) };
+
     fn from(fault: DumpFault) -> Self {
         match fault {
-            DumpFault::Changed => Cut::Read,
-            DumpFault::Memory => Cut::Memory,
+            DumpFault::Changed => Cut::Unread(Unread::Read),
+            DumpFault::Memory => Cut::Unread(Unread::Memory),
         }
     }
 }
 
 impl From<AllocError> for Cut {
+    ghost from_gives = { λ _ c. c ≡ cut.Unread unread.Memory };
+
     fn from(_: AllocError) -> Self {
-        Cut::Memory
+        Cut::Unread(Unread::Memory)
     }
 }
 
 impl From<SinkFault> for Cut {
+    ghost from_gives = { λ _ c. c ≡ cut.Write };
+
     fn from(_: SinkFault) -> Self {
         Cut::Write
     }
