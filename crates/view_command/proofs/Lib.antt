@@ -3,4 +3,3 @@ pub mod Compared
 pub mod Found
 pub mod SoFar
 pub mod Tables
-pub mod PageTexts
