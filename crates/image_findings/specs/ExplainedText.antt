@@ -1,5 +1,5 @@
 -- The place of what is wrong with a text, as `--explain` shows it.
-use Rattle.std.specs.Prelude.{⊥, ◌≡◌, ℕ, ◌-◌, List, length, Option, Some, None}
+use Rattle.std.specs.Prelude.{ℕ, ◌-◌, List, length, Option, Some, None}
 use Rattle.module_meaning.specs.DeviceText.{pieces}
 use Rattle.finding_lines.specs.Lines.{IsAt}
 use Rattle.finding_lines.specs.Reports.{Report}
