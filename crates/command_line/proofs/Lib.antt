@@ -5,7 +5,6 @@ pub mod Found
 pub mod Linted
 pub mod Loaded
 pub mod Noted
-pub mod PageTexts
 pub mod Ran
 pub mod Read
 pub mod Replayed

@@ -7,7 +7,7 @@ use Rattle.module.specs.declared.fault.BuildFault.{BuildFault}
 use Rattle.module.specs.declared.fault.BuildFault.TheVariants as build
 use Rattle.pal_base.specs.declared.fault.PalFault.{PalFault}
 use Rattle.compiler.specs.declared.fault.CompileFault.{CompileFault}
-use Rattle.command_line.specs.Explanation.{IsSourceExplanation, length_explanation}
+use Rattle.command_line.specs.Explanation.{IsLengthExplanation, IsSourceExplanation}
 use Rattle.module.specs.Costs.{AreCosts}
 use Rattle.module.specs.declared.costing.PartitionCosts.{PartitionCosts}
 use Rattle.command_line.specs.Explained.{Costed, IsExplained, IsExplainedWith, IsLengthExplained, IsLengthExplainedWith, IsNoted, Source, costed_of, form_in, report_on, source_of}
@@ -43,8 +43,8 @@ of_costs view form table files sources name costs None are told = tt
 
 -- with the source of the partition
 pub with_costed : {A : Type 0} (view : A → List ℕ) (form : Form) (costs : List PartitionCosts) (files sources : List (List ℕ)) (name : List ℕ) (c : Costed) (r : Report) (answer : Option A)
-    → r ≡ report_on form c.file → costed_of costs files sources name ≡ Some c → IfSome answer (λ a. view a ≡ length_explanation r c.text c.bodies) → IfSome answer (λ a. IsLengthExplainedWith form costs files sources name (view a))
-with_costed view form costs files sources name c r (Some a) same is told = (c, is, told ∙ ap (λ x. length_explanation x c.text c.bodies) same)
+    → r ≡ report_on form c.file → costed_of costs files sources name ≡ Some c → IfSome answer (λ a. IsLengthExplanation r c.text c.bodies (view a)) → IfSome answer (λ a. IsLengthExplainedWith form costs files sources name (view a))
+with_costed view form costs files sources name c r (Some a) same is told = (c, is, subst (λ x. IsLengthExplanation x c.text c.bodies (view a)) same told)
 with_costed view form costs files sources name c r None same is told = tt
 
 -- of the program of a partition

@@ -55,7 +55,7 @@ pub record IsAnswer (kinds : Kinds) (order : Order) (asked : Bool) (before after
 -- The words ask for a page of the program's own words, and no file is touched; or they ask for none.
 abbrev pub IsAnswerTo : Option Page → Kinds → Order → Bool → State → State → List (List ℕ) → List (List ℕ) → Seen → Seen → ℕ → Type 0
 IsAnswerTo (Some page) kinds order asked before after old_failed new_failed old_err new_err status =
-    (after.files ≡ before.files) × (new_failed ≡ old_failed) × IsPageTold page before.out after.out old_err new_err status
+    (after.files ≡ before.files) × (new_failed ≡ old_failed) × IsPageTold before.out after.out old_err new_err status
 IsAnswerTo None kinds order asked before after old_failed new_failed old_err new_err status =
     IsAnswer kinds order asked before after old_failed new_failed old_err new_err status
 

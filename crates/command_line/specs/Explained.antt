@@ -7,7 +7,7 @@ use Rattle.finding_lines.specs.Lines.{rule_line}
 use Rattle.finding_lines.specs.Reports.{Form, Report, json, plain}
 use Rattle.image.specs.declared.fault.ImageFault.{ImageFault}
 use Rattle.module_meaning.specs.Table.{Partition, Table}
-use Rattle.command_line.specs.Explanation.{IsSourceExplanation, IsTableExplanation, length_explanation}
+use Rattle.command_line.specs.Explanation.{IsLengthExplanation, IsSourceExplanation, IsTableExplanation}
 use Rattle.command_line.specs.Files.{IsDeviceExplanation, IsImageExplanation, IsReplayExplanation}
 use Rattle.command_line.specs.Sentences.{command_sentence, device_sentence, file_sentence, image_sentence, replay_sentence, source_sentence, table_sentence}
 use Rattle.command_line.specs.declared.explanations.sentences.CommandFault.TheVariants as command
@@ -153,7 +153,7 @@ costed_of _ _ _ name = None
 -- with these costs the text explains that the program of the partition of this name is too long
 abbrev pub IsLengthExplainedWith : Form → List PartitionCosts → List (List ℕ) → List (List ℕ) → List ℕ → List ℕ → Type 0
 IsLengthExplainedWith form costs files sources name text =
-    (c : Costed) × (costed_of costs files sources name ≡ Some c) × (text ≡ length_explanation (report_on form c.file) c.text c.bodies)
+    (c : Costed) × (costed_of costs files sources name ≡ Some c) × IsLengthExplanation (report_on form c.file) c.text c.bodies text
 
 -- the text explains it with the costs of the table and the sources, which are accepted
 abbrev pub IsLengthExplained : Form → List ℕ → List (List ℕ) → List (List ℕ) → List ℕ → List ℕ → Type 0

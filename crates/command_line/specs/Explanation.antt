@@ -18,9 +18,9 @@ explanation (json rule) sentence lines = lines
 abbrev pub IsSourceExplanation : Report → ℕ → List ℕ → Refusal → List ℕ → Type 0
 IsSourceExplanation r period source refusal text = (lines : List ℕ) × source_findings.IsExplanation r period source refusal lines × (text ≡ explanation r.form (source_sentence refusal) lines)
 
--- what explains that the program of this source is too long, by the costs of its bodies: the sentence, and with which body it is
-abbrev pub length_explanation : Report → List ℕ → List BodyCost → List ℕ
-length_explanation r source bodies = explanation r.form (command_sentence command.Compile) (source_findings.length_lines r source bodies)
+-- the text explains that the program of this source is too long, by the costs of its bodies: the sentence, and with which body it is
+abbrev pub IsLengthExplanation : Report → List ℕ → List BodyCost → List ℕ → Type 0
+IsLengthExplanation r source bodies text = (lines : List ℕ) × source_findings.IsOfLength r source bodies lines × (text ≡ explanation r.form (command_sentence command.Compile) lines)
 
 -- the text explains the refusal of a table by this rule: the sentence, and what is wrong with this table
 abbrev pub IsTableExplanation : Report → List ℕ → TableFault → List ℕ → Type 0

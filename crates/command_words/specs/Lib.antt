@@ -3,5 +3,4 @@ pub mod Grammar
 pub mod Found
 pub mod Numbers
 pub mod Told
-pub mod Completion
 pub mod Pages

@@ -1,8 +1,6 @@
--- The pages that a program writes about its own words, and the words that ask for them.
-use Rattle.std.specs.Prelude.{◌≡◌, ◌&&◌, ℕ, List, [], ◌∷◌, Option, Some, None, codes, if◌then◌else◌}
+-- The words that ask for the pages that a program writes about its own words.
+use Rattle.std.specs.Prelude.{◌&&◌, ℕ, List, [], ◌∷◌, Option, Some, None, codes, if◌then◌else◌}
 use Rattle.std.specs.Str.{bytes_eq}
-use Rattle.clap.specs.Simple.{App, built}
-use Rattle.command_words.specs.Completion.{completion}
 use Rattle.command_words.specs.declared.page.Page.{Page}
 use Rattle.command_words.specs.declared.page.Page.TheVariants.{Manual, Bash}
 
@@ -18,12 +16,3 @@ abbrev pub page_of : List (List ℕ) → Option Page
 page_of (program ∷ help ∷ page ∷ []) = manual_of help page
 page_of (program ∷ help ∷ page ∷ shell ∷ []) = completion_of help page shell
 page_of words = None
-
--- The text of a page, where the library of command lines has added its own words. What a manual page contains is not specified.
-abbrev pub IsBuiltText : Page → App → List ℕ → Type 0
-IsBuiltText Manual app text = Unit {0}
-IsBuiltText Bash app text = text ≡ completion app
-
--- the text of a page of a program with these commands
-abbrev pub IsPageText : Page → App → List ℕ → Type 0
-IsPageText page app text = IsBuiltText page (built app) text

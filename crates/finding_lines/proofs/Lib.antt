@@ -1,3 +1,4 @@
 pub mod Noted
+pub mod Reported
 pub mod Steps
 pub mod Turns

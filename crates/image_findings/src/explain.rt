@@ -14,6 +14,9 @@ use finding_lines::{Report, byte_lines, file_lines};
 use image::{ImageFault, load_image};
 use std::alloc::{AllocError, Global};
 
+/// What is advised where values do not fit one another.
+const CHANGED: &str = "Bytes of the image were changed: build it anew.";
+
 /// What is wrong with the bytes of an image: the byte at which it was seen, what it is, and what to
 /// do. There is nothing to say of an image that is accepted, and nothing is said if memory runs out.
 pub fn explain_image(alloc: Global, report: Report<'_>, bytes: &[u8]) -> Option<String>
@@ -32,26 +35,21 @@ fn fault_lines(alloc: Global, report: Report<'_>, bytes: &[u8], fault: ImageFaul
     ensures { IfSome result (λ lines. spec.IsExplanation (report_of report.entry) bytes.now (string_bytes lines)) }
 {
     match fault {
-        ImageFault::Truncated => cut_lines(alloc, report, bytes.len()).ok(),
+        ImageFault::Truncated => {
+            let said = "the file ends here, within the image";
+            let advice = "Copy the whole file, or build the image anew.";
+            byte_lines(alloc, report, bytes.len(), said, advice).ok()
+        }
         ImageFault::Foreign => foreign_lines(alloc, report, bytes).ok(),
         ImageFault::Limit => limit_lines(alloc, report, bytes).ok(),
-        ImageFault::Order => order_lines(alloc, report, bytes).ok(),
+        ImageFault::Order => {
+            let said =
+                "the name that ends with this byte was used before, or the window begins too early";
+            seen_lines(alloc, report, bytes, said).ok()
+        }
         ImageFault::Trailing => trailing_lines(alloc, report, bytes).ok(),
         ImageFault::Memory => None,
     }
-}
-
-/// That the bytes end within a field.
-fn cut_lines(alloc: Global, report: Report<'_>, length: usize) -> Result<String, AllocError>
-    ensures { IfOk result (λ lines. string_bytes lines ≡ spec.cut_lines (report_of report.entry) length) }
-{
-    byte_lines(
-        alloc,
-        report,
-        length,
-        "the file ends here, within the image",
-        "Copy the whole file, or build the image anew.",
-    )
 }
 
 /// That a value is outside its limit, or that all of them break a rule together.
@@ -65,7 +63,6 @@ fn limit_lines(alloc: Global, report: Report<'_>, bytes: &[u8]) -> Result<String
 }
 
 /// The same, by whether all fields are there.
-#[tactic(auto, using(crate::proofs::Told::of_value))]
 fn limit_lines_if(
     alloc: Global,
     report: Report<'_>,
@@ -76,57 +73,28 @@ fn limit_lines_if(
     ensures { IfOk result (λ lines. spec.IsOfLimitIf all (report_of report.entry) bytes.now (string_bytes lines)) }
 {
     if all {
-        rule_lines(alloc, report)
+        let said =
+            "each value is within its limit, and together they break a rule of the module table";
+        file_lines(alloc, report, said, CHANGED)
     } else {
-        let place = seen_at(alloc, bytes)?;
-        limit_lines_at(alloc, report, place)
+        let said = "the value that ends with this byte is outside its limit";
+        seen_lines(alloc, report, bytes, said)
     }
 }
 
-fn rule_lines(alloc: Global, report: Report<'_>) -> Result<String, AllocError>
-    ensures { IfOk result (λ lines. string_bytes lines ≡ spec.rule_lines (report_of report.entry)) }
-{
-    file_lines(
-        alloc,
-        report,
-        "each value is within its limit, and together they break a rule of the module table",
-        "Bytes of the image were changed: build it anew.",
-    )
-}
-
-fn limit_lines_at(alloc: Global, report: Report<'_>, place: usize) -> Result<String, AllocError>
-    ensures { IfOk result (λ lines. string_bytes lines ≡ spec.limit_lines_at (report_of report.entry) place) }
-{
-    byte_lines(
-        alloc,
-        report,
-        place,
-        "the value that ends with this byte is outside its limit",
-        "Bytes of the image were changed: build it anew.",
-    )
-}
-
-/// That a name is repeated, or a window begins too early.
-#[tactic(auto, using(crate::proofs::Told::of_order))]
-fn order_lines(alloc: Global, report: Report<'_>, bytes: &[u8]) -> Result<String, AllocError>
+/// That the byte with which the fault was seen ends something wrong.
+#[tactic(auto, using(crate::proofs::Told::of_seen))]
+fn seen_lines(
+    alloc: Global,
+    report: Report<'_>,
+    bytes: &[u8],
+    said: &str,
+) -> Result<String, AllocError>
     requires { is_truncated (image_at bytes.now) ≡ false }
-    ensures { IfOk result
-        (λ lines. spec.IsOfOrder (report_of report.entry) bytes.now (string_bytes lines)) }
+    ensures { IfOk result (λ lines. spec.IsOfSeen (report_of report.entry) bytes.now (string_bytes lines)) }
 {
     let place = seen_at(alloc, bytes)?;
-    order_lines_at(alloc, report, place)
-}
-
-fn order_lines_at(alloc: Global, report: Report<'_>, place: usize) -> Result<String, AllocError>
-    ensures { IfOk result (λ lines. string_bytes lines ≡ spec.order_lines_at (report_of report.entry) place) }
-{
-    byte_lines(
-        alloc,
-        report,
-        place,
-        "the name that ends with this byte was used before, or the window begins too early",
-        "Bytes of the image were changed: build it anew.",
-    )
+    byte_lines(alloc, report, place, said, CHANGED)
 }
 
 /// How many bytes the image has, and how many the file.
@@ -137,30 +105,8 @@ fn trailing_lines(alloc: Global, report: Report<'_>, bytes: &[u8]) -> Result<Str
         (λ lines. spec.IsOfTrailing (report_of report.entry) bytes.now (string_bytes lines)) }
 {
     let place = seen_at(alloc, bytes)?;
-    trailing_lines_at(alloc, report, place.saturating_add(1), bytes.len())
-}
-
-fn trailing_lines_at(
-    alloc: Global,
-    report: Report<'_>,
-    image: usize,
-    length: usize,
-) -> Result<String, AllocError>
-    ensures { IfOk result
-        (λ lines. string_bytes lines ≡ spec.trailing_lines_at (report_of report.entry) image length) }
-{
-    let said = trailing_text(alloc, image, length)?;
-    byte_lines(
-        alloc,
-        report,
-        image,
-        said.as_str(),
-        "Leave out what follows the image, or build it anew.",
-    )
-}
-
-fn trailing_text(alloc: Global, image: usize, length: usize) -> Result<String, AllocError>
-    ensures { IfOk result (λ text. string_bytes text ≡ spec.trailing_text image length) }
-{
-    format!(in alloc; "the image has {image} bytes, and the file {length}")
+    let (image, length) = (place.saturating_add(1), bytes.len());
+    let said = format!(in alloc; "the image has {image} bytes, and the file {length}")?;
+    let advice = "Leave out what follows the image, or build it anew.";
+    byte_lines(alloc, report, image, said.as_str(), advice)
 }

@@ -1,14 +1,15 @@
 //! The lines of what is wrong with a text.
 
-ghost use Rattle.std.specs.Prelude.{◌≡◌, IfOk, option_map, string_bytes};
+ghost use Rattle.std.specs.Prelude.{◌-◌, IfOk, length, option_map, string_bytes};
+ghost use Rattle.finding_lines.specs.Lines.{IsAt};
 ghost use Rattle.finding_lines.specs.Reports.{report_of};
 ghost use Rattle.image_findings.specs.ExplainedText as spec;
-ghost use Rattle.image_findings.specs.Views.{names_of, wrong_of};
+ghost use Rattle.image_findings.specs.Views.{names_of};
 
 use crate::finding::Wrong;
 use crate::first::first_wrong;
 use crate::names::Names;
-use crate::phrases::{advice, said};
+use crate::phrases::{Said, advice};
 use finding_lines::{Report, lines_at};
 use std::alloc::{AllocError, Global};
 
@@ -25,8 +26,8 @@ pub fn explain_text(
     text: &[u8],
 ) -> Result<Option<String>, AllocError>
     ensures { IfOk result
-        (λ lines. option_map string_bytes lines
-        ≡ spec.explanation (report_of report.entry) (names_of names.now) text.now) }
+        (λ lines. spec.IsExplanation (report_of report.entry) (names_of names.now) text.now
+        (option_map string_bytes lines)) }
 {
     match first_wrong(alloc, names, text)? {
         Some(wrong) => Ok(Some(wrong_lines(alloc, report, names, text, wrong)?)),
@@ -43,10 +44,14 @@ fn wrong_lines(
     wrong: Wrong<'_>,
 ) -> Result<String, AllocError>
     ensures { IfOk result
-        (λ lines. string_bytes lines
-        ≡ spec.wrong_lines (report_of report.entry) (names_of names.now) text.now (wrong_of wrong.entry)) }
+        (λ lines. IsAt (report_of report.entry) text.now (length text.now - wrong.entry.left)
+        (string_bytes lines)) }
 {
-    let said = said(alloc, names.kind, wrong.what)?;
+    let said = Said {
+        kind: names.kind,
+        what: wrong.what,
+    };
+    let said = format!(in alloc; "{said}")?;
     let advice = advice(alloc, names, wrong.what)?;
     let offset = text.len().saturating_sub(wrong.left);
     lines_at(alloc, report, text, offset, said.as_str(), advice.as_str())

@@ -3,11 +3,9 @@ pub mod Explained
 pub mod Frames
 pub mod Judged
 pub mod Lengths
-pub mod Phrases
 pub mod Roles
 pub mod Tally
 pub mod Texts
-pub mod Unfit
 pub mod Views
 pub mod Walk
 pub mod Wanted

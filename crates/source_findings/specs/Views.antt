@@ -4,9 +4,7 @@ use Rattle.pal_base.specs.View.{texts}
 use Rattle.source_findings.specs.Judged as spec_judged
 use Rattle.source_findings.specs.Roles as spec_roles
 use Rattle.source_findings.specs.Tally as spec_tally
-use Rattle.source_findings.specs.Wanted as spec_wanted
 use Rattle.source_findings.specs.What as spec_what
-use Rattle.source_findings.specs.declared.choices.Choice.{Choice}
 use Rattle.source_findings.specs.declared.finding.What.{What}
 use Rattle.source_findings.specs.declared.finding.What.TheVariants as what
 use Rattle.source_findings.specs.declared.finding.Wrong.{Wrong}
@@ -58,6 +56,3 @@ names_of j = texts j.names.now.keys
 
 abbrev pub tally_of : Tally → spec_tally.Tally
 tally_of t = record { words = t.words; semaphores = t.semaphores; events = t.events; buffers = t.buffers; blackboards = t.blackboards; ports = t.ports; procedures = t.procedures }
-
-abbrev pub choice_of : Choice → spec_wanted.Choice
-choice_of choice = record { said = choice.phrase.now; told_by = choice.words.now }

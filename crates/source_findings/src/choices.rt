@@ -1,10 +1,5 @@
 //! What is said of the words that fit where a text leaves the grammar.
 
-ghost use Rattle.std.specs.Prelude.{◌≡◌, map};
-ghost use Rattle.std.specs.List.{list_all};
-ghost use Rattle.source_findings.specs.Views.{choice_of};
-ghost use Rattle.source_findings.specs.Wanted as spec;
-
 use crate::words::{is_among, word_phrase};
 use pal_base::looking::{LookedFor, WordKind};
 use pal_base::mark::Mark;
@@ -133,55 +128,24 @@ static CHOICES: [Choice; 21] = [
     },
 ];
 
-/// What is said of the words that fit at a place.
-pub fn wanted(place: &LookedFor) -> &'static str
-    ensures { result.now ≡ spec.wanted place.now }
-{
+/// What is said of the words that fit at a place: the first choice of which all words could fit, with
+/// one more level if necessary, or else the first word.
+pub fn wanted(place: &LookedFor) -> &'static str {
     if place.is_too_deep {
-        "a text of at most 64 levels"
-    } else {
-        first_said(place, choices())
+        return "a text of at most 64 levels";
     }
-}
-
-#[tactic(auto, unfolding(crate::specs::Wanted::choices))]
-fn choices() -> &'static [Choice]
-    ensures { map choice_of result.now ≡ spec.choices }
-{
-    &CHOICES
-}
-
-/// What is said of the first of these choices that fits, or else of the first word that fits there.
-#[tactic(auto, using(std::proofs::lemmas::List::drop_more))]
-fn first_said(place: &LookedFor, choices: &[Choice]) -> &'static str
-    ensures { result.now ≡ spec.first_said place.now (map choice_of choices.now) }
-{
-    for choice in choices {
-        if all_could_stand(place, choice.words) {
+    for choice in &CHOICES {
+        if choice.words.iter().all(|kind| could_stand(place, *kind)) {
             return choice.phrase;
         }
     }
-    first_phrase(place.words.as_slice())
-}
-
-fn all_could_stand(place: &LookedFor, words: &[WordKind]) -> bool
-    ensures { result ≡ list_all (spec.could_stand place.now) words.now }
-{
-    words.iter().all(|kind| could_stand(place, *kind))
-}
-
-/// Returns true if a word of this kind fits there, with one more level if necessary.
-fn could_stand(place: &LookedFor, kind: WordKind) -> bool
-    ensures { result ≡ spec.could_stand place.now kind }
-{
-    is_among(kind, place.words.as_slice()) || is_among(kind, place.deeper.as_slice())
-}
-
-fn first_phrase(kinds: &[WordKind]) -> &'static str
-    ensures { result.now ≡ spec.first_phrase kinds.now }
-{
-    match kinds.first() {
+    match place.words.as_slice().first() {
         Some(kind) => word_phrase(*kind),
         None => "a text of the grammar",
     }
+}
+
+/// Returns true if a word of this kind fits there, with one more level if necessary.
+fn could_stand(place: &LookedFor, kind: WordKind) -> bool {
+    is_among(kind, place.words.as_slice()) || is_among(kind, place.deeper.as_slice())
 }

@@ -1,6 +1,7 @@
 //! The lines of what is wrong with a source.
 
-ghost use Rattle.std.specs.Prelude.{◌≡◌, IfOk, IfSome, Some, string_bytes};
+ghost use Rattle.std.specs.Prelude.{IfOk, IfSome, Some, string_bytes};
+ghost use Rattle.finding_lines.specs.Lines.{IsAt};
 ghost use Rattle.pal_base.specs.Next.{IsLookedFor};
 ghost use Rattle.pal_base.specs.WrittenView.{program_of};
 ghost use Rattle.pal_meaning.specs.Grammar.{IsProgramOf};
@@ -8,13 +9,12 @@ ghost use Rattle.source_findings.specs.Bodies.{wrongs};
 ghost use Rattle.finding_lines.specs.Reports.{report_of};
 ghost use Rattle.source_findings.specs.Explained as spec;
 ghost use Rattle.source_findings.specs.Texts.{text_wrongs};
-ghost use Rattle.source_findings.specs.Unfit.{unfit_lines};
 ghost use Rattle.source_findings.specs.Views.{wrong_of, wrongs_of};
 
 use crate::declarations::wrongs;
 use crate::finding::Wrong;
 use crate::lengths::length_wrongs;
-use crate::phrases::{advice, said};
+use crate::phrases::Advice;
 use crate::texts::text_wrongs;
 use crate::unfit::unfit_lines;
 use finding_lines::{Report, lines_at};
@@ -55,7 +55,7 @@ pub fn explain_length(
     bodies: &[BodyCost],
 ) -> Option<String>
     ensures { IfSome result
-        (λ lines. string_bytes lines ≡ spec.length_lines (report_of report.entry) text.now bodies.now) }
+        (λ lines. spec.IsOfLength (report_of report.entry) text.now bodies.now (string_bytes lines)) }
 {
     let found = length_wrongs(alloc, text, bodies).ok()?;
     all_lines(alloc, report, text, found.as_slice()).ok()
@@ -64,7 +64,7 @@ pub fn explain_length(
 /// What is wrong with a text that is no source.
 fn text_lines(alloc: Global, report: Report<'_>, text: &[u8]) -> Option<String>
     ensures { IfSome result
-        (λ lines. string_bytes lines ≡ spec.all_lines (report_of report.entry) text.now (text_wrongs text.now)) }
+        (λ lines. spec.AreOf (report_of report.entry) text.now (text_wrongs text.now) (string_bytes lines)) }
 {
     let found = text_wrongs(alloc, text).ok()?;
     all_lines(alloc, report, text, found.as_slice()).ok()
@@ -91,7 +91,7 @@ fn unfit_place(alloc: Global, text: &[u8]) -> Option<LookedFor>
 /// The lines of the place where a text leaves the grammar.
 fn place_lines(alloc: Global, report: Report<'_>, text: &[u8], place: &LookedFor) -> Option<String>
     ensures { IfSome result
-        (λ lines. string_bytes lines ≡ unfit_lines (report_of report.entry) text.now place.now) }
+        (λ lines. IsAt (report_of report.entry) text.now (spec.unfit_offset text.now place.now) (string_bytes lines)) }
 {
     unfit_lines(alloc, report, text, place).ok()
 }
@@ -131,17 +131,14 @@ fn broken_lines(
     program: &Program,
 ) -> Option<String>
     ensures { IfSome result
-        (λ lines.
-        string_bytes lines
-        ≡ spec.all_lines (report_of report.entry) text.now
-        (wrongs rule period text.now (program_of program.now))) }
+        (λ lines. spec.AreOf (report_of report.entry) text.now
+        (wrongs rule period text.now (program_of program.now)) (string_bytes lines)) }
 {
     let found = wrongs(alloc, rule, period, text, program).ok()?;
     all_lines(alloc, report, text, found.as_slice()).ok()
 }
 
 /// The lines of all places.
-#[tactic(auto, using(std::proofs::lemmas::List::drop_more, std::proofs::lemmas::List::append_assoc, crate::proofs::Lists::append_nil))]
 fn all_lines(
     alloc: Global,
     report: Report<'_>,
@@ -149,7 +146,7 @@ fn all_lines(
     found: &[Wrong<'_>],
 ) -> Result<String, AllocError>
     ensures { IfOk result
-        (λ lines. string_bytes lines ≡ spec.all_lines (report_of report.entry) text.now (wrongs_of found.now)) }
+        (λ lines. spec.AreOf (report_of report.entry) text.now (wrongs_of found.now) (string_bytes lines)) }
 {
     let mut lines = String::new(alloc);
     for wrong in found {
@@ -166,10 +163,11 @@ fn wrong_lines(
     wrong: Wrong<'_>,
 ) -> Result<String, AllocError>
     ensures { IfOk result
-        (λ lines. string_bytes lines ≡ spec.wrong_lines (report_of report.entry) text.now (wrong_of wrong.entry)) }
+        (λ lines. IsAt (report_of report.entry) text.now
+        (spec.offset_of text.now (wrong_of wrong.entry)) (string_bytes lines)) }
 {
-    let said = said(alloc, wrong.what)?;
-    let advice = advice(alloc, wrong.what)?;
+    let (said, advice) = (wrong.what, Advice(wrong.what));
+    let (said, advice) = (format!(in alloc; "{said}")?, format!(in alloc; "{advice}")?);
     let offset = text.len().saturating_sub(wrong.left);
     lines_at(alloc, report, text, offset, said.as_str(), advice.as_str())
 }

@@ -1,10 +1,9 @@
 -- The findings of a table as `--explain` shows them.
-use Rattle.std.specs.Prelude.{ℕ, ◌-◌, Bool, true, false, if◌then◌else◌, List, [], ◌∷◌, ◌++◌, flat_map, length, Option, Some, None, take}
-use Rattle.finding_lines.specs.Lines as lines
+use Rattle.std.specs.Prelude.{ℕ, ◌-◌, Bool, true, false, if◌then◌else◌, List, [], ◌∷◌, ◌++◌, length, map, Option, Some, None, take}
+use Rattle.finding_lines.specs.Lines.{AreAt}
 use Rattle.finding_lines.specs.Reports.{Report}
 use Rattle.finding_lines.specs.Entries.{Entry, Path, first_at, key}
 use Rattle.table_findings.specs.Findings.{Finding, Missing, Unknown, What}
-use Rattle.table_findings.specs.Phrases.{advice, finding_text}
 use Rattle.table_findings.specs.Subjects.{subject_path}
 
 -- ---- the place of a finding
@@ -32,14 +31,8 @@ left_at whole what (Some e) = if is_of_key what then e.key_left else e.value_lef
 abbrev pub offset_of : List ℕ → List Entry → Finding → ℕ
 offset_of text es f = length text - left_at (length text) f.what (first_at (finding_path f) es)
 
--- ---- its lines
+-- ---- the lines
 
-abbrev pub lines_at : Report → List ℕ → ℕ → Finding → List ℕ
-lines_at r text offset f = lines.lines_at r text offset (finding_text f) (advice f.key f.what)
-
-abbrev pub lines_of : Report → List ℕ → List Entry → Finding → List ℕ
-lines_of r text es f = lines_at r text (offset_of text es f) f
-
--- the lines of the first twenty findings
-abbrev pub findings_text : Report → List ℕ → List Entry → List Finding → List ℕ
-findings_text r text es found = flat_map (lines_of r text es) (take 20 found)
+-- the lines report the places of the first twenty findings, one after another
+abbrev pub AreOf : Report → List ℕ → List Entry → List Finding → List ℕ → Type 0
+AreOf r text es found lines = AreAt r text (map (offset_of text es) (take 20 found)) lines

@@ -7,7 +7,6 @@ pub mod Findings
 pub mod Health
 pub mod Limits
 pub mod Names
-pub mod Phrases
 pub mod Refused
 pub mod Schedule
 pub mod Shape

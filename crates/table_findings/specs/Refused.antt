@@ -1,6 +1,6 @@
 -- What is wrong with a table that is refused.
-use Rattle.std.specs.Prelude.{◌≡◌, ◌⊎◌, ℕ, ◌≤◌, List, [], codes, length, Some, None}
-use Rattle.finding_lines.specs.Lines.{lines_at}
+use Rattle.std.specs.Prelude.{◌≡◌, ◌⊎◌, ℕ, ◌≤◌, List, [], length, Some, None}
+use Rattle.finding_lines.specs.Lines.{IsAt}
 use Rattle.finding_lines.specs.Reports.{Report}
 use Rattle.finding_lines.specs.Entries.{Entry, entries}
 use Rattle.toml.specs.Data.{Members}
@@ -8,7 +8,7 @@ use Rattle.module_meaning.specs.Accepted.{IsDocument}
 use Rattle.module_meaning.specs.TableRules.{TableText, table_text_of}
 use Rattle.table_findings.specs.Durations.{short_periods}
 use Rattle.table_findings.specs.Ends.{ends}
-use Rattle.table_findings.specs.Explained.{findings_text}
+use Rattle.table_findings.specs.Explained.{AreOf}
 use Rattle.table_findings.specs.Findings.{Finding}
 use Rattle.table_findings.specs.Health.{health}
 use Rattle.table_findings.specs.Limits.{limits}
@@ -38,17 +38,13 @@ findings fault.Shape ms = shape ms
 findings fault.Health ms = health ms
 findings f ms = findings_with f ms
 
--- the lines of the first twenty findings of a document
+-- the lines report the first twenty findings of a document
 abbrev pub IsOfDocument : Report → List ℕ → Members → TableFault → List ℕ → Type 0
-IsOfDocument r text ms f lines = (es : List Entry) × (entries text ≡ Some es) × (lines ≡ findings_text r text es (findings f ms))
+IsOfDocument r text ms f lines = (es : List Entry) × (entries text ≡ Some es) × AreOf r text es (findings f ms) lines
 
--- that the reading of a document ended at an offset, in these words
-abbrev pub ended_at : Report → List ℕ → ℕ → List ℕ → List ℕ
-ended_at r bytes offset said = lines_at r bytes offset said (codes "The text is TOML up to this place.")
-
--- where the reading of a text ended, in the words of its reader
+-- they report the place where the reading of a text ended
 abbrev pub IsEnded : Report → List ℕ → List ℕ → Type 0
-IsEnded r bytes lines = (offset : ℕ) × (said : List ℕ) × (offset ≤ length bytes) × (lines ≡ ended_at r bytes offset said)
+IsEnded r bytes lines = (offset : ℕ) × (offset ≤ length bytes) × IsAt r bytes offset lines
 
 -- a text that is no document has the place where its reading ended; a document has its findings
 abbrev pub IsExplanation : Report → List ℕ → TableFault → List ℕ → Type 0

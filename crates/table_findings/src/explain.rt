@@ -1,6 +1,6 @@
 //! What is wrong with a table that is refused.
 
-ghost use Rattle.std.specs.Prelude.{◌≡◌, ◌++◌, IfOk, IfSome, OnSome, string_bytes};
+ghost use Rattle.std.specs.Prelude.{◌≡◌, ◌++◌, IfSome, OnSome, string_bytes};
 ghost use Rattle.finding_lines.specs.Reports.{report_of};
 ghost use Rattle.toml.specs.Errors.{IsMemory, IsWithin};
 ghost use Rattle.toml.specs.View.{table_view};
@@ -19,7 +19,7 @@ use crate::repeated::repeated_names;
 use crate::schedule::{odd_periods, overlaps, without_release};
 use crate::unknown::unknown_names;
 use finding_lines::{Report, TomlPlaces, lines_at};
-use std::alloc::{AllocError, Global};
+use std::alloc::Global;
 use toml::Table;
 use toml::de::Error;
 use window_table::{TableFault, WrittenTable, read_written};
@@ -52,29 +52,8 @@ fn explain_error(alloc: Global, report: Report<'_>, bytes: &[u8], error: &Error)
     ensures text { IfSome result (λ lines. ¬ IsMemory error.now) }
 {
     let span = error.span()?;
-    ended_at(alloc, report, bytes, span.start, error.message()).ok()
-}
-
-/// That the reading of a document ended at an offset, in these words.
-fn ended_at(
-    alloc: Global,
-    report: Report<'_>,
-    bytes: &[u8],
-    offset: usize,
-    said: &str,
-) -> Result<String, AllocError>
-    ensures { IfOk result
-        (λ lines. string_bytes lines
-        ≡ spec.ended_at (report_of report.entry) bytes.now offset said.now) }
-{
-    lines_at(
-        alloc,
-        report,
-        bytes,
-        offset,
-        said,
-        "The text is TOML up to this place.",
-    )
+    let advice = "The text is TOML up to this place.";
+    lines_at(alloc, report, bytes, span.start, error.message(), advice).ok()
 }
 
 /// The findings of a document.

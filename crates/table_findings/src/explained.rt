@@ -1,15 +1,16 @@
 //! The findings of a table, each with its place, the line there, and advice.
 
-ghost use Rattle.std.specs.Prelude.{◌≡◌, flat_map, IfOk, option_map, string_bytes, take};
+ghost use Rattle.std.specs.Prelude.{◌≡◌, IfOk, map, option_map, string_bytes, take};
+ghost use Rattle.finding_lines.specs.Lines.{AreAt, IsAt};
 ghost use Rattle.finding_lines.specs.Reports.{report_of};
 ghost use Rattle.finding_lines.specs.Views.{entries_in, entry_of, path_of};
 ghost use Rattle.table_findings.specs.Explained as spec;
 ghost use Rattle.table_findings.specs.Views.{finding_of, findings_of, what_of};
 
 use crate::finding::{Finding, What};
-use crate::phrases::{advice, finding_text};
+use crate::phrases::Advice;
 use crate::subject::{push_key, subject_path};
-use finding_lines::{Entry, Report, Step, TomlPlaces};
+use finding_lines::{Entry, Report, Step, TomlPlaces, lines_at};
 use std::alloc::{AllocError, Global};
 
 /// The most findings that are shown.
@@ -28,9 +29,8 @@ pub fn findings_text(
     found: &[Finding<'_>],
 ) -> Result<String, AllocError>
     ensures { IfOk result
-        (λ lines. string_bytes lines
-        ≡ spec.findings_text (report_of report.entry) text.now (entries_in places.now)
-        (findings_of found.now)) }
+        (λ lines. spec.AreOf (report_of report.entry) text.now (entries_in places.now)
+        (findings_of found.now) (string_bytes lines)) }
 {
     all_lines(alloc, report, text, places, first_findings(found))
 }
@@ -45,7 +45,6 @@ fn first_findings<'f, 'a>(found: &'f [Finding<'a>]) -> &'f [Finding<'a>]
 }
 
 /// The lines of findings.
-#[tactic(auto, using(std::proofs::lemmas::List::drop_more, std::proofs::lemmas::List::append_assoc, crate::proofs::Steps::append_nil))]
 fn all_lines(
     alloc: Global,
     report: Report<'_>,
@@ -54,10 +53,9 @@ fn all_lines(
     found: &[Finding<'_>],
 ) -> Result<String, AllocError>
     ensures { IfOk result
-        (λ lines. string_bytes lines
-        ≡ flat_map
-        (spec.lines_of (report_of report.entry) text.now (entries_in places.now))
-        (findings_of found.now)) }
+        (λ lines. AreAt (report_of report.entry) text.now
+        (map (spec.offset_of text.now (entries_in places.now)) (findings_of found.now))
+        (string_bytes lines)) }
 {
     let mut lines = String::new(alloc);
     for finding in found {
@@ -75,45 +73,26 @@ fn lines_of(
     finding: Finding<'_>,
 ) -> Result<String, AllocError>
     ensures { IfOk result
-        (λ lines. string_bytes lines
-        ≡ spec.lines_of (report_of report.entry) text.now (entries_in places.now)
-        (finding_of finding.entry)) }
-{
-    let offset = offset_of(alloc, text, places, finding)?;
-    lines_at(alloc, report, text, offset, finding)
-}
-
-fn lines_at(
-    alloc: Global,
-    report: Report<'_>,
-    text: &str,
-    offset: usize,
-    finding: Finding<'_>,
-) -> Result<String, AllocError>
-    ensures { IfOk result
-        (λ lines. string_bytes lines
-        ≡ spec.lines_at (report_of report.entry) text.now offset (finding_of finding.entry)) }
-{
-    let said = finding_text(alloc, finding)?;
-    let advice = advice(alloc, finding.key, finding.what)?;
-    let (said, advice) = (said.as_str(), advice.as_str());
-    finding_lines::lines_at(alloc, report, text.as_bytes(), offset, said, advice)
-}
-
-/// How much of the text is before the place of a finding.
-fn offset_of(
-    alloc: Global,
-    text: &str,
-    places: &TomlPlaces,
-    finding: Finding<'_>,
-) -> Result<usize, AllocError>
-    ensures { IfOk result
-        (λ offset. offset
-        ≡ spec.offset_of text.now (entries_in places.now) (finding_of finding.entry)) }
+        (λ lines. IsAt (report_of report.entry) text.now
+        (spec.offset_of text.now (entries_in places.now) (finding_of finding.entry))
+        (string_bytes lines)) }
 {
     let path = finding_path(alloc, finding)?;
     let left = left_at(text.len(), finding.what, places.first_at(path.as_slice()));
-    Ok(text.len().saturating_sub(left))
+    let offset = text.len().saturating_sub(left);
+    let advice = Advice(finding);
+    let (said, advice) = (
+        format!(in alloc; "{finding}")?,
+        format!(in alloc; "{advice}")?,
+    );
+    lines_at(
+        alloc,
+        report,
+        text.as_bytes(),
+        offset,
+        said.as_str(),
+        advice.as_str(),
+    )
 }
 
 /// The key path of a finding.

@@ -3,5 +3,4 @@ pub mod Compared
 pub mod Found
 pub mod SoFar
 pub mod Tables
-pub mod PageTexts
 pub mod Dumped

@@ -187,7 +187,7 @@ pub record IsAnswer (kinds : Kinds) (entered : Entered) (texts : Option Contents
 -- The words ask for a page of the program's own words, and no text is opened; or they ask for none.
 abbrev pub IsAnswerTo : Option Page → Kinds → Entered → Option Contents → State → State → Seen → Seen → ℕ → Type 0
 IsAnswerTo (Some page) kinds entered texts before after old_err new_err status =
-    (after.unopened ≡ before.unopened) × IsPageTold page before.out after.out old_err new_err status
+    (after.unopened ≡ before.unopened) × IsPageTold before.out after.out old_err new_err status
 IsAnswerTo None kinds entered texts before after old_err new_err status = IsAnswer kinds entered texts before after old_err new_err status
 
 -- ---- the report of an outcome

@@ -1,7 +1,7 @@
 //! The explanations of a refused source, of a program that is too long, and of a refused table.
 
-ghost use Rattle.std.specs.Prelude.{◌≡◌, IfSome, string_bytes};
-ghost use Rattle.command_line.specs.Explanation.{IsSourceExplanation, IsTableExplanation, length_explanation};
+ghost use Rattle.std.specs.Prelude.{IfSome, string_bytes};
+ghost use Rattle.command_line.specs.Explanation.{IsLengthExplanation, IsSourceExplanation, IsTableExplanation};
 ghost use Rattle.finding_lines.specs.Reports.{report_of};
 
 use crate::explanations::report::explanation;
@@ -43,7 +43,7 @@ pub fn explain_length(
 ) -> Option<String>
     ensures { IfSome result
         (λ text.
-        string_bytes text ≡ length_explanation (report_of report.entry) source.now bodies.now) }
+        IsLengthExplanation (report_of report.entry) source.now bodies.now (string_bytes text)) }
 {
     let lines = source_findings::explain_length(alloc, report, source, bodies)?;
     let sentence = command_sentence(CommandFault::Compile);
