@@ -9,35 +9,26 @@ use std::alloc::{AllocError, Global};
 ///
 /// Only if memory runs out.
 pub fn manual(alloc: Global, program: &Command<'_>) -> Result<String, AllocError> {
-    let head = head(alloc, program)?;
-    let options = arguments(alloc, program.get_arguments())?;
-    let commands = commands(alloc, program)?;
-    let foot = foot(alloc, program.get_name())?;
-    let (head, options) = (head.as_str(), options.as_str());
-    let (commands, foot) = (commands.as_str(), foot.as_str());
-    format!(in alloc; "{head}.SH OPTIONS\n{options}.SH COMMANDS\n{commands}{foot}")
-}
-
-/// The title, the name with what the program does, and the synopsis.
-fn head(alloc: Global, program: &Command<'_>) -> Result<String, AllocError> {
     let name = program.get_name();
     let version = program.get_version().unwrap_or("");
     let about = escaped(alloc, program.get_about().unwrap_or(""))?;
-    let about = about.as_str();
+    let options = arguments(alloc, program.get_arguments())?;
+    let mut commands = String::new(alloc);
+    for command in program.get_subcommands() {
+        commands.push_str(&command_lines(alloc, name, command)?)?;
+    }
+    let (about, options, commands) = (about.as_str(), options.as_str(), commands.as_str());
     format!(in alloc;
         ".TH {name} 1 \"\" \"{name} {version}\" \"\"\n\
          .SH NAME\n{name} \\- {about}\n\
-         .SH SYNOPSIS\n.B {name}\n[\\fIOPTION\\fR...] [\\fICOMMAND\\fR [\\fIWORD\\fR...]]\n"
+         .SH SYNOPSIS\n.B {name}\n[\\fIOPTION\\fR...] [\\fICOMMAND\\fR [\\fIWORD\\fR...]]\n\
+         .SH OPTIONS\n{options}\
+         .SH COMMANDS\n{commands}\
+         .SH PAGES\n\
+         .TP\n\\fB{name} help \\-\\-man\\fR\nWrites this page.\n\
+         .TP\n\\fB{name} help \\-\\-completion bash\\fR\n\
+         Writes the completion of these words for bash.\n"
     )
-}
-
-/// The commands of a program.
-fn commands(alloc: Global, program: &Command<'_>) -> Result<String, AllocError> {
-    let mut text = String::new(alloc);
-    for command in program.get_subcommands() {
-        text.push_str(&command_lines(alloc, program.get_name(), command)?)?;
-    }
-    Ok(text)
 }
 
 /// A command: its words in a line, what it does, and what its words mean.
@@ -58,18 +49,11 @@ fn command_lines(
 fn words(alloc: Global, arguments: &[Arg<'_>]) -> Result<String, AllocError> {
     let mut text = String::new(alloc);
     for argument in arguments {
-        text.push_str(&word(alloc, argument)?)?;
+        if argument.is_positional() {
+            text.push_str(&escaped(alloc, &format!(in alloc; " {argument}")?)?)?;
+        }
     }
     Ok(text)
-}
-
-/// A word of a command after a space; nothing for an option.
-fn word(alloc: Global, argument: &Arg<'_>) -> Result<String, AllocError> {
-    if argument.is_positional() {
-        escaped(alloc, &format!(in alloc; " {argument}")?)
-    } else {
-        Ok(String::new(alloc))
-    }
 }
 
 /// What arguments mean.
@@ -91,16 +75,6 @@ fn argument_lines(alloc: Global, argument: &Arg<'_>) -> Result<String, AllocErro
     let help = escaped(alloc, argument.get_help().unwrap_or(""))?;
     let (short, words, help) = (short.as_str(), words.as_str(), help.as_str());
     format!(in alloc; ".TP\n\\fB{short}{words}\\fR\n{help}.\n")
-}
-
-/// How the page and the completion are written.
-fn foot(alloc: Global, name: &str) -> Result<String, AllocError> {
-    format!(in alloc;
-        ".SH PAGES\n\
-         .TP\n\\fB{name} help \\-\\-man\\fR\nWrites this page.\n\
-         .TP\n\\fB{name} help \\-\\-completion bash\\fR\n\
-         Writes the completion of these words for bash.\n"
-    )
 }
 
 /// A text in which `man` sees no hyphens, commands or escapes: a dash stays one that can be copied.

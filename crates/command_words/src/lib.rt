@@ -12,8 +12,6 @@ mod table;
 mod usage;
 mod words;
 
-pub use completing::completion;
-pub use describing::manual;
 pub use failure::{Failure, WantOfMemory};
 pub use number::number_of;
 pub use page::{Page, page_of, page_text};

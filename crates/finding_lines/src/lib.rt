@@ -22,6 +22,6 @@ pub use lines::{byte_lines, file_lines, lines_at, rule_line};
 pub use names::nearest;
 pub use path::{Entry, OwnedStep, Step};
 pub use report::{Form, Report};
-pub use shown::{Shown, marked_line};
+pub use shown::{DidYouMean, Shown};
 pub use text::{Place, place_of};
 pub use walk::TomlPlaces;

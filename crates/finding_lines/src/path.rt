@@ -1,6 +1,6 @@
 //! Key paths, and the entries that a text has for them.
 
-ghost use Rattle.std.specs.Prelude.{◌≡◌, ◌++◌, ◌∷◌, [], IfOk, IfSome, map};
+ghost use Rattle.std.specs.Prelude.{◌≡◌, IfOk, IfSome};
 ghost use Rattle.toml_parser.specs.Reading.{key_view};
 ghost use Rattle.finding_lines.specs.Entries.{is_one_element, is_same_step, key_path, leads_to, leads_to_element};
 ghost use Rattle.finding_lines.specs.Views.{owned_path, owned_step, path_of, step_of};

@@ -31,6 +31,17 @@ impl fmt::Display for ShownEnd<'_> {
     }
 }
 
+/// The suggestion of a name that is near to a word.
+#[derive(Clone, Copy)]
+pub struct DidYouMean<'a>(pub &'a str);
+
+impl fmt::Display for DidYouMean<'_> {
+    fn fmt<W: fmt::Write>(&self, f: &mut fmt::Formatter<W>) -> fmt::Result {
+        let name = Shown(self.0.as_bytes());
+        write!(f, "Did you mean `{name}`?")
+    }
+}
+
 /// Bytes as they are shown: a carriage return as `\r`, another control character as a space, and a
 /// character above 127 as one `?`.
 fn write_shown<W: fmt::Write>(f: &mut fmt::Formatter<W>, bytes: &[u8]) -> fmt::Result {

@@ -6,7 +6,7 @@ use Rattle.apex_types.specs.Line.{space}
 use Rattle.module_meaning.specs.DeviceText.{piece, pieces, pieces_behind_marks}
 use Rattle.text_lines.specs.Pieces.{pieces_of}
 use Rattle.std.proofs.lemmas.List.{map-append}
-use Rattle.image_findings.specs.Parts.{Part, behind, parts, total}
+use Rattle.image_findings.specs.Parts.{Part, parts, total}
 use Rattle.image_findings.specs.Views.{part_of, parts_of}
 use Rattle.image_findings.specs.declared.parts.Part as code
 

@@ -1,6 +1,6 @@
 //! The names for a replay text.
 
-ghost use Rattle.std.specs.Prelude.{◌≡◌, ◌∷◌, [], IfOk, map};
+ghost use Rattle.std.specs.Prelude.{◌≡◌, IfOk, map};
 ghost use Rattle.image.specs.Items.{partition_of};
 ghost use Rattle.isolation.specs.ReplayText.{is_destination};
 ghost use Rattle.image_findings.specs.Views.{names_of, receiver_of};

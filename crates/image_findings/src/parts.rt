@@ -1,10 +1,10 @@
 //! The parts of a line, and how much of the line is left at each.
 
-ghost use Rattle.std.specs.Prelude.{◌≡◌, IfOk, map};
+ghost use Rattle.std.specs.Prelude.{◌≡◌, IfOk};
 ghost use Rattle.apex_types.specs.Line.{space};
 ghost use Rattle.module_meaning.specs.DeviceText.{pieces};
 ghost use Rattle.image_findings.specs.Parts as spec;
-ghost use Rattle.image_findings.specs.Views.{part_of, parts_of};
+ghost use Rattle.image_findings.specs.Views.{parts_of};
 
 use std::alloc::{AllocError, Global};
 use text_lines::split_at;

@@ -2,7 +2,7 @@
 
 use crate::finding::What;
 use crate::names::{Names, TextKind};
-use finding_lines::{Shown, nearest};
+use finding_lines::{DidYouMean, Shown, nearest};
 use std::alloc::{AllocError, Global};
 use std::fmt;
 
@@ -160,10 +160,7 @@ pub fn advice(alloc: Global, names: &Names<'_>, what: What<'_>) -> Result<String
 /// The nearest name, or else this advice.
 fn near_or(alloc: Global, near: Option<&str>, other: &str) -> Result<String, AllocError> {
     match near {
-        Some(near) => {
-            let near = Shown(near.as_bytes());
-            format!(in alloc; "Did you mean `{near}`?")
-        }
+        Some(near) => format!(in alloc; "{}", DidYouMean(near)),
         None => String::from_str(alloc, other),
     }
 }

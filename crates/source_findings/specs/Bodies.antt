@@ -5,7 +5,7 @@ use Rattle.pal_base.specs.declared.fault.Refusal.{Refusal}
 use Rattle.pal_meaning.specs.Lines.{from_word}
 use Rattle.pal_meaning.specs.Syntax as written
 use Rattle.source_findings.specs.Frames.{body_frame, held, procedure_frame}
-use Rattle.source_findings.specs.Judged.{Judge, by_limit, capacity_wrong, frame_wrong, many_wrong, new_wrong, number_wrong, outside, outside_wrong, period_wrong, unless}
+use Rattle.source_findings.specs.Judged.{Judge, by_limit, capacity_wrong, frame_wrong, many_wrong, new_wrong, number_wrong, outside_wrong, period_wrong, unless}
 use Rattle.source_findings.specs.Roles.{Entry, declaration_entry, declared_entries, own_entry, process_entry}
 use Rattle.source_findings.specs.Tally.{Tally, counted, no_tally, tally_wrong}
 use Rattle.source_findings.specs.Walk.{block, comma}

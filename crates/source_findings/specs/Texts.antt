@@ -1,7 +1,7 @@
 -- What is wrong with a text that is no source: its bytes above 127, or else its length.
 use Rattle.std.specs.Prelude.{ℕ, ◌-◌, Bool, false, not, ◌&&◌, nat_lt, if◌then◌else◌, List, [], ◌∷◌, length, Option, Some, None}
 use Rattle.apex_types.specs.declared.limits.TheConstants.{MOST_SOURCE_BYTES}
-use Rattle.source_findings.specs.What.{NoAscii, State, TooLong, What, Wrong, noted}
+use Rattle.source_findings.specs.What.{NoAscii, TooLong, What, Wrong, noted}
 
 abbrev pub is_above : ℕ → Bool
 is_above byte = nat_lt 127 byte

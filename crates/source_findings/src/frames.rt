@@ -1,7 +1,7 @@
 //! The words of stack that a body needs, by its tree as it is written. A number that does not fit 64
 //! bits is the greatest number that does.
 
-ghost use Rattle.std.specs.Prelude.{◌≡◌, List, ℕ, length, map};
+ghost use Rattle.std.specs.Prelude.{◌≡◌, List, ℕ, map};
 ghost use Rattle.pal_base.specs.View as view;
 ghost use Rattle.pal_base.specs.View.{block_of, body_of, expr_of, exprs_of, links_of, name_of};
 ghost use Rattle.pal_meaning.specs.Resolve.{count_within};

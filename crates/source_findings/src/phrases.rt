@@ -4,7 +4,7 @@
 use crate::finding::{Many, Thing, What};
 use crate::roles::Role;
 use apex_types::{ArgumentKind, ObjectKind, Service};
-use finding_lines::Shown;
+use finding_lines::{DidYouMean, Shown};
 use std::fmt;
 
 /// What is said of an object, a name or an argument of this kind.
@@ -51,31 +51,22 @@ fn thing_text(thing: Thing) -> &'static str {
     }
 }
 
-/// Who has many of something.
-fn holder_text(many: Many) -> &'static str {
+/// Who has many of something, and what it is.
+fn many_text(many: Many) -> (&'static str, &'static str) {
+    let program = "up to here the program";
     match many {
-        Many::Locals => "the body",
-        Many::Parameters => "the procedure",
-        Many::Values => "the array",
-        Many::FrameWords => "the frame of the procedure",
-        _ => "up to here the program",
-    }
-}
-
-fn noun_text(many: Many) -> &'static str {
-    match many {
-        Many::Locals => "locals",
-        Many::Parameters => "parameters",
-        Many::Values => "first values",
-        Many::Words => "words of variables and arrays",
-        Many::Semaphores => "semaphores",
-        Many::Events => "events",
-        Many::Buffers => "buffers",
-        Many::Blackboards => "blackboards",
-        Many::Ports => "ports",
-        Many::Procedures => "procedures",
-        Many::Processes => "processes",
-        Many::FrameWords => "words",
+        Many::Locals => ("the body", "locals"),
+        Many::Parameters => ("the procedure", "parameters"),
+        Many::Values => ("the array", "first values"),
+        Many::FrameWords => ("the frame of the procedure", "words"),
+        Many::Words => (program, "words of variables and arrays"),
+        Many::Semaphores => (program, "semaphores"),
+        Many::Events => (program, "events"),
+        Many::Buffers => (program, "buffers"),
+        Many::Blackboards => (program, "blackboards"),
+        Many::Ports => (program, "ports"),
+        Many::Procedures => (program, "procedures"),
+        Many::Processes => (program, "processes"),
     }
 }
 
@@ -167,7 +158,7 @@ impl fmt::Display for What<'_> {
                 number,
                 most,
             } => {
-                let (holder, noun) = (holder_text(thing), noun_text(thing));
+                let (holder, noun) = many_text(thing);
                 write!(f, "{holder} has {number} {noun}, and may have {most}")
             }
             What::Frame { words, stack } => {
@@ -250,7 +241,7 @@ impl fmt::Display for Advice<'_> {
             What::Unknown {
                 near: Some(near),
                 ..
-            } => did_you_mean(f, near),
+            } => write!(f, "{}", DidYouMean(near)),
             What::Unknown { near: None, .. } => {
                 f.write_str("Declare it, or write a name that is declared.")
             }
@@ -296,12 +287,6 @@ impl fmt::Display for Advice<'_> {
             ),
         }
     }
-}
-
-/// A suggestion.
-fn did_you_mean<W: fmt::Write>(f: &mut fmt::Formatter<W>, near: &str) -> fmt::Result {
-    let near = Shown(near.as_bytes());
-    write!(f, "Did you mean `{near}`?")
 }
 
 /// The arguments that a service takes, in parentheses.

@@ -1,8 +1,7 @@
 //! The places of the words of a Pal source.
 
-ghost use Rattle.std.specs.Prelude.{◌≡◌, ◌≤◌, drop, false, find, length, nat_eq, option_map};
+ghost use Rattle.std.specs.Prelude.{◌≡◌, drop, false, find, length, nat_eq, option_map};
 ghost use Rattle.std.specs.List.{prefix_len, starts_with};
-ghost use Rattle.pal_base.specs.Marks.{mark_text};
 ghost use Rattle.pal_meaning.specs.Grammar as grammar;
 ghost use Rattle.pal_meaning.specs.Grammar.{behind_blanks, in_name, in_service, is_lower, is_upper, word_at};
 ghost use Rattle.pal_meaning.specs.Lines.{from_word};

@@ -8,7 +8,7 @@ ghost use Rattle.source_findings.specs.Explained.{unfit_offset};
 use crate::choices::wanted;
 use crate::suggestion::suggested;
 use crate::text_words::{first_word, from_word, next_word};
-use finding_lines::{Report, Shown, lines_at, place_of};
+use finding_lines::{DidYouMean, Report, Shown, lines_at, place_of};
 use pal_base::looking::LookedFor;
 use std::alloc::{AllocError, Global};
 
@@ -56,8 +56,7 @@ fn unfit_advice(
     looked_for: &LookedFor,
 ) -> Result<String, AllocError> {
     if let Some(near) = suggested(alloc, text, looked_for)? {
-        let near = Shown(near.as_bytes());
-        return format!(in alloc; "Did you mean `{near}`?");
+        return format!(in alloc; "{}", DidYouMean(near));
     }
     if rest.is_empty() {
         if let Some(left) = open_brace(alloc, text, looked_for.place)? {

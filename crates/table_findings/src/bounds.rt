@@ -1,6 +1,6 @@
 //! What is outside its limits in a table.
 
-ghost use Rattle.std.specs.Prelude.{◌≡◌, ◌++◌, map, OnOk, option_map, pos};
+ghost use Rattle.std.specs.Prelude.{◌≡◌, ◌++◌, map, OnOk, option_map};
 ghost use Rattle.apex_types.specs.NameText.{is_name};
 ghost use Rattle.table_findings.specs.Limits as spec;
 ghost use Rattle.table_findings.specs.Views.{findings_of, row_of, subject_of};

@@ -2,7 +2,7 @@
 
 use crate::finding::{Finding, What};
 use crate::subject::{Row, Subject};
-use finding_lines::{Shown, nearest};
+use finding_lines::{DidYouMean, Shown, nearest};
 use std::fmt;
 
 /// What was found, and where.
@@ -198,7 +198,7 @@ impl fmt::Display for Advice<'_> {
             What::NoPartition {
                 near: Some(near),
                 ..
-            } => did_you_mean(f, near),
+            } => write!(f, "{}", DidYouMean(near)),
             What::NoPartition { near: None, .. } => {
                 f.write_str("Write the name of a partition of the table.")
             }
@@ -241,7 +241,7 @@ fn choice<W: fmt::Write>(
     words: &[&'static str],
 ) -> fmt::Result {
     match nearest(word.as_bytes(), words) {
-        Some(near) => did_you_mean(f, near),
+        Some(near) => write!(f, "{}", DidYouMean(near)),
         None => {
             f.write_str("Choose one of ")?;
             for (index, word) in words.iter().enumerate() {
@@ -251,9 +251,4 @@ fn choice<W: fmt::Write>(
             f.write_str(".")
         }
     }
-}
-
-fn did_you_mean<W: fmt::Write>(f: &mut fmt::Formatter<W>, near: &str) -> fmt::Result {
-    let near = Shown(near.as_bytes());
-    write!(f, "Did you mean `{near}`?")
 }

@@ -1,4 +1,4 @@
-use Rattle.std.proofs.Common.{rules, ◌≡◌, [], Some, ◌∙◌, sym, ap, length, option_copied, option_map}
+use Rattle.std.proofs.Common.{rules, ◌≡◌, [], Some, ◌∙◌, sym, ap, option_copied, option_map}
 use Rattle.module_meaning.specs.DeviceText.{pieces_behind_marks}
 use Rattle.image_findings.specs.First.{line_wrong}
 use Rattle.image_findings.specs.What.{Wrong}

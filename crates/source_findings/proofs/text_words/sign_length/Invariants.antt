@@ -1,4 +1,4 @@
-use Rattle.std.proofs.Common.{◌≡◌, ℕ, List, drop, length, map, nat_eq}
+use Rattle.std.proofs.Common.{◌≡◌, ℕ, List, length, map, nat_eq}
 use Rattle.std.specs.Prelude.{find}
 use Rattle.std.specs.List.{starts_with}
 use Rattle.pal_meaning.specs.Grammar.{signs}

@@ -5,4 +5,4 @@ use Rattle.table_findings.proofs.explain.explain_error.Goals as goal
 pub returns-clause-ended : goal.returns-clause-ended
 returns-clause-ended c =
     IfSome_then c.ok.result (search rules)
-    (λ lines is. (c.in_ok-span.span.start, c.message.result.now, omega (arith, c.requires.0, c.requires.1, c.in_ok-span.ensures.range.0), is))
+    (λ lines is. (c.in_ok-span.span.start, omega (arith, c.requires.0, c.requires.1, c.in_ok-span.ensures.range.0), is))

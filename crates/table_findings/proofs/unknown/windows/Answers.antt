@@ -1,4 +1,4 @@
-use Rattle.std.proofs.Common.{List, map, refl}
+use Rattle.std.proofs.Common.{map, refl}
 use Rattle.table_findings.specs.Names.{partition_of, partitions_of}
 use Rattle.table_findings.specs.Views.{findings_of}
 use Rattle.window_table.specs.Views.{window_text}
