@@ -418,18 +418,13 @@ fn is_queuing_port(partitions: &[WrittenPartition<'_>], text: &str) -> bool
 }
 
 /// Returns true if one of the texts names a queuing port.
-#[tactic(auto, using(std::proofs::lemmas::List::drop_more))]
+#[tactic(auto, using(crate::proofs::Steps::any_seen))]
 fn has_queuing_port(partitions: &[WrittenPartition<'_>], texts: &[&str]) -> bool
     ensures { result
         ≡ list_any (spec.is_queuing_port (map partition_text partitions.now))
         (map (λ text. text.now) texts.now) }
 {
-    for text in texts {
-        if is_queuing_port(partitions, text) {
-            return true;
-        }
-    }
-    false
+    texts.iter().any(|text| is_queuing_port(partitions, text))
 }
 
 /// The first port of a channel, and the text that names it.

@@ -139,7 +139,7 @@ fn first_same(names: &[&str], name: &str) -> Option<usize>
 }
 
 /// The names of partitions.
-#[tactic(auto, using(std::proofs::lemmas::List::drop_more, std::proofs::lemmas::List::map_push, std::proofs::lemmas::List::append_assoc, crate::proofs::Steps::append_nil))]
+#[tactic(auto, using(crate::proofs::Steps::seen_as))]
 pub fn partition_names<'a>(
     alloc: Global,
     partitions: &[WrittenPartition<'a>],
@@ -148,15 +148,14 @@ pub fn partition_names<'a>(
         (λ names. map (λ name. name.now) names.items
         ≡ spec.partition_names (map partition_text partitions.now)) }
 {
-    let mut names = Vec::new(alloc);
-    for partition in partitions {
-        names.push(partition.name)?;
-    }
-    Ok(names)
+    partitions
+        .iter()
+        .map(|partition| partition.name)
+        .collect(alloc)
 }
 
 /// The names of channels.
-#[tactic(auto, using(std::proofs::lemmas::List::drop_more, std::proofs::lemmas::List::map_push, std::proofs::lemmas::List::append_assoc, crate::proofs::Steps::append_nil))]
+#[tactic(auto, using(crate::proofs::Steps::seen_as))]
 fn channel_names<'a>(
     alloc: Global,
     channels: &[WrittenChannel<'a>],
@@ -165,23 +164,15 @@ fn channel_names<'a>(
         (λ names. map (λ name. name.now) names.items
         ≡ spec.channel_names (map channel_text channels.now)) }
 {
-    let mut names = Vec::new(alloc);
-    for channel in channels {
-        names.push(channel.name)?;
-    }
-    Ok(names)
+    channels.iter().map(|channel| channel.name).collect(alloc)
 }
 
 /// The names of ports.
-#[tactic(auto, using(std::proofs::lemmas::List::drop_more, std::proofs::lemmas::List::map_push, std::proofs::lemmas::List::append_assoc, crate::proofs::Steps::append_nil))]
+#[tactic(auto, using(crate::proofs::Steps::seen_as))]
 fn port_names<'a>(alloc: Global, ports: &[WrittenPort<'a>]) -> Result<Vec<&'a str>, AllocError>
     ensures { IfOk result
         (λ names. map (λ name. name.now) names.items
         ≡ spec.port_names (map port_text ports.now)) }
 {
-    let mut names = Vec::new(alloc);
-    for port in ports {
-        names.push(port.name)?;
-    }
-    Ok(names)
+    ports.iter().map(|port| port.name).collect(alloc)
 }

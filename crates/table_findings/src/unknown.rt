@@ -106,16 +106,11 @@ fn no_partition<'a>(text: &'a str, names: &[&'a str]) -> What<'a>
 }
 
 /// Returns true if a name is one of some names.
-#[tactic(auto, using(std::proofs::lemmas::List::drop_more))]
+#[tactic(auto, using(crate::proofs::Steps::any_seen))]
 pub fn is_among(name: &str, names: &[&str]) -> bool
     ensures { result ≡ spec.is_among name.now (map (λ name. name.now) names.now) }
 {
-    for other in names {
-        if name == *other {
-            return true;
-        }
-    }
-    false
+    names.iter().any(|other| name == *other)
 }
 
 #[tactic(auto, using(std::proofs::lemmas::List::drop_more, std::proofs::lemmas::List::append_assoc, crate::proofs::Steps::append_nil))]
@@ -191,29 +186,21 @@ fn is_end(partitions: &[WrittenPartition<'_>], text: &str) -> bool
     text == "DEVICE" || is_port(partitions, text)
 }
 
-#[tactic(auto, using(std::proofs::lemmas::List::drop_more))]
+#[tactic(auto, using(crate::proofs::Steps::any_seen))]
 fn is_port(partitions: &[WrittenPartition<'_>], text: &str) -> bool
     ensures { result
         ≡ list_any (λ p. list_any (λ q. same text.now (p.name ++ 46 ∷ q.name)) p.ports)
         (map partition_text partitions.now) }
 {
-    for partition in partitions {
-        if is_port_of(partition.ports.as_slice(), partition.name, text) {
-            return true;
-        }
-    }
-    false
+    partitions.iter().any(|partition| is_port_of(partition.ports.as_slice(), partition.name, text))
 }
 
-#[tactic(auto, using(std::proofs::lemmas::List::drop_more))]
+#[tactic(auto, using(crate::proofs::Steps::any_seen))]
 fn is_port_of(ports: &[WrittenPort<'_>], partition: &str, text: &str) -> bool
     ensures { result
         ≡ list_any (λ q. same text.now (partition.now ++ 46 ∷ q.name)) (map port_text ports.now) }
 {
-    for port in ports {
-        if is_port_name(text, partition, port.name) {
-            return true;
-        }
-    }
-    false
+    ports
+        .iter()
+        .any(|port| is_port_name(text, partition, port.name))
 }
