@@ -1,5 +1,5 @@
 -- From accepted sources to the text of their trace.
-use Rattle.module.proofs.Prelude.{◌≡◌, ℕ, List, ◌∷◌, map, Option, Some, None, Result, Ok, Err, IfOk, refl, sym, ap, ◌∙◌, Appends, All-nil, All-cons, third_limits, text_of, TakesBeginning, section_of, DeviceFault, DeviceLine, verdict_for, Partition, Table, Item, Image, Fault, image_at, Program, source_trace, machine_trace, spelled_is_read, IsAccepted, AreAccepted, IsTable, built_item, built_items, built_image, IsCoded, AreCoded, IsBuiltFrom, IsImageOf, IsRun, IsDeviceRefusal, Runs, Means, RunFault, NoImage, NoPartition, Memory, Write, Failed}
+use Rattle.module.proofs.Prelude.{◌≡◌, ℕ, List, ◌∷◌, map, Option, Some, None, Result, Ok, Err, IfOk, refl, sym, ap, ◌∙◌, Appends, All-nil, All-cons, third_limits, text_of, TakesBeginning, section_of, DeviceFault, DeviceLine, verdict_for, Partition, Table, Item, Image, Fault, image_at, Program, source_trace, machine_trace, spelled_is_read, IsAccepted, AreAccepted, IsTable, built_item, built_items, built_image, spelling, IsCoded, AreCoded, IsBuiltFrom, IsImageOf, IsRun, IsDeviceRefusal, Runs, Means, RunFault, NoImage, NoPartition, Memory, Write, Failed}
 use Rattle.std.proofs.Common.{[], subst}
 use Rattle.std.specs.List.{All}
 use Rattle.module_meaning.specs.DeviceText.{verdict}

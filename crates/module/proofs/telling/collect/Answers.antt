@@ -41,7 +41,7 @@ loop-left-preserved g c =
     let so_far = c.loop-left.inputs.lines.items in
     let n = c.skip_still-count.result in
     let none : n ≡ 0 = omega (arith, c.if-count-gt0.false) in
-    let skipped = c.skip_still-count.ensures.skipped [] tt in
+    let skipped = c.skip_still-count.ensures.skipped in
     let here : m.now.0 ≡ m0.now.0 + n = skipped.1 in
     let order = lines_ahead (plan_of m0.image) lines c.until_line-quiet.result m0.now.0 n (standing_of machine m0) s refl c.until_line-quiet.ensures.from skipped in
     let quiet = subst (λ (p : Plan). BringsNothing p watched lines n (standing_of machine m0) s) before (c.skip_still-count.ensures.unbrought watched lines order) in
@@ -75,7 +75,7 @@ loop-left-preserved-then-count-gt0 g c =
     let left = c.loop-left.left in
     let so_far = c.loop-left.inputs.lines.items in
     let n = c.skip_still-count.result in
-    let skipped = c.skip_still-count.ensures.skipped [] tt in
+    let skipped = c.skip_still-count.ensures.skipped in
     let within : n ≤ c.until_line-quiet.result = skipped.0 in
     let here : m.now.0 ≡ m0.now.0 + n = skipped.1 in
     let rest = left - c.from-left.result in
@@ -114,7 +114,7 @@ returns-in_err-tick_watched-clause-refused g c =
     let lines = c.loop-left.lines.now in
     let n = c.skip_still-count.result in
     let none : n ≡ 0 = omega (arith, c.if-count-gt0.false) in
-    let skipped = c.skip_still-count.ensures.skipped [] tt in
+    let skipped = c.skip_still-count.ensures.skipped in
     let order = lines_ahead (plan_of m0.image) lines c.until_line-quiet.result m0.now.0 n (standing_of machine m0) s refl c.until_line-quiet.ensures.from skipped in
     let quiet = subst (λ (p : Plan). BringsNothing p watched lines n (standing_of machine m0) s) before (c.skip_still-count.ensures.unbrought watched lines order) in
     let now = c.split_tick.result.0.now in
@@ -133,13 +133,13 @@ returns-in_err-tick_watched-clause-refused g c =
 
 pub overflow_sub-left : goal.overflow_sub-left
 overflow_sub-left g c =
-    let within : c.skip_still-count.result ≤ c.until_line-quiet.result = (c.skip_still-count.ensures.skipped [] tt).0 in
+    let within : c.skip_still-count.result ≤ c.until_line-quiet.result = c.skip_still-count.ensures.skipped.0 in
     omega (arith, within, c.until_line-quiet.ensures.within, c.at_most.ensures.ticks, c.from-left.ensures)
 
 pub split_tick-requires : goal.split_tick-requires
 split_tick-requires g c =
     let m0 = c.loop-left.running in
-    let skipped = c.skip_still-count.ensures.skipped [] tt in
+    let skipped = c.skip_still-count.ensures.skipped in
     record {
       order = lines_ahead (plan_of m0.image) c.loop-left.lines.now c.until_line-quiet.result m0.now.0 c.skip_still-count.result (standing_of machine m0) (standing_of machine c.skip_still-count.new.self) refl c.until_line-quiet.ensures.from skipped;
     }
@@ -147,5 +147,5 @@ split_tick-requires g c =
 pub tick_watched-requires-clause-now : goal.tick_watched-requires-clause-now
 tick_watched-requires-clause-now g c =
     let none : c.skip_still-count.result ≡ 0 = omega (arith, c.if-count-gt0.false) in
-    let here : c.skip_still-count.new.self.now.0 ≡ c.loop-left.running.now.0 + c.skip_still-count.result = (c.skip_still-count.ensures.skipped [] tt).1 in
+    let here : c.skip_still-count.new.self.now.0 ≡ c.loop-left.running.now.0 + c.skip_still-count.result = c.skip_still-count.ensures.skipped.1 in
     omega (arith, here, none, c.loop-left.invariant.limit, c.loop-left-test.true)
