@@ -54,9 +54,6 @@ device_is ps text (port n k r q e b c at in_row is kept) = rw (b, e) refl
 
 -- ---- direction
 
-is_other : (as_source : Bool) (d : PortRow) → Bool
-is_other as_source d = not (is_as as_source d.direction)
-
 direction_of_row : (ps : List PartitionText) (as_source : Bool) (e : End) (o : Option (ℕ × PortText))
     → elim (as_row o) [ None ↦ false | Some row ↦ not (is_as as_source row.direction) ] ≡ has_any (elim o [ None ↦ [] | Some p ↦ if is_as as_source p.1.direction then [] else one_at e (WrongDirection e.text as_source) ])
 direction_of_row ps as_source e None = refl

@@ -1,12 +1,12 @@
 -- A line has one of the forms if and only if nothing is wrong with its parts.
-use Rattle.finding_laws.proofs.Prelude.{◌≡◌, ℕ, ℤ, Bool, cond, ◌∷◌, Option, Some, option_map, codes, ◌∙◌, ◌==◌, space, is_name, MOST_TICKS, Written, WrittenLine, PartitionFault, ModuleFault, message_of, message_with, fault_of, line_with, piece, pieces_behind_marks, pieces, plain_number, put_word, word, line_by, written_by, form_wrong, mark_of, Part, parts, total, rule_of}
-use Rattle.std.proofs.Common.{true, false, List, [], None, length, refl, sym, ap}
+use Rattle.finding_laws.proofs.Prelude.{◌≡◌, ℕ, ℤ, Bool, cond, ◌∷◌, Option, Some, option_map, codes, ◌==◌, space, is_name, MOST_TICKS, Written, PartitionFault, message_of, message_with, fault_of, line_with, piece, pieces_behind_marks, pieces, plain_number, put_word, word, line_by, written_by, form_wrong, mark_of, Part, parts, total, rule_of}
+use Rattle.std.proofs.Common.{true, false, List, [], None, length, refl}
 use Rattle.apex_types.specs.declared.device.DeviceFault.TheVariants as fault
 use Rattle.engine_meaning.specs.Digits.{same}
 use Rattle.module_meaning.specs.DeviceText.{words}
 use Rattle.module_base.specs.TextLines.{line_by_pieces}
-use Rattle.image_findings.specs.Form.{blemish, event_wrong, fault_wrong, is_byte, last_of, message_wrong, more_wrong, part_or, parts_wrong, some_words_wrong, words_wrong, wrong, wrong_part}
-use Rattle.image_findings.specs.What.{What, Wrong, Carriage, Comment, Empty, NoTick, NoKind, NoName, NoWord, NoWords, More}
+use Rattle.image_findings.specs.Form.{blemish, event_wrong, fault_wrong, is_byte, last_of, message_wrong, part_or, parts_wrong, words_wrong, wrong, wrong_part}
+use Rattle.image_findings.specs.What.{What, Wrong, Carriage, Comment, NoTick, NoKind, NoName, NoWord, NoWords, More}
 use Rattle.image_findings.specs.declared.names.TextKind.{TextKind}
 
 -- there is a form and nothing is wrong, or there is none, and what is wrong is the form

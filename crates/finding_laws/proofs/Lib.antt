@@ -31,7 +31,6 @@ pub mod OfNames
 pub mod OfPassed
 pub mod OfPeriods
 pub mod OfRoles
-pub mod OfSuggestions
 pub mod OfTexts
 pub mod Owners
 pub mod Starts

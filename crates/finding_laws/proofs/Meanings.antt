@@ -1,6 +1,6 @@
 -- What a line of one of the forms means, and what is wrong with it.
-use Rattle.finding_laws.proofs.Prelude.{◌≡◌, ℕ, suc, ◌+◌, ◌<◌, ◌≤◌, ℤ, Bool, cond, ◌∷◌, Option, Some, Result, Ok, Err, codes, subst, ◌∙◌, inr, nat_le, nat_lt, slice_get, le-leb, lt-leb, same_Some, is_name, DeviceFault, Message, ModuleFault, PartitionFault, Written, fault_of, is_room, message_of, message_with, put_word, word, written_by, or_else, Names, Receiver, mark_of, Part, parts, total, rule_in}
-use Rattle.std.proofs.Common.{true, false, List, [], None, length, refl, sym, ap, inl, arith, map}
+use Rattle.finding_laws.proofs.Prelude.{◌≡◌, ℕ, suc, ℤ, Bool, cond, ◌∷◌, Option, Some, codes, ◌∙◌, inr, nat_le, slice_get, le-leb, lt-leb, same_Some, is_name, DeviceFault, Message, ModuleFault, PartitionFault, Written, fault_of, is_room, message_of, message_with, put_word, word, written_by, Names, Receiver, mark_of, Part, parts, total, rule_in}
+use Rattle.std.proofs.Common.{true, false, List, [], None, length, refl, sym, ap, inl}
 use Rattle.std.specs.Prelude.{◌&&◌}
 use Rattle.std.proofs.lemmas.Option.{slice_get_cases}
 use Rattle.apex_types.specs.declared.device.DeviceFault.TheVariants as fault

@@ -7,7 +7,7 @@ use Rattle.apex_types.specs.declared.shape.ArgumentKind.TheVariants as argument
 use Rattle.pal_base.specs.declared.fault.Refusal.TheVariants as rule
 use Rattle.pal_meaning.specs.Program as program
 use Rattle.pal_meaning.specs.Resolve as meant
-use Rattle.pal_meaning.specs.Resolve.{count_within, procedure_of, resolve_arguments, resolve_block, resolve_body, resolve_expr, resolve_exprs, resolve_links, resolve_stmt, value_or_zero}
+use Rattle.pal_meaning.specs.Resolve.{count_within, resolve_arguments, resolve_block, resolve_expr, resolve_exprs, resolve_links, resolve_stmt, value_or_zero}
 use Rattle.pal_meaning.specs.Syntax as written
 use Rattle.pal_meaning.specs.WellFormed.{fits_stack, is_between, is_time, is_word, keeps_block, keeps_body, keeps_counts, keeps_declaration, keeps_expr, keeps_exprs, keeps_handler, keeps_kind, keeps_links, keeps_process, keeps_stack_body, keeps_stmt, value_at_most}
 use Rattle.source_findings.specs.Bodies as walk

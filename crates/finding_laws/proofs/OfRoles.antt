@@ -1,5 +1,5 @@
 -- The roles of the names of a program, by its entries with their meanings.
-use Rattle.finding_laws.proofs.Prelude.{◌≡◌, ℕ, ◌+◌, Bool, cond, ◌∷◌, ◌++◌, Option, Some, is_some, ◌∙◌, append_assoc, append-nil, bytes_eq, map-append, Denotation, MOST_PROCESSES, Slot, PortRow, Counts, Scope, after, declaration_entries, declared_meaning, find, no_counts, own_entries, process_entries, scope_of, Entry, declaration_entry, is_nothing, own_entry, process_entry, role_of, Role}
+use Rattle.finding_laws.proofs.Prelude.{◌≡◌, ℕ, ◌+◌, Bool, cond, ◌∷◌, ◌++◌, Option, Some, is_some, ◌∙◌, append_assoc, append-nil, bytes_eq, map-append, Denotation, MOST_PROCESSES, Slot, PortRow, Counts, after, declaration_entries, declared_meaning, find, no_counts, own_entries, process_entries, scope_of, Entry, declaration_entry, is_nothing, own_entry, process_entry, role_of, Role}
 use Rattle.std.proofs.Common.{true, false, not, List, [], map, None, refl, sym, ap}
 use Rattle.std.specs.Option.{unwrap_or}
 use Rattle.apex_types.specs.declared.denotation.Denotation.TheVariants as denotation

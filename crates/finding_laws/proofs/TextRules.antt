@@ -1,5 +1,5 @@
 -- The lines of a text, one after another: each is refused by the rule that what is found in it breaks.
-use Rattle.finding_laws.proofs.Prelude.{◌≡◌, ℕ, ◌+◌, ℤ, Bool, cond, ◌∷◌, Option, Some, Result, Ok, Err, codes, subst, ◌∙◌, nat_le, nat_lt, same_Some, space, DeviceFault, MOST_TICKS, PortRow, Message, ModuleFault, PartitionFault, Written, WrittenLine, is_room, line_with, piece, pieces, pieces_behind_marks, plain_number, line_by, written_by, form_wrong, or_else, Names, Receiver, mark_of, Part, parts, total, rule_in, rule_of}
+use Rattle.finding_laws.proofs.Prelude.{◌≡◌, ℕ, ◌+◌, ℤ, Bool, cond, ◌∷◌, Option, Some, Result, Ok, Err, codes, subst, ◌∙◌, nat_le, nat_lt, same_Some, space, DeviceFault, MOST_TICKS, PortRow, Message, ModuleFault, PartitionFault, Written, WrittenLine, is_room, line_with, piece, pieces, pieces_behind_marks, plain_number, line_by, written_by, form_wrong, or_else, Names, Receiver, mark_of, Part, parts, total, rule_in}
 use Rattle.std.proofs.Common.{true, false, List, [], None, length, refl, sym, ap, map}
 use Rattle.std.specs.Prelude.{◌&&◌, ◌||◌}
 use Rattle.apex_types.specs.declared.device.DeviceFault.TheVariants as fault

@@ -2,7 +2,6 @@ pub mod Any
 pub mod Once
 pub mod Rules
 pub mod Bytes
-pub mod Fitting
 pub mod Found
 pub mod Passed
 pub mod Placed

@@ -1,18 +1,16 @@
 //! A program breaks a rule if and only if something is found.
 
-ghost use Rattle.std.specs.Prelude.{◌≡◌, ◌↔◌, nat_le, true, ℕ, List, Ok, Some, take};
+ghost use Rattle.std.specs.Prelude.{◌≡◌, ◌↔◌, nat_le, true, ℕ, List, Ok};
 ghost use Rattle.apex_types.specs.declared.cost.Costs.{Costs};
 ghost use Rattle.apex_types.specs.declared.limits.TheConstants.{MOST_INSTRUCTIONS};
 ghost use Rattle.apex_types.specs.declared.row.PortRow.{PortRow};
 ghost use Rattle.pal.specs.Costs.{costs_of};
 ghost use Rattle.pal.specs.ProcedureNames.{names_of_procedures, procedure_names};
-ghost use Rattle.pal_base.specs.Next.{IsLookedFor};
 ghost use Rattle.pal_base.specs.ProgramView.{program_of};
 ghost use Rattle.pal_base.specs.declared.fault.Refusal.TheVariants as rule;
 ghost use Rattle.pal_base.specs.declared.fault.Refusal.{Refusal};
-ghost use Rattle.pal_base.specs.declared.looking.LookedFor.{LookedFor};
 ghost use Rattle.pal_base.specs.declared.program.Program.{Program};
-ghost use Rattle.pal_meaning.specs.Grammar.{IsProgramOf, IsText, words_of};
+ghost use Rattle.pal_meaning.specs.Grammar.{IsProgramOf, IsText};
 ghost use Rattle.pal_meaning.specs.Program.{size_of};
 ghost use Rattle.pal_meaning.specs.Syntax as written;
 ghost use Rattle.pal_meaning.specs.WellFormed.{
@@ -23,14 +21,12 @@ ghost use Rattle.pal_meaning.specs.WellFormed.{
   verdict,
 };
 ghost use Rattle.finding_laws.specs.Bytes.{AreOfBytes};
-ghost use Rattle.finding_laws.specs.Fitting.{MayBeWritten};
 ghost use Rattle.finding_laws.specs.Found.{has_none};
 ghost use Rattle.finding_laws.specs.Passed.{AreOfBodies};
 ghost use Rattle.finding_laws.specs.Placed.{ArePlaced};
 ghost use Rattle.source_findings.specs.Bodies.{wrongs};
 ghost use Rattle.source_findings.specs.Lengths.{length_wrongs};
 ghost use Rattle.source_findings.specs.Texts.{text_wrongs};
-ghost use Rattle.source_findings.specs.Wanted.{suggested};
 
 /// A text is ASCII, and no longer than it may be, if and only if nothing is found by the rule on texts.
 pub fn texts_are_found()
@@ -93,12 +89,4 @@ pub fn places_are_words()
     ensures { (rule : Refusal) (period : ℕ) (text : List ℕ) (p : written.Program)
         → IsProgramOf text p
         → ArePlaced text (wrongs rule period text p) }
-{}
-
-/// A word that is suggested where a text leaves the grammar fits there.
-pub fn suggestions_fit()
-    ensures { (text : List ℕ) (place : LookedFor) (near : List ℕ)
-        → IsLookedFor text (Some place)
-        → suggested text place ≡ Some near
-        → MayBeWritten (take place.place (words_of text)) near }
 {}

@@ -1,5 +1,5 @@
 -- The sum of two lists of costs, one after the other.
-use Rattle.std.proofs.Common.{◌≡◌, ℕ, zero, suc, ◌+◌, ◌<◌, List, [], ◌∷◌, ◌++◌, length, map, append-nil, drop, get_or, refl, sym, ap, ◌∙◌, arith, append_assoc}
+use Rattle.std.proofs.Common.{◌≡◌, ℕ, zero, suc, ◌+◌, ◌<◌, List, [], ◌∷◌, ◌++◌, length, map, drop, get_or, refl, sym, ap, ◌∙◌, arith, append_assoc}
 use Rattle.std.proofs.lemmas.List.{drop_more}
 use Rattle.pal_base.specs.declared.cost.Cost.{Cost}
 use Rattle.pal_base.specs.Costs.{comes_to}
@@ -14,9 +14,6 @@ Adds cost others new = (xs ys : List ℕ) → cost ≡ comes_to xs → others �
 
 pub goes_on : (cost others new : Cost) (item rest before all : List ℕ) → Adds cost others new → others ≡ comes_to item → before ≡ item ++ rest → UnderWay cost before all → UnderWay new rest all
 goes_on cost others new item rest before all adds is next u = (u.0 ++ item, adds u.0 item u.1 is, append_assoc u.0 item rest ∙ ap (λ xs. u.0 ++ xs) (sym next) ∙ u.2)
-
-pub all_done : (cost : Cost) (rest all : List ℕ) → rest ≡ [] → UnderWay cost rest all → cost ≡ comes_to all
-all_done cost rest all none u = u.1 ∙ ap comes_to (sym (append-nil u.0) ∙ ap (λ xs. u.0 ++ xs) (sym none) ∙ u.2)
 
 -- one more of constructs that all cost the same
 pub one_more : {X : Type 0} (ticks : ℕ) (xs : List X) (i : ℕ) (cost new : Cost) → i < length xs → ((done : List ℕ) → cost ≡ comes_to done → new ≡ comes_to (done ++ ticks ∷ []))

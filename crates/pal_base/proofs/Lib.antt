@@ -6,5 +6,5 @@ pub mod Cuts
 pub mod Refusals
 pub mod ProgramRows
 pub mod Costs
-pub mod Nexts
+pub mod Leaving
 pub mod Lined

@@ -1,7 +1,6 @@
 -- A refusal of the words, and what it says of the text.
-use Rattle.std.proofs.Common.{Option, Some, None, Result, Ok, Err, map, ◌≡◌, ◌++◌, ◌-◌, ◌<◌, ℕ, suc, List, [], ◌∷◌, length, take, take-append-drop, drop, append_assoc, append-nil, sym, ap, ◌∙◌, subst, arith}
-use Rattle.std.proofs.lemmas.List.{take_all, map-append}
-use Rattle.pal_meaning.specs.Beginning.{IsWhole, IsBeginning}
+use Rattle.std.proofs.Common.{Some, Result, Ok, Err, ◌≡◌, ℕ, List, sym, subst}
+use Rattle.pal_meaning.specs.Beginning.{IsWhole}
 use Rattle.pal_meaning.specs.Grammar.{IsWritten}
 use Rattle.pal_meaning.specs.Syntax as tree
 use Rattle.pal_laws.proofs.Places.{refused_words_leave}
@@ -11,11 +10,8 @@ use Rattle.pal_laws.specs.GrammarReading.{program_at}
 use Rattle.pal_meaning.specs.Grammar.{IsText}
 use Rattle.pal_base.specs.Answers.{IsRefused}
 use Rattle.pal_base.specs.Seen.{Refuses, Gives, refusal_of}
-use Rattle.pal_base.specs.Next.{IsMisfit, IsWordFit, IsFitAt}
-use Rattle.pal_base.specs.declared.looking.Fit.{Fit}
-use Rattle.pal_base.specs.declared.looking.Fit.TheVariants as fit
+use Rattle.pal_base.specs.Leaving.{IsMisfit}
 use Rattle.pal_base.specs.declared.source.Misfit.{Misfit}
-use Rattle.pal_base.specs.declared.word.Token.{Token}
 use Rattle.pal_base.specs.declared.fault.Refusal.{Refusal}
 use Rattle.pal_base.specs.declared.source.ReadError.{ReadError}
 use Rattle.pal_base.specs.declared.source.ReadError.TheVariants.{Memory, Refused}
@@ -42,38 +38,3 @@ whole_so {X} view answer x ws is given = (view x, program_is_written ws (view x)
 
 pub misfit_so : {X : Type 0} (view : X → tree.Program) (answer : Result X ReadError) (misfit : Misfit) (ws : List grammar.Word) → answer ≡ Err (Refused misfit) → Gives view answer (program_at ws) → IsMisfit ws (Some misfit)
 misfit_so {X} view answer misfit ws is given = refused_words_leave ws misfit.left (subst (λ (a : Result X ReadError). Gives view a (program_at ws)) is given)
-
--- how the last word fits where the words leave the grammar, or do not
-pub whole_begins : (ws : List grammar.Word) → IsWhole ws → IsBeginning ws
-whole_begins ws is = ([], subst IsWhole (sym (append-nil ws)) is)
-
-front_begins : (front back : List grammar.Word) → IsBeginning (front ++ back) → IsBeginning front
-front_begins front back is = (back ++ is.0, subst IsWhole (append_assoc front back is.0) is.1)
-
-taken_begins : (n : ℕ) (ws : List grammar.Word) → IsBeginning ws → IsBeginning (take n ws)
-taken_begins n ws is = front_begins (take n ws) (drop n ws) (subst IsBeginning (sym (take-append-drop n ws)) is)
-
-never_so : (ws : List grammar.Word) (misfit : Misfit) → IsMisfit ws (Some misfit) → 0 < misfit.left → IsBeginning ws → ⊥
-never_so ws misfit leaves left is =
-    let place = length ws - misfit.left in
-    leaves.1.3 (omega (arith, leaves.0, left)) (taken_begins (suc place) ws is)
-
-fits_so : (ws : List grammar.Word) (misfit : Misfit) (f : Fit) → IsMisfit ws (Some misfit) → IsFitAt f misfit → IsWordFit ws f
-fits_so ws misfit fit.Fits leaves none =
-    let whole : take (length ws - misfit.left) ws ≡ ws = take_all (length ws - misfit.left) ws (omega (arith, none)) in subst IsBeginning whole leaves.1.2
-fits_so ws misfit fit.TooDeep leaves left = never_so ws misfit leaves left
-fits_so ws misfit fit.Misfit leaves left = never_so ws misfit leaves left
-
--- one word after others is tried
-tried : (view : Token → grammar.Word) (before items new given : List Token) (t : Token) → items ≡ before → new ≡ items ++ t ∷ [] → given ≡ new → map view given ≡ map view before ++ view t ∷ []
-tried view before items new given t copied pushed lent = ap (map view) (lent ∙ pushed ∙ ap (λ (ts : List Token). ts ++ t ∷ []) copied) ∙ map-append view before (t ∷ [])
-
-pub fits_tried : (view : Token → grammar.Word) (before items new given : List Token) (t : Token) (found : Option Misfit) (misfit : Misfit) (f : Fit) → items ≡ before → new ≡ items ++ t ∷ [] → given ≡ new →
-    found ≡ Some misfit → IsMisfit (map view given) found → IsFitAt f misfit → IsWordFit (map view before ++ view t ∷ []) f
-fits_tried view before items new given t found misfit f copied pushed lent is leaves at =
-    subst (λ (ws : List grammar.Word). IsWordFit ws f) (tried view before items new given t copied pushed lent) (fits_so (map view given) misfit f (subst (λ o. IsMisfit (map view given) o) is leaves) at)
-
-pub whole_tried : (view : Token → grammar.Word) (before items new given : List Token) (t : Token) (found : Option Misfit) → items ≡ before → new ≡ items ++ t ∷ [] → given ≡ new →
-    found ≡ None → IsMisfit (map view given) found → IsBeginning (map view before ++ view t ∷ [])
-whole_tried view before items new given t found copied pushed lent is whole =
-    subst IsBeginning (tried view before items new given t copied pushed lent) (whole_begins (map view given) (subst (λ o. IsMisfit (map view given) o) is whole))

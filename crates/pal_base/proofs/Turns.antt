@@ -17,11 +17,6 @@ after_more : {X : Type 0} (front : List X) (x : X) (r : Answer (List X × List W
 after_more front x (Err n) = refl
 after_more front x (Ok xs) = ap (λ ys. Ok (ys, xs.1)) (sym (append_assoc front (x ∷ []) xs.0))
 
--- nothing is found yet
-pub after_none : {X : Type 0} (r : Answer (List X × List Word)) → r ≡ after [] r
-after_none (Err n) = refl
-after_none (Ok xs) = refl
-
 pub turn_finds : {A X : Type 0} (view : A → X) (turn : Turn X) (whole : Answer (List X × List Word)) (old new : List A) (a : A) (ws vs : List Word) →
     whole ≡ after (map view old) (repeat turn ws) → turn ws ≡ Ok (Some (view a, vs)) → length vs < length ws → new ≡ old ++ a ∷ [] →
     whole ≡ after (map view new) (repeat turn vs)

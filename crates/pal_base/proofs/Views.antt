@@ -1,5 +1,5 @@
 -- A tree that holds a list of subtrees, as the definitions see it.
-use Rattle.std.proofs.Common.{◌≡◌, ℕ, arith, length, List, [], ◌∷◌, map, refl, ap, ◌∙◌}
+use Rattle.std.proofs.Common.{◌≡◌, ℕ, length, List, [], ◌∷◌, map, refl, ap, ◌∙◌}
 use Rattle.std.specs.Prelude.{Vec, Box}
 use Rattle.std.specs.declared.alloc.Global.{Global}
 use mathlib.Core.Former.{Count}
@@ -75,11 +75,7 @@ pub block_is_list : (names : List (List ℕ)) (ss : List Stmt) → reading.block
 block_is_list names [] = refl
 block_is_list names (s ∷ ss) = ap (tree.MoreStmts (stmt_of names s)) (block_is_list names ss)
 
--- an operand with its operators: without operators, just the operand
-pub chain_alone : (names : List (List ℕ)) (first : tree.Expr) (ls : List Link) → length ls ≡ 0 → first ≡ reading.chain_of first (links_of names ls)
-chain_alone names first [] h = refl
-chain_alone names first (l ∷ ls) h = absurd (omega arith)
-
+-- an operand with its operators
 chain_longer : (names : List (List ℕ)) (first : tree.Expr) (ls : List Link) → (length ls ≡ 0 → ⊥) → tree.Chain first (links_of names ls) ≡ reading.chain_of first (links_of names ls)
 chain_longer names first [] h = absurd (h refl)
 chain_longer names first (l ∷ ls) h = refl

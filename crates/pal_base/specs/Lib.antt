@@ -12,5 +12,5 @@ pub mod Accepted
 pub mod Numbers
 pub mod Parts
 pub mod Costs
-pub mod Next
+pub mod Leaving
 pub mod Lined

@@ -1,7 +1,7 @@
 //! The most operands that wait together in each part of a program. A number that does not fit 64
 //! bits is the greatest number of 64 bits.
 
-ghost use Rattle.std.specs.Prelude.{◌≡◌, ◌+◌, min, max};
+ghost use Rattle.std.specs.Prelude.{◌≡◌, min, max};
 ghost use Rattle.pal_meaning.specs.Program as cost;
 ghost use Rattle.pal_base.specs.ProgramView.{expr_of, exprs_of, links_of, stmt_of, block_of};
 

@@ -13,8 +13,6 @@ pub mod Steady
 pub mod SteadyReadings
 pub mod Places
 pub mod Feeds
-pub mod Even
-pub mod EvenReadings
 pub mod Followed
 pub mod ReadSteps
 pub mod ReadExpressions

@@ -93,10 +93,6 @@ unfolding buffer_at discipline_at name_at number_at expect
 buffer_reads x words messages discipline.Fifo rest = refl
 buffer_reads x words messages discipline.Priority rest = refl
 
-no_parenthesis : (x : List ℕ) (rest : List Word) → expect (codes ")") (Name x ∷ rest) ≡ Err (length (Name x ∷ rest))
-unfolding expect
-no_parenthesis x rest = refl
-
 no_comma : (rest : List Word) → expect (codes ",") (Mark (codes ")") ∷ rest) ≡ Err (length (Mark (codes ")") ∷ rest))
 unfolding expect
 no_comma rest = refl

@@ -31,10 +31,6 @@ HasBytes : List (List ℕ) → Type 0
 HasBytes [] = Unit {0}
 HasBytes (s ∷ ss) = (0 < length s) × HasBytes ss
 
-chosen_short : (t : Bool) (x y : Word × List ℕ) (n : ℕ) → length x.1 ≤ n → length y.1 ≤ n → length (cond t x y).1 ≤ n
-chosen_short true x y n h k = h
-chosen_short false x y n h k = k
-
 picked_short : (t : Bool) (s : List ℕ) (o : Option (List ℕ)) (b : ℕ) (bs : List ℕ) → length (sign_or_stray (Some s) b bs).1 ≤ length bs → length (sign_or_stray o b bs).1 ≤ length bs → length (sign_or_stray (cond t (Some s) o) b bs).1 ≤ length bs
 picked_short true s o b bs h k = h
 picked_short false s o b bs h k = k

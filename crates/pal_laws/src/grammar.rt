@@ -1,11 +1,9 @@
 //! Programs and their words.
 
-ghost use Rattle.std.specs.Prelude.{◌≡◌, ◌≤◌, ◌-◌, ◌++◌, ◌∷◌, [], ℕ, List, Option, length, Ok, Err};
-ghost use Rattle.apex_types.specs.declared.service.Service.{Service};
-ghost use Rattle.pal_meaning.specs.Beginning.{IsBeginning, LeavesAt};
-ghost use Rattle.pal_meaning.specs.Grammar.{IsWritten};
+ghost use Rattle.std.specs.Prelude.{◌≡◌, ◌≤◌, ◌-◌, ℕ, List, length, Ok, Err};
+ghost use Rattle.pal_meaning.specs.Beginning.{LeavesAt};
 ghost use Rattle.pal_laws.specs.GrammarReading.{program_at};
-ghost use Rattle.pal_meaning.specs.Grammar.{Word, Name, Number, ServiceWord};
+ghost use Rattle.pal_meaning.specs.Grammar.{IsWritten, Word};
 ghost use Rattle.pal_meaning.specs.Syntax.{Program};
 
 /// A program that is read is written so: the words are those of the program, its operators are in
@@ -32,14 +30,4 @@ pub fn words_are_of_one_program()
 pub fn refused_words_leave_the_grammar()
     ensures { (words : List Word) (left : ℕ) → program_at words ≡ Err left
         → (left ≤ length words) × LeavesAt words (length words - left) }
-{}
-
-/// The grammar never asks which name, which number or which service is at a place.
-pub fn words_of_a_kind_are_alike()
-    ensures names { (before : List Word) (x y : List ℕ) → IsBeginning (before ++ Name x ∷ [])
-        → IsBeginning (before ++ Name y ∷ []) }
-    ensures numbers { (before : List Word) (m n : Option ℕ) → IsBeginning (before ++ Number m ∷ [])
-        → IsBeginning (before ++ Number n ∷ []) }
-    ensures services { (before : List Word) (s t : Service)
-        → IsBeginning (before ++ ServiceWord s ∷ []) → IsBeginning (before ++ ServiceWord t ∷ []) }
 {}

@@ -1,7 +1,7 @@
 -- What is said of a source, if there is memory for it.
 use Rattle.std.proofs.Common.{◌≡◌, ℕ, List, Option, Some, None, IfSome}
 use Rattle.finding_lines.specs.Reports.{Report}
-use Rattle.pal_base.specs.Next.{IsLookedFor}
+use Rattle.pal_base.specs.Leaving.{IsLookedFor}
 use Rattle.pal_base.specs.declared.fault.Refusal.{Refusal}
 use Rattle.pal_base.specs.declared.looking.LookedFor.{LookedFor}
 use Rattle.pal_meaning.specs.Grammar.{IsProgramOf}

@@ -3,7 +3,7 @@ use Rattle.std.specs.Prelude.{◌≡◌, ℕ, ◌-◌, List, length, map, Some}
 use Rattle.finding_lines.specs.Lines.{AreAt, IsAt}
 use Rattle.finding_lines.specs.Reports.{Report}
 use Rattle.pal.specs.declared.report.BodyCost.{BodyCost}
-use Rattle.pal_base.specs.Next.{IsLookedFor}
+use Rattle.pal_base.specs.Leaving.{IsLookedFor}
 use Rattle.pal_base.specs.declared.fault.Refusal.{Refusal}
 use Rattle.pal_base.specs.declared.fault.Refusal.TheVariants as rule
 use Rattle.pal_base.specs.declared.looking.LookedFor.{LookedFor}

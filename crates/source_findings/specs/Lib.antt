@@ -8,6 +8,5 @@ pub mod Tally
 pub mod Texts
 pub mod Views
 pub mod Walk
-pub mod Wanted
 pub mod What
 pub mod Words

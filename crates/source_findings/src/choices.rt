@@ -1,8 +1,9 @@
 //! What is said of the words that fit where a text leaves the grammar.
 
-use crate::words::{is_among, word_phrase};
+use finding_lines::Shown;
 use pal_base::looking::{LookedFor, WordKind};
 use pal_base::mark::Mark;
+use std::fmt;
 
 /// What may be said of a place, and the kinds of words that have to fit there.
 struct Choice {
@@ -128,24 +129,45 @@ static CHOICES: [Choice; 21] = [
     },
 ];
 
+/// What is said of the words that fit at a place.
+#[derive(Clone, Copy)]
+pub enum Wanted {
+    Phrase(&'static str),
+    /// A word of this kind. A mark is in quotation marks.
+    Word(WordKind),
+}
+
+impl fmt::Display for Wanted {
+    fn fmt<W: fmt::Write>(&self, f: &mut fmt::Formatter<W>) -> fmt::Result {
+        match *self {
+            Wanted::Phrase(phrase) => f.write_str(phrase),
+            Wanted::Word(WordKind::Name) => f.write_str("a name"),
+            Wanted::Word(WordKind::Number) => f.write_str("a number"),
+            Wanted::Word(WordKind::Service) => f.write_str("a service"),
+            Wanted::Word(WordKind::Mark(mark)) => write!(f, "`{}`", Shown(mark.text())),
+            Wanted::Word(WordKind::End) => f.write_str("the end of the text"),
+        }
+    }
+}
+
 /// What is said of the words that fit at a place: the first choice of which all words could fit, with
 /// one more level if necessary, or else the first word.
-pub fn wanted(place: &LookedFor) -> &'static str {
+pub fn wanted(place: &LookedFor) -> Wanted {
     if place.is_too_deep {
-        return "a text of at most 64 levels";
+        return Wanted::Phrase("a text of at most 64 levels");
     }
     for choice in &CHOICES {
         if choice.words.iter().all(|kind| could_stand(place, *kind)) {
-            return choice.phrase;
+            return Wanted::Phrase(choice.phrase);
         }
     }
     match place.words.as_slice().first() {
-        Some(kind) => word_phrase(*kind),
-        None => "a text of the grammar",
+        Some(kind) => Wanted::Word(*kind),
+        None => Wanted::Phrase("a text of the grammar"),
     }
 }
 
 /// Returns true if a word of this kind fits there, with one more level if necessary.
 fn could_stand(place: &LookedFor, kind: WordKind) -> bool {
-    is_among(kind, place.words.as_slice()) || is_among(kind, place.deeper.as_slice())
+    place.words.contains(&kind) || place.deeper.contains(&kind)
 }

@@ -2,7 +2,7 @@
 
 ghost use Rattle.std.specs.Prelude.{IfOk, IfSome, Some, string_bytes};
 ghost use Rattle.finding_lines.specs.Lines.{IsAt};
-ghost use Rattle.pal_base.specs.Next.{IsLookedFor};
+ghost use Rattle.pal_base.specs.Leaving.{IsLookedFor};
 ghost use Rattle.pal_base.specs.WrittenView.{program_of};
 ghost use Rattle.pal_meaning.specs.Grammar.{IsProgramOf};
 ghost use Rattle.source_findings.specs.Bodies.{wrongs};

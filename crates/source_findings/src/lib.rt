@@ -20,6 +20,5 @@ mod text_words;
 mod texts;
 mod unfit;
 mod walk;
-mod words;
 
 pub use explain::{explain_length, explain_source};
