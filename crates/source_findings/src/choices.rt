@@ -152,7 +152,7 @@ impl fmt::Display for Wanted {
 
 /// What is said of the words that fit at a place: the first choice of which all words could fit, with
 /// one more level if necessary, or else the first word.
-pub fn wanted(place: &LookedFor) -> Wanted {
+pub fn wanted_at(place: &LookedFor) -> Wanted {
     if place.is_too_deep {
         return Wanted::Phrase("a text of at most 64 levels");
     }

@@ -36,7 +36,7 @@ pub fn unfit_lines(
 
 /// What is there where the grammar is left.
 fn unfit_said(alloc: Global, rest: &[u8], looked_for: &LookedFor) -> Result<String, AllocError> {
-    let wanted = wanted(looked_for);
+    let wanted = wanted_at(looked_for);
     if rest.is_empty() {
         return format!(in alloc; "the text ends where {wanted} is wanted");
     }
@@ -70,7 +70,7 @@ fn unfit_advice(
             "Open at most 64 levels of braces, brackets and parentheses, one within another.",
         );
     }
-    let wanted = wanted(looked_for);
+    let wanted = wanted_at(looked_for);
     format!(in alloc; "Write {wanted} here.")
 }
 
