@@ -5,7 +5,7 @@ ghost use Rattle.finding_lines.specs.Lines.{IsAt};
 ghost use Rattle.finding_lines.specs.Reports.{report_of};
 ghost use Rattle.source_findings.specs.Explained.{unfit_offset};
 
-use crate::choices::wanted;
+use crate::choices::wanted_at;
 use crate::suggestion::suggested;
 use crate::text_words::{first_word, from_word, next_word};
 use finding_lines::{DidYouMean, Report, Shown, lines_at, place_of};
