@@ -171,10 +171,9 @@ module _ (table : List ℕ) (wholes texts : List (List ℕ)) (all : AllBegun who
     programs = h.programs;
     accepted = record { rows = h.accepted.rows; accepted = all_accepted h.rows.partitions wholes texts h.programs all h.accepted.accepted };
     short = h.short;
-    image = h.image;
+    spelled = h.spelled;
     loaded = h.loaded;
     items = h.items;
-    channels = h.channels;
     meaning = h.meaning;
   }
 

@@ -5,8 +5,8 @@ use Rattle.apex_types.specs.declared.device.DeviceLine.{DeviceLine}
 use Rattle.compiler.specs.declared.fault.CompileFault.TheVariants as compile
 use Rattle.machine_meaning.specs.MachineMeaning.{row_of_item, machine_trace}
 use Rattle.module_meaning.specs.Table.{Partition, Table}
-use Rattle.machine_meaning.specs.Image.{Image}
 use Rattle.machine_meaning.specs.ImageReading.{image_at}
+use Rattle.machine_meaning.specs.ImageSpelling.{spelling}
 use Rattle.pal_meaning.specs.Program.{Program}
 use Rattle.module_meaning.specs.SourceMeaning.{source_trace}
 use Rattle.pal_base.specs.declared.fault.PalFault.{PalFault}
@@ -17,21 +17,22 @@ use Rattle.window_table.specs.declared.fault.TableFault.TheVariants as table_fau
 use Rattle.module_meaning.specs.Accepted.{IsModule}
 use Rattle.module.specs.declared.fault.BuildFault.{BuildFault}
 use Rattle.module.specs.declared.fault.BuildFault.TheVariants as fault
+use Rattle.module.specs.Built.{built_image, built_items}
 use Rattle.module.specs.Refusals.{IsFirstRefused, IsSourceRefused, first_too_long, is_too_long}
 
--- The bytes are those of an image that, for all device lines and every number of ticks, means what
--- the table and sources mean, and has the partitions and channels of the table: these are accepted,
--- and no program is too long.
+-- Table and sources are accepted, no program is too long, and the bytes spell the image of these
+-- rows and programs: this version, these costs, this frame, this code. It is loaded with the
+-- partitions of the table, and for all device lines and every number of ticks it means what the
+-- table and sources mean.
 pub record IsImageOf (table : List ℕ) (sources : List (List ℕ)) (bytes : List ℕ) : Type 0 where
   pub rows : Table
   pub programs : List Program
   pub accepted : IsModule table sources rows programs
   pub short : list_any is_too_long programs ≡ false
-  pub image : Image
-  pub loaded : image_at bytes ≡ Ok image
-  pub items : map row_of_item image.items ≡ rows.partitions
-  pub channels : image.channels ≡ rows.channels
-  pub meaning : (lines : List DeviceLine) (n : ℕ) → machine_trace image lines n ≡ source_trace rows programs lines n
+  pub spelled : bytes ≡ spelling (built_image rows programs)
+  pub loaded : image_at bytes ≡ Ok (built_image rows programs)
+  pub items : map row_of_item (built_items rows.partitions programs) ≡ rows.partitions
+  pub meaning : (lines : List DeviceLine) (n : ℕ) → machine_trace (built_image rows programs) lines n ≡ source_trace rows programs lines n
 
 -- ---- the steps of building
 

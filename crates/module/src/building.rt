@@ -1,6 +1,6 @@
 //! From a module table and sources to the bytes of an image.
 
-ghost use Rattle.std.specs.Prelude.{◌≡◌, length, map, IfOk, IfErr, false};
+ghost use Rattle.std.specs.Prelude.{◌≡◌, ℕ, List, length, map, IfOk, IfErr, false};
 ghost use Rattle.std.specs.List.{list_any};
 ghost use Rattle.compiling_laws.specs.CompiledCode as code_of;
 ghost use Rattle.machine_meaning.specs.ImageSpelling.{spelling};
@@ -41,6 +41,12 @@ pub fn build(alloc: Global, table: &[u8], sources: &[&[u8]]) -> Result<Vec<u8>, 
     let table = accept_table(alloc, table)?;
     build_table(alloc, table, sources)
 }
+
+/// A table and its sources have one image: what [`build`] returns for them is always the same.
+pub fn module_has_one_image()
+    ensures { (table : List ℕ) (sources : List (List ℕ)) (first second : List ℕ)
+        → IsImageOf table sources first → IsImageOf table sources second → first ≡ second }
+{}
 
 /// The module table that the text is.
 ///

@@ -32,7 +32,7 @@ mod upgrading;
 mod watch;
 mod watching;
 
-pub use building::{accept_table, build};
+pub use building::{accept_table, build, module_has_one_image};
 pub use costing::{AcceptedModule, PartitionCosts, accept_module, costs};
 pub use fault::{BuildAndRunFault, BuildFault, RunFault};
 pub use inputs_fault::InputsFault;
