@@ -156,5 +156,5 @@ pub one_image : (table : List ℕ) (sources : List (List ℕ)) (first second : L
 one_image table sources first second a b =
     let rows : a.rows ≡ b.rows = one_table table a.rows b.rows a.accepted.rows b.accepted.rows in
     let programs : a.programs ≡ b.programs =
-      one_list b.rows.partitions sources a.programs b.programs (subst (λ t. AreAccepted t.partitions sources a.programs) rows a.accepted.accepted) b.accepted.accepted in
+    one_list b.rows.partitions sources a.programs b.programs (subst (λ t. AreAccepted t.partitions sources a.programs) rows a.accepted.accepted) b.accepted.accepted in
     a.spelled ∙ ap (λ t. spelling (built_image t a.programs)) rows ∙ ap (λ ps. spelling (built_image b.rows ps)) programs ∙ sym b.spelled
