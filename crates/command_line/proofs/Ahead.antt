@@ -10,7 +10,7 @@ use Rattle.machine_meaning.specs.MachineMeaning.{machine_module, machine_trace}
 use Rattle.module_meaning.specs.Module.{Plan, of_tick}
 use Rattle.module.specs.Machines.{Machine, course_of, fresh_machine}
 use Rattle.module.specs.Pieces.{LeadsTo}
-use Rattle.module.specs.Standing.{Standing, after, lines_of, ticks}
+use Rattle.module.specs.Standing.{Elapsed, Standing, after, elapse, lines_of, ticks}
 use Rattle.module.proofs.DeviceLines.{of_tick_again}
 use Rattle.module.proofs.Machines.{ticks_are_the_trace}
 use Rattle.module.proofs.Standing.{none_down, tick_text}
@@ -64,7 +64,7 @@ none_sooner plan lines (suc n) (suc k) s few h =
 skipped_none : {C : Type 0} (plan : Plan) (lines : List DeviceLine) (n k : ℕ) (s next : Standing C) → LeadsTo plan lines n s [] next → k ≤ n → lines_of plan lines k s ≡ []
 skipped_none plan lines n k s next leads few =
     let same : n ≡ n + 0 = omega arith in
-    none_sooner plan lines n k s few (ap (λ j. lines_of plan lines j s) same ∙ leads 0)
+    none_sooner plan lines n k s few (ap (λ (e : Elapsed _). e.lines) (ap (λ j. elapse plan lines j s) same ∙ leads 0))
 
 -- the text is unchanged
 pub text_skipped : (image : Image) (devices lines : List DeviceLine) (n k : ℕ) (s next : Standing MachineControl) → IsAhead image devices lines s → LeadsTo (machine_module image).plan lines n s [] next → k ≤ n
@@ -79,7 +79,7 @@ ahead_skipped image devices lines n s next now ahead leads k =
     let there : next.now + k ≡ s.now + (n + k) = omega (arith, now) in
     ap (text_to image devices) there
     ∙ ahead (n + k)
-    ∙ ap (λ (es : List Event). text_to image devices s.now ++ text_of es) (leads k)
+    ∙ ap (λ (e : Elapsed _). text_to image devices s.now ++ text_of e.lines) (leads k)
     ∙ ap (λ (text : List ℕ). text ++ text_on image lines k next) (sym (text_skipped image devices lines n n s next ahead leads all))
     ∙ ap (λ j. text_to image devices j ++ text_on image lines k next) (sym now)
 

@@ -13,7 +13,8 @@ use Rattle.module.specs.Pieces.{LeadsTo}
 use Rattle.module.specs.Written.{AreFrom}
 use Rattle.module.specs.declared.fault.RunFault.{RunFault}
 use Rattle.module.specs.declared.fault.RunFault.TheVariants as fault
-use Rattle.module.proofs.Bursts.{from_lower}
+use Rattle.module.proofs.Bursts.{from_lower, skipped_ahead}
+use Rattle.module.specs.Standing.{elapse}
 use Rattle.command_line.specs.Stops.{EndsImage, text_to}
 use Rattle.command_line.specs.StopSteps.{IsHeld}
 use Rattle.command_line.specs.Awaited.{has_line}
@@ -55,22 +56,21 @@ reached_kept {old = old} {mid = mid} new i kept = record {
 }
 
 -- The ticks that are skipped come before these lines, if all that may be do.
-pub skipped_before : (m next : Machine) (most k : ℕ) (lines : List DeviceLine) → ((ls : List DeviceLine) → AreFrom next.standing.now ls → HasSkipped ls most m next k) → AreFrom (m.standing.now + most) lines
-    → AreFrom next.standing.now lines × HasSkipped lines most m next k
+pub skipped_before : (m next : Machine) (most k : ℕ) (lines : List DeviceLine) → HasSkipped most m next k → AreFrom (m.standing.now + most) lines
+    → AreFrom next.standing.now lines × HasSkipped most m next k
 skipped_before m next most k lines h from =
-    let none : HasSkipped [] most m next k = h [] tt in
-    let few : k ≤ most = none.2.0 in
-    let now : next.standing.now ≡ m.standing.now + k = none.2.1 in
-    let order = from_lower next.standing.now (m.standing.now + most) lines (omega (arith, few, now)) from in
-    (order, h lines order)
+    let few : k ≤ most = h.2.0 in
+    let now : next.standing.now ≡ m.standing.now + k = h.2.1 in
+    (from_lower next.standing.now (m.standing.now + most) lines (omega (arith, few, now)) from, h)
 
 -- ticks without lines are skipped
 pub reached_skipped : {asked : List (List ℕ)} {image : Image} {devices lines : List DeviceLine} {n left : ℕ} {old mid : Option (List ℕ)} {m : Machine} (next : Machine) (most k rest : ℕ) → IsReached asked image devices lines n left old mid m
-    → HasSkipped lines most m next k → AreFrom next.standing.now lines → left ≡ k + rest → IsReached asked image devices lines n rest old mid next
+    → HasSkipped most m next k → AreFrom next.standing.now lines → left ≡ k + rest → IsReached asked image devices lines n rest old mid next
 reached_skipped {asked = asked} {image = image} {devices = devices} {lines = lines} {old = old} {mid = mid} {m = m} next most k rest i h order count =
     let s = m.standing in
     let now = h.2.1 in
-    let leads = subst (λ (x : Image). LeadsTo (machine_module x).plan lines k s [] next.standing) i.same h.2.2 in
+    let plan = (machine_module image).plan in
+    let leads : LeadsTo plan lines k s [] next.standing = skipped_ahead plan lines k s next.standing now order (ap (λ (x : Image). elapse (machine_module x).plan [] k s) (sym i.same) ∙ h.2.2) in
     let all : k ≤ k = omega arith in
     record {
       same = h.0 ∙ i.same;
@@ -84,7 +84,7 @@ reached_skipped {asked = asked} {image = image} {devices = devices} {lines = lin
 
 -- no tick is skipped
 pub reached_still : {asked : List (List ℕ)} {image : Image} {devices lines : List DeviceLine} {n left : ℕ} {old mid : Option (List ℕ)} {m : Machine} (next : Machine) (most k : ℕ) → IsReached asked image devices lines n left old mid m
-    → HasSkipped lines most m next k → AreFrom next.standing.now lines → k ≡ 0 → IsReached asked image devices lines n left old mid next
+    → HasSkipped most m next k → AreFrom next.standing.now lines → k ≡ 0 → IsReached asked image devices lines n left old mid next
 reached_still {left = left} next most k i h order none = reached_skipped next most k left i h order (omega (arith, none))
 
 -- ---- the next tick

@@ -1,5 +1,5 @@
 -- Many ticks of the module together, between two standings.
-use Rattle.module.proofs.Prelude.{◌≡◌, ◌⊎◌, inl, inr, ℕ, zero, suc, ◌+◌, ◌-◌, ◌<◌, ◌≤◌, Bool, true, false, cond, List, ◌∷◌, ◌++◌, length, Option, Some, None, refl, sym, ap, ◌∙◌, arith, slice_get, slice_set, option_map, none-some, same_Some, text_of, TakesBeginning, IsUnderWay, under_way_more, under_way_fails, DeviceLine, Event, At, Kernel, Plan, Member, Moved, World, tick, with_world, Schedule, tick_from, owner, ended, Engine, IsStill, AreStill, HaveNoLines, nothing_sent, Sent, LeadsTo, HasPassedSome, HasSkippedSome, HasRun, IsBrokenOff, HasMoved, ticks_by, Standing, lines_of, AreFrom}
+use Rattle.module.proofs.Prelude.{◌≡◌, ◌⊎◌, inl, inr, ℕ, zero, suc, ◌+◌, ◌-◌, ◌<◌, ◌≤◌, Bool, true, false, cond, List, ◌∷◌, ◌++◌, length, Option, Some, None, refl, sym, ap, ◌∙◌, arith, slice_get, slice_set, option_map, none-some, same_Some, text_of, TakesBeginning, IsUnderWay, under_way_more, under_way_fails, DeviceLine, Event, At, Kernel, Plan, Member, Moved, World, tick, with_world, Schedule, tick_from, owner, ended, Engine, IsStill, AreStill, HaveNoLines, nothing_sent, Sent, LeadsTo, HasPassedSome, HasSkippedSome, HasRun, IsBrokenOff, HasMoved, ticks_by, Standing, lines_of, AreFrom, Elapsed, elapse, preceded_by, Course, Advanced, of_tick, origin_of, then_runs, module_tick}
 use Rattle.std.proofs.Common.{[], subst, nat_le}
 use Rattle.apex_types.specs.declared.limits.TheConstants.{MOST_EVENTS}
 use Rattle.kernel_meaning.specs.Windows.{at_tick}
@@ -8,9 +8,10 @@ use Rattle.partition.specs.Gathering.{joined, no_ticks, ticks_within}
 use Rattle.partition.specs.Members.{HasAdvanced}
 use Rattle.partition.specs.declared.rooms.TheConstants.{LINES_FOR_TICK}
 use Rattle.partition.proofs.Gathering.{some_ticks}
-use Rattle.kernel_laws.proofs.Quiet.{jump}
-use Rattle.module.proofs.DeviceLines.{none_before}
-use Rattle.module.proofs.Standing.{later_is}
+use Rattle.module_meaning.specs.Module.{goes_on}
+use Rattle.kernel_laws.proofs.Quiet.{still_tick}
+use Rattle.module.proofs.DeviceLines.{none_before, of_tick_again}
+use Rattle.module.proofs.Standing.{begins_later, skipped_leads}
 use Rattle.module.proofs.Texts.{text_append}
 
 abbrev pub standing_at : {C : Type 0} → List (Member C) → (now origin : ℕ) → Standing C
@@ -28,16 +29,33 @@ no_lines t u ls order = λ v from below. none_before v u ls below order
 -- ---- no tick at all
 
 pub leads_nowhere : {C : Type 0} (plan : Plan) (lines : List DeviceLine) (s : Standing C) → LeadsTo plan lines 0 s [] s
-leads_nowhere plan lines s m = let same : 0 + m ≡ m = omega arith in ap (λ k. lines_of plan lines k s) same
+leads_nowhere plan lines s m = let same : 0 + m ≡ m = omega arith in ap (λ k. elapse plan lines k s) same
 
--- ---- ticks in which nothing happens, and ticks without an owner
+-- ---- ticks in which nothing happens
+
+elapse_still : {C : Type 0} (plan : Plan) (lines : List DeviceLine) (origin from limit : ℕ) (ms : List (Member C)) → AreStill origin from limit ms
+    → (n m t : ℕ) → 0 < t → from ≤ t → t + n ≤ limit → HaveNoLines t (t + n) lines
+    → elapse plan lines (n + m) (standing_at ms t origin) ≡ elapse plan lines m (standing_at ms (t + n) origin)
+elapse_still plan lines origin from limit ms h zero m t begun start within none =
+    let same : 0 + m ≡ m = omega arith in
+    let here : t ≡ t + 0 = omega arith in
+    ap (λ k. elapse plan lines k (standing_at ms t origin)) same ∙ ap (λ u. elapse plan lines m (standing_at ms u origin)) here
+elapse_still plan lines origin from limit ms h (suc n) m t begun start within none =
+    let at = tick_from origin t in
+    let its = of_tick t lines in
+    let one_more : suc n + m ≡ suc (n + m) = omega arith in
+    let there : t + 1 + n ≡ t + suc n = omega arith in
+    let shows : Course _ → Elapsed _ = λ c. preceded_by c.lines (elapse plan lines (n + m) (record { members = c.members; now = t + 1; origin = option_map origin_of c.at })) in
+    ap (λ k. elapse plan lines k (standing_at ms t origin)) one_more
+    ∙ ap (λ (b : Advanced _). shows (then_runs (goes_on at b) (λ x xs. module_tick plan x its xs))) (begins_later t ms begun)
+    ∙ ap shows (still_tick plan its origin t from limit ms start (omega (arith, within)) h (of_tick_again t lines ∙ none t (omega arith) (omega arith)))
+    ∙ elapse_still plan lines origin from limit ms h n m (t + 1) (omega (arith, begun)) (omega (arith, start)) (omega (arith, within)) (λ u above below. none u (omega (arith, above)) (omega (arith, below)))
+    ∙ ap (λ u. elapse plan lines m (standing_at ms u origin)) there
 
 pub leads_still : {C : Type 0} (plan : Plan) (lines : List DeviceLine) (n now origin : ℕ) (ms : List (Member C)) → 0 < now → AreFrom (now + n) lines → AreStill origin now (now + n) ms
     → LeadsTo plan lines n (standing_at ms now origin) [] (standing_at ms (now + n) origin)
 leads_still plan lines n now origin ms begun order still m =
-    later_is plan lines (n + m) now ms (Some origin) begun
-    ∙ jump plan lines origin now (now + n) ms still n m now (omega arith) (omega arith) (no_lines now (now + n) lines order)
-    ∙ sym (later_is plan lines m (now + n) ms (Some origin) (omega (arith, begun)))
+    elapse_still plan lines origin now (now + n) ms still n m now begun (omega arith) (omega arith) (no_lines now (now + n) lines order)
 
 -- ---- ticks of a partition
 
@@ -129,7 +147,7 @@ pub runs_on : {C : Type 0} {old mid new : Option (List ℕ)} {text : List ℕ} {
     → IsUnderWay old new text (text_of (lines_of plan lines k next))
 runs_on {old = old} {mid = mid} {new = new} {text = text} plan lines s next left n k count way h =
     let split : text_of (lines_of plan lines left s) ≡ text_of h.told ++ text_of (lines_of plan lines k next) =
-    ap text_of (ap (λ j. lines_of plan lines j s) count ∙ h.leads k) ∙ text_append h.told (lines_of plan lines k next) in
+    ap (λ (e : Elapsed _). text_of e.lines) (ap (λ j. elapse plan lines j s) count ∙ h.leads k) ∙ text_append h.told (lines_of plan lines k next) in
     under_way_more old mid new text (text_of h.told) _ (rw split at way) h.written
 
 pub breaks_off : {C : Type 0} {old mid new : Option (List ℕ)} {text : List ℕ} {before between : ℕ} (plan : Plan) (lines : List DeviceLine) (s : Standing C) (left k : ℕ) → k ≤ left
@@ -139,7 +157,7 @@ breaks_off {old = old} {mid = mid} {new = new} {text = text} plan lines s left k
     let count : left ≡ h.ticks + (left - h.ticks) = omega (arith, few, h.within) in
     let rest = left - h.ticks in
     let split : text_of (lines_of plan lines left s) ≡ text_of h.told ++ text_of (lines_of plan lines rest h.next) =
-    ap text_of (ap (λ j. lines_of plan lines j s) count ∙ h.leads rest) ∙ text_append h.told (lines_of plan lines rest h.next) in
+    ap (λ (e : Elapsed _). text_of e.lines) (ap (λ j. elapse plan lines j s) count ∙ h.leads rest) ∙ text_append h.told (lines_of plan lines rest h.next) in
     under_way_fails old mid new text (text_of h.told) _ (rw split at way) h.beginning
 
 -- ---- as the code meets them
@@ -163,11 +181,16 @@ run_still plan lines k t origin s sent here from begun order still =
     let all : k ≤ k = omega arith in
     (all, refl, record { told = []; leads = lift plan lines k t origin s [] s.members here from (leads_still plan lines k t origin s.members begun order still); sent = nothing_sent sent })
 
-pub skip_ticks : {C : Type 0} (plan : Plan) (lines : List DeviceLine) (k n t origin : ℕ) (s : Standing C) → t ≡ s.now → s.origin ≡ Some origin → n ≤ k
-    → 0 < t → AreFrom (t + n) lines → AreStill origin t (t + n) s.members
-    → HasSkippedSome plan lines k s (record { members = s.members; now = s.now + n; origin = s.origin }) n
-skip_ticks plan lines k n t origin s here from few begun order still =
-    (few, refl, lift plan lines n t origin s [] s.members here from (leads_still plan lines n t origin s.members begun order still))
+pub skip_ticks : {C : Type 0} (plan : Plan) (k n t origin : ℕ) (s : Standing C) → t ≡ s.now → s.origin ≡ Some origin → n ≤ k
+    → 0 < t → AreStill origin t (t + n) s.members
+    → HasSkippedSome plan k s (record { members = s.members; now = s.now + n; origin = s.origin }) n
+skip_ticks plan k n t origin s here from few begun still =
+    let all : n ≡ n + 0 = omega arith in
+    (few, refl, ap (λ j. elapse plan [] j s) all ∙ lift plan [] n t origin s [] s.members here from (leads_still plan [] n t origin s.members begun tt still) 0)
+
+-- ticks that were skipped lead on with any device lines that are later
+pub skipped_ahead : {C : Type 0} (plan : Plan) (lines : List DeviceLine) (k : ℕ) (s next : Standing C) → next.now ≡ s.now + k → AreFrom next.now lines → elapse plan [] k s ≡ record { lines = []; standing = next } → LeadsTo plan lines k s [] next
+skipped_ahead plan lines k s next now order is = skipped_leads plan lines k s next (subst (λ u. HaveNoLines s.now u lines) now (no_lines s.now next.now lines order)) is
 
 -- some of fewer ticks are some of more
 pub run_fewer : {C : Type 0} (old new : Sent) (plan : Plan) (lines : List DeviceLine) (m k n : ℕ) (s next : Standing C) → m ≤ k → HasPassedSome plan lines m s next old new n → HasPassedSome plan lines k s next old new n

@@ -1,14 +1,14 @@
 -- Ticks of the owner of a window from an edge on: first the messages move, then it makes its ticks.
-use Rattle.module.proofs.Prelude.{◌≡◌, ℕ, zero, suc, ◌+◌, ◌-◌, ◌<◌, ◌≤◌, List, ◌∷◌, ◌++◌, Option, Some, None, Bool, true, false, cond, inl, inr, ◌⊎◌, length, map, refl, sym, ap, ◌∙◌, append-nil, append_assoc, arith, slice_get, slice_set, option_map, none-some, same_Some, place_of_number, DeviceLine, Event, At, PartitionId, Ticks, Engine, Port, is_source, Member, World, messages_to_move, tick, with_world, Schedule, tick_from, owner, ended, Advanced, Course, Plan, inputs_all, module_tick, moves_and_ticks, moves_ended, moves_ports, moves_so_many, of_member, of_tick, ports_from, ports_of, steps_member, still, then_goes, then_runs, ticks_owner, Channel, at_number, lines_sent, nothing_sent, Sent, LeadsTo, EndsQuietly, HasNoSource, HasPassed, HasPassedSome, HasPassedBehind, HasPassedSomeBehind, HasMoved, HasMovedWritten, ticks_by, Standing, lines_of, origin_of, ticks_in, AreFrom, IsMade}
+use Rattle.module.proofs.Prelude.{◌≡◌, ℕ, zero, suc, ◌+◌, ◌-◌, ◌<◌, ◌≤◌, List, ◌∷◌, ◌++◌, Option, Some, None, Bool, true, false, cond, inl, inr, ◌⊎◌, length, map, refl, sym, ap, ◌∙◌, append-nil, arith, slice_get, slice_set, option_map, none-some, same_Some, place_of_number, DeviceLine, Event, At, PartitionId, Ticks, Engine, Port, is_source, Member, World, messages_to_move, tick, with_world, Schedule, tick_from, owner, ended, Advanced, Course, Plan, inputs_all, module_tick, moves_and_ticks, moves_ended, moves_ports, moves_so_many, of_member, of_tick, ports_from, ports_of, steps_member, still, then_goes, then_runs, ticks_owner, Channel, at_number, lines_sent, nothing_sent, Sent, LeadsTo, EndsQuietly, HasNoSource, HasPassed, HasPassedSome, HasPassedBehind, HasPassedSomeBehind, HasMoved, HasMovedWritten, ticks_by, Elapsed, Standing, elapse, preceded_by, origin_of, ticks_in, AreFrom, IsMade}
 use Rattle.std.proofs.Common.{[], subst}
 use Rattle.std.proofs.lemmas.Bool.{cases_lt}
 use Rattle.kernel_meaning.specs.Partition.{advances}
 use Rattle.module_meaning.specs.Module.{goes_on}
-use Rattle.module.specs.Pieces.{LeadsBehind, lines_behind}
+use Rattle.module.specs.Pieces.{LeadsBehind, elapse_behind}
 use Rattle.module.proofs.Bursts.{from_lower, lift, standing_at}
 use Rattle.module.proofs.DeviceLines.{none_before, of_tick_again}
 use Rattle.module.proofs.Sources.{sources_of, tick_keeps}
-use Rattle.module.proofs.Standing.{begins_later}
+use Rattle.module.proofs.Standing.{begins_later, preceded_twice}
 
 abbrev pub standing_by : {C : Type 0} → List (Member C) → ℕ → Option ℕ → Standing C
 standing_by ms now origin = record { members = ms; now = now; origin = origin }
@@ -17,16 +17,16 @@ standing_by ms now origin = record { members = ms; now = now; origin = origin }
 
 pub after_moves : {C : Type 0} (plan : Plan) (lines : List DeviceLine) (k now origin : ℕ) (ms : List (Member C)) → 0 < now → of_tick now lines ≡ []
     → let a = moves_ended plan.channels (tick_from origin now) ms (ended plan.schedule (tick_from origin now)) in
-    lines_of plan lines (suc k) (standing_at ms now origin) ≡ a.lines ++ lines_behind plan lines (suc k) (standing_at a.members now origin)
+    elapse plan lines (suc k) (standing_at ms now origin) ≡ preceded_by a.lines (elapse_behind plan lines (suc k) (standing_at a.members now origin))
 after_moves plan lines k now origin ms begun none =
     let at = tick_from origin now in
     let its = of_tick now lines in
-    let shows : Course _ → List Event = λ c. c.lines ++ lines_of plan lines k (record { members = c.members; now = now + 1; origin = option_map origin_of c.at }) in
+    let shows : Course _ → Elapsed _ = λ c. preceded_by c.lines (elapse plan lines k (record { members = c.members; now = now + 1; origin = option_map origin_of c.at })) in
     let a = moves_ended plan.channels at ms (ended plan.schedule at) in
     let o = ticks_owner at a.members (owner plan.schedule at) in
     ap (λ (b : Advanced _). shows (then_runs (goes_on at b) (λ x xs. module_tick plan x its xs))) (begins_later now ms begun)
     ∙ ap (λ ls. shows (then_runs (inputs_all plan at ls ms) (moves_and_ticks plan))) (of_tick_again now lines ∙ none)
-    ∙ append_assoc a.lines o.lines (lines_of plan lines k (standing_at o.members (now + 1) origin))
+    ∙ preceded_twice a.lines o.lines (elapse plan lines k (standing_at o.members (now + 1) origin))
 
 -- ---- edges at which nothing moves
 
@@ -46,10 +46,10 @@ quiet_moves channels at ms p o (inr both) =
     ap (moves_ended channels at ms) both.0 ∙ sourceless_moves (length (ports_from ms p)) 1 channels at (record { 0 = p }) ms both.1
 
 no_moves : {C : Type 0} (plan : Plan) (lines : List DeviceLine) (k now origin p : ℕ) (ms : List (Member C)) → 0 < now → of_tick now lines ≡ [] → EndsQuietly plan origin ms p now
-    → lines_of plan lines (suc k) (standing_at ms now origin) ≡ lines_behind plan lines (suc k) (standing_at ms now origin)
+    → elapse plan lines (suc k) (standing_at ms now origin) ≡ elapse_behind plan lines (suc k) (standing_at ms now origin)
 no_moves plan lines k now origin p ms begun none over =
     after_moves plan lines k now origin ms begun none
-    ∙ ap (λ (a : Advanced _). a.lines ++ lines_behind plan lines (suc k) (standing_at a.members now origin))
+    ∙ ap (λ (a : Advanced _). preceded_by a.lines (elapse_behind plan lines (suc k) (standing_at a.members now origin)))
     (quiet_moves plan.channels (tick_from origin now) ms p (ended plan.schedule (tick_from origin now)) over)
 
 -- no tick of a partition makes a port of it a source
@@ -116,10 +116,10 @@ record IsOwned {C : Type 0} (plan : Plan) (devices : List DeviceLine) (origin pl
 -- one tick
 owner_tick : {C : Type 0} (plan : Plan) (lines : List DeviceLine) (k now origin place : ℕ) (ms : List (Member C)) (x : Member C) → slice_get ms place ≡ Some x → owner plan.schedule (tick_from origin now) ≡ Some (suc place)
     → let a = tick x.engine (tick_from origin now) x.world in
-    lines_behind plan lines (suc k) (standing_at ms now origin) ≡ a.lines ++ lines_of plan lines k (standing_at (slice_set ms place (with_world x a.world)) (now + 1) origin)
+    elapse_behind plan lines (suc k) (standing_at ms now origin) ≡ preceded_by a.lines (elapse plan lines k (standing_at (slice_set ms place (with_world x a.world)) (now + 1) origin))
 owner_tick plan lines k now origin place ms x e owned =
     let at = tick_from origin now in
-    let shows : Advanced _ → List Event = λ a. a.lines ++ lines_of plan lines k (standing_at a.members (now + 1) origin) in
+    let shows : Advanced _ → Elapsed _ = λ a. preceded_by a.lines (elapse plan lines k (standing_at a.members (now + 1) origin)) in
     ap (λ o. shows (ticks_owner at ms o)) owned
     ∙ ap (λ o. shows (steps_member (advances at) ms place o)) e
 
@@ -127,15 +127,15 @@ owner_tick plan lines k now origin place ms x e owned =
 owner_ticks : {C : Type 0} (plan : Plan) (lines : List DeviceLine) (n m now origin place : ℕ) (ms : List (Member C)) (x : Member C) → slice_get ms place ≡ Some x → owner plan.schedule (tick_from origin now) ≡ Some (suc place)
     → ((i : ℕ) → i < n → IsOwned plan lines origin place ms (now + 1 + i))
     → let a = ticks_by x.engine origin (suc n) x.world now in
-    lines_behind plan lines (suc n + m) (standing_at ms now origin) ≡ a.lines ++ lines_of plan lines m (standing_at (slice_set ms place (with_world x a.world)) (now + suc n) origin)
+    elapse_behind plan lines (suc n + m) (standing_at ms now origin) ≡ preceded_by a.lines (elapse plan lines m (standing_at (slice_set ms place (with_world x a.world)) (now + suc n) origin))
 owner_ticks plan lines zero m now origin place ms x e owned h =
     let a = tick x.engine (tick_from origin now) x.world in
     let once : suc zero + m ≡ suc m = omega arith in
     let next : now + 1 ≡ now + suc zero = omega arith in
-    ap (λ j. lines_behind plan lines j (standing_at ms now origin)) once
+    ap (λ j. elapse_behind plan lines j (standing_at ms now origin)) once
     ∙ owner_tick plan lines m now origin place ms x e owned
-    ∙ ap (λ (ls : List Event). ls ++ lines_of plan lines m (standing_at (slice_set ms place (with_world x a.world)) (now + 1) origin)) (sym (append-nil a.lines))
-    ∙ ap (λ u. (a.lines ++ []) ++ lines_of plan lines m (standing_at (slice_set ms place (with_world x a.world)) u origin)) next
+    ∙ ap (λ (ls : List Event). preceded_by ls (elapse plan lines m (standing_at (slice_set ms place (with_world x a.world)) (now + 1) origin))) (sym (append-nil a.lines))
+    ∙ ap (λ u. preceded_by (a.lines ++ []) (elapse plan lines m (standing_at (slice_set ms place (with_world x a.world)) u origin))) next
 owner_ticks plan lines (suc n) m now origin place ms x e owned h =
     let a = tick x.engine (tick_from origin now) x.world in
     let y = with_world x a.world in
@@ -151,30 +151,30 @@ owner_ticks plan lines (suc n) m now origin place ms x e owned h =
     let one_more : suc (suc n) + m ≡ suc (suc (n + m)) = omega arith in
     let others : suc (n + m) ≡ suc n + m = omega arith in
     let there : now + 1 + suc n ≡ now + suc (suc n) = omega arith in
-    ap (λ j. lines_behind plan lines j (standing_at ms now origin)) one_more
+    ap (λ j. elapse_behind plan lines j (standing_at ms now origin)) one_more
     ∙ owner_tick plan lines (suc (n + m)) now origin place ms x e owned
-    ∙ ap (λ (ls : List Event). a.lines ++ ls)
+    ∙ ap (preceded_by a.lines)
     (no_moves plan lines (n + m) (now + 1) origin (suc place) after (omega arith) first.lines first.quiet
-    ∙ ap (λ j. lines_behind plan lines j (standing_at after (now + 1) origin)) others
+    ∙ ap (λ j. elapse_behind plan lines j (standing_at after (now + 1) origin)) others
     ∙ owner_ticks plan lines n m (now + 1) origin place after y (set_found ms place x y e) first.owner rest)
-    ∙ ap (λ (xs : List (Member _)). a.lines ++ (b.lines ++ lines_of plan lines m (standing_at xs (now + 1 + suc n) origin))) (set_again ms place y (with_world x b.world))
-    ∙ ap (λ u. a.lines ++ (b.lines ++ lines_of plan lines m (standing_at (slice_set ms place (with_world x b.world)) u origin))) there
-    ∙ sym (append_assoc a.lines b.lines (lines_of plan lines m (standing_at (slice_set ms place (with_world x b.world)) (now + suc (suc n)) origin)))
+    ∙ ap (λ (xs : List (Member _)). preceded_by a.lines (preceded_by b.lines (elapse plan lines m (standing_at xs (now + 1 + suc n) origin)))) (set_again ms place y (with_world x b.world))
+    ∙ ap (λ u. preceded_by a.lines (preceded_by b.lines (elapse plan lines m (standing_at (slice_set ms place (with_world x b.world)) u origin)))) there
+    ∙ sym (preceded_twice a.lines b.lines (elapse plan lines m (standing_at (slice_set ms place (with_world x b.world)) (now + suc (suc n)) origin)))
 
 -- ---- ticks that no partition is there to own
 
 nobody_ticks : {C : Type 0} (plan : Plan) (lines : List DeviceLine) (n m now origin : ℕ) (ms : List (Member C))
     → ((i : ℕ) → i ≤ n → ticks_owner (tick_from origin (now + i)) ms (owner plan.schedule (tick_from origin (now + i))) ≡ still ms)
     → ((i : ℕ) → i < n → (of_tick (now + 1 + i) lines ≡ []) × (ended plan.schedule (tick_from origin (now + 1 + i)) ≡ None))
-    → lines_behind plan lines (suc n + m) (standing_at ms now origin) ≡ lines_of plan lines m (standing_at ms (now + suc n) origin)
+    → elapse_behind plan lines (suc n + m) (standing_at ms now origin) ≡ elapse plan lines m (standing_at ms (now + suc n) origin)
 nobody_ticks plan lines zero m now origin ms rests h =
     let once : suc zero + m ≡ suc m = omega arith in
     let here : now + 0 ≡ now = omega arith in
     let next : now + 1 ≡ now + suc zero = omega arith in
-    ap (λ j. lines_behind plan lines j (standing_at ms now origin)) once
-    ∙ ap (λ (a : Advanced _). a.lines ++ lines_of plan lines m (standing_at a.members (now + 1) origin))
+    ap (λ j. elapse_behind plan lines j (standing_at ms now origin)) once
+    ∙ ap (λ (a : Advanced _). preceded_by a.lines (elapse plan lines m (standing_at a.members (now + 1) origin)))
     (subst (λ u. ticks_owner (tick_from origin u) ms (owner plan.schedule (tick_from origin u)) ≡ still ms) here (rests 0 (omega arith)))
-    ∙ ap (λ u. lines_of plan lines m (standing_at ms u origin)) next
+    ∙ ap (λ u. elapse plan lines m (standing_at ms u origin)) next
 nobody_ticks plan lines (suc n) m now origin ms rests h =
     let here : now + 0 ≡ now = omega arith in
     let first : now + 1 + 0 ≡ now + 1 = omega arith in
@@ -182,15 +182,15 @@ nobody_ticks plan lines (suc n) m now origin ms rests h =
     let others : suc (n + m) ≡ suc n + m = omega arith in
     let there : now + 1 + suc n ≡ now + suc (suc n) = omega arith in
     let next = h 0 (omega arith) in
-    ap (λ j. lines_behind plan lines j (standing_at ms now origin)) one_more
-    ∙ ap (λ (a : Advanced _). a.lines ++ lines_of plan lines (suc (n + m)) (standing_at a.members (now + 1) origin))
+    ap (λ j. elapse_behind plan lines j (standing_at ms now origin)) one_more
+    ∙ ap (λ (a : Advanced _). preceded_by a.lines (elapse plan lines (suc (n + m)) (standing_at a.members (now + 1) origin)))
     (subst (λ u. ticks_owner (tick_from origin u) ms (owner plan.schedule (tick_from origin u)) ≡ still ms) here (rests 0 (omega arith)))
     ∙ no_moves plan lines (n + m) (now + 1) origin 0 ms (omega arith) (subst (λ u. of_tick u lines ≡ []) first next.0) (inl (subst (λ u. ended plan.schedule (tick_from origin u) ≡ None) first next.1))
-    ∙ ap (λ j. lines_behind plan lines j (standing_at ms (now + 1) origin)) others
+    ∙ ap (λ j. elapse_behind plan lines j (standing_at ms (now + 1) origin)) others
     ∙ nobody_ticks plan lines n m (now + 1) origin ms
     (λ i below. let u : now + suc i ≡ now + 1 + i = omega arith in subst (λ v. ticks_owner (tick_from origin v) ms (owner plan.schedule (tick_from origin v)) ≡ still ms) u (rests (suc i) (omega (arith, below))))
     (λ i below. let u : now + 1 + suc i ≡ now + 1 + 1 + i = omega arith in subst (λ v. (of_tick v lines ≡ []) × (ended plan.schedule (tick_from origin v) ≡ None)) u (h (suc i) (omega (arith, below))))
-    ∙ ap (λ u. lines_of plan lines m (standing_at ms u origin)) there
+    ∙ ap (λ u. elapse plan lines m (standing_at ms u origin)) there
 
 -- ---- as the code meets them
 
@@ -219,8 +219,8 @@ moved_behind plan lines k (suc n) now origin place ms next told (Some x) e some 
       owner = owned (suc i) (omega (arith, below, within));
     }) in
     owner_ticks plan lines n m now origin place ms x e (subst (λ u. owner plan.schedule (tick_from origin u) ≡ Some (suc place)) here (owned 0 (omega (arith, within)))) others
-    ∙ ap (λ (xs : List (Member _)). a.lines ++ lines_of plan lines m (standing_at xs (now + suc n) origin)) (sym h.0)
-    ∙ ap (λ (es : List Event). es ++ lines_of plan lines m (standing_at next (now + suc n) origin)) (sym h.1)
+    ∙ ap (λ (xs : List (Member _)). preceded_by a.lines (elapse plan lines m (standing_at xs (now + suc n) origin))) (sym h.0)
+    ∙ ap (λ (es : List Event). preceded_by es (elapse plan lines m (standing_at next (now + suc n) origin))) (sym h.1)
 
 -- ticks of a partition within its window
 moved_within : {C : Type 0} (plan : Plan) (lines : List DeviceLine) (k n now origin place : ℕ) (ms next : List (Member C)) (told : List Event) (o : Option (Member C)) → slice_get ms place ≡ o
@@ -229,24 +229,24 @@ moved_within : {C : Type 0} (plan : Plan) (lines : List DeviceLine) (k n now ori
 moved_within plan lines k zero now origin place ms next told None e begun within order owned over h m =
     let none : 0 + m ≡ m = omega arith in
     let here : now ≡ now + 0 = omega arith in
-    ap (λ j. lines_of plan lines j (standing_at ms now origin)) none
-    ∙ ap (λ (xs : List (Member _)). lines_of plan lines m (standing_at xs now origin)) (sym h.0)
-    ∙ ap (λ u. lines_of plan lines m (standing_at next u origin)) here
-    ∙ ap (λ (es : List Event). es ++ lines_of plan lines m (standing_at next (now + 0) origin)) (sym h.1)
+    ap (λ j. elapse plan lines j (standing_at ms now origin)) none
+    ∙ ap (λ (xs : List (Member _)). elapse plan lines m (standing_at xs now origin)) (sym h.0)
+    ∙ ap (λ u. elapse plan lines m (standing_at next u origin)) here
+    ∙ ap (λ (es : List Event). preceded_by es (elapse plan lines m (standing_at next (now + 0) origin))) (sym h.1)
 moved_within plan lines k zero now origin place ms next told (Some x) e begun within order owned over h m =
     let none : 0 + m ≡ m = omega arith in
     let here : now ≡ now + 0 = omega arith in
-    ap (λ j. lines_of plan lines j (standing_at ms now origin)) none
-    ∙ ap (λ (xs : List (Member _)). lines_of plan lines m (standing_at xs now origin)) (sym (h.0 ∙ set_itself ms place x e))
-    ∙ ap (λ u. lines_of plan lines m (standing_at next u origin)) here
-    ∙ ap (λ (es : List Event). es ++ lines_of plan lines m (standing_at next (now + 0) origin)) (sym h.1)
+    ap (λ j. elapse plan lines j (standing_at ms now origin)) none
+    ∙ ap (λ (xs : List (Member _)). elapse plan lines m (standing_at xs now origin)) (sym (h.0 ∙ set_itself ms place x e))
+    ∙ ap (λ u. elapse plan lines m (standing_at next u origin)) here
+    ∙ ap (λ (es : List Event). preceded_by es (elapse plan lines m (standing_at next (now + 0) origin))) (sym h.1)
 moved_within plan lines k (suc n) now origin place ms next told o e begun within order owned over h m =
     let here : now + 0 ≡ now = omega arith in
     let one_more : suc n + m ≡ suc (n + m) = omega arith in
-    ap (λ j. lines_of plan lines j (standing_at ms now origin)) one_more
+    ap (λ j. elapse plan lines j (standing_at ms now origin)) one_more
     ∙ no_moves plan lines (n + m) now origin (suc place) ms begun (none_before now (now + k) lines (omega (arith, within)) order)
     (subst (λ u. EndsQuietly plan origin ms (suc place) u) here (over 0 (omega (arith, within))))
-    ∙ ap (λ j. lines_behind plan lines j (standing_at ms now origin)) (sym one_more)
+    ∙ ap (λ j. elapse_behind plan lines j (standing_at ms now origin)) (sym one_more)
     ∙ moved_behind plan lines k (suc n) now origin place ms next told o e (omega arith) within order owned (λ i some below. over i below) h m
 
 -- the origin by any name
@@ -279,7 +279,7 @@ behind_more plan lines n m s t u old mid new a b = record {
   told = a.told ++ b.told;
   leads = λ j.
       let sums : n + m + j ≡ n + (m + j) = omega arith in
-      ap (λ k. lines_behind plan lines k s) sums ∙ a.leads (m + j) ∙ ap (λ (ls : List Event). a.told ++ ls) (b.leads j) ∙ sym (append_assoc a.told b.told (lines_of plan lines j u));
+      ap (λ k. elapse_behind plan lines k s) sums ∙ a.leads (m + j) ∙ ap (preceded_by a.told) (b.leads j) ∙ sym (preceded_twice a.told b.told (elapse plan lines j u));
   sent = lines_sent old mid new a.told b.told (a.told ++ b.told) refl a.sent b.sent;
 }
 
@@ -317,12 +317,12 @@ edge_leads : {C : Type 0} (plan : Plan) (lines : List DeviceLine) (n now origin 
 edge_leads plan lines zero now origin before a next told begun some order is h m = absurd (omega (arith, some))
 edge_leads plan lines (suc n) now origin before a next told begun some order is h m =
     let one_more : suc n + m ≡ suc (n + m) = omega arith in
-    ap (λ j. lines_of plan lines j (standing_at before now origin)) one_more
+    ap (λ j. elapse plan lines j (standing_at before now origin)) one_more
     ∙ after_moves plan lines (n + m) now origin before begun (none_before now (now + suc n) lines (omega arith) order)
-    ∙ ap (λ (a : Advanced _). a.lines ++ lines_behind plan lines (suc (n + m)) (standing_at a.members now origin)) is
-    ∙ ap (λ j. a.lines ++ lines_behind plan lines j (standing_at a.members now origin)) (sym one_more)
-    ∙ ap (λ (ls : List Event). a.lines ++ ls) (h m)
-    ∙ sym (append_assoc a.lines told (lines_of plan lines m next))
+    ∙ ap (λ (a : Advanced _). preceded_by a.lines (elapse_behind plan lines (suc (n + m)) (standing_at a.members now origin))) is
+    ∙ ap (λ j. preceded_by a.lines (elapse_behind plan lines j (standing_at a.members now origin))) (sym one_more)
+    ∙ ap (preceded_by a.lines) (h m)
+    ∙ sym (preceded_twice a.lines told (elapse plan lines m next))
 
 -- the moves at an edge, and then the ticks
 pub edge_run : {C : Type 0} {old mid new : Sent} (plan : Plan) (lines : List DeviceLine) (k n origin : ℕ) (s : Standing C) (ms : List (Member C)) (next : Standing C) (rows : List Channel) (o : Option ℕ) → s.origin ≡ Some origin → 0 < s.now → AreFrom (s.now + k) lines

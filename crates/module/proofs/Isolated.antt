@@ -28,7 +28,7 @@ sources_isolated table sources devices n old new (Ok x) (t, programs, lines, r, 
 sources_isolated table sources devices n old new (Err f) h = tt
 
 -- calls of a machine's tick
-pub calls_isolated : (image : Image) (devices : List ℕ) (lines : List DeviceLine) (n : ℕ) (last : Machine) (old new : Option (List ℕ)) (before now : ℕ)
-    → IsLawful image → verdict_for image devices ≡ Ok lines → n ≤ MOST_TICKS → HaveTicked lines n (fresh_machine image) last old new before now (Ok tt) → WritesAlone image lines n old new
-calls_isolated image devices lines n last old new before now lawful taken few h =
-    record { written = calls_write_the_trace image lines n last old new before now (Ok tt) few h; alone = parts_alone image devices lines n lawful taken }
+pub calls_isolated : (image : Image) (devices : List ℕ) (lines : List DeviceLine) (calls n : ℕ) (last : Machine) (old new : Option (List ℕ)) (before now : ℕ)
+    → IsLawful image → verdict_for image devices ≡ Ok lines → n ≤ MOST_TICKS → HaveTicked lines calls n (fresh_machine image) last old new before now (Ok tt) → WritesAlone image lines n old new
+calls_isolated image devices lines calls n last old new before now lawful taken few h =
+    record { written = calls_write_the_trace image lines calls n last old new before now (Ok tt) few h; alone = parts_alone image devices lines n lawful taken }

@@ -1,5 +1,5 @@
 -- A tick of a machine within a run.
-use Rattle.module.proofs.Prelude.{◌≡◌, ◌<◌, ◌≤◌, ◌+◌, ◌^◌, ℕ, zero, suc, true, false, List, Option, Some, None, Result, Ok, Err, inl, inr, refl, sym, ap, ◌∙◌, append-nil, arith, Appends-nil, Appends, is_none, MOST_TICKS, text_of, TakesBeginning, DeviceLine, Event, IsUnderWay, under_way_more, under_way_fails, Image, of_tick, MachineControl, Member, machine_module, machine_trace, Machine, HaveTicked, fresh_machine, Standing, after, lines_of, ticks, RunFault}
+use Rattle.module.proofs.Prelude.{◌≡◌, ◌<◌, ◌≤◌, ◌+◌, ◌-◌, ◌^◌, ℕ, zero, suc, true, false, List, Option, Some, None, Result, Ok, Err, inl, inr, refl, sym, ap, ◌∙◌, append-nil, arith, Appends-nil, Appends, is_none, MOST_TICKS, text_of, TakesBeginning, DeviceLine, Event, IsUnderWay, under_way_more, under_way_fails, Image, of_tick, MachineControl, Member, machine_module, machine_trace, Machine, HaveTicked, fresh_machine, Elapsed, Standing, after, elapse, lines_of, ticks, RunFault}
 use Rattle.std.proofs.Common.{[], subst}
 use Rattle.std.proofs.KnownBytes.{Appends-kept}
 use Rattle.std.specs.Io.KnownBytes.{Keeps}
@@ -8,7 +8,8 @@ use Rattle.module.specs.Machines.{HasGoneOn, HasFailed, HasTicked}
 use Rattle.module.specs.Running.{RunsImage}
 use Rattle.module.specs.declared.fault.RunFault.TheVariants as fault
 use Rattle.module.proofs.DeviceLines.{of_tick_again}
-use Rattle.module.proofs.Standing.{tick_text, none_down, is_traced}
+use Rattle.module.specs.Pieces.{LeadsTo}
+use Rattle.module.proofs.Standing.{tick_text, none_down, is_traced, skipped_leads}
 
 -- ---- the result of a tick that may be made
 
@@ -96,28 +97,41 @@ run_on old mid new text events whole (Err fault.Partition) is way h = h
 run_on old mid new text events whole (Err (fault.Device f)) is way h = h
 run_on old mid new text events whole (Err fault.Memory) is way h = h
 
--- n calls write the lines of n ticks
-calls_run : (image : Image) (lines : List DeviceLine) (n : ℕ) (m last : Machine) (old new : Option (List ℕ)) (before now : ℕ) (answer : Result (Unit {0}) RunFault)
-    → m.image ≡ image → m.failed ≡ false → m.standing.now + n ≤ MOST_TICKS → HaveTicked lines n m last old new before now answer → RunsImage (lines_of (machine_module image).plan lines n m.standing) old new answer
-calls_run image lines zero m last old new before now answer same sound few h =
-    subst (RunsImage [] old new) (sym h.0) (subst (λ (o : Option (List ℕ)). Appends old o []) (sym h.1.taken) (Appends-nil old))
-calls_run image lines (suc n) m last old new before now answer same sound few (inl (f, is, h)) =
+-- calls that make n ticks write their lines
+calls_run : (image : Image) (lines : List DeviceLine) (calls n : ℕ) (m last : Machine) (old new : Option (List ℕ)) (before now : ℕ) (answer : Result (Unit {0}) RunFault)
+    → m.image ≡ image → m.failed ≡ false → m.standing.now + n ≤ MOST_TICKS → HaveTicked lines calls n m last old new before now answer → RunsImage (lines_of (machine_module image).plan lines n m.standing) old new answer
+calls_run image lines zero n m last old new before now answer same sound few h =
+    subst (λ k. RunsImage (lines_of (machine_module image).plan lines k m.standing) old new answer) (sym h.0)
+    (subst (RunsImage [] old new) (sym h.1) (subst (λ (o : Option (List ℕ)). Appends old o []) (sym h.2.taken) (Appends-nil old)))
+calls_run image lines (suc calls) n m last old new before now answer same sound few (inl (some, f, is, h)) =
     let plan = (machine_module image).plan in
-    let whole = lines_of plan lines (suc n) m.standing in
-    let failed = only_write f sound (omega (arith, few)) (subst (HasTicked (of_tick m.standing.now lines) m last old new before now) is h) in
+    let whole = lines_of plan lines n m.standing in
+    let count : n ≡ suc (n - 1) = omega (arith, some) in
+    let failed = only_write f sound (omega (arith, few, some)) (subst (HasTicked (of_tick m.standing.now lines) m last old new before now) is h) in
     run_fails whole old new f answer is failed.0
-    (ends_early image m last lines (of_tick m.standing.now lines) lines (suc n) n refl same (of_tick_again m.standing.now lines) (λ t k. refl) (under_way_start old (text_of whole)) failed.1)
-calls_run image lines (suc n) m last old new before now answer same sound few (inr (next, mid, between, h, rest)) =
+    (ends_early image m last lines (of_tick m.standing.now lines) lines n (n - 1) count same (of_tick_again m.standing.now lines) (λ t k. refl) (under_way_start old (text_of whole)) failed.1)
+calls_run image lines (suc calls) n m last old new before now answer same sound few (inr (inl (some, next, mid, between, h, rest))) =
     let plan = (machine_module image).plan in
-    let whole = lines_of plan lines (suc n) m.standing in
+    let whole = lines_of plan lines n m.standing in
+    let count : n ≡ suc (n - 1) = omega (arith, some) in
     let gone = h.2 in
     let later : next.standing.now ≡ m.standing.now + 1 = ap (λ s. s.now) gone.standing in
-    run_on old mid new (text_of whole) (lines_of plan lines n next.standing) whole answer refl
-    (goes_on image m next lines (of_tick m.standing.now lines) lines (suc n) n refl same (of_tick_again m.standing.now lines) (λ t k. refl) (under_way_start old (text_of whole)) gone)
-    (calls_run image lines n next last mid new between now answer (gone.image ∙ same) gone.failed (omega (arith, later, few)) rest)
+    run_on old mid new (text_of whole) (lines_of plan lines (n - 1) next.standing) whole answer refl
+    (goes_on image m next lines (of_tick m.standing.now lines) lines n (n - 1) count same (of_tick_again m.standing.now lines) (λ t k. refl) (under_way_start old (text_of whole)) gone)
+    (calls_run image lines calls (n - 1) next last mid new between now answer (gone.image ∙ same) gone.failed (omega (arith, later, few, some)) rest)
+calls_run image lines (suc calls) n m last old new before now answer same sound few (inr (inr (most, k, next, within, none, skipped, rest))) =
+    let plan = (machine_module image).plan in
+    let count : n ≡ k + (n - k) = omega (arith, within) in
+    let later : next.standing.now ≡ m.standing.now + k = skipped.2.1 in
+    let is : elapse plan [] k m.standing ≡ record { lines = []; standing = next.standing } = ap (λ (i : Image). elapse (machine_module i).plan [] k m.standing) (sym same) ∙ skipped.2.2 in
+    let leads : LeadsTo plan lines k m.standing [] next.standing = skipped_leads plan lines k m.standing next.standing none is in
+    let lines_left : lines_of plan lines n m.standing ≡ lines_of plan lines (n - k) next.standing =
+    ap (λ (e : Elapsed _). e.lines) (ap (λ i. elapse plan lines i m.standing) count ∙ leads (n - k)) in
+    subst (λ (es : List Event). RunsImage es old new answer) (sym lines_left)
+    (calls_run image lines calls (n - k) next last old new before now answer (skipped.0 ∙ same) (skipped.1 ∙ sound) (omega (arith, later, few, within)) rest)
 
-pub calls_write_the_trace : (image : Image) (lines : List DeviceLine) (n : ℕ) (last : Machine) (old new : Option (List ℕ)) (before now : ℕ) (answer : Result (Unit {0}) RunFault)
-    → n ≤ MOST_TICKS → HaveTicked lines n (fresh_machine image) last old new before now answer → RunsImage (machine_trace image lines n) old new answer
-calls_write_the_trace image lines n last old new before now answer few h =
+pub calls_write_the_trace : (image : Image) (lines : List DeviceLine) (calls n : ℕ) (last : Machine) (old new : Option (List ℕ)) (before now : ℕ) (answer : Result (Unit {0}) RunFault)
+    → n ≤ MOST_TICKS → HaveTicked lines calls n (fresh_machine image) last old new before now answer → RunsImage (machine_trace image lines n) old new answer
+calls_write_the_trace image lines calls n last old new before now answer few h =
     subst (λ (es : List Event). RunsImage es old new answer) (ticks_are_the_trace image lines n)
-    (calls_run image lines n (fresh_machine image) last old new before now answer refl refl (omega (arith, few)) h)
+    (calls_run image lines calls n (fresh_machine image) last old new before now answer refl refl (omega (arith, few)) h)

@@ -1,12 +1,13 @@
 -- Ticks that are made in parts, one after another.
-use Rattle.module.proofs.Prelude.{◌≡◌, ◌≤◌, ℕ, ◌+◌, ◌-◌, List, ◌++◌, refl, sym, ap, ◌∙◌, append_assoc, arith, DeviceLine, Event, Plan, lines_sent, Sent, LeadsTo, HasPassed, HasPassedSome, Standing, lines_of}
+use Rattle.module.proofs.Prelude.{◌≡◌, ◌≤◌, ℕ, ◌+◌, ◌-◌, List, ◌++◌, refl, sym, ap, ◌∙◌, arith, DeviceLine, Event, Plan, lines_sent, Sent, LeadsTo, HasPassed, HasPassedSome, Standing, elapse, preceded_by}
 use Rattle.std.proofs.Common.{[], subst}
 use Rattle.module.proofs.Bursts.{run_nothing}
+use Rattle.module.proofs.Standing.{preceded_twice}
 
 leads_more : {C : Type 0} (plan : Plan) (lines : List DeviceLine) (n m : ℕ) (s t u : Standing C) (told more : List Event) → LeadsTo plan lines n s told t → LeadsTo plan lines m t more u → LeadsTo plan lines (n + m) s (told ++ more) u
 leads_more plan lines n m s t u told more first second j =
     let sums : n + m + j ≡ n + (m + j) = omega arith in
-    ap (λ k. lines_of plan lines k s) sums ∙ first (m + j) ∙ ap (λ ls. told ++ ls) (second j) ∙ sym (append_assoc told more (lines_of plan lines j u))
+    ap (λ k. elapse plan lines k s) sums ∙ first (m + j) ∙ ap (preceded_by told) (second j) ∙ sym (preceded_twice told more (elapse plan lines j u))
 
 -- n ticks, then m more
 run_more : {C : Type 0} (plan : Plan) (lines : List DeviceLine) (n m : ℕ) (s t u : Standing C) (old mid new : Sent) → HasPassed plan lines n s t old mid → HasPassed plan lines m t u mid new → HasPassed plan lines (n + m) s u old new

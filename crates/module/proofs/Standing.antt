@@ -1,7 +1,9 @@
 -- A module tick by tick, and its trace.
-use Rattle.module.proofs.Prelude.{◌≡◌, ℕ, zero, suc, ◌+◌, ◌<◌, ◌≤◌, ◌==◌, Bool, false, if◌then◌else◌, List, ◌++◌, Option, Some, None, refl, sym, ap, ◌∙◌, append_assoc, arith, Decides-eqb, none-some, same_Some, option_map, text_of, DeviceLine, Event, At, Ticks, Plan, Advanced, Course, of_tick, first_tick, next_tick, still, starts, module_tick, trace_from, Member, tick_from, IsNow, Standing, at_first, begins, moment_of, ticks_from, ticks_in, ticks, origin_of, after, lines_of}
+use Rattle.module.proofs.Prelude.{◌≡◌, ℕ, zero, suc, ◌+◌, ◌<◌, ◌≤◌, ◌==◌, Bool, false, if◌then◌else◌, List, ◌++◌, Option, Some, None, refl, sym, ap, ◌∙◌, append_assoc, arith, Decides-eqb, none-some, same_Some, option_map, text_of, DeviceLine, Event, At, Ticks, Plan, Advanced, Course, of_tick, first_tick, next_tick, still, starts, module_tick, trace_from, Member, tick_from, IsNow, Elapsed, Standing, at_first, begins, elapse, moment_of, preceded_by, ticks_from, ticks_in, ticks, origin_of, after, lines_of}
 use Rattle.std.proofs.Common.{[], subst}
 use Rattle.module_meaning.specs.Module.{trace}
+use Rattle.kernel_laws.specs.Quiet.{HaveNoLines}
+use Rattle.module.specs.Pieces.{LeadsTo}
 use Rattle.module.specs.Standing.{begins_and_ticks}
 use Rattle.module.proofs.DeviceLines.{not_true, of_tick_again, same_tick, tick_now}
 use Rattle.module.proofs.Texts.{text_append}
@@ -24,6 +26,36 @@ same_lines plan (suc n) s xs ys h =
     let own = ticks plan (of_tick s.now ys) s in
     ap (λ (ls : List DeviceLine). (ticks plan ls s).lines ++ lines_of plan xs n (after s (ticks plan ls s))) (h s.now (omega arith))
     ∙ ap (λ (es : List Event). own.lines ++ es) (same_lines plan n (after s own) xs ys (λ u k. h u (omega (arith, k))))
+
+-- ---- several ticks, and then others
+
+pub preceded_twice : {C : Type 0} (told more : List Event) (e : Elapsed C) → preceded_by (told ++ more) e ≡ preceded_by told (preceded_by more e)
+preceded_twice told more e = ap (λ (ls : List Event). record { lines = ls; standing = e.standing }) (append_assoc told more e.lines)
+
+-- k ticks, then j more
+elapse_more : {C : Type 0} (plan : Plan) (lines : List DeviceLine) (k j : ℕ) (s : Standing C) → let e = elapse plan lines k s in elapse plan lines (k + j) s ≡ preceded_by e.lines (elapse plan lines j e.standing)
+elapse_more plan lines zero j s = let same : 0 + j ≡ j = omega arith in ap (λ i. elapse plan lines i s) same
+elapse_more plan lines (suc k) j s =
+    let c = ticks plan (of_tick s.now lines) s in
+    let e = elapse plan lines k (after s c) in
+    let one_more : suc k + j ≡ suc (k + j) = omega arith in
+    ap (λ i. elapse plan lines i s) one_more
+    ∙ ap (preceded_by c.lines) (elapse_more plan lines k j (after s c))
+    ∙ sym (preceded_twice c.lines e.lines (elapse plan lines j e.standing))
+
+-- only the lines of these ticks count
+elapse_alike : {C : Type 0} (plan : Plan) (xs ys : List DeviceLine) (n : ℕ) (s : Standing C) → ((u : ℕ) → s.now ≤ u → u < s.now + n → of_tick u xs ≡ of_tick u ys) → elapse plan xs n s ≡ elapse plan ys n s
+elapse_alike plan xs ys zero s h = refl
+elapse_alike plan xs ys (suc n) s h =
+    let own = ticks plan (of_tick s.now ys) s in
+    ap (λ (ls : List DeviceLine). preceded_by (ticks plan ls s).lines (elapse plan xs n (after s (ticks plan ls s)))) (h s.now (omega arith) (omega arith))
+    ∙ ap (preceded_by own.lines) (elapse_alike plan xs ys n (after s own) (λ u above below. h u (omega (arith, above)) (omega (arith, below))))
+
+-- ticks that were skipped lead on with any device lines that have none of them
+pub skipped_leads : {C : Type 0} (plan : Plan) (lines : List DeviceLine) (k : ℕ) (s next : Standing C) → HaveNoLines s.now (s.now + k) lines → elapse plan [] k s ≡ record { lines = []; standing = next } → LeadsTo plan lines k s [] next
+skipped_leads plan lines k s next none is m =
+    elapse_more plan lines k m s
+    ∙ ap (λ (e : Elapsed _). preceded_by e.lines (elapse plan lines m e.standing)) (elapse_alike plan lines [] k s none ∙ is)
 
 -- The text of the first of several ticks, with the lines of this tick, and that of the other ticks,
 -- with the later lines.

@@ -97,7 +97,7 @@ skipped_bring_nothing plan p lines n t origin s here from begun order still =
     (subst (λ u. BringsNothing plan p lines n (standing_at s.members u origin) (standing_at s.members (u + n) origin)) here (still_brings_nothing plan p lines n t origin s.members begun order still))
 
 -- the device lines are still ahead
-pub lines_ahead : {C : Type 0} (plan : Plan) (lines : List DeviceLine) (k t n : ℕ) (s next : Standing C) → t ≡ s.now → AreFrom (t + k) lines → HasSkippedSome plan [] k s next n → AreFrom next.now lines
+pub lines_ahead : {C : Type 0} (plan : Plan) (lines : List DeviceLine) (k t n : ℕ) (s next : Standing C) → t ≡ s.now → AreFrom (t + k) lines → HasSkippedSome plan k s next n → AreFrom next.now lines
 lines_ahead plan lines k t n s next here order h =
     let lower : next.now ≤ t + k = let within : n ≤ k = h.0 in let later : next.now ≡ s.now + n = h.1 in omega (arith, within, later, here) in
     from_lower next.now (t + k) lines lower order

@@ -1,10 +1,11 @@
 -- A machine that runs an image tick by tick, and the promise of a tick.
-use Rattle.std.specs.Prelude.{◌≡◌, ◌≤◌, ◌<◌, ◌^◌, ℕ, zero, suc, ◌+◌, Bool, true, false, List, Option, Result, Ok, Err, ◌⊎◌}
+use Rattle.std.specs.Prelude.{◌≡◌, ◌≤◌, ◌<◌, ◌^◌, ℕ, zero, suc, ◌+◌, ◌-◌, Bool, true, false, List, Option, Result, Ok, Err, ◌⊎◌}
 use Rattle.std.specs.Io.KnownBytes.{Appends}
 use Rattle.apex_types.specs.declared.limits.TheConstants.{MOST_TICKS}
 use Rattle.apex_types.specs.Line.{text_of}
 use Rattle.apex_types.specs.Line.{TakesBeginning}
 use Rattle.apex_types.specs.declared.device.DeviceLine.{DeviceLine}
+use Rattle.kernel_laws.specs.Quiet.{HaveNoLines}
 use Rattle.machine_meaning.specs.Image.{Image}
 use Rattle.machine_meaning.specs.MachineControl.{MachineControl}
 use Rattle.module_meaning.specs.Module.{Course, of_tick}
@@ -64,14 +65,21 @@ HasTicked lines m next old new before now (Err fault.Failed) = (m.failed ≡ tru
 HasTicked lines m next old new before now (Err fault.Ticks) = (m.failed ≡ false) × (m.standing.now ≡ MOST_TICKS) × IsUntouched m next old new before now
 HasTicked lines m next old new before now (Err _) = ⊥
 
--- The effect of n calls of `Machine::tick`, one after another, on a machine and a sink, where each
--- call gets the device lines of its tick. The first call that is refused is the last one, and
--- its result is that of all.
-abbrev pub HaveTicked : List DeviceLine → ℕ → Machine → Machine → Option (List ℕ) → Option (List ℕ) → ℕ → ℕ → Result (Unit {0}) RunFault → Type 0
-HaveTicked lines zero m last old new before now answer = (answer ≡ Ok tt) × IsUntouched m last old new before now
-HaveTicked lines (suc n) m last old new before now answer =
-    ((f : RunFault) × (answer ≡ Err f) × HasTicked (of_tick m.standing.now lines) m last old new before now answer)
-    ⊎ ((next : Machine) × (mid : Option (List ℕ)) × (between : ℕ) × HasTicked (of_tick m.standing.now lines) m next old mid before between (Ok tt) × HaveTicked lines n next last mid new between now answer)
+-- Of `most` ticks, n were made together, which have no device lines and write none.
+abbrev pub HasSkipped : ℕ → Machine → Machine → ℕ → Type 0
+HasSkipped most m next n = (next.image ≡ m.image) × (next.failed ≡ m.failed) × HasSkippedSome (machine_module m.image).plan most m.standing next.standing n
+
+-- The effect of some calls of `Machine::tick` and `Machine::skip`, one after another, on a machine and a sink. Together they make n ticks. Each
+-- call of `tick` gets the device lines of its tick, and no device line is of a tick that is skipped. The first call that is refused is the last
+-- one, and its result is that of all.
+abbrev pub HaveTicked : List DeviceLine → (calls n : ℕ) → Machine → Machine → Option (List ℕ) → Option (List ℕ) → ℕ → ℕ → Result (Unit {0}) RunFault → Type 0
+HaveTicked lines zero n m last old new before now answer = (n ≡ 0) × (answer ≡ Ok tt) × IsUntouched m last old new before now
+HaveTicked lines (suc calls) n m last old new before now answer =
+    ((0 < n) × (f : RunFault) × (answer ≡ Err f) × HasTicked (of_tick m.standing.now lines) m last old new before now answer)
+    ⊎ ((0 < n) × (next : Machine) × (mid : Option (List ℕ)) × (between : ℕ) × HasTicked (of_tick m.standing.now lines) m next old mid before between (Ok tt)
+    × HaveTicked lines calls (n - 1) next last mid new between now answer)
+    ⊎ ((most : ℕ) × (k : ℕ) × (next : Machine) × (k ≤ n) × HaveNoLines m.standing.now (m.standing.now + k) lines × HasSkipped most m next k
+    × HaveTicked lines calls (n - k) next last old new before now answer)
 
 -- Of `most` ticks, n were made together, unless the sink failed.
 abbrev pub HasRunOn : List DeviceLine → ℕ → Machine → Machine → Option (List ℕ) → Option (List ℕ) → ℕ → ℕ → Result ℕ RunFault → Type 0
@@ -79,8 +87,3 @@ HasRunOn lines most m next old new before now (Ok n) =
     (next.image ≡ m.image) × (next.failed ≡ false) × (n ≤ most) × (next.standing.now ≡ m.standing.now + n) × HasRun (machine_module m.image).plan lines n m.standing next.standing old new before now
 HasRunOn lines most m next old new before now (Err fault.Write) = IsBrokenOff (machine_module m.image).plan lines most m.standing old new before now
 HasRunOn lines most m next old new before now (Err _) = ⊥
-
--- Of `most` ticks, n were made together, and they have no lines.
-abbrev pub HasSkipped : List DeviceLine → ℕ → Machine → Machine → ℕ → Type 0
-HasSkipped lines most m next n =
-    (next.image ≡ m.image) × (next.failed ≡ m.failed) × HasSkippedSome (machine_module m.image).plan lines most m.standing next.standing n

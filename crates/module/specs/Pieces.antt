@@ -11,11 +11,11 @@ use Rattle.module_meaning.specs.Module.{Plan, ports_from, ticks_owner}
 use Rattle.kernel_meaning.specs.Partition.{Member, Moved, World, messages_to_move, tick, with_world}
 use Rattle.kernel_meaning.specs.Windows.{ended, owner, tick_from}
 use Rattle.lone_partition.specs.Sent.{Sent, HasSent}
-use Rattle.module.specs.Standing.{Standing, lines_of}
+use Rattle.module.specs.Standing.{Elapsed, Standing, elapse, preceded_by}
 
 -- n ticks write these lines and lead from one `Standing` to another, whatever ticks follow.
 abbrev pub LeadsTo : {C : Type 0} → Plan → List DeviceLine → ℕ → Standing C → List Event → Standing C → Type 0
-LeadsTo plan lines n s told next = (m : ℕ) → lines_of plan lines (n + m) s ≡ told ++ lines_of plan lines m next
+LeadsTo plan lines n s told next = (m : ℕ) → elapse plan lines (n + m) s ≡ preceded_by told (elapse plan lines m next)
 
 -- n ticks were made, and their lines were to be written.
 pub record HasPassed {C : Type 0} (plan : Plan) (lines : List DeviceLine) (n : ℕ) (s next : Standing C) (old new : Sent) : Type 0 where
@@ -27,9 +27,9 @@ pub record HasPassed {C : Type 0} (plan : Plan) (lines : List DeviceLine) (n : �
 abbrev pub HasPassedSome : {C : Type 0} → Plan → List DeviceLine → ℕ → Standing C → Standing C → Sent → Sent → ℕ → Type 0
 HasPassedSome plan lines k s next old new n = (n ≤ k) × (next.now ≡ s.now + n) × HasPassed plan lines n s next old new
 
--- Of k ticks, n were made, and they have no lines.
-abbrev pub HasSkippedSome : {C : Type 0} → Plan → List DeviceLine → ℕ → Standing C → Standing C → ℕ → Type 0
-HasSkippedSome plan lines k s next n = (n ≤ k) × (next.now ≡ s.now + n) × LeadsTo plan lines n s [] next
+-- Of k ticks, n were made, which have no device lines and write none.
+abbrev pub HasSkippedSome : {C : Type 0} → Plan → ℕ → Standing C → Standing C → ℕ → Type 0
+HasSkippedSome plan k s next n = (n ≤ k) × (next.now ≡ s.now + n) × (elapse plan [] n s ≡ record { lines = []; standing = next })
 
 -- n ticks were made, and their lines were written.
 pub record HasRun {C : Type 0} (plan : Plan) (lines : List DeviceLine) (n : ℕ) (s next : Standing C) (old new : Option (List ℕ)) (before after : ℕ) : Type 0 where
@@ -83,21 +83,21 @@ EndsQuietly plan origin members p t =
 
 -- ---- ticks whose messages have moved already
 
--- after the tick of the owner
-abbrev pub behind_from : {C : Type 0} → Plan → List DeviceLine → ℕ → (now : ℕ) → List (Member C) → Option ℕ → List Event
-behind_from plan lines n now members None = []
-behind_from plan lines n now members (Some origin) =
+-- the tick of the owner, and then n more
+abbrev pub elapse_from : {C : Type 0} → Plan → List DeviceLine → ℕ → (now : ℕ) → List (Member C) → Option ℕ → Elapsed C
+elapse_from plan lines n now members None = elapse plan lines (suc n) (record { members = members; now = now; origin = None })
+elapse_from plan lines n now members (Some origin) =
     let a = ticks_owner (tick_from origin now) members (owner plan.schedule (tick_from origin now)) in
-    a.lines ++ lines_of plan lines n (record { members = a.members; now = now + 1; origin = Some origin })
+    preceded_by a.lines (elapse plan lines n (record { members = a.members; now = now + 1; origin = Some origin }))
 
--- the lines of n ticks without device lines in the first, whose messages have moved already
-abbrev pub lines_behind : {C : Type 0} → Plan → List DeviceLine → ℕ → Standing C → List Event
-lines_behind plan lines zero s = []
-lines_behind plan lines (suc n) s = behind_from plan lines n s.now s.members s.origin
+-- n ticks without device lines in the first, whose messages have moved already
+abbrev pub elapse_behind : {C : Type 0} → Plan → List DeviceLine → ℕ → Standing C → Elapsed C
+elapse_behind plan lines zero s = record { lines = []; standing = s }
+elapse_behind plan lines (suc n) s = elapse_from plan lines n s.now s.members s.origin
 
 -- n such ticks write these lines and lead to this `Standing`, whatever ticks follow.
 abbrev pub LeadsBehind : {C : Type 0} → Plan → List DeviceLine → ℕ → Standing C → List Event → Standing C → Type 0
-LeadsBehind plan lines n s told next = (m : ℕ) → lines_behind plan lines (n + m) s ≡ told ++ lines_of plan lines m next
+LeadsBehind plan lines n s told next = (m : ℕ) → elapse_behind plan lines (n + m) s ≡ preceded_by told (elapse plan lines m next)
 
 -- n such ticks were made, and their lines were to be written.
 pub record HasPassedBehind {C : Type 0} (plan : Plan) (lines : List DeviceLine) (n : ℕ) (s next : Standing C) (old new : Sent) : Type 0 where

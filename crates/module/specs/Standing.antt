@@ -47,10 +47,22 @@ IsNow t (Some at) = at.now.0 ≡ t
 abbrev pub after : {C : Type 0} → Standing C → Course C → Standing C
 after s c = record { members = c.members; now = s.now + 1; origin = option_map origin_of c.at }
 
--- the lines of n ticks, one after another, each tick with its own device lines
+-- What some ticks write, and the module after them.
+pub record Elapsed (Control : Type 0) : Type 0 where
+  pub lines : List Event
+  pub standing : Standing Control
+
+abbrev pub preceded_by : {C : Type 0} → List Event → Elapsed C → Elapsed C
+preceded_by told e = record { lines = told ++ e.lines; standing = e.standing }
+
+-- n ticks, one after another, each tick with its own device lines
+abbrev pub elapse : {C : Type 0} → Plan → List DeviceLine → ℕ → Standing C → Elapsed C
+elapse plan lines zero s = record { lines = []; standing = s }
+elapse plan lines (suc n) s = let c = ticks plan (of_tick s.now lines) s in preceded_by c.lines (elapse plan lines n (after s c))
+
+-- the lines of n ticks
 abbrev pub lines_of : {C : Type 0} → Plan → List DeviceLine → ℕ → Standing C → List Event
-lines_of plan lines zero s = []
-lines_of plan lines (suc n) s = let c = ticks plan (of_tick s.now lines) s in c.lines ++ lines_of plan lines n (after s c)
+lines_of plan lines n s = (elapse plan lines n s).lines
 
 -- ---- ticks as the code holds them
 

@@ -127,8 +127,7 @@ impl Machine {
     /// returns how many. So a caller with device lines asks for no tick of theirs. If it returns 0,
     /// the next tick has to be made.
     pub fn skip(&mut self, most: u32) -> u32
-        ensures { (lines : List DeviceLine) → AreFrom (machine_of self.new).standing.now lines
-            → HasSkipped lines most (machine_of self.old) (machine_of self.new) result }
+        ensures { HasSkipped most (machine_of self.old) (machine_of self.new) result }
     {
         self.module.skip_still(most)
     }
@@ -165,15 +164,16 @@ impl Machine {
     }
 }
 
-/// `n` calls of [`Machine::tick`] for an image, in a row, each with the device lines of its
-/// tick, write what [`run`](crate::run) writes: the text of the trace of n ticks, or a prefix of it
-/// if the sink fails. No call is refused for another reason.
+/// Calls of [`Machine::tick`] and [`Machine::skip`] for an image, in a row, that make n ticks, each
+/// tick with its device lines, write what [`run`](crate::run) writes: the text of the trace of n
+/// ticks, or a prefix of it if the sink fails. No call is refused for another reason.
 #[tactic(auto, using(crate::proofs::Machines::calls_write_the_trace, crate::proofs::Machines::ticks_are_the_trace))]
 pub fn ticks_make_the_trace()
-    ensures written { (image : meant.Image) (lines : List DeviceLine) (n : ℕ)
+    ensures written { (image : meant.Image) (lines : List DeviceLine) (calls n : ℕ)
         (last : machines.Machine) (old new : Option (List ℕ)) (before now : ℕ)
         (answer : Result (Unit {0}) RunFault)
-        → n ≤ MOST_TICKS → HaveTicked lines n (fresh_machine image) last old new before now answer
+        → n ≤ MOST_TICKS
+        → HaveTicked lines calls n (fresh_machine image) last old new before now answer
         → RunsImage (machine_trace image lines n) old new answer }
     ensures lines { (image : meant.Image) (lines : List DeviceLine) (n : ℕ)
         → lines_of (machine_module image).plan lines n (fresh_machine image).standing
@@ -183,9 +183,9 @@ pub fn ticks_make_the_trace()
 /// For each partition of the image, such calls write what it shows when it runs alone: from its
 /// slice of the image and the inputs that these device lines bring it, whatever code others run.
 pub fn ticks_isolate_the_partitions()
-    ensures { (image : meant.Image) (text : List ℕ) (lines : List DeviceLine) (n : ℕ)
+    ensures { (image : meant.Image) (text : List ℕ) (lines : List DeviceLine) (calls n : ℕ)
         (last : machines.Machine) (old new : Option (List ℕ)) (before now : ℕ)
         → IsLawful image → verdict_for image text ≡ Ok lines → n ≤ MOST_TICKS
-        → HaveTicked lines n (fresh_machine image) last old new before now (Ok tt)
+        → HaveTicked lines calls n (fresh_machine image) last old new before now (Ok tt)
         → WritesAlone image lines n old new }
 {}

@@ -364,9 +364,8 @@ impl<E: Executor<Mem = PartitionMem>> Module<E> {
     /// returns how many. None is skipped from tick 2^40 on.
     pub fn skip_still(&mut self, most: u32) -> u32
         ensures image { self.new.image ≡ self.old.image }
-        ensures skipped { (lines : List DeviceLine) → AreFrom self.new.now.0 lines
-            → HasSkippedSome (plan_of self.old.image) lines most (standing_of E.Executor self.old)
-            (standing_of E.Executor self.new) result }
+        ensures skipped { HasSkippedSome (plan_of self.old.image) most
+            (standing_of E.Executor self.old) (standing_of E.Executor self.new) result }
         ensures unbrought { (p : ℕ) (lines : List DeviceLine) → AreFrom self.new.now.0 lines
             → BringsNothing (plan_of self.old.image) p lines result
             (standing_of E.Executor self.old) (standing_of E.Executor self.new) }
