@@ -96,7 +96,7 @@ until_alike : (read : Result Image Fault) (devices whole : List ℕ) (asked : Li
 until_alike read devices whole asked n old new (Ok found) same (image, lines, r, ended) = (image, lines, record { loaded = r.loaded; taken = same image ∙ r.taken; few = r.few }, ended)
 until_alike read devices whole asked n old new (Err run.Memory) same (inl kept) = inl kept
 until_alike read devices whole asked n old new (Err run.Memory) same (inr (image, lines, r, ended)) = inr (image, lines, record { loaded = r.loaded; taken = same image ∙ r.taken; few = r.few }, ended)
-until_alike read devices whole asked n old new (Err run.Write) same h = runs_alike read devices whole n old new (Err run.Write) same h
+until_alike read devices whole asked n old new (Err run.Write) same (image, lines, r, ended) = (image, lines, record { loaded = r.loaded; taken = same image ∙ r.taken; few = r.few }, ended)
 until_alike read devices whole asked n old new (Err (run.Device f)) same h = runs_alike read devices whole n old new (Err (run.Device f)) same h
 until_alike read devices whole asked n old new (Err run.Ticks) same h = h
 until_alike read devices whole asked n old new (Err (run.Image f)) same h = h

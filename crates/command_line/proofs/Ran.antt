@@ -69,7 +69,7 @@ until_by : (read : Result Image Fault) (devices : List ℕ) (asked : List (List 
 until_by read devices asked n v old new (Ok found) is h = subst (λ k. RunsUntil read devices asked k old new (Ok found)) (few_same n v is h.2.few) h
 until_by read devices asked n v old new (Err Memory) is (inl kept) = inl kept
 until_by read devices asked n v old new (Err Memory) is (inr h) = inr (subst (λ k. IsBegun read devices asked k old new (Err Memory)) (few_same n v is h.2.few) h)
-until_by read devices asked n v old new (Err Write) is h = runs_by read devices n v old new (Err Write) is h
+until_by read devices asked n v old new (Err Write) is h = subst (λ k. IsBegun read devices asked k old new (Err Write)) (few_same n v is h.2.few) h
 until_by read devices asked n v old new (Err Ticks) is h = runs_by read devices n v old new (Err Ticks) is h
 until_by read devices asked n v old new (Err (Device f)) is h = runs_by read devices n v old new (Err (Device f)) is h
 until_by read devices asked n v old new (Err (NoImage f)) is h = runs_by read devices n v old new (Err (NoImage f)) is h

@@ -1,5 +1,5 @@
 -- How far a run is that waits for a line, and how it ends.
-use Rattle.std.proofs.Common.{◌≡◌, ◌≤◌, ◌<◌, ◌⊎◌, inl, inr, ◌+◌, ◌-◌, ℕ, suc, Bool, true, false, List, [], ◌++◌, Option, Result, Ok, Err, refl, sym, ap, subst, ◌∙◌, arith}
+use Rattle.std.proofs.Common.{◌≡◌, ◌≤◌, ◌<◌, ◌⊎◌, inl, inr, ◌+◌, ◌-◌, ℕ, suc, Bool, true, false, List, [], ◌++◌, Option, Result, Ok, Err, refl, sym, ap, subst, ◌∙◌, arith, append-nil}
 use Rattle.std.specs.Prelude.{is_none}
 use Rattle.std.specs.Io.KnownBytes.{Appends, Keeps}
 use Rattle.std.proofs.KnownBytes.{Appends-kept, Appends-nil, Appends-trans}
@@ -15,7 +15,7 @@ use Rattle.module.specs.declared.fault.RunFault.{RunFault}
 use Rattle.module.specs.declared.fault.RunFault.TheVariants as fault
 use Rattle.module.proofs.Bursts.{from_lower, skipped_ahead}
 use Rattle.module.specs.Standing.{elapse}
-use Rattle.command_line.specs.Stops.{EndsImage, text_to}
+use Rattle.command_line.specs.Stops.{BreaksOff, EndsImage, MayRun, text_to}
 use Rattle.command_line.specs.StopSteps.{IsHeld}
 use Rattle.command_line.specs.Awaited.{has_line}
 use Rattle.command_line.proofs.Ahead.{IsAhead, NoneCame, ahead_first, ahead_skipped, ahead_ticked, down_same, line_ticked, none_first, none_later, none_ticked, now_ticked, text_on, text_skipped, text_ticked, tick_on}
@@ -116,47 +116,55 @@ reached_ticked {asked = asked} {image = image} {devices = devices} {lines = line
       taken = taken_ticked new next later bytes i h more;
     }
 
+-- the tick may be run
+may_run_next : {asked : List (List ℕ)} {image : Image} {devices lines : List DeviceLine} {n left : ℕ} {old mid : Option (List ℕ)} {m : Machine} (next : Machine) (later : List DeviceLine) (bytes : List ℕ)
+    → IsReached asked image devices lines n left old mid m → IsHeld lines later m next bytes → 0 < left → MayRun asked image devices n next.standing.now
+may_run_next next later bytes i h some =
+    let after = now_ticked h in
+    record { within = omega (arith, after, i.count, some); none_before = λ k below. i.none k (omega (arith, below, after)) }
+
 -- it has one
 pub ends_found : {asked : List (List ℕ)} {image : Image} {devices lines : List DeviceLine} {n left : ℕ} {old mid : Option (List ℕ)} {m : Machine} (new : Option (List ℕ)) (next : Machine) (later : List DeviceLine) (bytes : List ℕ)
     → IsReached asked image devices lines n left old mid m → IsHeld lines later m next bytes → 0 < left → Appends mid new bytes → has_line asked bytes ≡ true
     → EndsImage asked image devices n old new (Ok true)
-ends_found {asked = asked} {image = image} {devices = devices} {n = n} {m = m} new next later bytes i h some more with =
-    let after = now_ticked h in (
-      next.standing.now,
-      record {
-        within = omega (arith, after, i.count, some);
-        last = line_of_tick next later bytes i h ∙ with;
-        none_before = λ k below. i.none k (omega (arith, below, after));
-        all = λ (e : true ≡ false). absurd cc;
-      },
-      taken_ticked new next later bytes i h more,
-    )
+ends_found {asked = asked} {image = image} {devices = devices} {n = n} {m = m} new next later bytes i h some more with = (
+  next.standing.now,
+  record {
+    run = may_run_next next later bytes i h some;
+    last = line_of_tick next later bytes i h ∙ with;
+    all = λ (e : true ≡ false). absurd cc;
+  },
+  taken_ticked new next later bytes i h more,
+)
 
 -- the sink fails in it
 pub breaks_in_tick : {asked : List (List ℕ)} {image : Image} {devices lines : List DeviceLine} {n left : ℕ} {old mid : Option (List ℕ)} {m : Machine} (new : Option (List ℕ)) (next : Machine) (later : List DeviceLine) (bytes : List ℕ)
-    → IsReached asked image devices lines n left old mid m → IsHeld lines later m next bytes → 0 < left → TakesBeginning mid new bytes → TakesBeginning old new (text_to image devices n)
-breaks_in_tick {image = image} {devices = devices} {lines = lines} {n = n} {left = left} {old = old} {mid = mid} {m = m} new next later bytes i h some part =
-    let rest = left - 1 in
-    let more : left ≡ suc rest = omega (arith, some) in
-    let whole : text_to image devices n ≡ text_to image devices m.standing.now ++ (bytes ++ text_on image later rest next.standing) =
-    ap (text_to image devices) (sym i.count)
-    ∙ i.ahead left
-    ∙ ap (λ (text : List ℕ). text_to image devices m.standing.now ++ text) (ap (λ k. text_on image lines k m.standing) more ∙ tick_on image m next lines later bytes rest i.same h) in
-    under_way_fails old mid new (text_to image devices n) bytes (text_on image later rest next.standing) (record { done = text_to image devices m.standing.now; taken = i.taken; left = whole }) part
+    → IsReached asked image devices lines n left old mid m → IsHeld lines later m next bytes → 0 < left → TakesBeginning mid new bytes → BreaksOff asked image devices n old new
+breaks_in_tick {image = image} {devices = devices} {lines = lines} {old = old} {mid = mid} {m = m} new next later bytes i h some part =
+    let so_far = text_to image devices m.standing.now in
+    let whole : text_to image devices next.standing.now ≡ so_far ++ (bytes ++ []) =
+    ap (text_to image devices) (now_ticked h) ∙ text_ticked image m next devices lines later bytes i.same h i.ahead ∙ ap (λ (text : List ℕ). so_far ++ text) (sym (append-nil bytes)) in (
+      next.standing.now,
+      may_run_next next later bytes i h some,
+      under_way_fails old mid new (text_to image devices next.standing.now) bytes [] (record { done = so_far; taken = i.taken; left = whole }) part,
+    )
 
 -- ---- the end
 
 -- nothing more is taken, and the run goes on no more
 pub breaks_between : {asked : List (List ℕ)} {image : Image} {devices lines : List DeviceLine} {n left : ℕ} {old mid : Option (List ℕ)} {m : Machine} (new : Option (List ℕ)) → IsReached asked image devices lines n left old mid m → Keeps mid new
-    → TakesBeginning old new (text_to image devices n)
-breaks_between {image = image} {devices = devices} {lines = lines} {n = n} {left = left} {old = old} {mid = mid} {m = m} new i kept =
-    let none : 0 ≤ 0 = omega arith in
-    let whole : text_to image devices n ≡ text_to image devices m.standing.now ++ ([] ++ text_on image lines left m.standing) = ap (text_to image devices) (sym i.count) ∙ i.ahead left in
-    under_way_fails old mid new (text_to image devices n) [] (text_on image lines left m.standing) (record { done = text_to image devices m.standing.now; taken = i.taken; left = whole }) (0, none, Appends-kept mid mid new [] (Appends-nil mid) kept)
+    → BreaksOff asked image devices n old new
+breaks_between {image = image} {devices = devices} {old = old} {mid = mid} {m = m} new i kept =
+    let so_far = text_to image devices m.standing.now in
+    let none : 0 ≤ 0 = omega arith in (
+      m.standing.now,
+      record { within = omega (arith, i.count); none_before = λ k below. i.none k (omega (arith, below)) },
+      under_way_fails old mid new so_far [] [] (record { done = so_far; taken = i.taken; left = sym (append-nil so_far) }) (0, none, Appends-kept mid mid new [] (Appends-nil mid) kept),
+    )
 
 -- the result of a run that breaks off
 pub ends_broken : (asked : List (List ℕ)) (image : Image) (devices : List DeviceLine) (n : ℕ) (old new : Option (List ℕ)) (f : RunFault) (r : Result Bool RunFault) → r ≡ Err f → (f ≡ fault.Write) ⊎ (f ≡ fault.Memory)
-    → TakesBeginning old new (text_to image devices n) → EndsImage asked image devices n old new r
+    → BreaksOff asked image devices n old new → EndsImage asked image devices n old new r
 ends_broken asked image devices n old new f r is (inl w) h = subst (EndsImage asked image devices n old new) (sym (is ∙ ap (λ (x : RunFault). Err x) w)) h
 ends_broken asked image devices n old new f r is (inr w) h = subst (EndsImage asked image devices n old new) (sym (is ∙ ap (λ (x : RunFault). Err x) w)) h
 
@@ -165,9 +173,8 @@ without asked image devices n old new none taken =
     let all : n ≤ n = omega arith in (
       n,
       record {
-        within = all;
+        run = record { within = all; none_before = λ k below. none k (omega (arith, below)) };
         last = none n all;
-        none_before = λ k below. none k (omega (arith, below));
         all = λ is. refl;
       },
       taken,

@@ -19,5 +19,5 @@ returns-in_err-lines-clause-trace g c =
     let fault = c.in_err-lines.field-0.0 in
     let few : c.args.ticks ≤ MOST_TICKS = search rules in
     let refused = subst (λ (image : Image). AreRefused (verdict_for image devices) fault) (ap (λ (m : Machine). m.image) c.in_ok-machine.ensures) c.in_err-lines.ensures.refused in
-    refused_with read devices (map (λ a. a.now) c.args.asked.now) c.args.ticks old old fault c.from_residual-in_err-lines.result (search rules)
+    refused_with read loaded devices (map (λ a. a.now) c.args.asked.now) c.args.ticks old fault c.from_residual-in_err-lines.result (search rules) refused
     (device_refused read loaded devices c.args.ticks old fault c.in_ok-load_image.ensures few refused)
