@@ -18,7 +18,7 @@ use Rattle.module.specs.Standing.{elapse}
 use Rattle.command_line.specs.Stops.{BreaksOff, EndsImage, MayRun, text_to}
 use Rattle.command_line.specs.StopSteps.{IsHeld}
 use Rattle.command_line.specs.Awaited.{has_line}
-use Rattle.command_line.proofs.Ahead.{IsAhead, NoneCame, ahead_first, ahead_skipped, ahead_ticked, down_same, line_ticked, none_first, none_later, none_ticked, now_ticked, text_on, text_skipped, text_ticked, tick_on}
+use Rattle.command_line.proofs.Ahead.{IsAhead, NoneCame, ahead_first, ahead_skipped, ahead_ticked, down_same, line_ticked, none_first, none_later, none_ticked, now_ticked, text_skipped, text_ticked}
 
 -- Of n ticks, all but `left` are made. No line came so far, and the sink has taken their text.
 pub record IsReached (asked : List (List ℕ)) (image : Image) (devices lines : List DeviceLine) (n left : ℕ) (old now : Option (List ℕ)) (m : Machine) : Type 0 where
