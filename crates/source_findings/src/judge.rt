@@ -1,10 +1,10 @@
 //! What is wrong at a word, by the rule that is asked for.
 
-ghost use Rattle.std.specs.Prelude.{◌≡◌, map, IfOk, option_map};
+ghost use Rattle.std.specs.Prelude.{◌≡◌, ◌++◌, ◌≤◌, map, length, IfOk, OnOk, option_map};
 ghost use Rattle.apex_types.specs.NameText as name_text;
 ghost use Rattle.pal_base.specs.View.{integer_of, number_of};
 ghost use Rattle.source_findings.specs.Judged as spec;
-ghost use Rattle.source_findings.specs.Views.{judge_of, what_of};
+ghost use Rattle.source_findings.specs.Views.{entries_of, judge_of, what_of};
 
 use crate::finding::{Many, Thing, What};
 use crate::roles::{Entry, Role, fits, is_nothing, or_else, role_of};
@@ -77,17 +77,26 @@ fn unknown<'a>(
 }
 
 /// The names that a body knows.
-#[tactic(auto, using(crate::proofs::Lists::names_seen))]
 fn known_names<'a>(alloc: Global, judge: &Judge<'_, 'a>) -> Result<Vec<&'a str>, AllocError>
     ensures { IfOk result
         (λ names. map (λ name. name.now) names.items ≡ spec.known_names (judge_of judge.now)) }
 {
-    judge
-        .own
-        .iter()
-        .chain(judge.declared.iter())
-        .map(|entry| entry.name)
-        .collect(alloc)
+    let mut names = Vec::new(alloc);
+    add_names(&mut names, judge.own)?;
+    add_names(&mut names, judge.declared)?;
+    Ok(names)
+}
+
+#[tactic(auto, using(std::proofs::lemmas::List::drop_more, std::proofs::lemmas::List::append_assoc, crate::proofs::Lists::append_nil))]
+fn add_names<'a>(names: &mut Vec<&'a str>, entries: &[Entry<'a>]) -> Result<(), AllocError>
+    ensures { OnOk result
+        (map (λ name. name.now) names.new.items
+        ≡ map (λ name. name.now) names.old.items ++ map (λ e. e.name) (entries_of entries.now)) }
+{
+    for entry in entries {
+        names.push(entry.name)?;
+    }
+    Ok(())
 }
 
 /// That a name means something other than what is wanted.

@@ -1,11 +1,12 @@
 -- A loop that adds findings: those that it has added, followed by those of the rest, are all of them.
-use Rattle.std.proofs.Common.{◌≡◌, ℕ, ◌≤◌, List, [], ◌∷◌, ◌++◌, length, drop, map, length-drop, refl, sym, ap, ◌∙◌, arith}
-use Rattle.std.proofs.lemmas.List.{append_assoc, append-nil, nil_from_length}
+use Rattle.std.proofs.Common.{◌≡◌, ℕ, ◌+◌, ◌<◌, ◌≤◌, List, [], ◌∷◌, ◌++◌, length, drop, get_or, length-drop, refl, sym, ap, ◌∙◌, arith}
+use Rattle.std.proofs.lemmas.List.{append_assoc, append-nil, drop_more, nil_from_length}
 use Rattle.std.proofs.Common.{take, OnOk, Result}
 use Rattle.std.proofs.lemmas.Result.{IfOk-equal}
 use Rattle.std.specs.Prelude.{Bool, ◌||◌}
 use Rattle.std.specs.List.{list_any}
 use Rattle.std.proofs.lemmas.List.{take-map}
+use Rattle.toml.specs.declared.value.Value.{Value}
 use Rattle.module_meaning.specs.TableRules.{is_one_of, same}
 use Rattle.table_findings.specs.declared.finding.Finding.{Finding}
 use Rattle.table_findings.specs.Views.{finding_of, findings_of}
@@ -20,7 +21,10 @@ step all rest own xs others x old new whole cons inv is grows =
 pub done : {X A : Type 0} (all : List X → List A) (xs : List X) (old whole : List A) → all [] ≡ [] → old ++ all xs ≡ whole → xs ≡ [] → old ≡ whole
 done all xs old whole nil inv is = sym (append-nil old) ∙ ap (λ (a : List _). old ++ a) (sym nil) ∙ ap (λ (ys : List _). old ++ all ys) (sym is) ∙ inv
 
--- nothing is left after the last
+-- the next of several values, and what is left after the last
+pub next_value : (vs : List Value) (i : ℕ) (v : Value) → v ≡ get_or vs i v → i < length vs → drop i vs ≡ v ∷ drop (i + 1) vs
+next_value vs i v is here = drop_more vs i v here ∙ ap (λ (x : Value). x ∷ drop (i + 1) vs) (sym is)
+
 pub all_seen : {X : Type 0} (xs : List X) (i : ℕ) → length xs ≤ i → drop i xs ≡ []
 all_seen xs i h = nil_from_length (drop i xs) (omega (arith, length-drop i xs))
 
@@ -37,13 +41,3 @@ is_one (word ∷ words) text = ap (λ (b : Bool). same text word || b) (is_one w
 -- the second of two calls adds its own after those of the first
 pub two_add : {A T E : Type 0} (r : Result T E) (old mid new first last : List A) → mid ≡ old ++ first → OnOk r (new ≡ mid ++ last) → OnOk r (new ≡ old ++ (first ++ last))
 two_add r old mid new first last before after = IfOk-equal r new (mid ++ last) (old ++ (first ++ last)) after (ap (λ (xs : List _). xs ++ last) before ∙ append_assoc old first last)
-
--- what is asked of each item, and of what is seen of it
-pub any_seen : {X A : Type 0} (p : A → Bool) (view : X → A) (xs : List X) → list_any (λ x. p (view x)) xs ≡ list_any p (map view xs)
-any_seen p view [] = refl
-any_seen p view (x ∷ xs) = ap (λ (b : Bool). p (view x) || b) (any_seen p view xs)
-
--- what is seen of parts of items, by the items as they are seen
-pub seen_as : {X Y A B : Type 0} (part : X → Y) (see : Y → B) (view : X → A) (own : A → B) (xs : List X) → ((x : X) → see (part x) ≡ own (view x)) → map see (map part xs) ≡ map own (map view xs)
-seen_as part see view own [] same = refl
-seen_as part see view own (x ∷ xs) same = ap (λ (b : _). b ∷ map see (map part xs)) (same x) ∙ ap (λ (bs : List _). own (view x) ∷ bs) (seen_as part see view own xs same)

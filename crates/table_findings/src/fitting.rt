@@ -418,13 +418,18 @@ fn is_queuing_port(partitions: &[WrittenPartition<'_>], text: &str) -> bool
 }
 
 /// Returns true if one of the texts names a queuing port.
-#[tactic(auto, using(crate::proofs::Steps::any_seen))]
+#[tactic(auto, using(std::proofs::lemmas::List::drop_more))]
 fn has_queuing_port(partitions: &[WrittenPartition<'_>], texts: &[&str]) -> bool
     ensures { result
         ≡ list_any (spec.is_queuing_port (map partition_text partitions.now))
         (map (λ text. text.now) texts.now) }
 {
-    texts.iter().any(|text| is_queuing_port(partitions, text))
+    for text in texts {
+        if is_queuing_port(partitions, text) {
+            return true;
+        }
+    }
+    false
 }
 
 /// The first port of a channel, and the text that names it.

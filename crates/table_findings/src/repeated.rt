@@ -139,7 +139,7 @@ fn first_same(names: &[&str], name: &str) -> Option<usize>
 }
 
 /// The names of partitions.
-#[tactic(auto, using(crate::proofs::Steps::seen_as))]
+#[tactic(auto, using(std::proofs::lemmas::List::drop_more, std::proofs::lemmas::List::map_push, std::proofs::lemmas::List::append_assoc, crate::proofs::Steps::append_nil))]
 pub fn partition_names<'a>(
     alloc: Global,
     partitions: &[WrittenPartition<'a>],
@@ -148,14 +148,15 @@ pub fn partition_names<'a>(
         (λ names. map (λ name. name.now) names.items
         ≡ spec.partition_names (map partition_text partitions.now)) }
 {
-    partitions
-        .iter()
-        .map(|partition| partition.name)
-        .collect(alloc)
+    let mut names = Vec::new(alloc);
+    for partition in partitions {
+        names.push(partition.name)?;
+    }
+    Ok(names)
 }
 
 /// The names of channels.
-#[tactic(auto, using(crate::proofs::Steps::seen_as))]
+#[tactic(auto, using(std::proofs::lemmas::List::drop_more, std::proofs::lemmas::List::map_push, std::proofs::lemmas::List::append_assoc, crate::proofs::Steps::append_nil))]
 fn channel_names<'a>(
     alloc: Global,
     channels: &[WrittenChannel<'a>],
@@ -164,15 +165,23 @@ fn channel_names<'a>(
         (λ names. map (λ name. name.now) names.items
         ≡ spec.channel_names (map channel_text channels.now)) }
 {
-    channels.iter().map(|channel| channel.name).collect(alloc)
+    let mut names = Vec::new(alloc);
+    for channel in channels {
+        names.push(channel.name)?;
+    }
+    Ok(names)
 }
 
 /// The names of ports.
-#[tactic(auto, using(crate::proofs::Steps::seen_as))]
+#[tactic(auto, using(std::proofs::lemmas::List::drop_more, std::proofs::lemmas::List::map_push, std::proofs::lemmas::List::append_assoc, crate::proofs::Steps::append_nil))]
 fn port_names<'a>(alloc: Global, ports: &[WrittenPort<'a>]) -> Result<Vec<&'a str>, AllocError>
     ensures { IfOk result
         (λ names. map (λ name. name.now) names.items
         ≡ spec.port_names (map port_text ports.now)) }
 {
-    ports.iter().map(|port| port.name).collect(alloc)
+    let mut names = Vec::new(alloc);
+    for port in ports {
+        names.push(port.name)?;
+    }
+    Ok(names)
 }

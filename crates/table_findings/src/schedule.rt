@@ -225,11 +225,14 @@ fn without_release_from<'a>(
 }
 
 /// Returns true if a window of the partition of that name is a release window.
-#[tactic(auto, using(crate::proofs::Steps::any_seen))]
+#[tactic(auto, using(std::proofs::lemmas::List::drop_more))]
 fn is_released(windows: &[WrittenWindow<'_>], name: &str) -> bool
     ensures { result ≡ spec.is_released (map window_text windows.now) name.now }
 {
-    windows
-        .iter()
-        .any(|window| window.release && window.partition == name)
+    for window in windows {
+        if window.release && window.partition == name {
+            return true;
+        }
+    }
+    false
 }

@@ -106,11 +106,16 @@ fn no_partition<'a>(text: &'a str, names: &[&'a str]) -> What<'a>
 }
 
 /// Returns true if a name is one of some names.
-#[tactic(auto, using(crate::proofs::Steps::any_seen))]
+#[tactic(auto, using(std::proofs::lemmas::List::drop_more))]
 pub fn is_among(name: &str, names: &[&str]) -> bool
     ensures { result ≡ spec.is_among name.now (map (λ name. name.now) names.now) }
 {
-    names.iter().any(|other| name == *other)
+    for other in names {
+        if name == *other {
+            return true;
+        }
+    }
+    false
 }
 
 #[tactic(auto, using(std::proofs::lemmas::List::drop_more, std::proofs::lemmas::List::append_assoc, crate::proofs::Steps::append_nil))]
@@ -186,21 +191,29 @@ fn is_end(partitions: &[WrittenPartition<'_>], text: &str) -> bool
     text == "DEVICE" || is_port(partitions, text)
 }
 
-#[tactic(auto, using(crate::proofs::Steps::any_seen))]
+#[tactic(auto, using(std::proofs::lemmas::List::drop_more))]
 fn is_port(partitions: &[WrittenPartition<'_>], text: &str) -> bool
     ensures { result
         ≡ list_any (λ p. list_any (λ q. same text.now (p.name ++ 46 ∷ q.name)) p.ports)
         (map partition_text partitions.now) }
 {
-    partitions.iter().any(|partition| is_port_of(partition.ports.as_slice(), partition.name, text))
+    for partition in partitions {
+        if is_port_of(partition.ports.as_slice(), partition.name, text) {
+            return true;
+        }
+    }
+    false
 }
 
-#[tactic(auto, using(crate::proofs::Steps::any_seen))]
+#[tactic(auto, using(std::proofs::lemmas::List::drop_more))]
 fn is_port_of(ports: &[WrittenPort<'_>], partition: &str, text: &str) -> bool
     ensures { result
         ≡ list_any (λ q. same text.now (partition.now ++ 46 ∷ q.name)) (map port_text ports.now) }
 {
-    ports
-        .iter()
-        .any(|port| is_port_name(text, partition, port.name))
+    for port in ports {
+        if is_port_name(text, partition, port.name) {
+            return true;
+        }
+    }
+    false
 }
