@@ -10,7 +10,6 @@ pub mod Read
 pub mod Replayed
 pub mod Shown
 pub mod Spelled
-pub mod Usual
 pub mod WholeLines
 pub mod Ahead
 pub mod Reached

@@ -19,14 +19,11 @@ use Rattle.window_table.specs.Views.{partition_view, table_of}
 use Rattle.window_table.specs.declared.table.PartitionRow.{PartitionRow}
 use Rattle.module.specs.Sources.{AreSources}
 use Rattle.streams.specs.Contents.{Contents}
-use Rattle.streams.specs.States.{Seen}
-use Rattle.command_line.specs.Done.{AreFoundIn, IsDoneWith, IsLinted, IsModuleIn}
-use Rattle.command_line.specs.Linting.{AddsFound, AddsTrees, AreAllFound, AreFoundOf, AreFoundOfModule, AreNotShown, AreShown, AreTrees, HasTree, HaveTrees, IsFoundOf, IsReadModule}
+use Rattle.command_line.specs.Done.{AreFoundIn, IsLinted, IsModuleIn}
+use Rattle.command_line.specs.Ends.{Ends}
+use Rattle.command_line.specs.Linting.{AddsFound, AddsTrees, AreAllFound, AreFoundOf, AreFoundOfModule, AreShown, AreToldOf, AreTrees, HasTree, HaveTrees, IsFoundOf, IsReadModule}
 use Rattle.command_line.specs.Orders.{Lint}
-use Rattle.command_line.specs.Outcomes.{is_remarkable}
-use Rattle.command_line.specs.Refusals.{IsLintRefused}
 use Rattle.command_line.specs.States.{State}
-use Rattle.command_line.specs.Told.{IsOfFailed}
 use Rattle.command_line.specs.declared.linting.ReadModule.{ReadModule}
 use Rattle.command_line.specs.declared.outcome.Outcome.{Outcome}
 use Rattle.command_line.specs.declared.outcome.Outcome.TheVariants.{Usual, Remarkable}
@@ -119,35 +116,18 @@ linted : (any : Bool) (table : List ℕ) (sources : List (List ℕ)) (m : ReadMo
 linted any table sources m before after same is (found, are, which, written) = (same, found, found_in before.files table sources m found is are, which, written)
 
 -- the outcome says whether anything is found
-pub lint_done : (table : List ℕ) (sources : List (List ℕ)) (m : ReadModule) (before after : State) (answer : Result Outcome Refusal) → after.files ≡ before.files → IsModuleIn before.files table sources m
-    → IfOk answer (λ o. AreShown (is_remarkable o) m before.out.taken after.out.taken) → IfOk answer (λ o. IsDoneWith o (Lint table sources) before after)
-lint_done table sources m before after (Ok Usual) same is h = linted false table sources m before after same is h
-lint_done table sources m before after (Ok Remarkable) same is h = linted true table sources m before after same is h
-lint_done table sources m before after (Err r) same is h = tt
-
-pub lint_refused : (table : List ℕ) (sources : List (List ℕ)) (m : ReadModule) (before after : State) (answer : Result Outcome Refusal) → after.files ≡ before.files → IsModuleIn before.files table sources m
-    → IfErr answer (λ r. AreNotShown m before.out after.out r) → IfErr answer (λ r. IsLintRefused table sources before after r)
-lint_refused table sources m before after (Ok o) same is h = tt
-lint_refused table sources m before after (Err Write) same is (failed, found, are, begun) = (failed, same, found, found_in before.files table sources m found is are, begun)
-lint_refused table sources m before after (Err Memory) same is h = ((same, h), tt)
-lint_refused table sources m before after (Err (Build fault)) same is h = absurd h
-lint_refused table sources m before after (Err (Run fault)) same is h = absurd h
-lint_refused table sources m before after (Err (Replay fault)) same is h = absurd h
-lint_refused table sources m before after (Err (Inputs fault)) same is h = absurd h
-lint_refused table sources m before after (Err (File name reason)) same is h = absurd h
-lint_refused table sources m before after (Err (LongTable name)) same is h = absurd h
-
--- no file is named where findings are not written
-pub unnamed_findings : (old new : List (List ℕ)) (m : ReadModule) (before after : Seen) (answer : Result Outcome Refusal) → new ≡ old → IfErr answer (λ r. AreNotShown m before after r) → IfErr answer (λ r. IsOfFailed old new r)
-unnamed_findings old new m before after (Ok o) same h = tt
-unnamed_findings old new m before after (Err Write) same h = same
-unnamed_findings old new m before after (Err Memory) same h = same
-unnamed_findings old new m before after (Err (Build fault)) same h = absurd h
-unnamed_findings old new m before after (Err (Run fault)) same h = absurd h
-unnamed_findings old new m before after (Err (Replay fault)) same h = absurd h
-unnamed_findings old new m before after (Err (Inputs fault)) same h = absurd h
-unnamed_findings old new m before after (Err (File name reason)) same h = absurd h
-unnamed_findings old new m before after (Err (LongTable name)) same h = absurd h
+pub lint_ends : (table : List ℕ) (sources : List (List ℕ)) (m : ReadModule) (before after : State) (answer : Result Outcome Refusal) → after.files ≡ before.files → after.failed ≡ before.failed → IsModuleIn before.files table sources m
+    → AreToldOf m before.out after.out answer → Ends (Lint table sources) before after answer
+lint_ends table sources m before after (Ok Usual) same unfailed is (shown, flushed) = (linted false table sources m before after same is shown, (flushed, unfailed))
+lint_ends table sources m before after (Ok Remarkable) same unfailed is (shown, flushed) = (linted true table sources m before after same is shown, (flushed, unfailed))
+lint_ends table sources m before after (Err Write) same unfailed is (failed, found, are, begun) = ((failed, same, found, found_in before.files table sources m found is are, begun), unfailed)
+lint_ends table sources m before after (Err Memory) same unfailed is h = (((same, h), tt), unfailed)
+lint_ends table sources m before after (Err (Build fault)) same unfailed is h = absurd h
+lint_ends table sources m before after (Err (Run fault)) same unfailed is h = absurd h
+lint_ends table sources m before after (Err (Replay fault)) same unfailed is h = absurd h
+lint_ends table sources m before after (Err (Inputs fault)) same unfailed is h = absurd h
+lint_ends table sources m before after (Err (File name reason)) same unfailed is h = absurd h
+lint_ends table sources m before after (Err (LongTable name)) same unfailed is h = absurd h
 
 -- ---- sources that are read a second time
 

@@ -17,15 +17,17 @@ use Rattle.std.specs.Str.Parse.{IsNumeral, digits_value}
 use Rattle.command_line.specs.Stops.{IsBegun, RunsUntil, text_to}
 use Rattle.machine_meaning.specs.ImageReading.{image_at}
 use Rattle.command_line.specs.Done.{IsDoneWith, IsRunDone, IsFirstRun, IsTraced, is_ok}
-use Rattle.command_line.specs.Orders.{Run}
+use Rattle.command_line.specs.Ends.{Ends}
+use Rattle.command_line.specs.Orders.{First, Run}
 use Rattle.command_line.specs.Outcomes.{is_remarkable}
 use Rattle.command_line.specs.declared.outcome.Outcome.{Outcome}
 use Rattle.command_line.specs.declared.outcome.Outcome.TheVariants.{Usual, Remarkable}
+use Rattle.streams.specs.Contents.{Contents}
 use Rattle.streams.specs.States.{Seen}
 use Rattle.module.specs.declared.fault.BuildAndRunFault.{BuildAndRunFault}
 use Rattle.module.specs.declared.fault.BuildAndRunFault.TheVariants as both
-use Rattle.command_line.specs.Refusals.{HasFailedBy, HasFailedByBoth, IsRunRefused}
-use Rattle.command_line.specs.States.{State}
+use Rattle.command_line.specs.Refusals.{HasFailedBy, HasFailedByBoth, IsRunRefused, refusal_of_both}
+use Rattle.command_line.specs.States.{State, state_of}
 use Rattle.command_line.specs.declared.first_run.TheConstants.{SOURCE, TABLE, TICKS}
 use Rattle.command_line.specs.declared.refusal.Refusal.{Refusal}
 use Rattle.command_line.specs.declared.refusal.Refusal.TheVariants as refusal
@@ -154,3 +156,8 @@ run_refused_by image devices until n v before after refusal.Write is (failed, ou
 run_refused_by image devices until n v before after (refusal.Build fault) is h = absurd h
 run_refused_by image devices until n v before after (refusal.Replay fault) is h = absurd h
 run_refused_by image devices until n v before after (refusal.Inputs fault) is h = absurd h
+
+-- the stored module is refused
+pub first_refused : (files : Option Contents) (failed : List (List ℕ)) (old new : Seen) (f : BuildAndRunFault) → HasFailedByBoth f old new → IsFirstRun old.taken new.taken (Err f) → Ends First (state_of files failed old) (state_of files failed new) (Err (refusal_of_both f))
+first_refused files failed old new (both.Build fault) quiet run = ((refl, (quiet, run)), refl)
+first_refused files failed old new (both.Run fault) quiet run = ((refl, (quiet, run)), refl)

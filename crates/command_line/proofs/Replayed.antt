@@ -13,6 +13,11 @@ use Rattle.module.specs.declared.fault.RunFault.{RunFault}
 use Rattle.module.specs.declared.fault.RunFault.TheVariants.{Ticks, Image as NoImage, Partition, Device, Memory, Write, Failed}
 use Rattle.streams.specs.States.{Seen}
 use Rattle.command_line.specs.Done.{AreInputsDone, IsReplayDone, is_ok}
+use Rattle.std.specs.Str.Parse.{IsNumeral, digits_value}
+use Rattle.command_line.specs.Ends.{Ends, EndsInputs, EndsReplay}
+use Rattle.command_line.specs.Orders.{Inputs, Replay}
+use Rattle.command_line.specs.declared.outcome.Outcome.{Outcome}
+use Rattle.command_line.specs.declared.outcome.Outcome.TheVariants.{Usual, Remarkable}
 use Rattle.command_line.specs.Refusals.{AreInputsRefused, HasFailedByInputs, IsReplayRefused}
 use Rattle.command_line.specs.States.{State}
 use Rattle.command_line.specs.declared.refusal.Refusal.{Refusal}
@@ -92,3 +97,12 @@ inputs_refused_by image partition devices n v before after refusal.Write is (fai
 inputs_refused_by image partition devices n v before after (refusal.Build fault) is h = absurd h
 inputs_refused_by image partition devices n v before after (refusal.Run fault) is h = absurd h
 inputs_refused_by image partition devices n v before after (refusal.Replay fault) is h = absurd h
+
+-- a replay that is done is an order that is done
+pub replay_ends : (image partition text ticks : List ℕ) (n : ℕ) (before after : State) (outcome : Outcome) → IsNumeral 10 ticks → n ≡ min (digits_value 10 ticks) (2 ^ 64 - 1) → EndsReplay image partition text n before after (Ok outcome) → Ends (Replay image partition text ticks) before after (Ok outcome)
+replay_ends image partition text ticks n before after Usual digits is (done, well) = ((digits, replay_done_by image partition text n (digits_value 10 ticks) before after is done), well)
+replay_ends image partition text ticks n before after Remarkable digits is h = absurd h
+
+pub inputs_end : (image partition devices ticks : List ℕ) (n : ℕ) (before after : State) (outcome : Outcome) → IsNumeral 10 ticks → n ≡ min (digits_value 10 ticks) (2 ^ 64 - 1) → EndsInputs image partition devices n before after (Ok outcome) → Ends (Inputs image partition devices ticks) before after (Ok outcome)
+inputs_end image partition devices ticks n before after Usual digits is (done, well) = ((digits, inputs_done_by image partition devices n (digits_value 10 ticks) before after is done), well)
+inputs_end image partition devices ticks n before after Remarkable digits is h = absurd h

@@ -1,13 +1,16 @@
 -- The text that listings have written.
-use Rattle.std.proofs.Common.{ℕ, List, length, Option, Result, Ok, Err, sym, subst, arith}
+use Rattle.std.proofs.Common.{◌≡◌, ℕ, ◌+◌, List, true, length, Option, Result, Ok, Err, ap, sym, subst, arith, ◌∙◌}
 use Rattle.std.proofs.Math.Seq.{take-length}
-use Rattle.std.specs.Prelude.{OnErr}
+use Rattle.std.specs.Prelude.{OnErr, OnOk}
 use Rattle.std.specs.Io.KnownBytes.{Appends, Keeps}
 use Rattle.std.proofs.KnownBytes.{Appends-kept}
-use Rattle.apex_types.specs.Line.{TakesBeginning}
+use Rattle.apex_types.specs.declared.sink.SinkFault.{SinkFault}
+use Rattle.streams.specs.States.{Seen}
+use Rattle.command_line.specs.Listed.{IsShown}
 
--- the whole of a text is a beginning of it, and a flush keeps it
-pub whole_is_begun : {A E : Type 0} (old mid new : Option (List ℕ)) (text : List ℕ) (answer : Result A E) → Appends old mid text → Keeps mid new → OnErr answer (TakesBeginning old new text)
-whole_is_begun old mid new text (Ok x) appends kept = tt
-whole_is_begun old mid new text (Err e) appends kept =
-    (length text, omega arith, subst (Appends old new) (sym (take-length text)) (Appends-kept old mid new text appends kept))
+-- a text that was written, and then flushed
+pub shown_to_end : {X : Type 0} (text : List ℕ) (old mid new : Seen) (answer : Result X SinkFault) → Appends old.taken mid.taken text × (mid.failures ≡ old.failures) → Keeps mid.taken new.taken
+    → OnOk answer (new.is_flushed ≡ true) → OnOk answer (new.failures ≡ mid.failures) → OnErr answer (new.failures ≡ mid.failures + 1) → IsShown text old new answer
+shown_to_end text old mid new (Ok x) (written, none) kept flushed quiet failed = (Appends-kept old.taken mid.taken new.taken text written kept, (quiet ∙ none, flushed))
+shown_to_end text old mid new (Err e) (written, none) kept flushed quiet failed =
+    ((length text, omega arith, subst (Appends old.taken new.taken) (sym (take-length text)) (Appends-kept old.taken mid.taken new.taken text written kept)), failed ∙ ap (λ (n : ℕ). n + 1) none)

@@ -6,15 +6,15 @@ use Rattle.command_words.specs.Told.{IsUsageTold}
 use Rattle.command_words.specs.declared.page.Page.{Page}
 use Rattle.streams.specs.States.{HasFailed, IsFlushed, IsWritten, Seen, TakesText}
 use Rattle.command_line.specs.Done.{IsDone, IsRemarkable}
+use Rattle.command_line.specs.Ends.{AnswersWords, IsWell}
 use Rattle.command_line.specs.Explained.{told_text}
 use Rattle.command_line.specs.Lines.{line_of}
 use Rattle.command_line.specs.Orders.{Order}
 use Rattle.command_line.specs.Outcomes.{status_of}
 use Rattle.command_line.specs.declared.outcome.Outcome.{Outcome}
 use Rattle.command_line.specs.Pages.{IsPageTold}
-use Rattle.command_line.specs.Refusals.{IsFailureOfWords, HasWrongWord}
+use Rattle.command_line.specs.Refusals.{HasWrongWord}
 use Rattle.command_line.specs.States.{IsUntouched, State}
-use Rattle.command_line.specs.Told.{IsOfFailed}
 use Rattle.command_line.specs.declared.explaining.Note.{Note}
 use Rattle.command_words.specs.declared.failure.Failure.{Failure}
 use Rattle.command_words.specs.declared.failure.Failure.TheVariants.{Refused, Usage}
@@ -30,12 +30,13 @@ AreNoCommand kinds order = AreMistaken kinds ⊎ ((kinds ≡ []) × HasWrongWord
 -- the order is done, or help is shown; all that was written is flushed, and nothing failed
 abbrev pub IsDoneOrHelp : Kinds → Order → State → State → Type 0
 IsDoneOrHelp kinds order before after =
-    IsFlushed before.out after.out × (((kinds ≡ []) × IsDone order before after) ⊎ (AskForHelp kinds × (after.files ≡ before.files)))
+    IsWell before after × (((kinds ≡ []) × IsDone order before after) ⊎ (AskForHelp kinds × (after.files ≡ before.files)))
 
--- the order is refused, or help is not written
+-- the order is refused, or help is not written; a file is named exactly if it was not read or not written
 abbrev pub IsRefusedFor : Kinds → Order → State → State → Refusal → Type 0
 IsRefusedFor kinds order before after r =
-    IsFailureOfWords kinds order before after (Refused r) ⊎ ((r ≡ Write) × AskForHelp kinds × HasFailed before.out after.out × (after.files ≡ before.files))
+    AnswersWords kinds order before after (Err (Refused r))
+    ⊎ ((r ≡ Write) × AskForHelp kinds × HasFailed before.out after.out × (after.files ≡ before.files) × (after.failed ≡ before.failed))
 
 -- unless it failed, standard error has the line of the refusal, followed by an explanation only if the words ask for one
 abbrev pub IsRefusalTold : Bool → Seen → Seen → Refusal → Type 0
@@ -45,19 +46,18 @@ IsRefusalTold asked old_err new_err r = (explained : Bool) × (note : Note) × (
 -- the line of the refusal, with an explanation if that was asked for; with 2 the words are no command, neither files nor standard output were
 -- touched, and what standard error took is flushed, if it did not fail; with 3 the order is done as with 0, and something is found. A
 -- file is named exactly if it was not read or not written.
-pub record IsAnswer (kinds : Kinds) (order : Order) (asked : Bool) (before after : State) (old_failed new_failed : List (List ℕ)) (old_err new_err : Seen) (status : ℕ) : Type 0 where
+pub record IsAnswer (kinds : Kinds) (order : Order) (asked : Bool) (before after : State) (old_err new_err : Seen) (status : ℕ) : Type 0 where
   pub range : status ≤ 3
-  pub done : status ≡ 0 → IsDoneOrHelp kinds order before after × (new_failed ≡ old_failed) × (new_err ≡ old_err)
-  pub refused : status ≡ 1 → (r : Refusal) × IsRefusedFor kinds order before after r × IsOfFailed old_failed new_failed r × IsRefusalTold asked old_err new_err r
-  pub usage : status ≡ 2 → IsUntouched before after × (new_failed ≡ old_failed) × AreNoCommand kinds order × IsWritten old_err new_err
-  pub remarkable : status ≡ 3 → (IsFlushed before.out after.out × (kinds ≡ []) × IsRemarkable order before after) × (new_failed ≡ old_failed) × (new_err ≡ old_err)
+  pub done : status ≡ 0 → IsDoneOrHelp kinds order before after × (new_err ≡ old_err)
+  pub refused : status ≡ 1 → (r : Refusal) × IsRefusedFor kinds order before after r × IsRefusalTold asked old_err new_err r
+  pub usage : status ≡ 2 → IsUntouched before after × (after.failed ≡ before.failed) × AreNoCommand kinds order × IsWritten old_err new_err
+  pub remarkable : status ≡ 3 → (IsWell before after × (kinds ≡ []) × IsRemarkable order before after) × (new_err ≡ old_err)
 
 -- The words ask for a page of the program's own words, and no file is touched; or they ask for none.
-abbrev pub IsAnswerTo : Option Page → Kinds → Order → Bool → State → State → List (List ℕ) → List (List ℕ) → Seen → Seen → ℕ → Type 0
-IsAnswerTo (Some page) kinds order asked before after old_failed new_failed old_err new_err status =
-    (after.files ≡ before.files) × (new_failed ≡ old_failed) × IsPageTold before.out after.out old_err new_err status
-IsAnswerTo None kinds order asked before after old_failed new_failed old_err new_err status =
-    IsAnswer kinds order asked before after old_failed new_failed old_err new_err status
+abbrev pub IsAnswerTo : Option Page → Kinds → Order → Bool → State → State → Seen → Seen → ℕ → Type 0
+IsAnswerTo (Some page) kinds order asked before after old_err new_err status =
+    (after.files ≡ before.files) × (after.failed ≡ before.failed) × IsPageTold before.out after.out old_err new_err status
+IsAnswerTo None kinds order asked before after old_err new_err status = IsAnswer kinds order asked before after old_err new_err status
 
 -- ---- the report of an outcome
 

@@ -1,5 +1,5 @@
 -- What of a module is accepted and probably not meant.
-use Rattle.std.specs.Prelude.{◌≡◌, ℕ, Bool, List, [], ◌∷◌, ◌++◌, map, Option}
+use Rattle.std.specs.Prelude.{◌≡◌, ℕ, Bool, List, [], ◌∷◌, ◌++◌, map, Option, Result, Ok, Err}
 use Rattle.std.specs.Io.KnownBytes.{Appends}
 use Rattle.apex_types.specs.Line.{TakesBeginning}
 use Rattle.apex_types.specs.declared.cost.Costs.{Costs}
@@ -19,9 +19,11 @@ use Rattle.window_table.specs.Views.{partition_view}
 use Rattle.window_table.specs.declared.table.PartitionRow.{PartitionRow}
 use Rattle.module.specs.Costs.{IsAcceptedModule}
 use Rattle.module.specs.Sources.{IsSource}
-use Rattle.streams.specs.States.{HasFailed, Seen}
+use Rattle.streams.specs.States.{HasFailed, IsFlushed, Seen}
+use Rattle.command_line.specs.Outcomes.{is_remarkable}
 use Rattle.command_line.specs.States.{IsSilent}
 use Rattle.command_line.specs.declared.linting.ReadModule.{ReadModule}
+use Rattle.command_line.specs.declared.outcome.Outcome.{Outcome}
 use Rattle.command_line.specs.declared.refusal.Refusal.{Refusal}
 use Rattle.command_line.specs.declared.refusal.Refusal.TheVariants.{Memory, Write}
 
@@ -78,6 +80,11 @@ abbrev pub AreNotShown : ReadModule → Seen → Seen → Refusal → Type 0
 AreNotShown m old new Write = HasFailed old new × (found : List PartitionFindings) × AreFoundOfModule m found × TakesBeginning old.taken new.taken (findings_text found)
 AreNotShown m old new Memory = IsSilent old new
 AreNotShown m old new _ = ⊥
+
+-- how the writing of findings ends
+abbrev pub AreToldOf : ReadModule → Seen → Seen → Result Outcome Refusal → Type 0
+AreToldOf m old new (Ok outcome) = AreShown (is_remarkable outcome) m old.taken new.taken × IsFlushed old new
+AreToldOf m old new (Err r) = AreNotShown m old new r
 
 -- ---- of texts
 

@@ -1,9 +1,6 @@
 -- Why a command is refused, and the state after that.
 use Rattle.std.specs.Prelude.{◌≡◌, ◌⊎◌, ℕ, List, [], ◌∷◌, Option, Err, string_bytes}
 use Rattle.std.specs.Str.Parse.{IsNumeral, digits_value}
-use Rattle.clap.specs.Kinds.{Kinds, IsAmong}
-use Rattle.clap.specs.Values.{kind_of}
-use Rattle.clap.specs.declared.error.kind.ErrorKind.TheVariants.{ValueValidation}
 use Rattle.streams.specs.States.{HasFailed, Seen}
 use Rattle.apex_types.specs.Line.{TakesBeginning}
 use Rattle.machine_meaning.specs.Image.{Image}
@@ -30,8 +27,6 @@ use Rattle.command_line.specs.States.{IsSilent, IsUntouched, State}
 use Rattle.command_line.specs.declared.outcome.Outcome.{Outcome}
 use Rattle.command_line.specs.declared.refusal.Refusal.{Refusal}
 use Rattle.command_line.specs.declared.refusal.Refusal.TheVariants.{Build, Run, Replay, Inputs, File, LongTable, Memory, Write}
-use Rattle.command_words.specs.declared.failure.Failure.{Failure}
-use Rattle.command_words.specs.declared.failure.Failure.TheVariants.{Refused, Usage}
 
 abbrev pub refusal_of_both : BuildAndRunFault → Refusal
 refusal_of_both (both.Build fault) = Build fault
@@ -218,17 +213,3 @@ HasWrongWord (replay image partition text ticks) = IsNumeral 10 ticks → ⊥
 HasWrongWord (inputs image partition devices ticks) = IsNumeral 10 ticks → ⊥
 HasWrongWord dashed = Unit {0}
 HasWrongWord _ = ⊥
-
--- why an order is not done
-abbrev pub IsFailure : Order → State → State → Failure Refusal → Type 0
-IsFailure order before after (Refused r) = IsRefused order before after r
-IsFailure order before after (Usage error) = IsUntouched before after × HasWrongWord order × (kind_of error ≡ ValueValidation)
-
--- Why the words of a command line are not done, where the library of command lines reports the
--- errors `kinds`: memory ran out; or one of those errors; or, without errors, the reason why their
--- order is not done.
-abbrev pub IsFailureOfWords : Kinds → Order → State → State → Failure Refusal → Type 0
-IsFailureOfWords kinds order before after (Refused Memory) = IsRefused order before after Memory
-IsFailureOfWords kinds order before after (Refused r) = (kinds ≡ []) × IsRefused order before after r
-IsFailureOfWords kinds order before after (Usage error) =
-    IsUntouched before after × (IsAmong (kind_of error) kinds ⊎ ((kinds ≡ []) × HasWrongWord order × (kind_of error ≡ ValueValidation)))

@@ -1,15 +1,20 @@
 -- The state that a command can change, at one time.
-use Rattle.std.specs.Prelude.{◌≡◌, Option}
-use Rattle.streams.specs.States.{Seen}
+use Rattle.std.specs.Prelude.{◌≡◌, ℕ, Bool, List, Option}
+use Rattle.streams.specs.States.{Seen, seen}
 use Rattle.streams.specs.Contents.{Contents}
 
--- The files and standard output.
+-- The files, the names of those that were not read or not written, and standard output.
 pub record State : Type 0 where
   pub files : Option Contents
+  pub failed : List (List ℕ)
   pub out : Seen
 
-abbrev pub state : Option Contents → Seen → State
-state files out = record { files = files; out = out }
+abbrev pub state_of : Option Contents → List (List ℕ) → Seen → State
+state_of files failed out = record { files = files; failed = failed; out = out }
+
+-- the state of files and of a stream, whose members these are
+abbrev pub state : {F O : Type 0} → (F → Option Contents) → (F → List (List ℕ)) → (O → Option (List ℕ)) → (O → ℕ) → (O → Bool) → F → O → State
+state contents failed taken failures is_flushed files out = state_of (contents files) (failed files) (seen taken failures is_flushed out)
 
 -- a stream has taken nothing between the two times, and did not fail
 abbrev pub IsSilent : Seen → Seen → Type 0

@@ -4,8 +4,6 @@ use Rattle.std.specs.declared.alloc.Global.{Global}
 use Rattle.std.specs.declared.string.String.{String}
 use Rattle.streams.specs.declared.names.NameFault.{NameFault}
 use Rattle.streams.specs.declared.names.NameFault.TheVariants as fault
-use Rattle.command_words.specs.declared.failure.Failure.{Failure}
-use Rattle.command_words.specs.declared.failure.Failure.TheVariants.{Refused, Usage}
 use Rattle.command_line.specs.declared.refusal.Refusal.{Refusal}
 use Rattle.command_line.specs.declared.refusal.Refusal.TheVariants.{Build, Run, Replay, Inputs, File, LongTable, Memory, Write}
 
@@ -24,8 +22,3 @@ IsOfFailed old new (Inputs fault) = new ≡ old
 IsOfFailed old new (LongTable name) = new ≡ old
 IsOfFailed old new Memory = new ≡ old
 IsOfFailed old new Write = new ≡ old
-
--- the same condition for a command that is not done
-abbrev pub IsOfFailedFile : List (List ℕ) → List (List ℕ) → Failure Refusal → Type 0
-IsOfFailedFile old new (Refused r) = IsOfFailed old new r
-IsOfFailedFile old new (Usage error) = new ≡ old

@@ -1,27 +1,23 @@
 //! The action of each command.
 
-ghost use Rattle.std.specs.Prelude.{◌≡◌, ◌-◌, ◌^◌, ◌<◌, [], map, false, IfOk, IfErr, OnOk};
+ghost use Rattle.std.specs.Prelude.{◌≡◌, ◌-◌, ◌^◌, ◌<◌, map, false};
 ghost use Rattle.clap.specs.Faults.{fault_of};
 ghost use Rattle.clap.specs.Matches.{found_of};
 ghost use Rattle.clap.specs.Simple.{subcommand_of, subcommand_rows_of};
 ghost use Rattle.clap.specs.Walk.{rows_of};
-ghost use Rattle.command_line.specs.Done.{IsDone, IsDoneWith};
-ghost use Rattle.command_line.specs.Ends.{as_usual};
 ghost use Rattle.command_line.specs.Meant.{meant};
 ghost use Rattle.command_line.specs.Orders.{Build, Check, Upgrade, asks, is_asked, order_of, style_of};
-ghost use Rattle.command_line.specs.Refusals.{IsBuildRefused, IsCheckRefused, IsFailure, IsFailureOfWords, IsUpgradeRefused};
 ghost use Rattle.command_line.specs.Spelled.{spelled};
 ghost use Rattle.command_line.specs.States.{state};
-ghost use Rattle.command_line.specs.Told.{IsOfFailed, IsOfFailedFile};
-ghost use Rattle.streams.specs.States.{IsFlushed, seen};
 ghost use Rattle.command_line.specs.Words.{mb_app};
+ghost use Rattle.command_line.specs.Ends.{Answers, AnswersWords, Ends, as_answer};
 
 use crate::dashes::dashed_command;
 use crate::explaining::{Note, Style};
 use crate::grammar::{grammar, lone_dash};
 use crate::linting::lint;
 use crate::loading::load;
-use crate::order::{Order, is_flagged, order_by_name};
+use crate::order::{ModuleNames, Order, is_flagged, order_by_name};
 use crate::outcome::Outcome;
 use crate::reading::{build_named, upgrade_named};
 use crate::refusal::Refusal;
@@ -51,22 +47,10 @@ pub fn perform<S: AsStr, F: Files, O: Stream, W: Watch>(
     requires { O.failures out.old < 2 ^ 64 - 1 }
     ensures asked { asked.old ≡ false → asks (subcommand_of mb_app (spelled (map S.text words.now))) ≡ false
         → asked.new ≡ false }
-    ensures command { OnOk result (fault_of mb_app (spelled (map S.text words.now)) ≡ []) }
-    ensures done { IfOk result
-        (λ outcome.
-        IsDoneWith outcome (order_of (subcommand_of mb_app (spelled (map S.text words.now))))
-        (state (F.contents files.old) (seen O.taken O.failures O.is_flushed out.old))
-        (state (F.contents files.new) (seen O.taken O.failures O.is_flushed out.new))) }
-    ensures flushed { OnOk result
-        (IsFlushed (seen O.taken O.failures O.is_flushed out.old)
-        (seen O.taken O.failures O.is_flushed out.new)) }
-    ensures failed { IfErr result
-        (λ f. IsFailureOfWords (fault_of mb_app (spelled (map S.text words.now)))
+    ensures ended { AnswersWords (fault_of mb_app (spelled (map S.text words.now)))
         (order_of (subcommand_of mb_app (spelled (map S.text words.now))))
-        (state (F.contents files.old) (seen O.taken O.failures O.is_flushed out.old))
-        (state (F.contents files.new) (seen O.taken O.failures O.is_flushed out.new)) f) }
-    ensures noted { OnOk result (F.failed files.new ≡ F.failed files.old) }
-    ensures named { IfErr result (λ f. IsOfFailedFile (F.failed files.old) (F.failed files.new) f) }
+        (state F.contents F.failed O.taken O.failures O.is_flushed files.old out.old)
+        (state F.contents F.failed O.taken O.failures O.is_flushed files.new out.new) result }
 {
     match spelled(alloc, words) {
         Ok(words) => obey_words(alloc, words.as_slice(), files, out, watch, asked, note),
@@ -87,22 +71,10 @@ fn obey_words<F: Files, O: Stream, W: Watch>(
     requires { O.failures out.old < 2 ^ 64 - 1 }
     ensures asked { asked.old ≡ false → asks (subcommand_of mb_app (map (λ s. s.now) words.now)) ≡ false
         → asked.new ≡ false }
-    ensures command { OnOk result (fault_of mb_app (map (λ s. s.now) words.now) ≡ []) }
-    ensures done { IfOk result
-        (λ outcome.
-        IsDoneWith outcome (order_of (subcommand_of mb_app (map (λ s. s.now) words.now)))
-        (state (F.contents files.old) (seen O.taken O.failures O.is_flushed out.old))
-        (state (F.contents files.new) (seen O.taken O.failures O.is_flushed out.new))) }
-    ensures flushed { OnOk result
-        (IsFlushed (seen O.taken O.failures O.is_flushed out.old)
-        (seen O.taken O.failures O.is_flushed out.new)) }
-    ensures failed { IfErr result
-        (λ f. IsFailureOfWords (fault_of mb_app (map (λ s. s.now) words.now))
+    ensures ended { AnswersWords (fault_of mb_app (map (λ s. s.now) words.now))
         (order_of (subcommand_of mb_app (map (λ s. s.now) words.now)))
-        (state (F.contents files.old) (seen O.taken O.failures O.is_flushed out.old))
-        (state (F.contents files.new) (seen O.taken O.failures O.is_flushed out.new)) f) }
-    ensures noted { OnOk result (F.failed files.new ≡ F.failed files.old) }
-    ensures named { IfErr result (λ f. IsOfFailedFile (F.failed files.old) (F.failed files.new) f) }
+        (state F.contents F.failed O.taken O.failures O.is_flushed files.old out.old)
+        (state F.contents F.failed O.taken O.failures O.is_flushed files.new out.new) result }
 {
     let matches = grammar(alloc)?.try_get_matches_from(words)?;
     *asked = asks(&matches);
@@ -147,20 +119,9 @@ fn obey<F: Files, O: Stream, W: Watch>(
     note: &mut Note,
 ) -> Result<Outcome, Failure<Refusal>>
     requires { O.failures out.old < 2 ^ 64 - 1 }
-    ensures done { IfOk result
-        (λ outcome.
-        IsDoneWith outcome (order_of (subcommand_rows_of matches.now))
-        (state (F.contents files.old) (seen O.taken O.failures O.is_flushed out.old))
-        (state (F.contents files.new) (seen O.taken O.failures O.is_flushed out.new))) }
-    ensures flushed { OnOk result
-        (IsFlushed (seen O.taken O.failures O.is_flushed out.old)
-        (seen O.taken O.failures O.is_flushed out.new)) }
-    ensures failed { IfErr result
-        (λ f. IsFailure (order_of (subcommand_rows_of matches.now))
-        (state (F.contents files.old) (seen O.taken O.failures O.is_flushed out.old))
-        (state (F.contents files.new) (seen O.taken O.failures O.is_flushed out.new)) f) }
-    ensures noted { OnOk result (F.failed files.new ≡ F.failed files.old) }
-    ensures named { IfErr result (λ f. IsOfFailedFile (F.failed files.old) (F.failed files.new) f) }
+    ensures { Answers (order_of (subcommand_rows_of matches.now))
+        (state F.contents F.failed O.taken O.failures O.is_flushed files.old out.old)
+        (state F.contents F.failed O.taken O.failures O.is_flushed files.new out.new) result }
 {
     if let Some(name) = dashed_command(matches) {
         return Err(Failure::Usage(lone_dash(alloc, name)?));
@@ -178,71 +139,41 @@ fn obey_order<F: Files, O: Stream, W: Watch>(
     note: &mut Note,
 ) -> Result<Outcome, Failure<Refusal>>
     requires { O.failures out.old < 2 ^ 64 - 1 }
-    ensures done { IfOk result
-        (λ outcome.
-        IsDoneWith outcome (meant order.entry)
-        (state (F.contents files.old) (seen O.taken O.failures O.is_flushed out.old))
-        (state (F.contents files.new) (seen O.taken O.failures O.is_flushed out.new))) }
-    ensures flushed { OnOk result
-        (IsFlushed (seen O.taken O.failures O.is_flushed out.old)
-        (seen O.taken O.failures O.is_flushed out.new)) }
-    ensures failed { IfErr result
-        (λ f. IsFailure (meant order.entry)
-        (state (F.contents files.old) (seen O.taken O.failures O.is_flushed out.old))
-        (state (F.contents files.new) (seen O.taken O.failures O.is_flushed out.new)) f) }
-    ensures noted { OnOk result (F.failed files.new ≡ F.failed files.old) }
-    ensures named { IfErr result (λ f. IsOfFailedFile (F.failed files.old) (F.failed files.new) f) }
+    ensures { Answers (meant order.entry)
+        (state F.contents F.failed O.taken O.failures O.is_flushed files.old out.old)
+        (state F.contents F.failed O.taken O.failures O.is_flushed files.new out.new) result }
 {
     match order {
-        Order::First => usual(run_stored(alloc, out)),
-        Order::Check { table, sources } => usual(check(alloc, table, sources, files, out, note)),
-        Order::Build {
-            table,
-            image,
-            sources,
-        } => usual(build(alloc, table, image, sources, files, out, note)),
-        Order::Run {
-            image,
-            devices,
-            ticks,
-            until,
-            is_watched,
-        } => {
+        Order::First => ended(run_stored(alloc, out)),
+        Order::Check { names } => ended(check(alloc, names, files, out, note)),
+        Order::Build { names, image } => ended(build(alloc, names, image, files, out, note)),
+        Order::Run { words, is_watched } => {
             if is_watched {
                 watch.begin();
             }
-            run(alloc, image, devices, ticks, until, files, out, watch, note)
+            run(alloc, words, files, out, watch, note)
         }
-        Order::Replay {
-            image,
-            partition,
-            inputs,
-            ticks,
-        } => replay(alloc, image, partition, inputs, ticks, files, out, note),
+        Order::Replay { words } => replay(alloc, words, files, out, note),
         Order::Inputs { words, is_watched } => {
             if is_watched {
                 watch.begin();
             }
             inputs(alloc, words, files, out, watch, note)
         }
-        Order::Cost { table, sources } => usual(cost(alloc, table, sources, files, out, note)),
-        Order::Dis { image } => usual(dis(alloc, image, files, out, note)),
-        Order::Upgrade { old, new } => usual(upgrade(alloc, old, new, files, out, note)),
-        Order::Load {
-            form,
-            table,
-            sources,
-        } => usual(load(alloc, form, table, sources, files, out, note)),
-        Order::Lint { table, sources } => Ok(lint(alloc, table, sources, files, out, note)?),
+        Order::Cost { names } => ended(cost(alloc, names, files, out, note)),
+        Order::Dis { image } => ended(dis(alloc, image, files, out, note)),
+        Order::Upgrade { old, new } => ended(upgrade(alloc, old, new, files, out, note)),
+        Order::Load { form, names } => ended(load(alloc, form, names, files, out, note)),
+        Order::Lint { names } => ended(lint(alloc, names, files, out, note)),
     }
 }
 
-/// How a command has ended that ends as usual unless it is refused.
-fn usual(done: Result<(), Refusal>) -> Result<Outcome, Failure<Refusal>>
-    ensures { result ≡ as_usual done }
+/// How a command has ended whose words are right.
+fn ended(ended: Result<Outcome, Refusal>) -> Result<Outcome, Failure<Refusal>>
+    ensures { result ≡ as_answer ended }
 {
-    match done {
-        Ok(()) => Ok(Outcome::Usual),
+    match ended {
+        Ok(outcome) => Ok(outcome),
         Err(refusal) => Err(Failure::Refused(refusal)),
     }
 }
@@ -250,62 +181,42 @@ fn usual(done: Result<(), Refusal>) -> Result<Outcome, Failure<Refusal>>
 /// Builds, and drops the image.
 fn check<F: Files, O: Stream>(
     alloc: Global,
-    table: &str,
-    sources: &[&str],
+    names: ModuleNames<'_>,
     files: &mut F,
     out: &mut O,
     note: &mut Note,
-) -> Result<(), Refusal>
+) -> Result<Outcome, Refusal>
     requires { O.failures out.old < 2 ^ 64 - 1 }
-    ensures done { OnOk result
-        (IsDone (Check table.now (map (λ s. s.now) sources.now))
-        (state (F.contents files.old) (seen O.taken O.failures O.is_flushed out.old))
-        (state (F.contents files.new) (seen O.taken O.failures O.is_flushed out.new))) }
-    ensures flushed { OnOk result
-        (IsFlushed (seen O.taken O.failures O.is_flushed out.old)
-        (seen O.taken O.failures O.is_flushed out.new)) }
-    ensures refused { IfErr result
-        (λ r. IsCheckRefused table.now (map (λ s. s.now) sources.now)
-        (state (F.contents files.old) (seen O.taken O.failures O.is_flushed out.old))
-        (state (F.contents files.new) (seen O.taken O.failures O.is_flushed out.new)) r) }
-    ensures noted { OnOk result (F.failed files.new ≡ F.failed files.old) }
-    ensures named { IfErr result (λ r. IsOfFailed (F.failed files.old) (F.failed files.new) r) }
+    ensures { Ends (Check names.entry.table.now (map (λ s. s.now) names.entry.sources.now))
+        (state F.contents F.failed O.taken O.failures O.is_flushed files.old out.old)
+        (state F.contents F.failed O.taken O.failures O.is_flushed files.new out.new) result }
 {
-    build_named(alloc, table, sources, files, note)?;
-    Ok(write_line(out, "accepted")?)
+    build_named(alloc, names, files, note)?;
+    write_line(out, "accepted")?;
+    Ok(Outcome::Usual)
 }
 
 /// Builds, and writes the image.
 fn build<F: Files, O: Stream>(
     alloc: Global,
-    table: &str,
+    names: ModuleNames<'_>,
     name: &str,
-    sources: &[&str],
     files: &mut F,
     out: &mut O,
     note: &mut Note,
-) -> Result<(), Refusal>
+) -> Result<Outcome, Refusal>
     requires { O.failures out.old < 2 ^ 64 - 1 }
-    ensures done { OnOk result
-        (IsDone (Build table.now name.now (map (λ s. s.now) sources.now))
-        (state (F.contents files.old) (seen O.taken O.failures O.is_flushed out.old))
-        (state (F.contents files.new) (seen O.taken O.failures O.is_flushed out.new))) }
-    ensures flushed { OnOk result
-        (IsFlushed (seen O.taken O.failures O.is_flushed out.old)
-        (seen O.taken O.failures O.is_flushed out.new)) }
-    ensures refused { IfErr result
-        (λ r. IsBuildRefused table.now name.now (map (λ s. s.now) sources.now)
-        (state (F.contents files.old) (seen O.taken O.failures O.is_flushed out.old))
-        (state (F.contents files.new) (seen O.taken O.failures O.is_flushed out.new)) r) }
-    ensures noted { OnOk result (F.failed files.new ≡ F.failed files.old) }
-    ensures named { IfErr result (λ r. IsOfFailed (F.failed files.old) (F.failed files.new) r) }
+    ensures { Ends (Build names.entry.table.now name.now (map (λ s. s.now) names.entry.sources.now))
+        (state F.contents F.failed O.taken O.failures O.is_flushed files.old out.old)
+        (state F.contents F.failed O.taken O.failures O.is_flushed files.new out.new) result }
 {
-    let image = build_named(alloc, table, sources, files, note)?;
+    let image = build_named(alloc, names, files, note)?;
     let shown = String::from_str(alloc, name)?;
     if let Err(fault) = files.write(name, image.as_slice()) {
         return Err(Refusal::of_file(shown, fault));
     }
-    Ok(write_line(out, format_args!("built {} bytes", image.len()))?)
+    write_line(out, format_args!("built {} bytes", image.len()))?;
+    Ok(Outcome::Usual)
 }
 
 /// Upgrades an image, and writes it.
@@ -316,26 +227,17 @@ fn upgrade<F: Files, O: Stream>(
     files: &mut F,
     out: &mut O,
     note: &mut Note,
-) -> Result<(), Refusal>
+) -> Result<Outcome, Refusal>
     requires { O.failures out.old < 2 ^ 64 - 1 }
-    ensures done { OnOk result
-        (IsDone (Upgrade old.now new.now)
-        (state (F.contents files.old) (seen O.taken O.failures O.is_flushed out.old))
-        (state (F.contents files.new) (seen O.taken O.failures O.is_flushed out.new))) }
-    ensures flushed { OnOk result
-        (IsFlushed (seen O.taken O.failures O.is_flushed out.old)
-        (seen O.taken O.failures O.is_flushed out.new)) }
-    ensures refused { IfErr result
-        (λ r. IsUpgradeRefused old.now new.now
-        (state (F.contents files.old) (seen O.taken O.failures O.is_flushed out.old))
-        (state (F.contents files.new) (seen O.taken O.failures O.is_flushed out.new)) r) }
-    ensures noted { OnOk result (F.failed files.new ≡ F.failed files.old) }
-    ensures named { IfErr result (λ r. IsOfFailed (F.failed files.old) (F.failed files.new) r) }
+    ensures { Ends (Upgrade old.now new.now)
+        (state F.contents F.failed O.taken O.failures O.is_flushed files.old out.old)
+        (state F.contents F.failed O.taken O.failures O.is_flushed files.new out.new) result }
 {
     let image = upgrade_named(alloc, old, files, note)?;
     let shown = String::from_str(alloc, new)?;
     if let Err(fault) = files.replace(new, image.as_slice()) {
         return Err(Refusal::of_file(shown, fault));
     }
-    Ok(write_line(out, format_args!("upgraded {} bytes", image.len()))?)
+    write_line(out, format_args!("upgraded {} bytes", image.len()))?;
+    Ok(Outcome::Usual)
 }

@@ -12,6 +12,7 @@ use crate::explanations::{
     explain_inputs, explain_length, explain_source, explain_table, file_sentence, image_sentence,
     replay_sentence, source_sentence, table_sentence,
 };
+use crate::order::ModuleNames;
 use crate::outcome::Outcome;
 use crate::refusal::{Refusal, Rule};
 use apex_types::Name;
@@ -92,23 +93,23 @@ impl Note {
     }
 
     /// Notes the explanation of a refused table or source, if it is wanted and there is memory for
-    /// it. `file` is the name of the table's file, and `files` are those of the sources.
+    /// it.
     pub fn explain(
         &mut self,
         alloc: Global,
-        file: &str,
+        names: ModuleNames<'_>,
         table: &[u8],
-        files: &[&str],
         sources: &[&[u8]],
         fault: &BuildFault,
     )
-        ensures { IsNoteOf file.now table.now (map (λ s. s.now) files.now)
-            (map (λ s. s.now) sources.now) fault.now self.old self.new }
+        ensures { IsNoteOf names.entry.table.now table.now
+            (map (λ s. s.now) names.entry.sources.now) (map (λ s. s.now) sources.now) fault.now
+            self.old self.new }
     {
         let Note::Wanted(style) = *self else {
             return;
         };
-        if let Some(text) = explanation(alloc, style, file, table, files, sources, fault) {
+        if let Some(text) = explanation(alloc, style, names, table, sources, fault) {
             *self = Note::Explained(text);
         }
     }
@@ -277,21 +278,21 @@ fn inputs_explanation(
 fn explanation(
     alloc: Global,
     style: Style,
-    file: &str,
+    names: ModuleNames<'_>,
     table: &[u8],
-    files: &[&str],
     sources: &[&[u8]],
     fault: &BuildFault,
 ) -> Option<String>
     ensures { IfSome result
         (λ text.
-        IsNoted style file.now table.now (map (λ s. s.now) files.now)
-        (map (λ s. s.now) sources.now) fault.now (string_bytes text)) }
+        IsNoted style names.entry.table.now table.now
+        (map (λ s. s.now) names.entry.sources.now) (map (λ s. s.now) sources.now) fault.now
+        (string_bytes text)) }
 {
     match fault {
         BuildFault::Table(rule) => {
             let shown = format!(in alloc; "{fault}").ok()?;
-            let report = style.report(shown.as_str(), file);
+            let report = style.report(shown.as_str(), names.table);
             explain_table(alloc, report, table, *rule)
         }
         BuildFault::Pal {
@@ -300,12 +301,27 @@ fn explanation(
         } => {
             let shown = format!(in alloc; "{fault}").ok()?;
             let form = style.form(shown.as_str());
-            explained(alloc, form, table, files, sources, partition, *refused)
+            explained(
+                alloc,
+                form,
+                table,
+                names.sources,
+                sources,
+                partition,
+                *refused,
+            )
         }
         BuildFault::Compile { partition, .. } => {
             let shown = format!(in alloc; "{fault}").ok()?;
             let rule = shown.as_str();
-            length_explained(alloc, style.form(rule), table, files, sources, partition)
+            length_explained(
+                alloc,
+                style.form(rule),
+                table,
+                names.sources,
+                sources,
+                partition,
+            )
         }
         _ => None,
     }

@@ -71,9 +71,9 @@ pub fn command<S: AsStr, F: Files, O: Stream, E: Stream, W: Watch>(
         (fault_of mb_app (spelled (map S.text words.now)))
         (order_of (subcommand_of mb_app (spelled (map S.text words.now))))
         (asks (subcommand_of mb_app (spelled (map S.text words.now))))
-        (state (F.contents files.old) (seen O.taken O.failures O.is_flushed out.old))
-        (state (F.contents files.new) (seen O.taken O.failures O.is_flushed out.new))
-        (F.failed files.old) (F.failed files.new) (seen E.taken E.failures E.is_flushed err.old)
+        (state F.contents F.failed O.taken O.failures O.is_flushed files.old out.old)
+        (state F.contents F.failed O.taken O.failures O.is_flushed files.new out.new)
+        (seen E.taken E.failures E.is_flushed err.old)
         (seen E.taken E.failures E.is_flushed err.new) result }
 {
     match page_of(words) {
@@ -96,9 +96,9 @@ fn answer<S: AsStr, F: Files, O: Stream, E: Stream, W: Watch>(
     ensures { IsAnswer (fault_of mb_app (spelled (map S.text words.now)))
         (order_of (subcommand_of mb_app (spelled (map S.text words.now))))
         (asks (subcommand_of mb_app (spelled (map S.text words.now))))
-        (state (F.contents files.old) (seen O.taken O.failures O.is_flushed out.old))
-        (state (F.contents files.new) (seen O.taken O.failures O.is_flushed out.new))
-        (F.failed files.old) (F.failed files.new) (seen E.taken E.failures E.is_flushed err.old)
+        (state F.contents F.failed O.taken O.failures O.is_flushed files.old out.old)
+        (state F.contents F.failed O.taken O.failures O.is_flushed files.new out.new)
+        (seen E.taken E.failures E.is_flushed err.old)
         (seen E.taken E.failures E.is_flushed err.new) result }
 {
     let mut asked = false;

@@ -1,23 +1,23 @@
 //! What of a module is accepted and probably not meant.
 
-ghost use Rattle.std.specs.Prelude.{◌≡◌, ◌-◌, ◌^◌, ◌<◌, map, IfOk, IfErr, OnErr, OnOk};
-ghost use Rattle.std.specs.Io.KnownBytes.{Appends};
-ghost use Rattle.apex_types.specs.Line.{TakesBeginning};
+ghost use Rattle.std.specs.Prelude.{◌≡◌, ◌-◌, ◌^◌, ◌<◌, map, IfOk, IfErr, OnOk};
 ghost use Rattle.lint.specs.Sentences.{findings_text};
 ghost use Rattle.pal_base.specs.WrittenView.{program_of};
 ghost use Rattle.pal_base.specs.declared.fault.Refusal.TheVariants.{Memory};
 ghost use Rattle.pal_meaning.specs.Grammar.{IsProgramOf};
-ghost use Rattle.command_line.specs.Done.{IsDoneWith, IsModuleIn};
-ghost use Rattle.command_line.specs.Linting.{AddsFound, AddsTrees, AreNotShown, AreShown, HasTree, HaveTrees, IsReadModule};
 ghost use Rattle.command_line.specs.Orders.{Lint};
-ghost use Rattle.command_line.specs.Outcomes.{is_remarkable};
 ghost use Rattle.command_line.specs.Reading.{IsUncostedText, texts_of};
-ghost use Rattle.command_line.specs.Refusals.{IsLintRefused, IsNotCosted};
 ghost use Rattle.command_line.specs.States.{state};
 ghost use Rattle.command_line.specs.Told.{IsOfFailed};
-ghost use Rattle.streams.specs.States.{HasFailed, IsFlushed, seen};
+ghost use Rattle.command_line.specs.Done.{IsModuleIn};
+ghost use Rattle.command_line.specs.Ends.{Ends};
+ghost use Rattle.command_line.specs.Linting.{AddsFound, AddsTrees, AreToldOf, HasTree, HaveTrees, IsReadModule};
+ghost use Rattle.command_line.specs.Listed.{IsShown};
+ghost use Rattle.command_line.specs.Refusals.{IsNotCosted};
+ghost use Rattle.streams.specs.States.{seen};
 
 use crate::explaining::Note;
+use crate::order::ModuleNames;
 use crate::outcome::Outcome;
 use crate::reading::{module_of_texts, read_sources, read_table};
 use crate::refusal::Refusal;
@@ -43,43 +43,25 @@ pub struct ReadModule {
 /// Writes what is found in the sources, a line each.
 pub fn lint<F: Files, O: Stream>(
     alloc: Global,
-    table: &str,
-    sources: &[&str],
+    names: ModuleNames<'_>,
     files: &mut F,
     out: &mut O,
     note: &mut Note,
 ) -> Result<Outcome, Refusal>
     requires { O.failures out.old < 2 ^ 64 - 1 }
-    ensures done { IfOk result
-        (λ outcome.
-        IsDoneWith outcome (Lint table.now (map (λ s. s.now) sources.now))
-        (state (F.contents files.old) (seen O.taken O.failures O.is_flushed out.old))
-        (state (F.contents files.new) (seen O.taken O.failures O.is_flushed out.new))) }
-    ensures flushed { OnOk result
-        (IsFlushed (seen O.taken O.failures O.is_flushed out.old)
-        (seen O.taken O.failures O.is_flushed out.new)) }
-    ensures refused { IfErr result
-        (λ r. IsLintRefused table.now (map (λ s. s.now) sources.now)
-        (state (F.contents files.old) (seen O.taken O.failures O.is_flushed out.old))
-        (state (F.contents files.new) (seen O.taken O.failures O.is_flushed out.new)) r) }
-    ensures noted { OnOk result (F.failed files.new ≡ F.failed files.old) }
-    ensures named { IfErr result (λ r. IsOfFailed (F.failed files.old) (F.failed files.new) r) }
+    ensures { Ends (Lint names.entry.table.now (map (λ s. s.now) names.entry.sources.now))
+        (state F.contents F.failed O.taken O.failures O.is_flushed files.old out.old)
+        (state F.contents F.failed O.taken O.failures O.is_flushed files.new out.new) result }
 {
-    let read = module_named(alloc, table, sources, files, note)?;
+    let read = module_named(alloc, names, files, note)?;
     show_module(alloc, &read, out)
 }
 
 /// Writes what is found in the sources of a module.
 fn show_module<O: Stream>(alloc: Global, read: &ReadModule, out: &mut O) -> Result<Outcome, Refusal>
     requires { O.failures out.old < 2 ^ 64 - 1 }
-    ensures shown { IfOk result
-        (λ outcome. AreShown (is_remarkable outcome) read.now (O.taken out.old) (O.taken out.new)) }
-    ensures flushed { OnOk result
-        (IsFlushed (seen O.taken O.failures O.is_flushed out.old)
-        (seen O.taken O.failures O.is_flushed out.new)) }
-    ensures refused { IfErr result
-        (λ r. AreNotShown read.now (seen O.taken O.failures O.is_flushed out.old)
-        (seen O.taken O.failures O.is_flushed out.new) r) }
+    ensures { AreToldOf read.now (seen O.taken O.failures O.is_flushed out.old)
+        (seen O.taken O.failures O.is_flushed out.new) result }
 {
     let accepted = &read.accepted;
     let rows = accepted.table.partitions.as_slice();
@@ -97,45 +79,35 @@ fn show_module<O: Stream>(alloc: Global, read: &ReadModule, out: &mut O) -> Resu
 /// `note`.
 fn module_named<F: Files>(
     alloc: Global,
-    table: &str,
-    sources: &[&str],
+    names: ModuleNames<'_>,
     files: &mut F,
     note: &mut Note,
 ) -> Result<ReadModule, Refusal>
     ensures read { IfOk result
-        (λ m. IsModuleIn (F.contents files.old) table.now (map (λ s. s.now) sources.now) m) }
+        (λ m. IsModuleIn (F.contents files.old) names.entry.table.now (map (λ s. s.now) names.entry.sources.now) m) }
     ensures refused { IfErr result
-        (λ r. IsNotCosted (F.contents files.old) table.now (map (λ s. s.now) sources.now) r) }
+        (λ r. IsNotCosted (F.contents files.old) names.entry.table.now (map (λ s. s.now) names.entry.sources.now) r) }
     ensures unchanged { F.contents files.new ≡ F.contents files.old }
     ensures noted { OnOk result (F.failed files.new ≡ F.failed files.old) }
     ensures named { IfErr result (λ r. IsOfFailed (F.failed files.old) (F.failed files.new) r) }
 {
-    let (name, names) = (table, sources);
-    let table = read_table(alloc, name, files)?;
-    let sources = read_sources(alloc, names, files)?;
-    read_texts(
-        alloc,
-        name,
-        table.as_slice(),
-        names,
-        sources.as_slice(),
-        note,
-    )
+    let table = read_table(alloc, names.table, files)?;
+    let sources = read_sources(alloc, names.sources, files)?;
+    read_texts(alloc, names, table.as_slice(), sources.as_slice(), note)
 }
 
 /// The module of a table and its sources.
 fn read_texts(
     alloc: Global,
-    name: &str,
+    names: ModuleNames<'_>,
     table: &[u8],
-    names: &[&str],
     sources: &[Vec<u8>],
     note: &mut Note,
 ) -> Result<ReadModule, Refusal>
     ensures read { IfOk result (λ m. IsReadModule table.now (texts_of sources.now) m) }
     ensures refused { IfErr result (λ r. IsUncostedText table.now (texts_of sources.now) r) }
 {
-    let accepted = module_of_texts(alloc, name, table, names, sources, note)?;
+    let accepted = module_of_texts(alloc, names, table, sources, note)?;
     let mut trees = Vec::new(alloc);
     add_trees(alloc, sources, &mut trees)?;
     Ok(ReadModule { accepted, trees })
@@ -202,16 +174,8 @@ fn add_found<'a>(
 /// Writes the lines of findings, to their end.
 fn show_findings<O: Stream>(found: &[PartitionFindings<'_>], out: &mut O) -> Result<(), SinkFault>
     requires { O.failures out.old < 2 ^ 64 - 1 }
-    ensures written { OnOk result
-        (Appends (O.taken out.old) (O.taken out.new) (findings_text found.now)) }
-    ensures flushed { OnOk result
-        (IsFlushed (seen O.taken O.failures O.is_flushed out.old)
-        (seen O.taken O.failures O.is_flushed out.new)) }
-    ensures beginning { OnErr result
-        (TakesBeginning (O.taken out.old) (O.taken out.new) (findings_text found.now)) }
-    ensures failed { OnErr result
-        (HasFailed (seen O.taken O.failures O.is_flushed out.old)
-        (seen O.taken O.failures O.is_flushed out.new)) }
+    ensures { IsShown (findings_text found.now) (seen O.taken O.failures O.is_flushed out.old)
+        (seen O.taken O.failures O.is_flushed out.new) result }
 {
     write_findings(found, out)?;
     out.flush()

@@ -1,20 +1,22 @@
 //! The load of a schedule.
 
 ghost use Rattle.std.specs.Prelude.{◌≡◌, ◌-◌, ◌^◌, ◌<◌, ◌++◌, map, IfOk, IfErr, OnOk};
-ghost use Rattle.command_line.specs.Done.{IsDone, IsLoadIn};
 ghost use Rattle.command_line.specs.Loading.{AreLoaded, IsLoadOfText, IsRefusedTable, IsShownOf, IsTextOf, loads_of_sources, source_loads};
 ghost use Rattle.command_line.specs.Loaded.{shown_of};
 ghost use Rattle.command_line.specs.Orders.{Load};
 ghost use Rattle.command_line.specs.Reading.{IsUncostedText, texts_of};
-ghost use Rattle.command_line.specs.Refusals.{IsLoadRefused, IsNotLoadedFrom};
 ghost use Rattle.command_line.specs.States.{state};
 ghost use Rattle.command_line.specs.Told.{IsOfFailed};
-ghost use Rattle.streams.specs.States.{IsFlushed, seen};
 ghost use Rattle.window_table.specs.Views.{partition_view, table_of};
 ghost use Rattle.trace_picture.specs.Page.{IsPicture};
+ghost use Rattle.command_line.specs.Done.{IsLoadIn};
+ghost use Rattle.command_line.specs.Ends.{Ends};
+ghost use Rattle.command_line.specs.Refusals.{IsNotLoadedFrom};
 
 use crate::explaining::Note;
 use crate::form::Form;
+use crate::order::ModuleNames;
+use crate::outcome::Outcome;
 use crate::reading::{module_of_texts, read_sources, read_table};
 use crate::refusal::Refusal;
 use apex_types::Costs;
@@ -37,78 +39,64 @@ struct Loaded {
 pub fn load<F: Files, O: Stream>(
     alloc: Global,
     form: Form,
-    table: &str,
-    sources: &[&str],
+    names: ModuleNames<'_>,
     files: &mut F,
     out: &mut O,
     note: &mut Note,
-) -> Result<(), Refusal>
+) -> Result<Outcome, Refusal>
     requires { O.failures out.old < 2 ^ 64 - 1 }
-    ensures done { OnOk result
-        (IsDone (Load form table.now (map (λ s. s.now) sources.now))
-        (state (F.contents files.old) (seen O.taken O.failures O.is_flushed out.old))
-        (state (F.contents files.new) (seen O.taken O.failures O.is_flushed out.new))) }
-    ensures flushed { OnOk result
-        (IsFlushed (seen O.taken O.failures O.is_flushed out.old)
-        (seen O.taken O.failures O.is_flushed out.new)) }
-    ensures refused { IfErr result
-        (λ r. IsLoadRefused table.now (map (λ s. s.now) sources.now)
-        (state (F.contents files.old) (seen O.taken O.failures O.is_flushed out.old))
-        (state (F.contents files.new) (seen O.taken O.failures O.is_flushed out.new)) r) }
-    ensures noted { OnOk result (F.failed files.new ≡ F.failed files.old) }
-    ensures named { IfErr result (λ r. IsOfFailed (F.failed files.old) (F.failed files.new) r) }
+    ensures { Ends (Load form names.entry.table.now (map (λ s. s.now) names.entry.sources.now))
+        (state F.contents F.failed O.taken O.failures O.is_flushed files.old out.old)
+        (state F.contents F.failed O.taken O.failures O.is_flushed files.new out.new) result }
 {
-    let loaded = loaded_named(alloc, table, sources, files, note)?;
+    let loaded = loaded_named(alloc, names, files, note)?;
     let text = shown(alloc, form, &loaded)?;
-    Ok(write_bytes(out, text.as_slice())?)
+    write_bytes(out, text.as_slice())?;
+    Ok(Outcome::Usual)
 }
 
 /// The load of the table, with its sources if there are any, in the files of these names. A refusal
 /// is explained in `note`.
 fn loaded_named<F: Files>(
     alloc: Global,
-    table: &str,
-    sources: &[&str],
+    names: ModuleNames<'_>,
     files: &mut F,
     note: &mut Note,
 ) -> Result<Loaded, Refusal>
     ensures loaded { IfOk result
         (λ loaded.
-        IsLoadIn (F.contents files.old) table.now (map (λ s. s.now) sources.now)
+        IsLoadIn (F.contents files.old) names.entry.table.now (map (λ s. s.now) names.entry.sources.now)
         (shown_of loaded)) }
     ensures refused { IfErr result
-        (λ r. IsNotLoadedFrom (F.contents files.old) table.now (map (λ s. s.now) sources.now) r) }
+        (λ r. IsNotLoadedFrom (F.contents files.old) names.entry.table.now (map (λ s. s.now) names.entry.sources.now) r) }
     ensures unchanged { F.contents files.new ≡ F.contents files.old }
     ensures noted { OnOk result (F.failed files.new ≡ F.failed files.old) }
     ensures named { IfErr result (λ r. IsOfFailed (F.failed files.old) (F.failed files.new) r) }
 {
-    let (name, names) = (table, sources);
-    let table = read_table(alloc, name, files)?;
-    match names.split_first() {
-        None => load_of_text(alloc, name, table.as_slice(), note),
+    let table = read_table(alloc, names.table, files)?;
+    match names.sources.split_first() {
+        None => load_of_text(alloc, names, table.as_slice(), note),
         Some(_) => {
-            let sources = read_sources(alloc, names, files)?;
-            load_of_texts(
-                alloc,
-                name,
-                table.as_slice(),
-                names,
-                sources.as_slice(),
-                note,
-            )
+            let sources = read_sources(alloc, names.sources, files)?;
+            load_of_texts(alloc, names, table.as_slice(), sources.as_slice(), note)
         }
     }
 }
 
 /// The load of a table.
-fn load_of_text(alloc: Global, name: &str, table: &[u8], note: &mut Note) -> Result<Loaded, Refusal>
+fn load_of_text(
+    alloc: Global,
+    names: ModuleNames<'_>,
+    table: &[u8],
+    note: &mut Note,
+) -> Result<Loaded, Refusal>
     ensures loaded { IfOk result (λ loaded. IsLoadOfText table.now (shown_of loaded)) }
     ensures refused { IfErr result (λ r. IsRefusedTable table.now r) }
 {
     match accept_table(alloc, table) {
         Ok(accepted) => Ok(load_of_accepted(alloc, accepted, Vec::new(alloc))?),
         Err(fault) => {
-            note.explain(alloc, name, table, &[], &[], &fault);
+            note.explain(alloc, names, table, &[], &fault);
             Err(Refusal::Build(fault))
         }
     }
@@ -117,9 +105,8 @@ fn load_of_text(alloc: Global, name: &str, table: &[u8], note: &mut Note) -> Res
 /// The load of a table and its sources.
 fn load_of_texts(
     alloc: Global,
-    name: &str,
+    names: ModuleNames<'_>,
     table: &[u8],
-    names: &[&str],
     sources: &[Vec<u8>],
     note: &mut Note,
 ) -> Result<Loaded, Refusal>
@@ -127,9 +114,7 @@ fn load_of_texts(
         (λ loaded. AreLoaded table.now (texts_of sources.now) (shown_of loaded)) }
     ensures refused { IfErr result (λ r. IsUncostedText table.now (texts_of sources.now) r) }
 {
-    let AcceptedModule { table, sources } = module_of_texts(
-        alloc, name, table, names, sources, note,
-    )?;
+    let AcceptedModule { table, sources } = module_of_texts(alloc, names, table, sources, note)?;
     Ok(load_of_accepted(alloc, table, sources)?)
 }
 

@@ -1,16 +1,41 @@
 //! What the words of a command line ask for.
 
-ghost use Rattle.std.specs.Prelude.{◌≡◌, map};
+ghost use Rattle.std.specs.Prelude.{◌≡◌, codes, map};
 ghost use Rattle.clap.specs.Matches.{found_of};
 ghost use Rattle.clap.specs.Simple.{subcommand_rows_of};
 ghost use Rattle.clap.specs.Walk.{rows_of};
-ghost use Rattle.command_line.specs.Meant.{inputs_meant, meant};
+ghost use Rattle.command_line.specs.Meant.{inputs_meant, meant, replay_meant, run_meant};
 ghost use Rattle.command_line.specs.Orders as spec;
-ghost use Rattle.command_words.specs.Found.{words_at};
+ghost use Rattle.command_words.specs.Found.{word_at, words_at};
 
 use crate::form::Form;
 use clap::ArgMatches;
 use command_words::word;
+
+/// The files of a module: its table and its sources.
+#[derive(Clone, Copy)]
+pub struct ModuleNames<'a> {
+    pub table: &'a str,
+    pub sources: &'a [&'a str],
+}
+
+/// The words of `mb run`.
+#[derive(Clone, Copy)]
+pub struct RunWords<'a> {
+    pub image: &'a str,
+    pub devices: &'a str,
+    pub ticks: &'a str,
+    pub until: &'a [&'a str],
+}
+
+/// The words of `mb replay`: three names, and how many ticks are made.
+#[derive(Clone, Copy)]
+pub struct ReplayWords<'a> {
+    pub image: &'a str,
+    pub partition: &'a str,
+    pub inputs: &'a str,
+    pub ticks: &'a str,
+}
 
 /// The words of `mb inputs`: three names, and how many ticks are made.
 #[derive(Clone, Copy)]
@@ -27,34 +52,25 @@ pub enum Order<'a> {
     /// The stored module is run.
     First,
     Check {
-        table: &'a str,
-        sources: &'a [&'a str],
+        names: ModuleNames<'a>,
     },
     Build {
-        table: &'a str,
+        names: ModuleNames<'a>,
         image: &'a str,
-        sources: &'a [&'a str],
     },
     Run {
-        image: &'a str,
-        devices: &'a str,
-        ticks: &'a str,
-        until: &'a [&'a str],
+        words: RunWords<'a>,
         is_watched: bool,
     },
     Replay {
-        image: &'a str,
-        partition: &'a str,
-        inputs: &'a str,
-        ticks: &'a str,
+        words: ReplayWords<'a>,
     },
     Inputs {
         words: InputsWords<'a>,
         is_watched: bool,
     },
     Cost {
-        table: &'a str,
-        sources: &'a [&'a str],
+        names: ModuleNames<'a>,
     },
     Dis {
         image: &'a str,
@@ -65,12 +81,10 @@ pub enum Order<'a> {
     },
     Load {
         form: Form,
-        table: &'a str,
-        sources: &'a [&'a str],
+        names: ModuleNames<'a>,
     },
     Lint {
-        table: &'a str,
-        sources: &'a [&'a str],
+        names: ModuleNames<'a>,
     },
 }
 
@@ -90,34 +104,25 @@ fn order_named<'a, 'w: 'a>(name: &str, found: &'a ArgMatches<'w>) -> Order<'a>
 {
     match name {
         "check" => Order::Check {
-            table: word(found, "TABLE"),
-            sources: words(found, "SOURCE"),
+            names: module_names(found),
         },
         "build" => Order::Build {
-            table: word(found, "TABLE"),
+            names: module_names(found),
             image: word(found, "IMAGE"),
-            sources: words(found, "SOURCE"),
         },
         "run" => Order::Run {
-            image: word(found, "IMAGE"),
-            devices: word(found, "DEVICES"),
-            ticks: word(found, "TICKS"),
-            until: words(found, "until"),
+            words: run_words(found),
             is_watched: is_flagged(found, "progress"),
         },
         "replay" => Order::Replay {
-            image: word(found, "IMAGE"),
-            partition: word(found, "PARTITION"),
-            inputs: word(found, "INPUTS"),
-            ticks: word(found, "TICKS"),
+            words: replay_words(found),
         },
         "inputs" => Order::Inputs {
             words: inputs_words(found),
             is_watched: is_flagged(found, "progress"),
         },
         "cost" => Order::Cost {
-            table: word(found, "TABLE"),
-            sources: words(found, "SOURCE"),
+            names: module_names(found),
         },
         "dis" => Order::Dis {
             image: word(found, "IMAGE"),
@@ -128,14 +133,48 @@ fn order_named<'a, 'w: 'a>(name: &str, found: &'a ArgMatches<'w>) -> Order<'a>
         },
         "load" => Order::Load {
             form: form_of(found),
-            table: word(found, "TABLE"),
-            sources: words(found, "SOURCE"),
+            names: module_names(found),
         },
         "lint" => Order::Lint {
-            table: word(found, "TABLE"),
-            sources: words(found, "SOURCE"),
+            names: module_names(found),
         },
         _ => Order::First,
+    }
+}
+
+/// The files of a module that the words name.
+fn module_names<'a, 'w: 'a>(found: &'a ArgMatches<'w>) -> ModuleNames<'a>
+    ensures table { result.table.now ≡ word_at (codes "TABLE") (rows_of (found_of found.now)) }
+    ensures sources { map (λ s. s.now) result.sources.now
+        ≡ words_at (codes "SOURCE") (rows_of (found_of found.now)) }
+{
+    ModuleNames {
+        table: word(found, "TABLE"),
+        sources: words(found, "SOURCE"),
+    }
+}
+
+/// The words of `mb run`.
+fn run_words<'a, 'w: 'a>(found: &'a ArgMatches<'w>) -> RunWords<'a>
+    ensures { run_meant result ≡ spec.run_of (rows_of (found_of found.now)) }
+{
+    RunWords {
+        image: word(found, "IMAGE"),
+        devices: word(found, "DEVICES"),
+        ticks: word(found, "TICKS"),
+        until: words(found, "until"),
+    }
+}
+
+/// The words of `mb replay`.
+fn replay_words<'a, 'w: 'a>(found: &'a ArgMatches<'w>) -> ReplayWords<'a>
+    ensures { replay_meant result ≡ spec.replay_of (rows_of (found_of found.now)) }
+{
+    ReplayWords {
+        image: word(found, "IMAGE"),
+        partition: word(found, "PARTITION"),
+        inputs: word(found, "INPUTS"),
+        ticks: word(found, "TICKS"),
     }
 }
 

@@ -16,6 +16,7 @@ ghost use Rattle.command_line.specs.Refusals.{IsNotBuilt, IsNotCosted, IsNotLoad
 ghost use Rattle.command_line.specs.Told.{IsOfFailed};
 
 use crate::explaining::Note;
+use crate::order::ModuleNames;
 use crate::refusal::Refusal;
 use apex_types::limits::MOST_SOURCE_BYTES;
 use image::{Image, load_image};
@@ -106,39 +107,29 @@ fn read_source<F: Files>(alloc: Global, name: &str, files: &mut F) -> Result<Vec
 /// explained in `note`.
 pub fn build_named<F: Files>(
     alloc: Global,
-    table: &str,
-    sources: &[&str],
+    names: ModuleNames<'_>,
     files: &mut F,
     note: &mut Note,
 ) -> Result<Vec<u8>, Refusal>
     ensures built { IfOk result
         (λ image.
-        IsBuilt (F.contents files.old) table.now (map (λ s. s.now) sources.now) image.items) }
+        IsBuilt (F.contents files.old) names.entry.table.now (map (λ s. s.now) names.entry.sources.now) image.items) }
     ensures refused { IfErr result
-        (λ r. IsNotBuilt (F.contents files.old) table.now (map (λ s. s.now) sources.now) r) }
+        (λ r. IsNotBuilt (F.contents files.old) names.entry.table.now (map (λ s. s.now) names.entry.sources.now) r) }
     ensures unchanged { F.contents files.new ≡ F.contents files.old }
     ensures noted { OnOk result (F.failed files.new ≡ F.failed files.old) }
     ensures named { IfErr result (λ r. IsOfFailed (F.failed files.old) (F.failed files.new) r) }
 {
-    let (name, names) = (table, sources);
-    let table = read_table(alloc, name, files)?;
-    let sources = read_sources(alloc, names, files)?;
-    build_texts(
-        alloc,
-        name,
-        table.as_slice(),
-        names,
-        sources.as_slice(),
-        note,
-    )
+    let table = read_table(alloc, names.table, files)?;
+    let sources = read_sources(alloc, names.sources, files)?;
+    build_texts(alloc, names, table.as_slice(), sources.as_slice(), note)
 }
 
 /// The image of a table and its sources.
 fn build_texts(
     alloc: Global,
-    name: &str,
+    names: ModuleNames<'_>,
     table: &[u8],
-    names: &[&str],
     sources: &[Vec<u8>],
     note: &mut Note,
 ) -> Result<Vec<u8>, Refusal>
@@ -149,7 +140,7 @@ fn build_texts(
     match module::build(alloc, table, texts.as_slice()) {
         Ok(image) => Ok(image),
         Err(fault) => {
-            note.explain(alloc, name, table, names, texts.as_slice(), &fault);
+            note.explain(alloc, names, table, texts.as_slice(), &fault);
             Err(Refusal::Build(fault))
         }
     }
@@ -159,39 +150,29 @@ fn build_texts(
 /// explained in `note`.
 pub fn costs_named<F: Files>(
     alloc: Global,
-    table: &str,
-    sources: &[&str],
+    names: ModuleNames<'_>,
     files: &mut F,
     note: &mut Note,
 ) -> Result<Vec<PartitionCosts>, Refusal>
     ensures costed { IfOk result
         (λ costs.
-        AreCosted (F.contents files.old) table.now (map (λ s. s.now) sources.now) costs.items) }
+        AreCosted (F.contents files.old) names.entry.table.now (map (λ s. s.now) names.entry.sources.now) costs.items) }
     ensures refused { IfErr result
-        (λ r. IsNotCosted (F.contents files.old) table.now (map (λ s. s.now) sources.now) r) }
+        (λ r. IsNotCosted (F.contents files.old) names.entry.table.now (map (λ s. s.now) names.entry.sources.now) r) }
     ensures unchanged { F.contents files.new ≡ F.contents files.old }
     ensures noted { OnOk result (F.failed files.new ≡ F.failed files.old) }
     ensures named { IfErr result (λ r. IsOfFailed (F.failed files.old) (F.failed files.new) r) }
 {
-    let (name, names) = (table, sources);
-    let table = read_table(alloc, name, files)?;
-    let sources = read_sources(alloc, names, files)?;
-    costs_of_texts(
-        alloc,
-        name,
-        table.as_slice(),
-        names,
-        sources.as_slice(),
-        note,
-    )
+    let table = read_table(alloc, names.table, files)?;
+    let sources = read_sources(alloc, names.sources, files)?;
+    costs_of_texts(alloc, names, table.as_slice(), sources.as_slice(), note)
 }
 
 /// The costs of a table and its sources.
 fn costs_of_texts(
     alloc: Global,
-    name: &str,
+    names: ModuleNames<'_>,
     table: &[u8],
-    names: &[&str],
     sources: &[Vec<u8>],
     note: &mut Note,
 ) -> Result<Vec<PartitionCosts>, Refusal>
@@ -202,19 +183,17 @@ fn costs_of_texts(
     match module::costs(alloc, table, texts.as_slice()) {
         Ok(costs) => Ok(costs),
         Err(fault) => {
-            note.explain(alloc, name, table, names, texts.as_slice(), &fault);
+            note.explain(alloc, names, table, texts.as_slice(), &fault);
             Err(Refusal::Build(fault))
         }
     }
 }
 
-/// An accepted table and its sources. A refusal is explained in `note`; `name` is that of the
-/// table's file, and `names` are those of the sources.
+/// An accepted table and its sources. A refusal is explained in `note`.
 pub fn module_of_texts(
     alloc: Global,
-    name: &str,
+    names: ModuleNames<'_>,
     table: &[u8],
-    names: &[&str],
     sources: &[Vec<u8>],
     note: &mut Note,
 ) -> Result<AcceptedModule, Refusal>
@@ -226,7 +205,7 @@ pub fn module_of_texts(
     match module::accept_module(alloc, table, texts.as_slice()) {
         Ok(module) => Ok(module),
         Err(fault) => {
-            note.explain(alloc, name, table, names, texts.as_slice(), &fault);
+            note.explain(alloc, names, table, texts.as_slice(), &fault);
             Err(Refusal::Build(fault))
         }
     }

@@ -1,20 +1,18 @@
 //! One partition of an image: its replay, and the inputs that a run brings it.
 
-ghost use Rattle.std.specs.Prelude.{◌≡◌, ◌-◌, ◌^◌, ◌<◌, IfOk, IfErr, OnOk};
+ghost use Rattle.std.specs.Prelude.{◌≡◌, ◌-◌, ◌^◌, ◌<◌, IfErr, OnOk};
 ghost use Rattle.machine_meaning.specs.ImageReading.{image_at};
 ghost use Rattle.module.specs.Replays.{Replays};
 ghost use Rattle.module.specs.Telling.{Tells};
-ghost use Rattle.command_line.specs.Done.{AreInputsDone, IsDoneWith, IsReplayDone};
-ghost use Rattle.command_line.specs.Meant.{inputs_meant};
-ghost use Rattle.command_line.specs.Orders.{Replay};
-ghost use Rattle.command_line.specs.Refusals.{AreInputsRefused, HasFailedBy, HasFailedByInputs, IsFailure, IsReplayRefused};
+ghost use Rattle.command_line.specs.Meant.{inputs_meant, replay_meant};
 ghost use Rattle.command_line.specs.States.{state};
-ghost use Rattle.command_line.specs.Told.{IsOfFailed, IsOfFailedFile};
-ghost use Rattle.streams.specs.States.{IsFlushed, seen};
+ghost use Rattle.command_line.specs.Ends.{Answers, EndsInputs, EndsReplay};
+ghost use Rattle.command_line.specs.Refusals.{HasFailedBy, HasFailedByInputs};
+ghost use Rattle.streams.specs.States.{seen};
 
 use crate::explaining::{Note, RunFiles};
 use crate::grammar::bad_ticks;
-use crate::order::InputsWords;
+use crate::order::{InputsWords, ReplayWords};
 use crate::outcome::Outcome;
 use crate::reading::read_as;
 use crate::refusal::Refusal;
@@ -27,76 +25,49 @@ use text_beginnings::TextKind;
 /// Replays a partition of an image for the ticks of a word.
 pub fn replay<F: Files, O: Stream>(
     alloc: Global,
-    image: &str,
-    partition: &str,
-    inputs: &str,
-    ticks: &str,
+    words: ReplayWords<'_>,
     files: &mut F,
     out: &mut O,
     note: &mut Note,
 ) -> Result<Outcome, Failure<Refusal>>
     requires { O.failures out.old < 2 ^ 64 - 1 }
-    ensures done { IfOk result
-        (λ outcome.
-        IsDoneWith outcome (Replay image.now partition.now inputs.now ticks.now)
-        (state (F.contents files.old) (seen O.taken O.failures O.is_flushed out.old))
-        (state (F.contents files.new) (seen O.taken O.failures O.is_flushed out.new))) }
-    ensures flushed { OnOk result
-        (IsFlushed (seen O.taken O.failures O.is_flushed out.old)
-        (seen O.taken O.failures O.is_flushed out.new)) }
-    ensures failed { IfErr result
-        (λ f. IsFailure (Replay image.now partition.now inputs.now ticks.now)
-        (state (F.contents files.old) (seen O.taken O.failures O.is_flushed out.old))
-        (state (F.contents files.new) (seen O.taken O.failures O.is_flushed out.new)) f) }
-    ensures noted { OnOk result (F.failed files.new ≡ F.failed files.old) }
-    ensures named { IfErr result (λ f. IsOfFailedFile (F.failed files.old) (F.failed files.new) f) }
+    ensures { Answers (replay_meant words.entry)
+        (state F.contents F.failed O.taken O.failures O.is_flushed files.old out.old)
+        (state F.contents F.failed O.taken O.failures O.is_flushed files.new out.new) result }
 {
-    let Some(number) = number_of(ticks) else {
-        return Err(Failure::Usage(bad_ticks(alloc, "replay", ticks)?));
+    let Some(number) = number_of(words.ticks) else {
+        return Err(Failure::Usage(bad_ticks(alloc, "replay", words.ticks)?));
     };
-    replay_named(alloc, image, partition, inputs, number, files, out, note)?;
-    Ok(Outcome::Usual)
+    Ok(replay_named(alloc, words, number, files, out, note)?)
 }
 
 /// Replays a partition of an image for `ticks` ticks.
 fn replay_named<F: Files, O: Stream>(
     alloc: Global,
-    image: &str,
-    partition: &str,
-    inputs: &str,
+    words: ReplayWords<'_>,
     ticks: u64,
     files: &mut F,
     out: &mut O,
     note: &mut Note,
-) -> Result<(), Refusal>
+) -> Result<Outcome, Refusal>
     requires { O.failures out.old < 2 ^ 64 - 1 }
-    ensures done { OnOk result
-        (IsReplayDone image.now partition.now inputs.now ticks
-        (state (F.contents files.old) (seen O.taken O.failures O.is_flushed out.old))
-        (state (F.contents files.new) (seen O.taken O.failures O.is_flushed out.new))) }
-    ensures flushed { OnOk result
-        (IsFlushed (seen O.taken O.failures O.is_flushed out.old)
-        (seen O.taken O.failures O.is_flushed out.new)) }
-    ensures refused { IfErr result
-        (λ r. IsReplayRefused image.now partition.now inputs.now ticks
-        (state (F.contents files.old) (seen O.taken O.failures O.is_flushed out.old))
-        (state (F.contents files.new) (seen O.taken O.failures O.is_flushed out.new)) r) }
-    ensures noted { OnOk result (F.failed files.new ≡ F.failed files.old) }
-    ensures named { IfErr result (λ r. IsOfFailed (F.failed files.old) (F.failed files.new) r) }
+    ensures { EndsReplay words.entry.image.now words.entry.partition.now words.entry.inputs.now ticks
+        (state F.contents F.failed O.taken O.failures O.is_flushed files.old out.old)
+        (state F.contents F.failed O.taken O.failures O.is_flushed files.new out.new) result }
 {
-    let (image_name, text_name) = (image, inputs);
-    let image = read_as(alloc, TextKind::Image, image, files)?;
-    let inputs = read_as(alloc, TextKind::Inputs, inputs, files)?;
+    let image = read_as(alloc, TextKind::Image, words.image, files)?;
+    let inputs = read_as(alloc, TextKind::Inputs, words.inputs, files)?;
     let run_files = RunFiles {
-        image_name,
+        image_name: words.image,
         image: image.as_slice(),
-        text_name,
+        text_name: words.inputs,
         text: inputs.as_slice(),
     };
-    match trace_alone(alloc, run_files, partition, ticks, out, note) {
-        Ok(()) => Ok(out.flush()?),
-        Err(fault) => Err(Refusal::Replay(fault)),
+    if let Err(fault) = trace_alone(alloc, run_files, words.partition, ticks, out, note) {
+        return Err(Refusal::Replay(fault));
     }
+    out.flush()?;
+    Ok(Outcome::Usual)
 }
 
 /// Writes the trace of one partition. A refusal of the image or of the replay text is explained in
@@ -135,26 +106,14 @@ pub fn inputs<F: Files, O: Stream, W: Watch>(
     note: &mut Note,
 ) -> Result<Outcome, Failure<Refusal>>
     requires { O.failures out.old < 2 ^ 64 - 1 }
-    ensures done { IfOk result
-        (λ outcome.
-        IsDoneWith outcome (inputs_meant words.entry)
-        (state (F.contents files.old) (seen O.taken O.failures O.is_flushed out.old))
-        (state (F.contents files.new) (seen O.taken O.failures O.is_flushed out.new))) }
-    ensures flushed { OnOk result
-        (IsFlushed (seen O.taken O.failures O.is_flushed out.old)
-        (seen O.taken O.failures O.is_flushed out.new)) }
-    ensures failed { IfErr result
-        (λ f. IsFailure (inputs_meant words.entry)
-        (state (F.contents files.old) (seen O.taken O.failures O.is_flushed out.old))
-        (state (F.contents files.new) (seen O.taken O.failures O.is_flushed out.new)) f) }
-    ensures noted { OnOk result (F.failed files.new ≡ F.failed files.old) }
-    ensures named { IfErr result (λ f. IsOfFailedFile (F.failed files.old) (F.failed files.new) f) }
+    ensures { Answers (inputs_meant words.entry)
+        (state F.contents F.failed O.taken O.failures O.is_flushed files.old out.old)
+        (state F.contents F.failed O.taken O.failures O.is_flushed files.new out.new) result }
 {
     let Some(number) = number_of(words.ticks) else {
         return Err(Failure::Usage(bad_ticks(alloc, "inputs", words.ticks)?));
     };
-    inputs_named(alloc, words, number, files, out, watch, note)?;
-    Ok(Outcome::Usual)
+    Ok(inputs_named(alloc, words, number, files, out, watch, note)?)
 }
 
 /// Writes the inputs that `ticks` ticks of an image bring a partition.
@@ -166,21 +125,11 @@ fn inputs_named<F: Files, O: Stream, W: Watch>(
     out: &mut O,
     watch: &mut W,
     note: &mut Note,
-) -> Result<(), Refusal>
+) -> Result<Outcome, Refusal>
     requires { O.failures out.old < 2 ^ 64 - 1 }
-    ensures done { OnOk result
-        (AreInputsDone words.entry.image.now words.entry.partition.now words.entry.devices.now ticks
-        (state (F.contents files.old) (seen O.taken O.failures O.is_flushed out.old))
-        (state (F.contents files.new) (seen O.taken O.failures O.is_flushed out.new))) }
-    ensures flushed { OnOk result
-        (IsFlushed (seen O.taken O.failures O.is_flushed out.old)
-        (seen O.taken O.failures O.is_flushed out.new)) }
-    ensures refused { IfErr result
-        (λ r. AreInputsRefused words.entry.image.now words.entry.partition.now words.entry.devices.now ticks
-        (state (F.contents files.old) (seen O.taken O.failures O.is_flushed out.old))
-        (state (F.contents files.new) (seen O.taken O.failures O.is_flushed out.new)) r) }
-    ensures noted { OnOk result (F.failed files.new ≡ F.failed files.old) }
-    ensures named { IfErr result (λ r. IsOfFailed (F.failed files.old) (F.failed files.new) r) }
+    ensures { EndsInputs words.entry.image.now words.entry.partition.now words.entry.devices.now ticks
+        (state F.contents F.failed O.taken O.failures O.is_flushed files.old out.old)
+        (state F.contents F.failed O.taken O.failures O.is_flushed files.new out.new) result }
 {
     let image = read_as(alloc, TextKind::Image, words.image, files)?;
     let devices = read_as(alloc, TextKind::Inputs, words.devices, files)?;
@@ -191,7 +140,8 @@ fn inputs_named<F: Files, O: Stream, W: Watch>(
         text: devices.as_slice(),
     };
     tell_inputs(alloc, run_files, words.partition, ticks, out, watch, note)?;
-    Ok(out.flush()?)
+    out.flush()?;
+    Ok(Outcome::Usual)
 }
 
 /// Writes the inputs that a run of an image brings a partition, as a replay text. A refusal of the

@@ -1,17 +1,20 @@
 //! Runs, of an image and of the stored module.
 
-ghost use Rattle.std.specs.Prelude.{◌≡◌, ◌-◌, ◌^◌, ◌<◌, [], map, IfOk, IfErr, OnOk};
+ghost use Rattle.std.specs.Prelude.{◌≡◌, ◌-◌, ◌^◌, ◌<◌, ℕ, [], List, Option, map, IfErr, OnOk};
 ghost use Rattle.machine_meaning.specs.ImageReading.{image_at};
-ghost use Rattle.command_line.specs.Done.{IsDoneWith, IsFirstRun, IsRunDone, IsTraced, is_ok};
-ghost use Rattle.command_line.specs.Orders.{Run};
-ghost use Rattle.command_line.specs.Refusals.{HasFailedBy, HasFailedByBoth, IsFailure, IsRunRefused, IsStoredRefused};
-ghost use Rattle.command_line.specs.States.{state};
-ghost use Rattle.command_line.specs.Told.{IsOfFailed, IsOfFailedFile};
-ghost use Rattle.streams.specs.States.{IsFlushed, seen};
+ghost use Rattle.command_line.specs.Done.{IsFirstRun, IsTraced};
+ghost use Rattle.command_line.specs.Ends.{Answers, Ends, EndsRun};
+ghost use Rattle.command_line.specs.Meant.{run_meant};
+ghost use Rattle.command_line.specs.Orders.{First};
+ghost use Rattle.command_line.specs.Refusals.{HasFailedBy, HasFailedByBoth};
+ghost use Rattle.command_line.specs.States.{state, state_of};
+ghost use Rattle.streams.specs.Contents.{Contents};
+ghost use Rattle.streams.specs.States.{seen};
 
 use crate::explaining::{Note, RunFiles};
 use crate::first_run::{SOURCE, TABLE, TICKS};
 use crate::grammar::bad_ticks;
+use crate::order::RunWords;
 use crate::outcome::Outcome;
 use crate::reading::read_as;
 use crate::refusal::Refusal;
@@ -27,77 +30,49 @@ use text_beginnings::TextKind;
 /// comes.
 pub fn run<F: Files, O: Stream, W: Watch>(
     alloc: Global,
-    image: &str,
-    devices: &str,
-    ticks: &str,
-    until: &[&str],
+    words: RunWords<'_>,
     files: &mut F,
     out: &mut O,
     watch: &mut W,
     note: &mut Note,
 ) -> Result<Outcome, Failure<Refusal>>
     requires { O.failures out.old < 2 ^ 64 - 1 }
-    ensures done { IfOk result
-        (λ outcome.
-        IsDoneWith outcome (Run image.now devices.now ticks.now (map (λ w. w.now) until.now))
-        (state (F.contents files.old) (seen O.taken O.failures O.is_flushed out.old))
-        (state (F.contents files.new) (seen O.taken O.failures O.is_flushed out.new))) }
-    ensures flushed { OnOk result
-        (IsFlushed (seen O.taken O.failures O.is_flushed out.old)
-        (seen O.taken O.failures O.is_flushed out.new)) }
-    ensures failed { IfErr result
-        (λ f. IsFailure (Run image.now devices.now ticks.now (map (λ w. w.now) until.now))
-        (state (F.contents files.old) (seen O.taken O.failures O.is_flushed out.old))
-        (state (F.contents files.new) (seen O.taken O.failures O.is_flushed out.new)) f) }
-    ensures noted { OnOk result (F.failed files.new ≡ F.failed files.old) }
-    ensures named { IfErr result (λ f. IsOfFailedFile (F.failed files.old) (F.failed files.new) f) }
+    ensures { Answers (run_meant words.entry)
+        (state F.contents F.failed O.taken O.failures O.is_flushed files.old out.old)
+        (state F.contents F.failed O.taken O.failures O.is_flushed files.new out.new) result }
 {
-    let Some(number) = number_of(ticks) else {
-        return Err(Failure::Usage(bad_ticks(alloc, "run", ticks)?));
+    let Some(number) = number_of(words.ticks) else {
+        return Err(Failure::Usage(bad_ticks(alloc, "run", words.ticks)?));
     };
-    let outcome = run_named(
-        alloc, image, devices, number, until, files, out, watch, note,
-    )?;
+    let outcome = run_named(alloc, words, number, files, out, watch, note)?;
     Ok(outcome)
 }
 
 /// Runs an image for `ticks` ticks, or to a line.
 fn run_named<F: Files, O: Stream, W: Watch>(
     alloc: Global,
-    image: &str,
-    devices: &str,
+    words: RunWords<'_>,
     ticks: u64,
-    until: &[&str],
     files: &mut F,
     out: &mut O,
     watch: &mut W,
     note: &mut Note,
 ) -> Result<Outcome, Refusal>
     requires { O.failures out.old < 2 ^ 64 - 1 }
-    ensures done { IfOk result
-        (λ outcome. IsRunDone image.now devices.now (map (λ w. w.now) until.now) ticks outcome
-        (state (F.contents files.old) (seen O.taken O.failures O.is_flushed out.old))
-        (state (F.contents files.new) (seen O.taken O.failures O.is_flushed out.new))) }
-    ensures flushed { OnOk result
-        (IsFlushed (seen O.taken O.failures O.is_flushed out.old)
-        (seen O.taken O.failures O.is_flushed out.new)) }
-    ensures refused { IfErr result
-        (λ r. IsRunRefused image.now devices.now (map (λ w. w.now) until.now) ticks
-        (state (F.contents files.old) (seen O.taken O.failures O.is_flushed out.old))
-        (state (F.contents files.new) (seen O.taken O.failures O.is_flushed out.new)) r) }
-    ensures noted { OnOk result (F.failed files.new ≡ F.failed files.old) }
-    ensures named { IfErr result (λ r. IsOfFailed (F.failed files.old) (F.failed files.new) r) }
+    ensures { EndsRun words.entry.image.now words.entry.devices.now
+        (map (λ w. w.now) words.entry.until.now) ticks
+        (state F.contents F.failed O.taken O.failures O.is_flushed files.old out.old)
+        (state F.contents F.failed O.taken O.failures O.is_flushed files.new out.new) result }
 {
-    let (image_name, text_name) = (image, devices);
-    let image = read_as(alloc, TextKind::Image, image, files)?;
-    let devices = read_as(alloc, TextKind::Inputs, devices, files)?;
+    let image = read_as(alloc, TextKind::Image, words.image, files)?;
+    let devices = read_as(alloc, TextKind::Inputs, words.devices, files)?;
     let run_files = RunFiles {
-        image_name,
+        image_name: words.image,
         image: image.as_slice(),
-        text_name,
+        text_name: words.devices,
         text: devices.as_slice(),
     };
-    let outcome = trace(alloc, run_files, ticks, until, out, watch, note)?;
+    let outcome = trace(alloc, run_files, ticks, words.until, out, watch, note)?;
     out.flush()?;
     Ok(outcome)
 }
@@ -176,18 +151,15 @@ fn write_whole_trace<O: Stream, W: Watch>(
 }
 
 /// Runs the stored module.
-pub fn run_stored<O: Stream>(alloc: Global, out: &mut O) -> Result<(), Refusal>
+pub fn run_stored<O: Stream>(alloc: Global, out: &mut O) -> Result<Outcome, Refusal>
     requires { O.failures out.old < 2 ^ 64 - 1 }
-    ensures done { OnOk result (IsFirstRun (O.taken out.old) (O.taken out.new) is_ok) }
-    ensures flushed { OnOk result
-        (IsFlushed (seen O.taken O.failures O.is_flushed out.old)
-        (seen O.taken O.failures O.is_flushed out.new)) }
-    ensures refused { IfErr result
-        (λ r. IsStoredRefused (seen O.taken O.failures O.is_flushed out.old)
-        (seen O.taken O.failures O.is_flushed out.new) r) }
+    ensures { (files : Option Contents) (failed : List (List ℕ))
+        → Ends First (state_of files failed (seen O.taken O.failures O.is_flushed out.old))
+        (state_of files failed (seen O.taken O.failures O.is_flushed out.new)) result }
 {
     trace_stored(alloc, out)?;
-    Ok(out.flush()?)
+    out.flush()?;
+    Ok(Outcome::Usual)
 }
 
 /// Writes the trace of the stored module.

@@ -8,16 +8,16 @@ use Rattle.command_line.proofs.reading.build_named.Goals as goal
 
 pub returns-clause-built : goal.returns-clause-built
 returns-clause-built g c =
-    let names = map (λ s. s.now) c.args.sources.now in
+    let names = map (λ s. s.now) c.args.names.sources.now in
     let sources : HoldAllFrom settles_source (g.F.Files.contents c.read_table.new.files) names (texts_of c.as_slice-2.result.now) = search rules in
-    built_of_files (g.F.Files.contents c.args.files.now) (g.F.Files.contents c.read_table.new.files) c.args.table.now names c.in_ok-table.table.items c.as_slice.result.now (texts_of c.as_slice-2.result.now)
+    built_of_files (g.F.Files.contents c.args.files.now) (g.F.Files.contents c.read_table.new.files) c.args.names.table.now names c.in_ok-table.table.items c.as_slice.result.now (texts_of c.as_slice-2.result.now)
     c.in_ok-table.ensures.unchanged c.as_slice.ensures.value c.in_ok-table.ensures.held sources (λ image. image.items) c.build_texts.result c.build_texts.ensures.built
 
 pub returns-clause-refused : goal.returns-clause-refused
 returns-clause-refused g c =
-    let names = map (λ s. s.now) c.args.sources.now in
+    let names = map (λ s. s.now) c.args.names.sources.now in
     let sources : HoldAllFrom settles_source (g.F.Files.contents c.read_table.new.files) names (texts_of c.as_slice-2.result.now) = search rules in
-    refused_of_files (g.F.Files.contents c.args.files.now) (g.F.Files.contents c.read_table.new.files) c.args.table.now names c.in_ok-table.table.items c.as_slice.result.now (texts_of c.as_slice-2.result.now)
+    refused_of_files (g.F.Files.contents c.args.files.now) (g.F.Files.contents c.read_table.new.files) c.args.names.table.now names c.in_ok-table.table.items c.as_slice.result.now (texts_of c.as_slice-2.result.now)
     c.in_ok-table.ensures.unchanged c.as_slice.ensures.value c.in_ok-table.ensures.held sources c.build_texts.result c.build_texts.ensures.refused
 
 pub returns-clause-noted : goal.returns-clause-noted

@@ -8,16 +8,16 @@ use Rattle.command_line.proofs.reading.costs_named.Goals as goal
 
 pub returns-clause-costed : goal.returns-clause-costed
 returns-clause-costed g c =
-    let names = map (λ s. s.now) c.args.sources.now in
+    let names = map (λ s. s.now) c.args.names.sources.now in
     let sources : HoldAllFrom settles_source (g.F.Files.contents c.read_table.new.files) names (texts_of c.as_slice-2.result.now) = search rules in
-    costed_of_files (g.F.Files.contents c.args.files.now) (g.F.Files.contents c.read_table.new.files) c.args.table.now names c.in_ok-table.table.items c.as_slice.result.now (texts_of c.as_slice-2.result.now)
+    costed_of_files (g.F.Files.contents c.args.files.now) (g.F.Files.contents c.read_table.new.files) c.args.names.table.now names c.in_ok-table.table.items c.as_slice.result.now (texts_of c.as_slice-2.result.now)
     c.in_ok-table.ensures.unchanged c.as_slice.ensures.value c.in_ok-table.ensures.held sources (λ costs. costs.items) c.costs_of_texts.result c.costs_of_texts.ensures.costed
 
 pub returns-clause-refused : goal.returns-clause-refused
 returns-clause-refused g c =
-    let names = map (λ s. s.now) c.args.sources.now in
+    let names = map (λ s. s.now) c.args.names.sources.now in
     let sources : HoldAllFrom settles_source (g.F.Files.contents c.read_table.new.files) names (texts_of c.as_slice-2.result.now) = search rules in
-    uncosted_of_files (g.F.Files.contents c.args.files.now) (g.F.Files.contents c.read_table.new.files) c.args.table.now names c.in_ok-table.table.items c.as_slice.result.now (texts_of c.as_slice-2.result.now)
+    uncosted_of_files (g.F.Files.contents c.args.files.now) (g.F.Files.contents c.read_table.new.files) c.args.names.table.now names c.in_ok-table.table.items c.as_slice.result.now (texts_of c.as_slice-2.result.now)
     c.in_ok-table.ensures.unchanged c.as_slice.ensures.value c.in_ok-table.ensures.held sources c.costs_of_texts.result c.costs_of_texts.ensures.refused
 
 pub returns-clause-noted : goal.returns-clause-noted

@@ -1,25 +1,24 @@
-use Rattle.std.proofs.Common.{inl}
+use Rattle.std.proofs.Common.{inl, ◌∙◌}
 use Rattle.std.specs.Str.Parse.{digits_value}
-use Rattle.streams.specs.States.{seen}
-use Rattle.command_line.specs.States.{state}
 use Rattle.command_words.specs.declared.failure.Failure.TheVariants.{Refused}
-use Rattle.command_line.proofs.Ran.{told_as}
-use Rattle.command_line.proofs.Replayed.{replay_done_by, replay_refused_by}
+use Rattle.command_line.specs.Ends.{Answers}
+use Rattle.command_line.specs.Orders.{Replay}
+use Rattle.command_line.specs.States.{state}
+use Rattle.command_line.proofs.Answered.{refused_as}
+use Rattle.command_line.proofs.Replayed.{replay_ends, replay_refused_by}
 use Rattle.command_line.proofs.replaying.replay.Goals as goal
 
-pub returns-in_err-replay_named-clause-failed : goal.returns-in_err-replay_named-clause-failed
-returns-in_err-replay_named-clause-failed g c =
-    let before = state (g.F.Files.contents c.args.files.now) (seen g.O.Sink.taken g.O.Sink.failures g.O.Stream.is_flushed c.args.out.now) in
-    let after = state (g.F.Files.contents c.replay_named.new.files) (seen g.O.Sink.taken g.O.Sink.failures g.O.Stream.is_flushed c.replay_named.new.out) in
-    told_as _ (Refused c.in_err-replay_named.field-0.0) c.from_residual-in_err-replay_named.result c.from_residual-in_err-replay_named.ensures (
-      inl c.in-Some.ensures.0,
-      replay_refused_by c.args.image.now c.args.partition.now c.args.inputs.now c.in-Some.number (digits_value 10 c.args.ticks.now) before after c.in_err-replay_named.field-0.0 c.in-Some.ensures.1 c.in_err-replay_named.ensures.refused,
-    )
+pub returns-in_err-replay_named : goal.returns-in_err-replay_named
+returns-in_err-replay_named g c =
+    let at = state g.F.Files.contents g.F.Files.failed g.O.Sink.taken g.O.Sink.failures g.O.Stream.is_flushed in
+    let before = at c.args.files.now c.args.out.now in
+    let after = at c.replay_named.new.files c.replay_named.new.out in
+    let r = c.in_err-replay_named.field-0.0 in
+    let ended = c.in_err-replay_named.ensures in
+    refused_as (Answers (Replay c.args.words.image.now c.args.words.partition.now c.args.words.inputs.now c.args.words.ticks.now) before after) (Refused r) c.from_residual-in_err-replay_named.result c.from_residual-in_err-replay_named.ensures
+    ((inl c.in-Some.ensures.0, replay_refused_by c.args.words.image.now c.args.words.partition.now c.args.words.inputs.now c.in-Some.number (digits_value 10 c.args.words.ticks.now) before after r c.in-Some.ensures.1 ended.0), ended.1)
 
-pub returns-clause-done : goal.returns-clause-done
-returns-clause-done g c =
-    let before = state (g.F.Files.contents c.args.files.now) (seen g.O.Sink.taken g.O.Sink.failures g.O.Stream.is_flushed c.args.out.now) in
-    let after = state (g.F.Files.contents c.replay_named.new.files) (seen g.O.Sink.taken g.O.Sink.failures g.O.Stream.is_flushed c.replay_named.new.out) in (
-      c.in-Some.ensures.0,
-      replay_done_by c.args.image.now c.args.partition.now c.args.inputs.now c.in-Some.number (digits_value 10 c.args.ticks.now) before after c.in-Some.ensures.1 c.in_ok-replay_named.ensures.done,
-    )
+pub returns : goal.returns
+returns g c =
+    let at = state g.F.Files.contents g.F.Files.failed g.O.Sink.taken g.O.Sink.failures g.O.Stream.is_flushed in
+    replay_ends c.args.words.image.now c.args.words.partition.now c.args.words.inputs.now c.args.words.ticks.now c.in-Some.number (at c.args.files.now c.args.out.now) (at c.replay_named.new.files c.replay_named.new.out) c.in_ok-replay_named.field-0 c.in-Some.ensures.0 c.in-Some.ensures.1 c.in_ok-replay_named.ensures

@@ -1,9 +1,9 @@
-use Rattle.std.proofs.Common.{rules}
+use Rattle.streams.specs.States.{seen}
 use Rattle.command_line.specs.Costs.{costs_text}
-use Rattle.command_line.proofs.Shown.{whole_is_begun}
+use Rattle.command_line.proofs.Shown.{shown_to_end}
 use Rattle.command_line.proofs.showing.show_costs.Goals as goal
 
-pub returns-clause-beginning : goal.returns-clause-beginning
-returns-clause-beginning g c =
-    let taken = g.O.Sink.taken in
-    whole_is_begun (taken c.args.out.now) (taken c.write_costs.new.sink) (taken c.flush.new.self) (costs_text c.args.costs.now) c.flush.result (search rules) c.flush.ensures.kept
+pub returns : goal.returns
+returns g c =
+    let out = seen g.O.Sink.taken g.O.Sink.failures g.O.Stream.is_flushed in
+    shown_to_end (costs_text c.args.costs.now) (out c.args.out.now) (out c.write_costs.new.sink) (out c.flush.new.self) c.flush.result c.in_ok-write_costs.ensures c.flush.ensures.kept c.flush.ensures.flushed c.flush.ensures.quiet c.flush.ensures.failed
