@@ -40,15 +40,16 @@ pub more_found : (costs : Costs) (all : List PartitionRow) (row : PartitionRow) 
 more_found costs all row rows p trees given accepted f old mid new pushed own (found, rest, are) =
     (f ∷ found, rest ∙ subst (λ (m : List PartitionFindings). m ++ found ≡ old ++ f ∷ found) (sym pushed) (append_assoc old (f ∷ []) found), (own, are))
 
-pub more_found_by : {E : Type 0} (answer : Result (Unit {0}) E) (costs : Costs) (all rows later : List PartitionRow) (row : PartitionRow) (trees more : List tree.Program) (p : tree.Program) (accepted others : List Checked) (given : Checked) (processes : List Process) (f : PartitionFindings) (old mid new : List PartitionFindings)
-    → rows ≡ row ∷ later → trees ≡ p ∷ more → accepted ≡ given ∷ others → processes ≡ given.program.processes.items → mid ≡ old ++ f ∷ [] → f.partition.now ≡ row.name
-    → found_all f.findings.items ≡ findings (map partition_view all) row.ports.items (program_of p) ++ slow_processes costs processes
+pub more_found_by : {E : Type 0} (answer : Result (Unit {0}) E) (costs : Costs) (all read rows later : List PartitionRow) (row : PartitionRow) (trees more : List tree.Program) (p : tree.Program) (accepted others : List Checked) (given : Checked) (processes : List Process) (f : PartitionFindings) (old mid new : List PartitionFindings)
+    → read ≡ all → rows ≡ row ∷ later → trees ≡ p ∷ more → accepted ≡ given ∷ others → processes ≡ given.program.processes.items → mid ≡ old ++ f ∷ [] → f.partition.now ≡ row.name
+    → found_all f.findings.items ≡ findings (map partition_view read) row.ports.items (program_of p) ++ slow_processes costs processes
     → OnOk answer (AddsFound costs all later more others mid new) → OnOk answer (AddsFound costs all rows trees accepted old new)
-more_found_by (Err e) costs all rows later row trees more p accepted others given processes f old mid new one two three same pushed named found rest = tt
-more_found_by (Ok x) costs all rows later row trees more p accepted others given processes f old mid new one two three same pushed named found rest =
+more_found_by (Err e) costs all read rows later row trees more p accepted others given processes f old mid new of_all one two three same pushed named found rest = tt
+more_found_by (Ok x) costs all read rows later row trees more p accepted others given processes f old mid new of_all one two three same pushed named found rest =
     let own : IsFoundOf costs (map partition_view all) (partition_view row) (program_of p) given f = record {
       partition = named;
-      findings = found ∙ ap (λ ps. findings (map partition_view all) row.ports.items (program_of p) ++ slow_processes costs ps) same;
+      findings = found ∙ ap (λ (rs : List PartitionRow). findings (map partition_view rs) row.ports.items (program_of p) ++ slow_processes costs processes) of_all
+          ∙ ap (λ ps. findings (map partition_view all) row.ports.items (program_of p) ++ slow_processes costs ps) same;
     } in
     subst (λ (rs : List PartitionRow). AddsFound costs all rs trees accepted old new) (sym one)
     (subst (λ (ts : List tree.Program). AddsFound costs all (row ∷ later) ts accepted old new) (sym two)
@@ -73,13 +74,14 @@ no_sources costs all (r ∷ rows) (t ∷ trees) (a ∷ accepted) old e = absurd 
 
 -- the module whose findings these are
 pub module_found : (m : ReadModule) (rows : List PartitionRow) (trees : List tree.Program) (accepted : List Checked) (old new : List PartitionFindings) → rows ≡ m.accepted.table.partitions.items → trees ≡ m.trees.items → accepted ≡ m.accepted.sources.items → old ≡ []
-    → AddsFound m.accepted.table.costs rows rows trees accepted old new → AreFoundOfModule m new
+    → AddsFound m.accepted.table.costs m.accepted.table.partitions.items rows trees accepted old new → AreFoundOfModule m new
 module_found m rows trees accepted old new one two three none h =
     let costs = m.accepted.table.costs in
-    subst (λ (rs : List PartitionRow). AddsFound costs rs rs m.trees.items m.accepted.sources.items [] new) one
-    (subst (λ (ts : List tree.Program). AddsFound costs rows rows ts m.accepted.sources.items [] new) two
-    (subst (λ (gs : List Checked). AddsFound costs rows rows trees gs [] new) three
-    (subst (λ (o : List PartitionFindings). AddsFound costs rows rows trees accepted o new) none h)))
+    let all = m.accepted.table.partitions.items in
+    subst (λ (rs : List PartitionRow). AddsFound costs all rs m.trees.items m.accepted.sources.items [] new) one
+    (subst (λ (ts : List tree.Program). AddsFound costs all rows ts m.accepted.sources.items [] new) two
+    (subst (λ (gs : List Checked). AddsFound costs all rows trees gs [] new) three
+    (subst (λ (o : List PartitionFindings). AddsFound costs all rows trees accepted o new) none h)))
 
 pub all_trees : (texts : List (List ℕ)) (old new : List tree.Program) → old ≡ [] → AddsTrees texts old new → AreTrees texts (map program_of new)
 all_trees texts old new none (trees, same, are) =

@@ -99,6 +99,10 @@ pub waited_in_vain : (read : Result Image Fault) (devices : List ℕ) (until : L
 waited_in_vain read devices [] n old new fault some h = absurd (some refl)
 waited_in_vain read devices (word ∷ words) n old new fault some h = h
 
+-- a run that waits for none
+pub traced_whole : (read : Result Image Fault) (devices : List ℕ) (until : List (Bor (List ℕ))) (n : ℕ) (old new : Option (List ℕ)) (answer : Result Outcome RunFault) → until ≡ [] → IsTraced read devices [] n old new answer → IsTraced read devices (map (λ w. w.now) until) n old new answer
+traced_whole read devices until n old new answer none h = subst (λ (ws : List (Bor (List ℕ))). IsTraced read devices (map (λ w. w.now) ws) n old new answer) (sym none) h
+
 -- words that are asked for, as texts
 pub words_some : (words : List (Bor (List ℕ))) → words ≢ [] → map (λ w. w.now) words ≢ []
 words_some [] some is = some refl

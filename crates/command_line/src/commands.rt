@@ -13,7 +13,7 @@ ghost use Rattle.command_line.specs.Words.{mb_app};
 ghost use Rattle.command_line.specs.Ends.{Answers, AnswersWords, Ends, as_answer};
 
 use crate::dashes::dashed_command;
-use crate::explaining::{Note, Style};
+use crate::explaining::{Note, Noted, Style};
 use crate::grammar::{grammar, lone_dash};
 use crate::linting::lint;
 use crate::loading::load;
@@ -32,28 +32,28 @@ use std::alloc::Global;
 use std::convert::AsStr;
 use streams::{Files, Stream, write_line};
 
-/// Does what the words say. Sets `asked` to true if they ask for an explanation of a refusal;
-/// `note` then gets the explanation of a refused source. If the words ask for reports, a run
-/// reports to `watch`.
+/// Does what the words say, and notes whether they ask for an explanation of a refusal; then the
+/// explanation of a refused file is noted, too. If the words ask for reports, a run reports to
+/// `watch`.
 pub fn perform<S: AsStr, F: Files, O: Stream, W: Watch>(
     alloc: Global,
     words: &[S],
     files: &mut F,
     out: &mut O,
     watch: &mut W,
-    asked: &mut bool,
-    note: &mut Note,
+    noted: &mut Noted,
 ) -> Result<Outcome, Failure<Refusal>>
     requires { O.failures out.old < 2 ^ 64 - 1 }
-    ensures asked { asked.old ≡ false → asks (subcommand_of mb_app (spelled (map S.text words.now))) ≡ false
-        → asked.new ≡ false }
+    ensures asked { noted.old.asked ≡ false
+        → asks (subcommand_of mb_app (spelled (map S.text words.now))) ≡ false
+        → noted.new.asked ≡ false }
     ensures ended { AnswersWords (fault_of mb_app (spelled (map S.text words.now)))
         (order_of (subcommand_of mb_app (spelled (map S.text words.now))))
         (state F.contents F.failed O.taken O.failures O.is_flushed files.old out.old)
         (state F.contents F.failed O.taken O.failures O.is_flushed files.new out.new) result }
 {
     match spelled(alloc, words) {
-        Ok(words) => obey_words(alloc, words.as_slice(), files, out, watch, asked, note),
+        Ok(words) => obey_words(alloc, words.as_slice(), files, out, watch, noted),
         Err(_) => Err(Failure::Refused(Refusal::Memory)),
     }
 }
@@ -65,21 +65,21 @@ fn obey_words<F: Files, O: Stream, W: Watch>(
     files: &mut F,
     out: &mut O,
     watch: &mut W,
-    asked: &mut bool,
-    note: &mut Note,
+    noted: &mut Noted,
 ) -> Result<Outcome, Failure<Refusal>>
     requires { O.failures out.old < 2 ^ 64 - 1 }
-    ensures asked { asked.old ≡ false → asks (subcommand_of mb_app (map (λ s. s.now) words.now)) ≡ false
-        → asked.new ≡ false }
+    ensures asked { noted.old.asked ≡ false
+        → asks (subcommand_of mb_app (map (λ s. s.now) words.now)) ≡ false
+        → noted.new.asked ≡ false }
     ensures ended { AnswersWords (fault_of mb_app (map (λ s. s.now) words.now))
         (order_of (subcommand_of mb_app (map (λ s. s.now) words.now)))
         (state F.contents F.failed O.taken O.failures O.is_flushed files.old out.old)
         (state F.contents F.failed O.taken O.failures O.is_flushed files.new out.new) result }
 {
     let matches = grammar(alloc)?.try_get_matches_from(words)?;
-    *asked = asks(&matches);
-    *note = Note::new(*asked, style_of(&matches));
-    obey(alloc, &matches, files, out, watch, note)
+    noted.asked = asks(&matches);
+    noted.note = Note::new(noted.asked, style_of(&matches));
+    obey(alloc, &matches, files, out, watch, &mut noted.note)
 }
 
 /// Returns true if the words ask for an explanation of a refusal.

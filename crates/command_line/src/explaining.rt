@@ -115,6 +115,14 @@ impl Note {
     }
 }
 
+/// What is noted for the report of a refusal.
+#[derive(Drop)]
+pub struct Noted {
+    /// The words ask for an explanation.
+    pub asked: bool,
+    pub note: Note,
+}
+
 /// An image and a text for it: the names of their files, and their bytes.
 #[derive(Clone, Copy)]
 pub struct RunFiles<'a> {
@@ -289,6 +297,10 @@ fn explanation(
         (map (λ s. s.now) names.entry.sources.now) (map (λ s. s.now) sources.now) fault.now
         (string_bytes text)) }
 {
+    let given = GivenSources {
+        files: names.sources,
+        texts: sources,
+    };
     match fault {
         BuildFault::Table(rule) => {
             let shown = format!(in alloc; "{fault}").ok()?;
@@ -301,30 +313,22 @@ fn explanation(
         } => {
             let shown = format!(in alloc; "{fault}").ok()?;
             let form = style.form(shown.as_str());
-            explained(
-                alloc,
-                form,
-                table,
-                names.sources,
-                sources,
-                partition,
-                *refused,
-            )
+            explained(alloc, form, table, given, partition, *refused)
         }
         BuildFault::Compile { partition, .. } => {
             let shown = format!(in alloc; "{fault}").ok()?;
             let rule = shown.as_str();
-            length_explained(
-                alloc,
-                style.form(rule),
-                table,
-                names.sources,
-                sources,
-                partition,
-            )
+            length_explained(alloc, style.form(rule), table, given, partition)
         }
         _ => None,
     }
+}
+
+/// The sources of a module: the names of their files, and their texts.
+#[derive(Clone, Copy)]
+pub struct GivenSources<'a> {
+    pub files: &'a [&'a str],
+    pub texts: &'a [&'a [u8]],
 }
 
 /// The explanation of the source of the partition of that name, if the table is accepted and there
@@ -333,18 +337,17 @@ fn explained(
     alloc: Global,
     form: Form<'_>,
     table: &[u8],
-    files: &[&str],
-    sources: &[&[u8]],
+    given: GivenSources<'_>,
     partition: &Name,
     fault: PalFault,
 ) -> Option<String>
     ensures { IfSome result
         (λ text.
-        IsExplained (form_of form.entry) table.now (map (λ s. s.now) files.now)
-        (map (λ s. s.now) sources.now) partition.now fault (string_bytes text)) }
+        IsExplained (form_of form.entry) table.now (map (λ s. s.now) given.entry.files.now)
+        (map (λ s. s.now) given.entry.texts.now) partition.now fault (string_bytes text)) }
 {
     let table = accepted(alloc, table)?;
-    explained_with(alloc, form, &table, files, sources, partition, fault)
+    explained_with(alloc, form, &table, given, partition, fault)
 }
 
 /// The table of a text, if it is accepted and there is memory for it.
@@ -362,17 +365,17 @@ fn explained_with(
     alloc: Global,
     form: Form<'_>,
     table: &ModuleTable,
-    files: &[&str],
-    sources: &[&[u8]],
+    given: GivenSources<'_>,
     partition: &Name,
     fault: PalFault,
 ) -> Option<String>
     ensures { IfSome result
         (λ text.
-        IsExplainedWith (form_of form.entry) (table_of table.now) (map (λ s. s.now) files.now)
-        (map (λ s. s.now) sources.now) partition.now fault (string_bytes text)) }
+        IsExplainedWith (form_of form.entry) (table_of table.now) (map (λ s. s.now) given.entry.files.now)
+        (map (λ s. s.now) given.entry.texts.now) partition.now fault (string_bytes text)) }
 {
-    let source = source_of(table.partitions.as_slice(), files, sources, partition)?;
+    let rows = table.partitions.as_slice();
+    let source = source_of(rows, given.files, given.texts, partition)?;
     let report = report_on(form, source.file);
     explain_source(alloc, report, source.period, source.text, fault.refusal)
 }
@@ -423,17 +426,16 @@ fn length_explained(
     alloc: Global,
     form: Form<'_>,
     table: &[u8],
-    files: &[&str],
-    sources: &[&[u8]],
+    given: GivenSources<'_>,
     partition: &Name,
 ) -> Option<String>
     ensures { IfSome result
         (λ text.
-        IsLengthExplained (form_of form.entry) table.now (map (λ s. s.now) files.now)
-        (map (λ s. s.now) sources.now) partition.now (string_bytes text)) }
+        IsLengthExplained (form_of form.entry) table.now (map (λ s. s.now) given.entry.files.now)
+        (map (λ s. s.now) given.entry.texts.now) partition.now (string_bytes text)) }
 {
-    let costs = costs_of(alloc, table, sources)?;
-    length_explained_with(alloc, form, costs.as_slice(), files, sources, partition)
+    let costs = costs_of(alloc, table, given.texts)?;
+    length_explained_with(alloc, form, costs.as_slice(), given, partition)
 }
 
 /// The costs of a table and its sources, if they are accepted and there is memory for them.
@@ -452,16 +454,15 @@ fn length_explained_with(
     alloc: Global,
     form: Form<'_>,
     costs: &[PartitionCosts],
-    files: &[&str],
-    sources: &[&[u8]],
+    given: GivenSources<'_>,
     partition: &Name,
 ) -> Option<String>
     ensures { IfSome result
         (λ text.
-        IsLengthExplainedWith (form_of form.entry) costs.now (map (λ s. s.now) files.now)
-        (map (λ s. s.now) sources.now) partition.now (string_bytes text)) }
+        IsLengthExplainedWith (form_of form.entry) costs.now (map (λ s. s.now) given.entry.files.now)
+        (map (λ s. s.now) given.entry.texts.now) partition.now (string_bytes text)) }
 {
-    let costed = costed_of(costs, files, sources, partition)?;
+    let costed = costed_of(costs, given.files, given.texts, partition)?;
     let report = report_on(form, costed.file);
     explain_length(alloc, report, costed.text, costed.bodies)
 }
@@ -575,19 +576,18 @@ fn object_of(alloc: Global, refusal: &Refusal) -> Result<String, AllocError>
 #[derive(Drop)]
 pub struct Told {
     pub refusal: Refusal,
-    pub explained: bool,
-    pub note: Note,
+    pub noted: Noted,
 }
 
 impl fmt::Display for Told {
-    ghost output = { λ told. Some (told_text told.explained told.refusal told.note) };
+    ghost output = { λ told. Some (told_text told.noted.asked told.refusal told.noted.note) };
 
     fn fmt<W: fmt::Write>(&self, f: &mut fmt::Formatter<W>) -> fmt::Result {
         let refusal = &self.refusal;
-        if !self.explained {
+        if !self.noted.asked {
             return writeln!(f, "{refusal}");
         }
-        match &self.note {
+        match &self.noted.note {
             Note::Explained(text) => write!(f, "{refusal}\n{text}"),
             Note::Unwanted | Note::Wanted(_) => writeln!(f, "{refusal}\n{}", sentence_of(refusal)),
         }

@@ -39,7 +39,7 @@ mod words;
 
 use command_words::page_of;
 use commands::perform;
-use explaining::{Note, Style};
+use explaining::{Note, Noted};
 pub use module::{Unwatched, Watch};
 use pages::tell_page;
 pub use refusal::Refusal;
@@ -101,9 +101,11 @@ fn answer<S: AsStr, F: Files, O: Stream, E: Stream, W: Watch>(
         (seen E.taken E.failures E.is_flushed err.old)
         (seen E.taken E.failures E.is_flushed err.new) result }
 {
-    let mut asked = false;
-    let mut note = Note::new(false, Style::Plain);
-    let outcome = perform(alloc, words, files, out, watch, &mut asked, &mut note);
-    note.complete(alloc, &outcome);
-    tell(outcome, asked, note, out, err)
+    let mut noted = Noted {
+        asked: false,
+        note: Note::Unwanted,
+    };
+    let outcome = perform(alloc, words, files, out, watch, &mut noted);
+    noted.note.complete(alloc, &outcome);
+    tell(outcome, noted, out, err)
 }

@@ -21,7 +21,7 @@ use crate::order::ModuleNames;
 use crate::outcome::Outcome;
 use crate::reading::{module_of_texts, read_sources, read_table};
 use crate::refusal::Refusal;
-use apex_types::{Costs, SinkFault};
+use apex_types::SinkFault;
 use lint::{PartitionFindings, partition_findings, write_findings};
 use module::AcceptedModule;
 use pal::Checked;
@@ -30,7 +30,7 @@ use pal_base::parse::parse;
 use pal_base::syntax::Program;
 use std::alloc::{AllocError, Global};
 use streams::{Files, Stream};
-use window_table::PartitionRow;
+use window_table::{ModuleTable, PartitionRow};
 
 /// An accepted module, and its sources as they are written.
 #[derive(Drop)]
@@ -63,13 +63,12 @@ fn show_module<O: Stream>(alloc: Global, read: &ReadModule, out: &mut O) -> Resu
     ensures { AreToldOf read.now (seen O.taken O.failures O.is_flushed out.old)
         (seen O.taken O.failures O.is_flushed out.new) result }
 {
-    let accepted = &read.accepted;
-    let rows = accepted.table.partitions.as_slice();
+    let table = &read.accepted.table;
+    let rows = table.partitions.as_slice();
     let trees = read.trees.as_slice();
-    let sources = accepted.sources.as_slice();
-    let costs = &accepted.table.costs;
+    let sources = read.accepted.sources.as_slice();
     let mut found = Vec::new(alloc);
-    add_found(alloc, costs, rows, rows, trees, sources, &mut found)?;
+    add_found(alloc, table, rows, trees, sources, &mut found)?;
     let shown = found.as_slice();
     show_findings(shown, out)?;
     Ok(Outcome::of_findings(shown))
@@ -141,21 +140,20 @@ fn add_trees(alloc: Global, sources: &[Vec<u8>], trees: &mut Vec<Program>) -> Re
     add_trees(alloc, sources, trees)
 }
 
-/// Adds what is found for the partitions of these rows, with their sources as written and as
-/// accepted. `all` are the rows of the table.
+/// Adds what is found for the partitions of these rows of the table, with their sources as written
+/// and as accepted.
 #[tactic(auto, using(crate::proofs::Linted::no_rows, crate::proofs::Linted::no_trees, crate::proofs::Linted::no_sources))]
 fn add_found<'a>(
     alloc: Global,
-    costs: &Costs,
-    all: &'a [PartitionRow],
+    table: &'a ModuleTable,
     rows: &'a [PartitionRow],
     trees: &'a [Program],
     sources: &'a [Checked],
     found: &mut Vec<PartitionFindings<'a>>,
 ) -> Result<(), AllocError>
     ensures { OnOk result
-        (AddsFound costs.now all.now rows.now trees.now sources.now found.old.items
-        found.new.items) }
+        (AddsFound table.now.costs table.now.partitions.items rows.now trees.now sources.now
+        found.old.items found.new.items) }
 {
     let Some((row, rows)) = rows.split_first() else {
         return Ok(());
@@ -167,8 +165,9 @@ fn add_found<'a>(
         return Ok(());
     };
     let processes = source.program.processes.as_slice();
-    found.push(partition_findings(alloc, all, row, tree, costs, processes)?)?;
-    add_found(alloc, costs, all, rows, trees, sources, found)
+    let all = table.partitions.as_slice();
+    found.push(partition_findings(alloc, all, row, tree, &table.costs, processes)?)?;
+    add_found(alloc, table, rows, trees, sources, found)
 }
 
 /// Writes the lines of findings, to their end.

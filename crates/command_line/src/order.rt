@@ -46,6 +46,13 @@ pub struct InputsWords<'a> {
     pub ticks: &'a str,
 }
 
+/// The words of a command, and the number in its word for ticks.
+#[derive(Clone, Copy)]
+pub struct Timed<W> {
+    pub words: W,
+    pub ticks: u64,
+}
+
 /// What the words ask for: a command with the words that were found for it.
 #[derive(Clone, Copy)]
 pub enum Order<'a> {

@@ -1,23 +1,18 @@
 //! One partition of an image: its replay, and the inputs that a run brings it.
 
-ghost use Rattle.std.specs.Prelude.{◌≡◌, ◌-◌, ◌^◌, ◌<◌, IfErr, OnOk};
-ghost use Rattle.machine_meaning.specs.ImageReading.{image_at};
-ghost use Rattle.module.specs.Replays.{Replays};
-ghost use Rattle.module.specs.Telling.{Tells};
+ghost use Rattle.std.specs.Prelude.{◌-◌, ◌^◌, ◌<◌};
 ghost use Rattle.command_line.specs.Meant.{inputs_meant, replay_meant};
 ghost use Rattle.command_line.specs.States.{state};
 ghost use Rattle.command_line.specs.Ends.{Answers, EndsInputs, EndsReplay};
-ghost use Rattle.command_line.specs.Refusals.{HasFailedBy, HasFailedByInputs};
-ghost use Rattle.streams.specs.States.{seen};
 
 use crate::explaining::{Note, RunFiles};
 use crate::grammar::bad_ticks;
-use crate::order::{InputsWords, ReplayWords};
+use crate::order::{InputsWords, ReplayWords, Timed};
 use crate::outcome::Outcome;
 use crate::reading::read_as;
 use crate::refusal::Refusal;
 use command_words::{Failure, number_of};
-use module::{InputsFault, RunFault, WantedInputs, Watch};
+use module::{WantedInputs, Watch};
 use std::alloc::Global;
 use streams::{Files, Stream};
 use text_beginnings::TextKind;
@@ -35,64 +30,43 @@ pub fn replay<F: Files, O: Stream>(
         (state F.contents F.failed O.taken O.failures O.is_flushed files.old out.old)
         (state F.contents F.failed O.taken O.failures O.is_flushed files.new out.new) result }
 {
-    let Some(number) = number_of(words.ticks) else {
+    let Some(ticks) = number_of(words.ticks) else {
         return Err(Failure::Usage(bad_ticks(alloc, "replay", words.ticks)?));
     };
-    Ok(replay_named(alloc, words, number, files, out, note)?)
+    Ok(replay_named(alloc, Timed { words, ticks }, files, out, note)?)
 }
 
-/// Replays a partition of an image for `ticks` ticks.
+/// Replays a partition of an image for so many ticks. A refusal of the image or of the replay text
+/// is explained in `note`.
 fn replay_named<F: Files, O: Stream>(
     alloc: Global,
-    words: ReplayWords<'_>,
-    ticks: u64,
+    wanted: Timed<ReplayWords<'_>>,
     files: &mut F,
     out: &mut O,
     note: &mut Note,
 ) -> Result<Outcome, Refusal>
     requires { O.failures out.old < 2 ^ 64 - 1 }
-    ensures { EndsReplay words.entry.image.now words.entry.partition.now words.entry.inputs.now ticks
+    ensures { EndsReplay wanted.entry.words.image.now wanted.entry.words.partition.now
+        wanted.entry.words.inputs.now wanted.entry.ticks
         (state F.contents F.failed O.taken O.failures O.is_flushed files.old out.old)
         (state F.contents F.failed O.taken O.failures O.is_flushed files.new out.new) result }
 {
+    let words = wanted.words;
     let image = read_as(alloc, TextKind::Image, words.image, files)?;
     let inputs = read_as(alloc, TextKind::Inputs, words.inputs, files)?;
-    let run_files = RunFiles {
+    let given = RunFiles {
         image_name: words.image,
         image: image.as_slice(),
         text_name: words.inputs,
         text: inputs.as_slice(),
     };
-    if let Err(fault) = trace_alone(alloc, run_files, words.partition, ticks, out, note) {
+    let (partition, ticks) = (words.partition, wanted.ticks);
+    if let Err(fault) = module::replay(alloc, given.image, partition, given.text, ticks, out) {
+        note.explain_replay(alloc, given, partition, &fault);
         return Err(Refusal::Replay(fault));
     }
     out.flush()?;
     Ok(Outcome::Usual)
-}
-
-/// Writes the trace of one partition. A refusal of the image or of the replay text is explained in
-/// `note`.
-fn trace_alone<O: Stream>(
-    alloc: Global,
-    files: RunFiles<'_>,
-    partition: &str,
-    ticks: u64,
-    out: &mut O,
-    note: &mut Note,
-) -> Result<(), RunFault>
-    requires { O.failures out.old < 2 ^ 64 - 1 }
-    ensures trace { Replays (image_at files.entry.image.now) partition.now files.entry.text.now
-        ticks (O.taken out.old) (O.taken out.new) result }
-    ensures quiet { OnOk result (O.failures out.new ≡ O.failures out.old) }
-    ensures failed { IfErr result
-        (λ f. HasFailedBy f (seen O.taken O.failures O.is_flushed out.old)
-        (seen O.taken O.failures O.is_flushed out.new)) }
-{
-    let traced = module::replay(alloc, files.image, partition, files.text, ticks, out);
-    if let Err(fault) = &traced {
-        note.explain_replay(alloc, files, partition, fault);
-    }
-    traced
 }
 
 /// Writes the inputs that a run of an image brings a partition in the ticks of a word, and reports
@@ -110,67 +84,46 @@ pub fn inputs<F: Files, O: Stream, W: Watch>(
         (state F.contents F.failed O.taken O.failures O.is_flushed files.old out.old)
         (state F.contents F.failed O.taken O.failures O.is_flushed files.new out.new) result }
 {
-    let Some(number) = number_of(words.ticks) else {
+    let Some(ticks) = number_of(words.ticks) else {
         return Err(Failure::Usage(bad_ticks(alloc, "inputs", words.ticks)?));
     };
-    Ok(inputs_named(alloc, words, number, files, out, watch, note)?)
+    Ok(inputs_named(alloc, Timed { words, ticks }, files, out, watch, note)?)
 }
 
-/// Writes the inputs that `ticks` ticks of an image bring a partition.
+/// Writes the inputs that so many ticks of an image bring a partition. A refusal of the image or of
+/// the device text is explained in `note`.
 fn inputs_named<F: Files, O: Stream, W: Watch>(
     alloc: Global,
-    words: InputsWords<'_>,
-    ticks: u64,
+    wanted: Timed<InputsWords<'_>>,
     files: &mut F,
     out: &mut O,
     watch: &mut W,
     note: &mut Note,
 ) -> Result<Outcome, Refusal>
     requires { O.failures out.old < 2 ^ 64 - 1 }
-    ensures { EndsInputs words.entry.image.now words.entry.partition.now words.entry.devices.now ticks
+    ensures { EndsInputs wanted.entry.words.image.now wanted.entry.words.partition.now
+        wanted.entry.words.devices.now wanted.entry.ticks
         (state F.contents F.failed O.taken O.failures O.is_flushed files.old out.old)
         (state F.contents F.failed O.taken O.failures O.is_flushed files.new out.new) result }
 {
+    let words = wanted.words;
     let image = read_as(alloc, TextKind::Image, words.image, files)?;
     let devices = read_as(alloc, TextKind::Inputs, words.devices, files)?;
-    let run_files = RunFiles {
+    let given = RunFiles {
         image_name: words.image,
         image: image.as_slice(),
         text_name: words.devices,
         text: devices.as_slice(),
     };
-    tell_inputs(alloc, run_files, words.partition, ticks, out, watch, note)?;
+    let brought = WantedInputs {
+        partition: words.partition,
+        devices: given.text,
+        ticks: wanted.ticks,
+    };
+    if let Err(fault) = module::inputs_watched(alloc, given.image, brought, out, watch) {
+        note.explain_inputs(alloc, given, &fault);
+        return Err(Refusal::Inputs(fault));
+    }
     out.flush()?;
     Ok(Outcome::Usual)
-}
-
-/// Writes the inputs that a run of an image brings a partition, as a replay text. A refusal of the
-/// image or of the device text is explained in `note`.
-fn tell_inputs<O: Stream, W: Watch>(
-    alloc: Global,
-    files: RunFiles<'_>,
-    partition: &str,
-    ticks: u64,
-    out: &mut O,
-    watch: &mut W,
-    note: &mut Note,
-) -> Result<(), InputsFault>
-    requires { O.failures out.old < 2 ^ 64 - 1 }
-    ensures told { Tells (image_at files.entry.image.now) partition.now files.entry.text.now ticks
-        (O.taken out.old) (O.taken out.new) result }
-    ensures quiet { OnOk result (O.failures out.new ≡ O.failures out.old) }
-    ensures failed { IfErr result
-        (λ f. HasFailedByInputs f (seen O.taken O.failures O.is_flushed out.old)
-        (seen O.taken O.failures O.is_flushed out.new)) }
-{
-    let wanted = WantedInputs {
-        partition,
-        devices: files.text,
-        ticks,
-    };
-    let told = module::inputs_watched(alloc, files.image, wanted, out, watch);
-    if let Err(fault) = &told {
-        note.explain_inputs(alloc, files, fault);
-    }
-    told
 }

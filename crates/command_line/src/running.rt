@@ -1,6 +1,6 @@
 //! Runs, of an image and of the stored module.
 
-ghost use Rattle.std.specs.Prelude.{◌≡◌, ◌-◌, ◌^◌, ◌<◌, ℕ, [], List, Option, map, IfErr, OnOk};
+ghost use Rattle.std.specs.Prelude.{◌≡◌, ◌-◌, ◌^◌, ◌<◌, ℕ, List, Option, map, IfErr, OnOk};
 ghost use Rattle.machine_meaning.specs.ImageReading.{image_at};
 ghost use Rattle.command_line.specs.Done.{IsFirstRun, IsTraced};
 ghost use Rattle.command_line.specs.Ends.{Answers, Ends, EndsRun};
@@ -14,11 +14,11 @@ ghost use Rattle.streams.specs.States.{seen};
 use crate::explaining::{Note, RunFiles};
 use crate::first_run::{SOURCE, TABLE, TICKS};
 use crate::grammar::bad_ticks;
-use crate::order::RunWords;
+use crate::order::{RunWords, Timed};
 use crate::outcome::Outcome;
 use crate::reading::read_as;
 use crate::refusal::Refusal;
-use crate::stopping::run_until;
+use crate::stopping::{Wait, run_until};
 use command_words::{Failure, number_of};
 use module::{BuildAndRunFault, RunFault, Watch};
 use std::alloc::Global;
@@ -41,69 +41,51 @@ pub fn run<F: Files, O: Stream, W: Watch>(
         (state F.contents F.failed O.taken O.failures O.is_flushed files.old out.old)
         (state F.contents F.failed O.taken O.failures O.is_flushed files.new out.new) result }
 {
-    let Some(number) = number_of(words.ticks) else {
+    let Some(ticks) = number_of(words.ticks) else {
         return Err(Failure::Usage(bad_ticks(alloc, "run", words.ticks)?));
     };
-    let outcome = run_named(alloc, words, number, files, out, watch, note)?;
+    let outcome = run_named(alloc, Timed { words, ticks }, files, out, watch, note)?;
     Ok(outcome)
 }
 
-/// Runs an image for `ticks` ticks, or to a line.
+/// Runs an image for so many ticks, or to a line. A refusal of the image or of the device text is
+/// explained in `note`.
 fn run_named<F: Files, O: Stream, W: Watch>(
     alloc: Global,
-    words: RunWords<'_>,
-    ticks: u64,
+    wanted: Timed<RunWords<'_>>,
     files: &mut F,
     out: &mut O,
     watch: &mut W,
     note: &mut Note,
 ) -> Result<Outcome, Refusal>
     requires { O.failures out.old < 2 ^ 64 - 1 }
-    ensures { EndsRun words.entry.image.now words.entry.devices.now
-        (map (λ w. w.now) words.entry.until.now) ticks
+    ensures { EndsRun wanted.entry.words.image.now wanted.entry.words.devices.now
+        (map (λ w. w.now) wanted.entry.words.until.now) wanted.entry.ticks
         (state F.contents F.failed O.taken O.failures O.is_flushed files.old out.old)
         (state F.contents F.failed O.taken O.failures O.is_flushed files.new out.new) result }
 {
+    let words = wanted.words;
     let image = read_as(alloc, TextKind::Image, words.image, files)?;
     let devices = read_as(alloc, TextKind::Inputs, words.devices, files)?;
-    let run_files = RunFiles {
+    let given = RunFiles {
         image_name: words.image,
         image: image.as_slice(),
         text_name: words.devices,
         text: devices.as_slice(),
     };
-    let outcome = trace(alloc, run_files, ticks, words.until, out, watch, note)?;
+    let outcome = match trace(alloc, given, wanted.ticks, words.until, out, watch) {
+        Ok(outcome) => outcome,
+        Err(fault) => {
+            note.explain_run(alloc, given, &fault);
+            return Err(Refusal::Run(fault));
+        }
+    };
     out.flush()?;
     Ok(outcome)
 }
 
-/// Writes the trace of an image. A refusal of the image or of the device text is explained in `note`.
-fn trace<O: Stream, W: Watch>(
-    alloc: Global,
-    files: RunFiles<'_>,
-    ticks: u64,
-    until: &[&str],
-    out: &mut O,
-    watch: &mut W,
-    note: &mut Note,
-) -> Result<Outcome, RunFault>
-    requires { O.failures out.old < 2 ^ 64 - 1 }
-    ensures trace { IsTraced (image_at files.entry.image.now) files.entry.text.now
-        (map (λ w. w.now) until.now) ticks (O.taken out.old) (O.taken out.new) result }
-    ensures quiet { OnOk result (O.failures out.new ≡ O.failures out.old) }
-    ensures failed { IfErr result
-        (λ f. HasFailedBy f (seen O.taken O.failures O.is_flushed out.old)
-        (seen O.taken O.failures O.is_flushed out.new)) }
-{
-    let traced = write_trace(alloc, files, ticks, until, out, watch);
-    if let Err(fault) = &traced {
-        note.explain_run(alloc, files, fault);
-    }
-    traced
-}
-
 /// Writes the trace of an image to its end, or to a line with these words if there are any.
-fn write_trace<O: Stream, W: Watch>(
+fn trace<O: Stream, W: Watch>(
     alloc: Global,
     files: RunFiles<'_>,
     ticks: u64,
@@ -120,32 +102,17 @@ fn write_trace<O: Stream, W: Watch>(
         (seen O.taken O.failures O.is_flushed out.new)) }
 {
     if until.is_empty() {
-        return write_whole_trace(alloc, files, ticks, out, watch);
+        return match module::run_watched(alloc, files.image, files.text, ticks, out, watch) {
+            Ok(()) => Ok(Outcome::Usual),
+            Err(fault) => Err(fault),
+        };
     }
-    match run_until(alloc, files.image, files.text, ticks, until, out, watch) {
+    let wait = Wait {
+        ticks,
+        words: until,
+    };
+    match run_until(alloc, files.image, files.text, wait, out, watch) {
         Ok(came) => Ok(Outcome::of_wait(came)),
-        Err(fault) => Err(fault),
-    }
-}
-
-/// Writes the trace of an image to its end.
-fn write_whole_trace<O: Stream, W: Watch>(
-    alloc: Global,
-    files: RunFiles<'_>,
-    ticks: u64,
-    out: &mut O,
-    watch: &mut W,
-) -> Result<Outcome, RunFault>
-    requires { O.failures out.old < 2 ^ 64 - 1 }
-    ensures trace { IsTraced (image_at files.entry.image.now) files.entry.text.now [] ticks
-        (O.taken out.old) (O.taken out.new) result }
-    ensures quiet { OnOk result (O.failures out.new ≡ O.failures out.old) }
-    ensures failed { IfErr result
-        (λ f. HasFailedBy f (seen O.taken O.failures O.is_flushed out.old)
-        (seen O.taken O.failures O.is_flushed out.new)) }
-{
-    match module::run_watched(alloc, files.image, files.text, ticks, out, watch) {
-        Ok(()) => Ok(Outcome::Usual),
         Err(fault) => Err(fault),
     }
 }

@@ -5,4 +5,4 @@ mod running;
 mod stepping;
 mod words;
 
-pub use running::run_until;
+pub use running::{Wait, run_until};

@@ -1,16 +1,11 @@
 -- A trace that is read again while its dump is written.
 use Rattle.std.proofs.Common.{◌≡◌, ◌⊎◌, inl, inr, ℕ, List, [], ◌∷◌, ◌++◌, Option, Result, Ok, Err, IfErr, sym, ap, subst, ◌∙◌}
 use Rattle.std.specs.Prelude.{IsErr, IsErrAnd, string_bytes}
-use Rattle.std.specs.declared.alloc.Global.{Global}
-use Rattle.std.specs.declared.string.String.{String}
 use Rattle.streams.specs.Contents.{Contents}
-use Rattle.streams.specs.Noted.{IsNotedFault}
 use Rattle.streams.specs.States.{HasFailed, Seen}
-use Rattle.streams.specs.declared.names.NameFault.{NameFault}
-use Rattle.streams.specs.declared.names.NameFault.TheVariants as source
 use Rattle.view_command.specs.Answers.{IsCutShort, IsRefused}
 use Rattle.view_command.specs.Dumping.{IsCut, IsCutAgain}
-use Rattle.view_command.specs.Faults.{of_source, of_view}
+use Rattle.view_command.specs.Faults.{IsUnopened, of_view}
 use Rattle.view_command.specs.Lines.{called}
 use Rattle.view_command.specs.States.{IsUntouched, State}
 use Rattle.view_command.specs.Texts.{IsTraceIn}
@@ -30,13 +25,22 @@ not_taken name before after f r told same = subst (IsCutAgain name before after)
     go (view.Foreign partition) = same
 
 -- it is not opened again
-pub not_opened : (name : List ℕ) (shown : String Global) (before after : State) (f : NameFault) (r : Refusal) → r ≡ of_source shown f
-    → string_bytes shown ≡ called name → after.out ≡ before.out → IsNotedFault name before.unopened after.unopened f → IsCutAgain name before after r
-not_opened name shown before after f r told is out noted = subst (IsCutAgain name before after) (sym told) (go f noted)
+pub unopened_again : {A : Type 0} (name : List ℕ) (before after : State) (r : Refusal) (answer : Result A Refusal)
+    → after.out ≡ before.out → IsUnopened name before.unopened after.unopened r → IsErr answer × IsErrAnd answer (λ e. e ≡ r) → IfErr answer (λ e. IsCutAgain name before after e)
+unopened_again name before after r (Ok x) out h passed = tt
+unopened_again name before after r (Err e) out h passed = subst (IsCutAgain name before after) (sym passed.1) (go r h)
   where
-    go : (f : NameFault) → IsNotedFault name before.unopened after.unopened f → IsCutAgain name before after (of_source shown f)
-    go (source.Unavailable reason) noted = (out, is, noted)
-    go source.Memory noted = (noted, ap (λ (s : Seen). s.failures) out)
+    go : (r : Refusal) → IsUnopened name before.unopened after.unopened r → IsCutAgain name before after r
+    go (Open shown) h = (out, h.0, h.1)
+    go Memory h = (h, ap (λ (s : Seen). s.failures) out)
+    go Write h = absurd h
+    go (Read shown) h = absurd h
+    go (Line number shown) h = absurd h
+    go (Late number shown) h = absurd h
+    go TooMany h = absurd h
+    go (Crowded shapes from until elements) h = absurd h
+    go (Table fault shown) h = absurd h
+    go (Foreign partition) h = absurd h
 
 -- its dump ends before its end
 pub cut_again : (name shown : List ℕ) (before after : State) (r : Refusal) → shown ≡ called name → after.unopened ≡ before.unopened → IsCut shown before.out after.out r → IsCutAgain name before after r

@@ -10,8 +10,8 @@ use Rattle.streams.specs.Noted.{IsNotedFault}
 use Rattle.streams.specs.States.{HasFailed}
 use Rattle.streams.specs.declared.names.NameFault.{NameFault}
 use Rattle.streams.specs.declared.names.NameFault.TheVariants as source
-use Rattle.view_command.specs.Faults.{of_source}
-use Rattle.view_command.specs.declared.refusal.Refusal.TheVariants.{Write}
+use Rattle.view_command.specs.Faults.{IsUnopened, of_source}
+use Rattle.view_command.specs.declared.refusal.Refusal.TheVariants.{Open, Read, Line, Late, TooMany, Crowded, Table, Foreign, Memory, Write}
 use Rattle.view_command.specs.Answers.{IsRefused, IsRefusedByTable, IsTableRefused, IsUnread}
 use Rattle.view_command.specs.Lines.{called}
 use Rattle.view_command.specs.States.{IsUntouched, State}
@@ -38,14 +38,58 @@ asked_refused texts None name before after r (Err e) is h passed = absurd cc
 asked_refused texts (Some n) name before after r (Err e) is h passed =
     subst (λ (v : Refusal). IsRefusedByTable texts n before after v) (sym passed.1) (subst (λ (m : List ℕ). IsRefusedByTable texts m before after r) (sym (same_Some n name is)) h)
 
--- the trace is not opened, with the table taken
-pub unopened_or : (q : Type 0) (texts : Option Contents) (ran : Option ℕ) (name : List ℕ) (shown : String Global) (before after : State) (mid : List (List ℕ)) (f : NameFault) (r : Refusal) → r ≡ of_source shown f
-    → string_bytes shown ≡ called name → after.out ≡ before.out → mid ≡ before.unopened → IsNotedFault name mid after.unopened f → IsRefused texts ran name before after r ⊎ q
-unopened_or q texts ran name shown before after mid f r told is out same noted = inl (subst (λ (v : Refusal). IsRefused texts ran name before after v) (sym told) (go f noted))
+-- ---- a text that is not opened
+
+pub unopened : (name : List ℕ) (shown : String Global) (old new : List (List ℕ)) (f : NameFault) (r : Refusal) → r ≡ of_source shown f → string_bytes shown ≡ called name → IsNotedFault name old new f → IsUnopened name old new r
+unopened name shown old new f r told is noted = subst (IsUnopened name old new) (sym told) (go f noted)
   where
-    go : (f : NameFault) → IsNotedFault name mid after.unopened f → IsRefused texts ran name before after (of_source shown f)
-    go (source.Unavailable reason) noted = (out, is, noted ∙ ap (λ (l : List (List ℕ)). l ++ name ∷ []) same)
-    go source.Memory noted = (noted ∙ same, out)
+    go : (f : NameFault) → IsNotedFault name old new f → IsUnopened name old new (of_source shown f)
+    go (source.Unavailable reason) noted = (is, noted)
+    go source.Memory noted = noted
+
+-- the trace, with the table taken
+trace_unopened : (texts : Option Contents) (ran : Option ℕ) (name : List ℕ) (before after : State) (mid : List (List ℕ)) (r : Refusal) → after.out ≡ before.out → mid ≡ before.unopened → IsUnopened name mid after.unopened r → IsRefused texts ran name before after r
+trace_unopened texts ran name before after mid (Open shown) out same h = (out, h.0, h.1 ∙ ap (λ (l : List (List ℕ)). l ++ name ∷ []) same)
+trace_unopened texts ran name before after mid Memory out same h = (h ∙ same, out)
+trace_unopened texts ran name before after mid Write out same h = absurd h
+trace_unopened texts ran name before after mid (Read shown) out same h = absurd h
+trace_unopened texts ran name before after mid (Line number shown) out same h = absurd h
+trace_unopened texts ran name before after mid (Late number shown) out same h = absurd h
+trace_unopened texts ran name before after mid TooMany out same h = absurd h
+trace_unopened texts ran name before after mid (Crowded shapes from until elements) out same h = absurd h
+trace_unopened texts ran name before after mid (Table fault shown) out same h = absurd h
+trace_unopened texts ran name before after mid (Foreign partition) out same h = absurd h
+
+pub unopened_or : {A : Type 0} (Q : Refusal → Type 0) (texts : Option Contents) (ran : Option ℕ) (name : List ℕ) (before after : State) (mid : List (List ℕ)) (r : Refusal) (answer : Result A Refusal)
+    → after.out ≡ before.out → mid ≡ before.unopened → IsUnopened name mid after.unopened r → IsErr answer × IsErrAnd answer (λ e. e ≡ r) → IfErr answer (λ e. IsRefused texts ran name before after e ⊎ Q e)
+unopened_or Q texts ran name before after mid r (Ok x) out same h passed = tt
+unopened_or Q texts ran name before after mid r (Err e) out same h passed =
+    inl (subst (λ (v : Refusal). IsRefused texts ran name before after v) (sym passed.1) (trace_unopened texts ran name before after mid r out same h))
+
+-- the second of two traces
+pub second_unopened : {A : Type 0} (Q : Refusal → Type 0) (texts : Option Contents) (ran : Option ℕ) (name : List ℕ) (before after : State) (mid : List (List ℕ)) (r : Refusal) (answer : Result A Refusal)
+    → after.out ≡ before.out → mid ≡ before.unopened → IsUnopened name mid after.unopened r → IsErr answer × IsErrAnd answer (λ e. e ≡ r) → IfErr answer (λ e. Q e ⊎ IsRefused texts ran name before after e)
+second_unopened Q texts ran name before after mid r (Ok x) out same h passed = tt
+second_unopened Q texts ran name before after mid r (Err e) out same h passed =
+    inr (subst (λ (v : Refusal). IsRefused texts ran name before after v) (sym passed.1) (trace_unopened texts ran name before after mid r out same h))
+
+-- the table
+pub table_unopened : {A : Type 0} (texts : Option Contents) (name : List ℕ) (before after : State) (r : Refusal) (answer : Result A Refusal)
+    → after.out ≡ before.out → IsUnopened name before.unopened after.unopened r → IsErr answer × IsErrAnd answer (λ e. e ≡ r) → IfErr answer (λ e. IsRefusedByTable texts name before after e)
+table_unopened texts name before after r (Ok x) out h passed = tt
+table_unopened texts name before after r (Err e) out h passed = subst (λ (v : Refusal). IsRefusedByTable texts name before after v) (sym passed.1) (go r h)
+  where
+    go : (r : Refusal) → IsUnopened name before.unopened after.unopened r → IsRefusedByTable texts name before after r
+    go (Open shown) h = (out, h.0, h.1)
+    go Memory h = (h, out)
+    go Write h = absurd h
+    go (Read shown) h = absurd h
+    go (Line number shown) h = absurd h
+    go (Late number shown) h = absurd h
+    go TooMany h = absurd h
+    go (Crowded shapes from until elements) h = absurd h
+    go (Table fault shown) h = absurd h
+    go (Foreign partition) h = absurd h
 
 -- the trace was read, and its view is not written
 pub unwritten_or : {A : Type 0} (Q : Refusal → Type 0) (texts : Option Contents) (ran : Option ℕ) (name : List ℕ) (before after : State) (answer : Result A Refusal)

@@ -12,8 +12,9 @@ ghost use Rattle.view_command.specs.States.{state};
 ghost use Rattle.view_command.specs.Texts.{IsTraceIn};
 
 use crate::differences::report;
+use crate::opening::{Opened, open_text};
 use crate::refusal::Refusal;
-use crate::showing::{called, of_source, of_stream};
+use crate::showing::of_stream;
 use crate::views::Outcome;
 use apex_types::Event;
 use std::alloc::Global;
@@ -64,26 +65,10 @@ pub fn compare<F: Sources, O: Stream>(
 {
     let first = pair.first.as_str();
     let second = pair.second.as_str();
-    let first_name = String::from_str(alloc, called(first))?;
-    let second_name = String::from_str(alloc, called(second))?;
-    let one = match sources.open(first) {
-        Ok(reader) => reader,
-        Err(fault) => return Err(of_source(first_name, fault)),
-    };
-    let other = match sources.open(second) {
-        Ok(reader) => reader,
-        Err(fault) => return Err(of_source(second_name, fault)),
-    };
+    let one = open_text(alloc, first, sources)?;
+    let other = open_text(alloc, second, sources)?;
     let mut comparison = Comparison::new(alloc);
-    read_both(
-        alloc,
-        first_name,
-        second_name,
-        one,
-        other,
-        &pair.partition,
-        &mut comparison,
-    )?;
+    read_both(alloc, one, other, &pair.partition, &mut comparison)?;
     let differences = comparison.finish()?;
     let text = report(alloc, differences.as_slice())?;
     write_bytes(out, text.as_slice())?;
@@ -98,21 +83,24 @@ pub fn compare<F: Sources, O: Stream>(
 /// come first.
 fn read_both<R: Read + Drop, Q: Read + Drop>(
     alloc: Global,
-    name: String,
-    other_name: String,
-    reader: R,
-    other_reader: Q,
+    one: Opened<R>,
+    other: Opened<Q>,
     partition: &Option<String>,
     comparison: &mut Comparison,
 ) -> Result<(), Refusal>
     ensures compared { OnOk result
         (AreParts comparison.old.parts.items 0 [] []
-        → AreCompared (R.remaining reader) (Q.remaining other_reader) partition.now
+        → AreCompared (R.remaining one.reader) (Q.remaining other.reader) partition.now
         comparison.new.parts.items) }
     ensures refused { IfErr result
-        (λ r. IsUnread (R.remaining reader) None (string_bytes name) r
-        ⊎ IsUnread (Q.remaining other_reader) None (string_bytes other_name) r) }
+        (λ r. IsUnread (R.remaining one.reader) None (string_bytes one.name) r
+        ⊎ IsUnread (Q.remaining other.reader) None (string_bytes other.name) r) }
 {
+    let Opened { name, reader } = one;
+    let Opened {
+        name: other_name,
+        reader: other_reader,
+    } = other;
     let mut stream = match TraceStream::new(alloc, reader) {
         Ok(stream) => stream,
         Err(_) => return Err(Refusal::Memory),

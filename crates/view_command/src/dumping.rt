@@ -10,9 +10,10 @@ ghost use Rattle.view_command.specs.Orders.{asked_text, number_of};
 ghost use Rattle.view_command.specs.States.{state};
 ghost use Rattle.view_command.specs.Texts.{IsTableAsked, IsTraceIn};
 
+use crate::opening::{Opened, called, open_text};
 use crate::refusal::Refusal;
 use crate::request::Showing;
-use crate::showing::{called, of_source, of_view, read_all};
+use crate::showing::{of_view, read_all};
 use crate::views::{Outcome, TakeEvents, ViewFault, read_windows};
 use crate::windows::{table_asked, windows_of};
 use apex_types::{Event, SinkFault, Ticks, put_all};
@@ -150,13 +151,9 @@ pub fn dump<F: Sources, O: Stream>(
 {
     let table = table_asked(alloc, &request.table, sources)?;
     let trace = request.trace.as_str();
-    let name = String::from_str(alloc, called(trace))?;
-    let reader = match sources.open(trace) {
-        Ok(reader) => reader,
-        Err(fault) => return Err(of_source(name, fault)),
-    };
+    let text = open_text(alloc, trace, sources)?;
     let mut found = Found::new(alloc, request, table, sources.is_file(trace))?;
-    read_all(alloc, name, reader, request.ran, &request.kept, &mut found)?;
+    read_all(alloc, text, request.ran, &request.kept, &mut found)?;
     read_again(alloc, request, found, sources, out)?;
     Ok(Outcome::Shown)
 }
@@ -184,23 +181,22 @@ fn read_again<F: Sources, O: Stream>(
         Err(fault) => return Err(of_view(fault)),
     };
     let trace = request.trace.as_str();
-    let name = String::from_str(alloc, called(trace))?;
     let Some(lines) = lines else {
-        let reader = match sources.open(trace) {
-            Ok(reader) => reader,
-            Err(fault) => return Err(of_source(name, fault)),
-        };
-        return write_dump(alloc, name, reader, &request.kept, dump, out);
+        let text = open_text(alloc, trace, sources)?;
+        return write_dump(alloc, text, &request.kept, dump, out);
     };
-    let text = lines.into_text();
-    write_dump(alloc, name, text.as_slice(), &request.kept, dump, out)
+    let bytes = lines.into_text();
+    let text = Opened {
+        name: String::from_str(alloc, called(trace))?,
+        reader: bytes.as_slice(),
+    };
+    write_dump(alloc, text, &request.kept, dump, out)
 }
 
-/// Writes a dump while the trace `name` is read again.
+/// Writes a dump while its trace is read again.
 fn write_dump<R: Read + Drop, O: Stream>(
     alloc: Global,
-    name: String,
-    reader: R,
+    text: Opened<R>,
     kept: &Filter,
     dump: Dump,
     out: &mut O,
@@ -210,9 +206,10 @@ fn write_dump<R: Read + Drop, O: Stream>(
         (IsFlushed (seen O.taken O.failures O.is_flushed out.old)
         (seen O.taken O.failures O.is_flushed out.new)) }
     ensures cut { IfErr result
-        (λ r. IsCut (string_bytes name) (seen O.taken O.failures O.is_flushed out.old)
+        (λ r. IsCut (string_bytes text.name) (seen O.taken O.failures O.is_flushed out.old)
         (seen O.taken O.failures O.is_flushed out.new) r) }
 {
+    let Opened { name, reader } = text;
     match write_changes(alloc, reader, kept, dump, out) {
         Ok(()) => Ok(out.flush()?),
         Err(Cut::Unread(Unread::Memory)) => Err(Refusal::Memory),

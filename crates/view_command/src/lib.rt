@@ -14,6 +14,7 @@ mod comparing;
 mod differences;
 mod dumping;
 mod grammar;
+mod opening;
 mod options;
 mod pages;
 mod refusal;

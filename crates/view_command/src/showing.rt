@@ -4,11 +4,11 @@ ghost use Rattle.std.specs.Prelude.{◌≡◌, ◌⊎◌, ◌-◌, ◌^◌, ◌<
 ghost use Rattle.streams.specs.States.{IsFlushed, seen};
 ghost use Rattle.view_command.specs.Answers.{IsRefused, IsTableRefused, IsUnread};
 ghost use Rattle.view_command.specs.Faults as faults;
-ghost use Rattle.view_command.specs.Lines.{called};
 ghost use Rattle.view_command.specs.Orders.{asked_text, number_of};
 ghost use Rattle.view_command.specs.States.{state};
 ghost use Rattle.view_command.specs.Texts.{IsTableAsked, IsTraceIn, IsTraceOf, is_late};
 
+use crate::opening::{Opened, called, open_text};
 use crate::refusal::Refusal;
 use crate::request::Showing;
 use crate::views::{Outcome, Shown, TakeEvents, View, ViewFault};
@@ -16,7 +16,7 @@ use crate::windows::table_asked;
 use apex_types::Ticks;
 use std::alloc::Global;
 use std::io::Read;
-use streams::{NameFault, Sources, Stream, write_bytes};
+use streams::{Sources, Stream, write_bytes};
 use trace_lines::Filter;
 use trace_text::{StreamFault, TraceStream};
 
@@ -48,19 +48,15 @@ pub fn show<F: Sources, O: Stream>(
         (state (F.unopened sources.new) (seen O.taken O.failures O.is_flushed out.new)) r) }
 {
     let table = table_asked(alloc, &request.table, sources)?;
-    let title = called(request.trace.as_str());
-    let name = String::from_str(alloc, title)?;
-    let reader = match sources.open(request.trace.as_str()) {
-        Ok(reader) => reader,
-        Err(fault) => return Err(of_source(name, fault)),
-    };
+    let trace = request.trace.as_str();
+    let text = open_text(alloc, trace, sources)?;
     let mut shown = match Shown::new(alloc, view, request.from, request.to, table) {
         Ok(shown) => shown,
         Err(fault) => return Err(of_view(fault)),
     };
-    read_all(alloc, name, reader, request.ran, &request.kept, &mut shown)?;
+    read_all(alloc, text, request.ran, &request.kept, &mut shown)?;
     let outcome = shown.outcome();
-    let bytes = match shown.into_bytes(alloc, title) {
+    let bytes = match shown.into_bytes(alloc, called(trace)) {
         Ok(bytes) => bytes,
         Err(fault) => return Err(of_view(fault)),
     };
@@ -68,19 +64,19 @@ pub fn show<F: Sources, O: Stream>(
     Ok(outcome)
 }
 
-/// Reads every line of the trace `name`. None may be after the end of the run, if it is known.
+/// Reads every line of a trace. None may be after the end of the run, if it is known.
 pub fn read_all<R: Read + Drop, T: TakeEvents>(
     alloc: Global,
-    name: String,
-    reader: R,
+    text: Opened<R>,
     ran: Option<Ticks>,
     kept: &Filter,
     taker: &mut T,
 ) -> Result<(), Refusal>
-    ensures trace { OnOk result (IsTraceOf (R.remaining reader) (number_of ran)) }
+    ensures trace { OnOk result (IsTraceOf (R.remaining text.reader) (number_of ran)) }
     ensures refused { IfErr result
-        (λ r. IsUnread (R.remaining reader) (number_of ran) (string_bytes name) r) }
+        (λ r. IsUnread (R.remaining text.reader) (number_of ran) (string_bytes text.name) r) }
 {
+    let Opened { name, reader } = text;
     let mut stream = match TraceStream::new(alloc, reader) {
         Ok(stream) => stream,
         Err(_) => return Err(Refusal::Memory),
@@ -115,16 +111,6 @@ fn is_late(ran: Option<Ticks>, tick: Ticks) -> bool
     }
 }
 
-/// The refusal of a text that was not opened.
-pub fn of_source(name: String, fault: NameFault) -> Refusal
-    ensures { result ≡ faults.of_source name fault }
-{
-    match fault {
-        NameFault::Unavailable(_) => Refusal::Open(name),
-        NameFault::Memory => Refusal::Memory,
-    }
-}
-
 /// The refusal of a text that is no trace, or was not read.
 pub fn of_stream(name: String, fault: StreamFault) -> Refusal
     ensures { result ≡ faults.of_stream name fault }
@@ -153,16 +139,5 @@ pub fn of_view(fault: ViewFault) -> Refusal
             elements: excess.elements,
         },
         ViewFault::Foreign(partition) => Refusal::Foreign(partition),
-    }
-}
-
-/// The name of a text in a line for a reader.
-pub fn called(trace: &str) -> &str
-    ensures { result.now ≡ called trace.now }
-{
-    if trace == "-" {
-        "the standard input"
-    } else {
-        trace
     }
 }

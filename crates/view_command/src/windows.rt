@@ -9,8 +9,8 @@ ghost use Rattle.view_command.specs.Texts.{IsRefusedTable, IsTable, IsTableAsked
 ghost use Rattle.view_command.specs.Windows.{AreSharesBefore, IsBadTable, names_of, page_windows};
 ghost use Rattle.window_table.specs.Answers.{AnswersText};
 
+use crate::opening::{Opened, open_text};
 use crate::refusal::Refusal;
-use crate::showing::{called, of_source};
 use apex_types::{Name, Ticks};
 use std::alloc::{AllocError, Global};
 use std::io::{ErrorKind, Read};
@@ -50,20 +50,16 @@ fn table_of<F: Sources>(alloc: Global, name: &str, sources: &mut F) -> Result<Mo
         (λ r. IsRefusedByTable (F.texts sources.old) name.now
         (state (F.unopened sources.old) out) (state (F.unopened sources.new) out) r) }
 {
-    let shown = String::from_str(alloc, called(name))?;
-    let reader = match sources.open(name) {
-        Ok(reader) => reader,
-        Err(fault) => return Err(of_source(shown, fault)),
-    };
-    read_from(alloc, shown, reader)
+    let text = open_text(alloc, name, sources)?;
+    read_from(alloc, text)
 }
 
 /// The table that a reader has.
-fn read_from<R: Read + Drop>(alloc: Global, name: String, reader: R) -> Result<ModuleTable, Refusal>
-    ensures table { OnOk result (IfSome (R.remaining reader) (λ text. IsTable text)) }
-    ensures refused { IfErr result (λ r. IsBadTable (R.remaining reader) (string_bytes name) r) }
+fn read_from<R: Read + Drop>(alloc: Global, table: Opened<R>) -> Result<ModuleTable, Refusal>
+    ensures table { OnOk result (IfSome (R.remaining table.reader) (λ text. IsTable text)) }
+    ensures refused { IfErr result (λ r. IsBadTable (R.remaining table.reader) (string_bytes table.name) r) }
 {
-    let mut reader = reader;
+    let Opened { name, mut reader } = table;
     let mut text = Vec::new(alloc);
     if let Err(error) = reader.read_to_end(&mut text) {
         return Err(of_reading(name, error.kind()));

@@ -15,10 +15,18 @@ use image::load_image;
 use module::{Machine, RunFault, Watch};
 use std::alloc::Global;
 
-/// Runs the image with the device text, up to the end of the first tick with a line that has
-/// exactly the words `asked` after its tick; `_` matches any word. Returns whether such a line came
-/// in `ticks` ticks. Writes the text of the ticks that are run into the sink, and reports to a
-/// watcher how far the run is.
+/// How long a run waits for a line, and for which.
+#[derive(Clone, Copy)]
+pub struct Wait<'a> {
+    /// The most ticks that it runs.
+    pub ticks: u64,
+    /// The words of the line after its tick; `_` matches any word.
+    pub words: &'a [&'a str],
+}
+
+/// Runs the image with the device text, up to the end of the first tick with a line that it waits
+/// for. Returns whether such a line came. Writes the text of the ticks that are run into the sink,
+/// and reports to a watcher how far the run is.
 ///
 /// # Errors
 ///
@@ -28,25 +36,25 @@ pub fn run_until<S: Sink, W: Watch>(
     alloc: Global,
     image: &[u8],
     devices: &[u8],
-    ticks: u64,
-    asked: &[&str],
+    wait: Wait<'_>,
     sink: &mut S,
     watch: &mut W,
 ) -> Result<bool, RunFault>
     requires { S.failures sink.old < 2 ^ 64 - 1 }
-    ensures trace { RunsUntil (image_at image.now) devices.now (map (λ a. a.now) asked.now) ticks
-        (S.taken sink.old) (S.taken sink.new) result }
+    ensures trace { RunsUntil (image_at image.now) devices.now
+        (map (λ a. a.now) wait.entry.words.now) wait.entry.ticks (S.taken sink.old)
+        (S.taken sink.new) result }
     ensures ok { OnOk result (S.failures sink.new ≡ S.failures sink.old) }
     ensures write { IsErrOf result RunFault.Write → S.failures sink.new ≡ S.failures sink.old + 1 }
     ensures quiet { IfErr result
         (λ fault. fault ≢ RunFault.Write → S.failures sink.new ≡ S.failures sink.old) }
 {
-    if ticks > MOST_TICKS {
+    if wait.ticks > MOST_TICKS {
         return Err(RunFault::Ticks);
     }
     let mut machine = Machine::load(alloc, load_image(alloc, image)?)?;
     let lines = machine.devices(alloc, devices)?;
-    ticks_until(alloc, &mut machine, &lines, ticks, asked, sink, watch)
+    ticks_until(alloc, &mut machine, &lines, wait, sink, watch)
 }
 
 /// `ticks`, or the most that are skipped between two offers of nothing.
@@ -62,28 +70,28 @@ fn ticks_until<S: Sink, W: Watch>(
     alloc: Global,
     machine: &mut Machine,
     devices: &[DeviceLine],
-    ticks: u64,
-    asked: &[&str],
+    wait: Wait<'_>,
     sink: &mut S,
     watch: &mut W,
 ) -> Result<bool, RunFault>
-    requires ticks { ticks ≤ MOST_TICKS }
+    requires ticks { wait.ticks ≤ MOST_TICKS }
     requires fresh { machine_of machine.old ≡ fresh_machine (machine_of machine.old).image }
     requires order { AreFrom 0 devices.now }
     requires failures { S.failures sink.old < 2 ^ 64 - 1 }
-    ensures trace { EndsImage (map (λ a. a.now) asked.now) (machine_of machine.old).image
-        devices.now ticks (S.taken sink.old) (S.taken sink.new) result }
+    ensures trace { EndsImage (map (λ a. a.now) wait.entry.words.now)
+        (machine_of machine.old).image devices.now wait.entry.ticks (S.taken sink.old)
+        (S.taken sink.new) result }
     ensures ok { OnOk result (S.failures sink.new ≡ S.failures sink.old) }
     ensures write { IsErrOf result RunFault.Write → S.failures sink.new ≡ S.failures sink.old + 1 }
     ensures quiet { IfErr result
         (λ fault. fault ≢ RunFault.Write → S.failures sink.new ≡ S.failures sink.old) }
 {
-    let mut left = ticks;
+    let mut left = wait.ticks;
     let mut lines = devices;
     let mut told = 0;
     let mut held = WriterSink::new(Vec::new(alloc));
     while left > 0 && !machine.is_shut_down() {
-        told = tell(told, machine.now(), ticks, sink, watch)?;
+        told = tell(told, machine.now(), wait.ticks, sink, watch)?;
         let quiet = until_line(machine, lines, at_once(left));
         let count = machine.skip(quiet);
         if count > 0 {
@@ -92,7 +100,7 @@ fn ticks_until<S: Sink, W: Watch>(
         }
         lines = tick_held(machine, lines, &mut held)?;
         hand_on(held.writer.as_slice(), sink)?;
-        if has_line(asked, held.writer.as_slice()) {
+        if has_line(wait.words, held.writer.as_slice()) {
             return Ok(true);
         }
         held.writer.clear();

@@ -6,5 +6,5 @@ use Rattle.command_line.proofs.explaining.explained.Goals as goal
 
 pub returns : goal.returns
 returns c =
-    of_text string_bytes (form_of c.args.form) c.args.table.now (map (λ s. s.now) c.args.files.now) (map (λ s. s.now) c.args.sources.now) c.args.partition.now c.args.fault (table_of c.in_ok-table.table) c.explained_with.result
+    of_text string_bytes (form_of c.args.form) c.args.table.now (map (λ s. s.now) c.args.given.files.now) (map (λ s. s.now) c.args.given.texts.now) c.args.partition.now c.args.fault (table_of c.in_ok-table.table) c.explained_with.result
     c.in_ok-table.ensures c.explained_with.ensures

@@ -16,9 +16,9 @@ returns-in_err-inputs_named g c =
     let r = c.in_err-inputs_named.field-0.0 in
     let ended = c.in_err-inputs_named.ensures in
     refused_as (Answers (Inputs c.args.words.image.now c.args.words.partition.now c.args.words.devices.now c.args.words.ticks.now) before after) (Refused r) c.from_residual-in_err-inputs_named.result c.from_residual-in_err-inputs_named.ensures
-    ((inl c.in-Some.ensures.0, inputs_refused_by c.args.words.image.now c.args.words.partition.now c.args.words.devices.now c.in-Some.number (digits_value 10 c.args.words.ticks.now) before after r c.in-Some.ensures.1 ended.0), ended.1)
+    ((inl c.in-Some.ensures.0, inputs_refused_by c.args.words.image.now c.args.words.partition.now c.args.words.devices.now c.in-Some.ticks (digits_value 10 c.args.words.ticks.now) before after r c.in-Some.ensures.1 ended.0), ended.1)
 
 pub returns : goal.returns
 returns g c =
     let at = state g.F.Files.contents g.F.Files.failed g.O.Sink.taken g.O.Sink.failures g.O.Stream.is_flushed in
-    inputs_end c.args.words.image.now c.args.words.partition.now c.args.words.devices.now c.args.words.ticks.now c.in-Some.number (at c.args.files.now c.args.out.now) (at c.inputs_named.new.files c.inputs_named.new.out) c.in_ok-inputs_named.field-0 c.in-Some.ensures.0 c.in-Some.ensures.1 c.in_ok-inputs_named.ensures
+    inputs_end c.args.words.image.now c.args.words.partition.now c.args.words.devices.now c.args.words.ticks.now c.in-Some.ticks (at c.args.files.now c.args.out.now) (at c.inputs_named.new.files c.inputs_named.new.out) c.in_ok-inputs_named.field-0 c.in-Some.ensures.0 c.in-Some.ensures.1 c.in_ok-inputs_named.ensures

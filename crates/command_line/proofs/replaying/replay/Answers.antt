@@ -16,9 +16,9 @@ returns-in_err-replay_named g c =
     let r = c.in_err-replay_named.field-0.0 in
     let ended = c.in_err-replay_named.ensures in
     refused_as (Answers (Replay c.args.words.image.now c.args.words.partition.now c.args.words.inputs.now c.args.words.ticks.now) before after) (Refused r) c.from_residual-in_err-replay_named.result c.from_residual-in_err-replay_named.ensures
-    ((inl c.in-Some.ensures.0, replay_refused_by c.args.words.image.now c.args.words.partition.now c.args.words.inputs.now c.in-Some.number (digits_value 10 c.args.words.ticks.now) before after r c.in-Some.ensures.1 ended.0), ended.1)
+    ((inl c.in-Some.ensures.0, replay_refused_by c.args.words.image.now c.args.words.partition.now c.args.words.inputs.now c.in-Some.ticks (digits_value 10 c.args.words.ticks.now) before after r c.in-Some.ensures.1 ended.0), ended.1)
 
 pub returns : goal.returns
 returns g c =
     let at = state g.F.Files.contents g.F.Files.failed g.O.Sink.taken g.O.Sink.failures g.O.Stream.is_flushed in
-    replay_ends c.args.words.image.now c.args.words.partition.now c.args.words.inputs.now c.args.words.ticks.now c.in-Some.number (at c.args.files.now c.args.out.now) (at c.replay_named.new.files c.replay_named.new.out) c.in_ok-replay_named.field-0 c.in-Some.ensures.0 c.in-Some.ensures.1 c.in_ok-replay_named.ensures
+    replay_ends c.args.words.image.now c.args.words.partition.now c.args.words.inputs.now c.args.words.ticks.now c.in-Some.ticks (at c.args.files.now c.args.out.now) (at c.replay_named.new.files c.replay_named.new.out) c.in_ok-replay_named.field-0 c.in-Some.ensures.0 c.in-Some.ensures.1 c.in_ok-replay_named.ensures

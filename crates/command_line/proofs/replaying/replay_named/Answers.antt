@@ -4,34 +4,37 @@ use Rattle.command_line.specs.declared.refusal.Refusal.TheVariants.{Write}
 use Rattle.command_line.specs.Ends.{EndsReplay}
 use Rattle.command_line.specs.States.{state}
 use Rattle.command_line.proofs.Answered.{refused_as}
+use Rattle.command_line.proofs.Ran.{failed_by}
 use Rattle.command_line.proofs.Replayed.{kept_replay}
 use Rattle.command_line.proofs.Begun.{given_from, replay_of_whole}
 use Rattle.command_line.specs.Done.{is_ok}
 use Rattle.std.specs.Prelude.{Err}
+use Rattle.streams.specs.States.{seen}
 use Rattle.command_line.proofs.replaying.replay_named.Goals as goal
 
 pub returns-in-Err : goal.returns-in-Err
 returns-in-Err g c =
+    let out = seen g.O.Sink.taken g.O.Sink.failures g.O.Stream.is_flushed in
     let files = g.F.Files.contents c.args.files.now in
-    let given = given_from files (g.F.Files.contents c.read_as.new.files) c.args.words.image.now c.args.words.inputs.now c.in_ok-image.image.items c.in_ok-inputs.inputs.items c.as_slice.result.now c.as_slice-2.result.now
+    let given = given_from files (g.F.Files.contents c.read_as.new.files) c.args.wanted.words.image.now c.args.wanted.words.inputs.now c.in_ok-image.image.items c.in_ok-inputs.inputs.items c.as_slice.result.now c.as_slice-2.result.now
     c.in_ok-image.ensures.unchanged c.as_slice.ensures.value c.as_slice-2.ensures.value c.in_ok-image.ensures.held c.in_ok-inputs.ensures.held in
     let same = c.in_ok-inputs.ensures.unchanged ∙ c.in_ok-image.ensures.unchanged in
-    ((c.in-Err.ensures.failed, same, given.given, replay_of_whole given c.args.words.partition.now c.args.ticks (g.O.Sink.taken c.args.out.now) (g.O.Sink.taken c.trace_alone.new.out) (Err c.in-Err.fault) c.in-Err.ensures.trace), c.in_ok-inputs.ensures.noted ∙ c.in_ok-image.ensures.noted)
+    ((failed_by (out c.args.out.now) (out c.replay.new.sink) (Err c.in-Err.fault) c.in-Err.ensures.write c.in-Err.ensures.quiet, same, given.given, replay_of_whole given c.args.wanted.words.partition.now c.args.wanted.ticks (g.O.Sink.taken c.args.out.now) (g.O.Sink.taken c.replay.new.sink) (Err c.in-Err.fault) c.in-Err.ensures.trace), c.in_ok-inputs.ensures.noted ∙ c.in_ok-image.ensures.noted)
 
 pub returns-in_err-flush : goal.returns-in_err-flush
 returns-in_err-flush g c =
     let taken = g.O.Sink.taken in
     let files = g.F.Files.contents c.args.files.now in
-    let given = given_from files (g.F.Files.contents c.read_as.new.files) c.args.words.image.now c.args.words.inputs.now c.in_ok-image.image.items c.in_ok-inputs.inputs.items c.as_slice.result.now c.as_slice-2.result.now
+    let given = given_from files (g.F.Files.contents c.read_as.new.files) c.args.wanted.words.image.now c.args.wanted.words.inputs.now c.in_ok-image.image.items c.in_ok-inputs.inputs.items c.as_slice.result.now c.as_slice-2.result.now
     c.in_ok-image.ensures.unchanged c.as_slice.ensures.value c.as_slice-2.ensures.value c.in_ok-image.ensures.held c.in_ok-inputs.ensures.held in
     let same = c.in_ok-inputs.ensures.unchanged ∙ c.in_ok-image.ensures.unchanged in
-    refused_as (EndsReplay c.args.words.image.now c.args.words.partition.now c.args.words.inputs.now c.args.ticks (state g.F.Files.contents g.F.Files.failed g.O.Sink.taken g.O.Sink.failures g.O.Stream.is_flushed c.args.files.now c.args.out.now) _) Write c.from_residual-in_err-flush.result c.from_residual-in_err-flush.ensures (
+    refused_as (EndsReplay c.args.wanted.words.image.now c.args.wanted.words.partition.now c.args.wanted.words.inputs.now c.args.wanted.ticks (state g.F.Files.contents g.F.Files.failed g.O.Sink.taken g.O.Sink.failures g.O.Stream.is_flushed c.args.files.now c.args.out.now) _) Write c.from_residual-in_err-flush.result c.from_residual-in_err-flush.ensures (
       (
-        c.in_err-flush.ensures.failed ∙ ap (λ (n : ℕ). n + 1) c.in_default.ensures.quiet,
+        c.in_err-flush.ensures.failed ∙ ap (λ (n : ℕ). n + 1) c.in_default.ensures.ok,
         (
           same,
           given.given,
-          replay_of_whole given c.args.words.partition.now c.args.ticks (taken c.args.out.now) (taken c.flush.new.self) is_ok (kept_replay (image_at c.as_slice.result.now) c.args.words.partition.now c.as_slice-2.result.now c.args.ticks (taken c.args.out.now) (taken c.trace_alone.new.out) (taken c.flush.new.self) c.in_default.ensures.trace c.in_err-flush.ensures.kept),
+          replay_of_whole given c.args.wanted.words.partition.now c.args.wanted.ticks (taken c.args.out.now) (taken c.flush.new.self) is_ok (kept_replay (image_at c.as_slice.result.now) c.args.wanted.words.partition.now c.as_slice-2.result.now c.args.wanted.ticks (taken c.args.out.now) (taken c.replay.new.sink) (taken c.flush.new.self) c.in_default.ensures.trace c.in_err-flush.ensures.kept),
         ),
       ),
       c.in_ok-inputs.ensures.noted ∙ c.in_ok-image.ensures.noted,
@@ -41,13 +44,13 @@ pub returns : goal.returns
 returns g c =
     let taken = g.O.Sink.taken in
     let files = g.F.Files.contents c.args.files.now in
-    let given = given_from files (g.F.Files.contents c.read_as.new.files) c.args.words.image.now c.args.words.inputs.now c.in_ok-image.image.items c.in_ok-inputs.inputs.items c.as_slice.result.now c.as_slice-2.result.now
+    let given = given_from files (g.F.Files.contents c.read_as.new.files) c.args.wanted.words.image.now c.args.wanted.words.inputs.now c.in_ok-image.image.items c.in_ok-inputs.inputs.items c.as_slice.result.now c.as_slice-2.result.now
     c.in_ok-image.ensures.unchanged c.as_slice.ensures.value c.as_slice-2.ensures.value c.in_ok-image.ensures.held c.in_ok-inputs.ensures.held in
     let same = c.in_ok-inputs.ensures.unchanged ∙ c.in_ok-image.ensures.unchanged in (
       (
         same,
         given.given,
-        replay_of_whole given c.args.words.partition.now c.args.ticks (taken c.args.out.now) (taken c.flush.new.self) is_ok (kept_replay (image_at c.as_slice.result.now) c.args.words.partition.now c.as_slice-2.result.now c.args.ticks (taken c.args.out.now) (taken c.trace_alone.new.out) (taken c.flush.new.self) c.in_default.ensures.trace c.in_ok-flush.ensures.kept),
+        replay_of_whole given c.args.wanted.words.partition.now c.args.wanted.ticks (taken c.args.out.now) (taken c.flush.new.self) is_ok (kept_replay (image_at c.as_slice.result.now) c.args.wanted.words.partition.now c.as_slice-2.result.now c.args.wanted.ticks (taken c.args.out.now) (taken c.replay.new.sink) (taken c.flush.new.self) c.in_default.ensures.trace c.in_ok-flush.ensures.kept),
       ),
-      ((c.in_ok-flush.ensures.quiet ∙ c.in_default.ensures.quiet, c.in_ok-flush.ensures.flushed), c.in_ok-inputs.ensures.noted ∙ c.in_ok-image.ensures.noted),
+      ((c.in_ok-flush.ensures.quiet ∙ c.in_default.ensures.ok, c.in_ok-flush.ensures.flushed), c.in_ok-inputs.ensures.noted ∙ c.in_ok-image.ensures.noted),
     )

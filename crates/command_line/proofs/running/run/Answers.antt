@@ -17,7 +17,7 @@ returns-in_err-outcome g c =
     let r = c.in_err-outcome.field-0.0 in
     let ended = c.in_err-outcome.ensures in
     refused_as (Answers (Run c.args.words.image.now c.args.words.devices.now c.args.words.ticks.now until) before after) (Refused r) c.from_residual-in_err-outcome.result c.from_residual-in_err-outcome.ensures
-    ((inl c.in-Some.ensures.0, run_refused_by c.args.words.image.now c.args.words.devices.now until c.in-Some.number (digits_value 10 c.args.words.ticks.now) before after r c.in-Some.ensures.1 ended.0), ended.1)
+    ((inl c.in-Some.ensures.0, run_refused_by c.args.words.image.now c.args.words.devices.now until c.in-Some.ticks (digits_value 10 c.args.words.ticks.now) before after r c.in-Some.ensures.1 ended.0), ended.1)
 
 pub returns : goal.returns
 returns g c =
@@ -27,6 +27,6 @@ returns g c =
     let until = map (λ w. w.now) c.args.words.until.now in
     let ended = c.in_ok-outcome.ensures in (
       run_done_with c.args.words.image.now c.args.words.devices.now c.args.words.ticks.now until c.in_ok-outcome.outcome before after c.in-Some.ensures.0
-          (run_done_by c.args.words.image.now c.args.words.devices.now until c.in-Some.number (digits_value 10 c.args.words.ticks.now) c.in_ok-outcome.outcome before after c.in-Some.ensures.1 ended.0),
+          (run_done_by c.args.words.image.now c.args.words.devices.now until c.in-Some.ticks (digits_value 10 c.args.words.ticks.now) c.in_ok-outcome.outcome before after c.in-Some.ensures.1 ended.0),
       ended.1,
     )

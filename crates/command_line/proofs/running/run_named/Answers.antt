@@ -1,6 +1,6 @@
 use Rattle.std.proofs.Common.{ℕ, ◌+◌, map, ap, ◌∙◌}
 use Rattle.machine_meaning.specs.ImageReading.{image_at}
-use Rattle.command_line.specs.declared.refusal.Refusal.TheVariants.{Run, Write}
+use Rattle.command_line.specs.declared.refusal.Refusal.TheVariants.{Write}
 use Rattle.command_line.specs.Ends.{EndsRun}
 use Rattle.command_line.specs.States.{state}
 use Rattle.command_line.proofs.Answered.{refused_as}
@@ -9,35 +9,33 @@ use Rattle.command_line.proofs.Begun.{given_from, run_of_whole}
 use Rattle.std.specs.Prelude.{Ok, Err}
 use Rattle.command_line.proofs.running.run_named.Goals as goal
 
-pub returns-in_err-outcome : goal.returns-in_err-outcome
-returns-in_err-outcome g c =
-    let at = state g.F.Files.contents g.F.Files.failed g.O.Sink.taken g.O.Sink.failures g.O.Stream.is_flushed in
+pub returns-in-Err : goal.returns-in-Err
+returns-in-Err g c =
     let files = g.F.Files.contents c.args.files.now in
-    let until = map (λ w. w.now) c.args.words.until.now in
-    let given = given_from files (g.F.Files.contents c.read_as.new.files) c.args.words.image.now c.args.words.devices.now c.in_ok-image.image.items c.in_ok-devices.devices.items c.as_slice.result.now c.as_slice-2.result.now
+    let until = map (λ w. w.now) c.args.wanted.words.until.now in
+    let given = given_from files (g.F.Files.contents c.read_as.new.files) c.args.wanted.words.image.now c.args.wanted.words.devices.now c.in_ok-image.image.items c.in_ok-devices.devices.items c.as_slice.result.now c.as_slice-2.result.now
     c.in_ok-image.ensures.unchanged c.as_slice.ensures.value c.as_slice-2.ensures.value c.in_ok-image.ensures.held c.in_ok-devices.ensures.held in
     let same = c.in_ok-devices.ensures.unchanged ∙ c.in_ok-image.ensures.unchanged in
-    refused_as (EndsRun c.args.words.image.now c.args.words.devices.now until c.args.ticks (at c.args.files.now c.args.out.now) _) (Run c.in_err-outcome.field-0.0) c.from_residual-in_err-outcome.result c.from_residual-in_err-outcome.ensures
-    ((c.in_err-outcome.ensures.failed, same, given.given, run_of_whole given until c.args.ticks (g.O.Sink.taken c.args.out.now) (g.O.Sink.taken c.trace.new.out) (Err c.in_err-outcome.field-0.0) c.in_err-outcome.ensures.trace), c.in_ok-devices.ensures.noted ∙ c.in_ok-image.ensures.noted)
+    ((c.in-Err.ensures.failed, same, given.given, run_of_whole given until c.args.wanted.ticks (g.O.Sink.taken c.args.out.now) (g.O.Sink.taken c.trace.new.out) (Err c.in-Err.fault) c.in-Err.ensures.trace), c.in_ok-devices.ensures.noted ∙ c.in_ok-image.ensures.noted)
 
 pub returns-in_err-flush : goal.returns-in_err-flush
 returns-in_err-flush g c =
     let taken = g.O.Sink.taken in
     let at = state g.F.Files.contents g.F.Files.failed g.O.Sink.taken g.O.Sink.failures g.O.Stream.is_flushed in
     let files = g.F.Files.contents c.args.files.now in
-    let until = map (λ w. w.now) c.args.words.until.now in
-    let given = given_from files (g.F.Files.contents c.read_as.new.files) c.args.words.image.now c.args.words.devices.now c.in_ok-image.image.items c.in_ok-devices.devices.items c.as_slice.result.now c.as_slice-2.result.now
+    let until = map (λ w. w.now) c.args.wanted.words.until.now in
+    let given = given_from files (g.F.Files.contents c.read_as.new.files) c.args.wanted.words.image.now c.args.wanted.words.devices.now c.in_ok-image.image.items c.in_ok-devices.devices.items c.as_slice.result.now c.as_slice-2.result.now
     c.in_ok-image.ensures.unchanged c.as_slice.ensures.value c.as_slice-2.ensures.value c.in_ok-image.ensures.held c.in_ok-devices.ensures.held in
     let same = c.in_ok-devices.ensures.unchanged ∙ c.in_ok-image.ensures.unchanged in
-    refused_as (EndsRun c.args.words.image.now c.args.words.devices.now until c.args.ticks (at c.args.files.now c.args.out.now) _) Write c.from_residual-in_err-flush.result c.from_residual-in_err-flush.ensures (
+    refused_as (EndsRun c.args.wanted.words.image.now c.args.wanted.words.devices.now until c.args.wanted.ticks (at c.args.files.now c.args.out.now) _) Write c.from_residual-in_err-flush.result c.from_residual-in_err-flush.ensures (
       (
-        c.in_err-flush.ensures.failed ∙ ap (λ (n : ℕ). n + 1) c.in_ok-outcome.ensures.quiet,
-        c.in_ok-outcome.outcome,
+        c.in_err-flush.ensures.failed ∙ ap (λ (n : ℕ). n + 1) c.in-Ok.ensures.quiet,
+        c.in-Ok.outcome,
         (
           same,
           given.given,
-          run_of_whole given until c.args.ticks (taken c.args.out.now) (taken c.flush.new.self) (Ok c.in_ok-outcome.outcome)
-              (kept_traced (image_at c.as_slice.result.now) c.as_slice-2.result.now until c.args.ticks c.in_ok-outcome.outcome (taken c.args.out.now) (taken c.trace.new.out) (taken c.flush.new.self) c.in_ok-outcome.ensures.trace c.in_err-flush.ensures.kept),
+          run_of_whole given until c.args.wanted.ticks (taken c.args.out.now) (taken c.flush.new.self) (Ok c.in-Ok.outcome)
+              (kept_traced (image_at c.as_slice.result.now) c.as_slice-2.result.now until c.args.wanted.ticks c.in-Ok.outcome (taken c.args.out.now) (taken c.trace.new.out) (taken c.flush.new.self) c.in-Ok.ensures.trace c.in_err-flush.ensures.kept),
         ),
       ),
       c.in_ok-devices.ensures.noted ∙ c.in_ok-image.ensures.noted,
@@ -47,15 +45,15 @@ pub returns : goal.returns
 returns g c =
     let taken = g.O.Sink.taken in
     let files = g.F.Files.contents c.args.files.now in
-    let until = map (λ w. w.now) c.args.words.until.now in
-    let given = given_from files (g.F.Files.contents c.read_as.new.files) c.args.words.image.now c.args.words.devices.now c.in_ok-image.image.items c.in_ok-devices.devices.items c.as_slice.result.now c.as_slice-2.result.now
+    let until = map (λ w. w.now) c.args.wanted.words.until.now in
+    let given = given_from files (g.F.Files.contents c.read_as.new.files) c.args.wanted.words.image.now c.args.wanted.words.devices.now c.in_ok-image.image.items c.in_ok-devices.devices.items c.as_slice.result.now c.as_slice-2.result.now
     c.in_ok-image.ensures.unchanged c.as_slice.ensures.value c.as_slice-2.ensures.value c.in_ok-image.ensures.held c.in_ok-devices.ensures.held in
     let same = c.in_ok-devices.ensures.unchanged ∙ c.in_ok-image.ensures.unchanged in (
       (
         same,
         given.given,
-        run_of_whole given until c.args.ticks (taken c.args.out.now) (taken c.flush.new.self) (Ok c.in_ok-outcome.outcome)
-            (kept_traced (image_at c.as_slice.result.now) c.as_slice-2.result.now until c.args.ticks c.in_ok-outcome.outcome (taken c.args.out.now) (taken c.trace.new.out) (taken c.flush.new.self) c.in_ok-outcome.ensures.trace c.in_ok-flush.ensures.kept),
+        run_of_whole given until c.args.wanted.ticks (taken c.args.out.now) (taken c.flush.new.self) (Ok c.in-Ok.outcome)
+            (kept_traced (image_at c.as_slice.result.now) c.as_slice-2.result.now until c.args.wanted.ticks c.in-Ok.outcome (taken c.args.out.now) (taken c.trace.new.out) (taken c.flush.new.self) c.in-Ok.ensures.trace c.in_ok-flush.ensures.kept),
       ),
-      ((c.in_ok-flush.ensures.quiet ∙ c.in_ok-outcome.ensures.quiet, c.in_ok-flush.ensures.flushed), c.in_ok-devices.ensures.noted ∙ c.in_ok-image.ensures.noted),
+      ((c.in_ok-flush.ensures.quiet ∙ c.in-Ok.ensures.quiet, c.in_ok-flush.ensures.flushed), c.in_ok-devices.ensures.noted ∙ c.in_ok-image.ensures.noted),
     )

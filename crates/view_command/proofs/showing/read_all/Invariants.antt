@@ -6,5 +6,5 @@ use Rattle.view_command.proofs.showing.read_all.Given as goal
 
 abbrev pub invariant-loop : goal.invariant-loop
 invariant-loop g l =
-    IsRunSoFar (number_of l.fn.ran) (g.R.Read.remaining l.fn.reader) l.stream.before.0 l.stream.lines (left g.R.Read.remaining l.stream)
+    IsRunSoFar (number_of l.fn.ran) (g.R.Read.remaining l.fn.text.reader) l.stream.before.0 l.stream.lines (left g.R.Read.remaining l.stream)
     × (l.stream.lines ≡ l.counter)

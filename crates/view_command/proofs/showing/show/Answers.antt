@@ -1,5 +1,7 @@
-use Rattle.std.proofs.Common.{rules, string_bytes, subst}
+use Rattle.std.proofs.Common.{rules, ◌≡◌, string_bytes, subst}
 use Rattle.streams.specs.Contents.{Opens}
+use Rattle.view_command.specs.Faults.{IsUnopened}
+use Rattle.view_command.specs.Lines.{called}
 use Rattle.view_command.specs.Orders.{number_of}
 use Rattle.view_command.proofs.Tables.{traced_in, unopened_or, unread_or, unwritten_or}
 use Rattle.view_command.proofs.showing.show.Goals as goal
@@ -7,31 +9,33 @@ use Rattle.view_command.proofs.showing.show.Goals as goal
 pub returns-in_err-read_all-clause-refused : goal.returns-in_err-read_all-clause-refused
 returns-in_err-read_all-clause-refused g c =
     let texts = g.F.Sources.texts c.args.sources.now in
-    let left = g.F.Reader.Read.remaining c.in-Ok.reader in
+    let left = g.F.Reader.Read.remaining c.in_ok-text.text.reader in
     let opens : Opens texts (string_bytes c.args.request.now.trace) left =
-    subst (λ n. Opens texts n left) c.as_str-2.ensures.value (subst (λ t. Opens t c.as_str-2.result.now left) c.table_asked.ensures.kept c.in-Ok.ensures.opened) in
-    unread_or _ texts (number_of c.args.request.now.ran) (string_bytes c.args.request.now.trace) (string_bytes c.in_ok-name.name) left _ _ c.in_err-read_all.field-0.0 c.from_residual-in_err-read_all.result
-    opens (search rules) (search rules) c.in_err-read_all.ensures.refused c.from_residual-in_err-read_all.ensures
+    subst (λ n. Opens texts n left) c.as_str-trace.ensures.value (subst (λ t. Opens t c.as_str-trace.result.now left) c.table_asked.ensures.kept c.in_ok-text.ensures.opened) in
+    unread_or _ texts (number_of c.args.request.now.ran) (string_bytes c.args.request.now.trace) (string_bytes c.in_ok-text.text.name) left _ _ c.in_err-read_all.field-0.0 c.from_residual-in_err-read_all.result
+    opens (subst (λ n. string_bytes c.in_ok-text.text.name ≡ called n) c.as_str-trace.ensures.value c.in_ok-text.ensures.called) (search rules) c.in_err-read_all.ensures.refused c.from_residual-in_err-read_all.ensures
 
-pub returns-in-Err-clause-refused : goal.returns-in-Err-clause-refused
-returns-in-Err-clause-refused g c =
-    let mid = g.F.Sources.unopened c.table_asked.new.sources in
-    unopened_or _ _ (number_of c.args.request.now.ran) (string_bytes c.args.request.now.trace) c.in_ok-name.name _ _ mid c.in-Err.fault c.of_source.result c.of_source.ensures
-    (search rules) (search rules) (search rules) (search rules)
+pub returns-in_err-text-clause-refused : goal.returns-in_err-text-clause-refused
+returns-in_err-text-clause-refused g c =
+    let unopened = g.F.Sources.unopened in
+    let mid = unopened c.table_asked.new.sources in
+    let r = c.in_err-text.field-0.0 in
+    unopened_or _ _ (number_of c.args.request.now.ran) (string_bytes c.args.request.now.trace) _ _ mid r c.from_residual-in_err-text.result
+    (search rules) (search rules) (subst (λ n. IsUnopened n mid (unopened c.open_text.new.sources) r) c.as_str-trace.ensures.value c.in_err-text.ensures.refused) c.from_residual-in_err-text.ensures
 
 pub returns-clause-trace : goal.returns-clause-trace
 returns-clause-trace g c =
     let texts = g.F.Sources.texts c.args.sources.now in
-    let left = g.F.Reader.Read.remaining c.in-Ok.reader in
+    let left = g.F.Reader.Read.remaining c.in_ok-text.text.reader in
     let opens : Opens texts (string_bytes c.args.request.now.trace) left =
-    subst (λ n. Opens texts n left) c.as_str-2.ensures.value (subst (λ t. Opens t c.as_str-2.result.now left) c.table_asked.ensures.kept c.in-Ok.ensures.opened) in
+    subst (λ n. Opens texts n left) c.as_str-trace.ensures.value (subst (λ t. Opens t c.as_str-trace.result.now left) c.table_asked.ensures.kept c.in_ok-text.ensures.opened) in
     traced_in texts (number_of c.args.request.now.ran) (string_bytes c.args.request.now.trace) left opens c.in_ok-read_all.ensures.trace
 
 pub returns-in_err-write_bytes-clause-refused : goal.returns-in_err-write_bytes-clause-refused
 returns-in_err-write_bytes-clause-refused g c =
     let texts = g.F.Sources.texts c.args.sources.now in
-    let left = g.F.Reader.Read.remaining c.in-Ok.reader in
+    let left = g.F.Reader.Read.remaining c.in_ok-text.text.reader in
     let opens : Opens texts (string_bytes c.args.request.now.trace) left =
-    subst (λ n. Opens texts n left) c.as_str-2.ensures.value (subst (λ t. Opens t c.as_str-2.result.now left) c.table_asked.ensures.kept c.in-Ok.ensures.opened) in
+    subst (λ n. Opens texts n left) c.as_str-trace.ensures.value (subst (λ t. Opens t c.as_str-trace.result.now left) c.table_asked.ensures.kept c.in_ok-text.ensures.opened) in
     unwritten_or _ texts (number_of c.args.request.now.ran) (string_bytes c.args.request.now.trace) _ _ c.from_residual-in_err-write_bytes.result (search rules) (search rules)
     (traced_in texts (number_of c.args.request.now.ran) (string_bytes c.args.request.now.trace) left opens c.in_ok-read_all.ensures.trace) c.from_residual-in_err-write_bytes.ensures

@@ -17,7 +17,7 @@ returns-in_err-lines-clause-trace g c =
     let devices = c.args.devices.now in
     let old = g.S.Sink.taken c.args.sink.now in
     let fault = c.in_err-lines.field-0.0 in
-    let few : c.args.ticks ≤ MOST_TICKS = search rules in
+    let few : c.args.wait.ticks ≤ MOST_TICKS = search rules in
     let refused = subst (λ (image : Image). AreRefused (verdict_for image devices) fault) (ap (λ (m : Machine). m.image) c.in_ok-machine.ensures) c.in_err-lines.ensures.refused in
-    refused_with read loaded devices (map (λ a. a.now) c.args.asked.now) c.args.ticks old fault c.from_residual-in_err-lines.result (search rules) refused
-    (device_refused read loaded devices c.args.ticks old fault c.in_ok-load_image.ensures few refused)
+    refused_with read loaded devices (map (λ a. a.now) c.args.wait.words.now) c.args.wait.ticks old fault c.from_residual-in_err-lines.result (search rules) refused
+    (device_refused read loaded devices c.args.wait.ticks old fault c.in_ok-load_image.ensures few refused)

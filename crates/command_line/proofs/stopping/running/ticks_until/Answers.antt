@@ -8,7 +8,7 @@ use Rattle.command_line.proofs.stopping.running.ticks_until.Goals as goal
 
 pub loop-left-init : goal.loop-left-init
 loop-left-init g c = record {
-  reached = reached_first (map (λ a. a.now) c.args.asked.now) (machine_of c.args.machine.now).image c.args.devices.now c.args.ticks (g.S.Sink.taken c.args.sink.now) (machine_of c.args.machine.now) c.requires.fresh c.requires.order;
+  reached = reached_first (map (λ a. a.now) c.args.wait.words.now) (machine_of c.args.machine.now).image c.args.devices.now c.args.wait.ticks (g.S.Sink.taken c.args.sink.now) (machine_of c.args.machine.now) c.requires.fresh c.requires.order;
   quiet = refl;
   empty = search rules;
   fresh = search rules;
@@ -80,7 +80,7 @@ returns-then-has_line-clause-trace g c =
     let skipped = skipped_before _ (machine_of c.skip-count.new.self) c.until_line-quiet.result c.skip-count.result _ c.skip-count.ensures c.until_line-quiet.ensures.from in
     let way = reached_still (machine_of c.skip-count.new.self) c.until_line-quiet.result c.skip-count.result (reached_kept mid c.loop-left.invariant.reached c.in_ok-told.ensures.kept) skipped.1 skipped.0 (omega (arith, c.if-count-gt0.false)) in
     let more = subst (Appends mid new) c.as_slice.ensures.value c.in_ok-hand_on.ensures.taken in
-    let found : has_line (map (λ a. a.now) c.args.asked.now) bytes ≡ true = subst (λ text. has_line (map (λ a. a.now) c.args.asked.now) text ≡ true) c.as_slice-in-loop-left.ensures.value (search rules) in
+    let found : has_line (map (λ a. a.now) c.args.wait.words.now) bytes ≡ true = subst (λ text. has_line (map (λ a. a.now) c.args.wait.words.now) text ≡ true) c.as_slice-in-loop-left.ensures.value (search rules) in
     ends_found new (machine_of c.tick_held.new.machine) c.in_ok-lines.lines.now bytes way c.in_ok-lines.ensures.held (omega (arith, c.loop-left-test.true)) more found
 
 pub loop-left-preserved : goal.loop-left-preserved
@@ -92,7 +92,7 @@ loop-left-preserved g c =
     let skipped = skipped_before _ (machine_of c.skip-count.new.self) c.until_line-quiet.result c.skip-count.result _ c.skip-count.ensures c.until_line-quiet.ensures.from in
     let way = reached_still (machine_of c.skip-count.new.self) c.until_line-quiet.result c.skip-count.result (reached_kept mid c.loop-left.invariant.reached c.in_ok-told.ensures.kept) skipped.1 skipped.0 (omega (arith, c.if-count-gt0.false)) in
     let more = subst (Appends mid new) c.as_slice.ensures.value c.in_ok-hand_on.ensures.taken in
-    let without : has_line (map (λ a. a.now) c.args.asked.now) bytes ≡ false = subst (λ text. has_line (map (λ a. a.now) c.args.asked.now) text ≡ false) c.as_slice-in-loop-left.ensures.value (search rules) in
+    let without : has_line (map (λ a. a.now) c.args.wait.words.now) bytes ≡ false = subst (λ text. has_line (map (λ a. a.now) c.args.wait.words.now) text ≡ false) c.as_slice-in-loop-left.ensures.value (search rules) in
     record {
       reached = reached_ticked new (machine_of c.tick_held.new.machine) c.in_ok-lines.lines.now bytes (left - 1) way c.in_ok-lines.ensures.held (omega (arith, c.loop-left-test.true)) more without;
       quiet = search rules;

@@ -5,7 +5,7 @@ use Rattle.command_line.proofs.stopping.running.ticks_until.Given as goal
 
 abbrev pub invariant-loop-left : goal.invariant-loop-left
 invariant-loop-left g l = record {
-  reached : IsReached (map (λ a. a.now) l.fn.asked) (machine_of l.fn.machine).image l.fn.devices l.lines l.fn.ticks l.left (g.S.Sink.taken l.fn.sink) (g.S.Sink.taken l.sink) (machine_of l.machine);
+  reached : IsReached (map (λ a. a.now) l.fn.wait.words.now) (machine_of l.fn.machine).image l.fn.devices l.lines l.fn.wait.ticks l.left (g.S.Sink.taken l.fn.sink) (g.S.Sink.taken l.sink) (machine_of l.machine);
   quiet : g.S.Sink.failures l.sink ≡ g.S.Sink.failures l.fn.sink;
   empty : l.held.writer.items ≡ [];
   fresh : l.held.failures ≡ 0;
