@@ -1,12 +1,11 @@
 -- A loop that adds findings: those that it has added, followed by those of the rest, are all of them.
-use Rattle.std.proofs.Common.{◌≡◌, ℕ, ◌+◌, ◌<◌, ◌≤◌, List, [], ◌∷◌, ◌++◌, length, drop, get_or, length-drop, refl, sym, ap, ◌∙◌, arith}
-use Rattle.std.proofs.lemmas.List.{append_assoc, append-nil, drop_more, nil_from_length}
+use Rattle.std.proofs.Common.{◌≡◌, ℕ, ◌≤◌, List, [], ◌∷◌, ◌++◌, length, drop, length-drop, refl, sym, ap, ◌∙◌, arith}
+use Rattle.std.proofs.lemmas.List.{append_assoc, append-nil, nil_from_length}
 use Rattle.std.proofs.Common.{take, OnOk, Result}
 use Rattle.std.proofs.lemmas.Result.{IfOk-equal}
 use Rattle.std.specs.Prelude.{Bool, ◌||◌}
 use Rattle.std.specs.List.{list_any}
 use Rattle.std.proofs.lemmas.List.{take-map}
-use Rattle.toml.specs.declared.value.Value.{Value}
 use Rattle.module_meaning.specs.TableRules.{is_one_of, same}
 use Rattle.table_findings.specs.declared.finding.Finding.{Finding}
 use Rattle.table_findings.specs.Views.{finding_of, findings_of}
@@ -21,10 +20,7 @@ step all rest own xs others x old new whole cons inv is grows =
 pub done : {X A : Type 0} (all : List X → List A) (xs : List X) (old whole : List A) → all [] ≡ [] → old ++ all xs ≡ whole → xs ≡ [] → old ≡ whole
 done all xs old whole nil inv is = sym (append-nil old) ∙ ap (λ (a : List _). old ++ a) (sym nil) ∙ ap (λ (ys : List _). old ++ all ys) (sym is) ∙ inv
 
--- the next of several values, and what is left after the last
-pub next_value : (vs : List Value) (i : ℕ) (v : Value) → v ≡ get_or vs i v → i < length vs → drop i vs ≡ v ∷ drop (i + 1) vs
-next_value vs i v is here = drop_more vs i v here ∙ ap (λ (x : Value). x ∷ drop (i + 1) vs) (sym is)
-
+-- nothing is left after the last
 pub all_seen : {X : Type 0} (xs : List X) (i : ℕ) → length xs ≤ i → drop i xs ≡ []
 all_seen xs i h = nil_from_length (drop i xs) (omega (arith, length-drop i xs))
 

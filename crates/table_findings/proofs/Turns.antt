@@ -47,9 +47,6 @@ pub passes : {X A B : Type 0} (all rest : List X → A) (look : X → B) (missed
     → ((y : X) (ys : List X) → look y ≡ missed → all (y ∷ ys) ≡ rest ys) → i < length xs → missed ≡ look (get_or xs i d) → all (drop i xs) ≡ whole → rest (drop (i + 1) xs) ≡ whole
 passes all rest look missed xs i d whole past some miss before = sym (at_drop_more all xs i d some ∙ past (get_or xs i d) (drop (i + 1) xs) (sym miss)) ∙ before
 
-pub two_pieces : {A : Type 0} (old one last read mid new : List A) → mid ≡ old ++ one → new ≡ mid ++ read → read ≡ last → new ≡ old ++ (one ++ last)
-two_pieces old one last read mid new first second is = second ∙ ap (λ (a : List _). mid ++ a) is ∙ ap (λ (a : List _). a ++ last) first ∙ append_assoc old one last
-
 pub and_left : (a b : Bool) → a ≡ false → false ≡ (a && b)
 and_left a b wrong = rw wrong
 
