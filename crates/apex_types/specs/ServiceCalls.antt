@@ -4,6 +4,10 @@ use Rattle.apex_types.specs.declared.service.Service.{Service}
 use Rattle.apex_types.specs.declared.service.Service.TheVariants as service
 use Rattle.apex_types.specs.declared.service.Call.{Call}
 use Rattle.apex_types.specs.declared.service.Call.TheVariants as call
+use Rattle.apex_types.specs.declared.service.ObjectCall.{ObjectCall}
+use Rattle.apex_types.specs.declared.service.ObjectCall.TheVariants as object
+use Rattle.apex_types.specs.declared.service.PortCall.{PortCall}
+use Rattle.apex_types.specs.declared.service.PortCall.TheVariants as port
 use Rattle.apex_types.specs.declared.service.ArrayPlace.{ArrayPlace}
 
 abbrev pub argument : List ℤ → ℕ → ℤ
@@ -34,54 +38,62 @@ call_of service.TimedWait words = call.TimedWait (argument words 0)
 call_of service.PeriodicWait words = call.PeriodicWait
 call_of service.GetTime words = call.GetTime
 call_of service.Replenish words = call.Replenish (argument words 0)
-call_of service.CreateBuffer words = call.CreateBuffer (argument words 0)
-call_of service.SendBuffer words = call.SendBuffer (argument words 0) (array_argument words 1) (argument words 3) (argument words 4)
-call_of service.ReceiveBuffer words = call.ReceiveBuffer (argument words 0) (array_argument words 1) (argument words 3)
-call_of service.GetBufferId words = call.GetBufferId (argument words 0)
-call_of service.GetBufferStatus words = call.GetBufferStatus (argument words 0)
-call_of service.CreateBlackboard words = call.CreateBlackboard (argument words 0)
-call_of service.DisplayBlackboard words = call.DisplayBlackboard (argument words 0) (array_argument words 1) (argument words 3)
-call_of service.ReadBlackboard words = call.ReadBlackboard (argument words 0) (array_argument words 1) (argument words 3)
-call_of service.ClearBlackboard words = call.ClearBlackboard (argument words 0)
-call_of service.GetBlackboardId words = call.GetBlackboardId (argument words 0)
-call_of service.GetBlackboardStatus words = call.GetBlackboardStatus (argument words 0)
-call_of service.CreateSemaphore words = call.CreateSemaphore (argument words 0)
-call_of service.WaitSemaphore words = call.WaitSemaphore (argument words 0) (argument words 1)
-call_of service.SignalSemaphore words = call.SignalSemaphore (argument words 0)
-call_of service.GetSemaphoreId words = call.GetSemaphoreId (argument words 0)
-call_of service.GetSemaphoreStatus words = call.GetSemaphoreStatus (argument words 0)
-call_of service.CreateEvent words = call.CreateEvent (argument words 0)
-call_of service.SetEvent words = call.SetEvent (argument words 0)
-call_of service.ResetEvent words = call.ResetEvent (argument words 0)
-call_of service.WaitEvent words = call.WaitEvent (argument words 0) (argument words 1)
-call_of service.GetEventId words = call.GetEventId (argument words 0)
-call_of service.GetEventStatus words = call.GetEventStatus (argument words 0)
-call_of service.CreateSamplingPort words = call.CreateSamplingPort (argument words 0)
-call_of service.WriteSamplingMessage words = call.WriteSamplingMessage (argument words 0) (array_argument words 1) (argument words 3)
-call_of service.ReadSamplingMessage words = call.ReadSamplingMessage (argument words 0) (array_argument words 1)
-call_of service.GetSamplingPortId words = call.GetSamplingPortId (argument words 0)
-call_of service.GetSamplingPortStatus words = call.GetSamplingPortStatus (argument words 0)
-call_of service.CreateQueuingPort words = call.CreateQueuingPort (argument words 0)
-call_of service.SendQueuingMessage words = call.SendQueuingMessage (argument words 0) (array_argument words 1) (argument words 3) (argument words 4)
-call_of service.ReceiveQueuingMessage words = call.ReceiveQueuingMessage (argument words 0) (array_argument words 1) (argument words 3)
-call_of service.GetQueuingPortId words = call.GetQueuingPortId (argument words 0)
-call_of service.GetQueuingPortStatus words = call.GetQueuingPortStatus (argument words 0)
-call_of service.ClearQueuingPort words = call.ClearQueuingPort (argument words 0)
+call_of service.CreateBuffer words = call.Object (object.CreateBuffer (argument words 0))
+call_of service.SendBuffer words = call.Object (object.SendBuffer (argument words 0) (array_argument words 1) (argument words 3) (argument words 4))
+call_of service.ReceiveBuffer words = call.Object (object.ReceiveBuffer (argument words 0) (array_argument words 1) (argument words 3))
+call_of service.GetBufferId words = call.Object (object.GetBufferId (argument words 0))
+call_of service.GetBufferStatus words = call.Object (object.GetBufferStatus (argument words 0))
+call_of service.CreateBlackboard words = call.Object (object.CreateBlackboard (argument words 0))
+call_of service.DisplayBlackboard words = call.Object (object.DisplayBlackboard (argument words 0) (array_argument words 1) (argument words 3))
+call_of service.ReadBlackboard words = call.Object (object.ReadBlackboard (argument words 0) (array_argument words 1) (argument words 3))
+call_of service.ClearBlackboard words = call.Object (object.ClearBlackboard (argument words 0))
+call_of service.GetBlackboardId words = call.Object (object.GetBlackboardId (argument words 0))
+call_of service.GetBlackboardStatus words = call.Object (object.GetBlackboardStatus (argument words 0))
+call_of service.CreateSemaphore words = call.Object (object.CreateSemaphore (argument words 0))
+call_of service.WaitSemaphore words = call.Object (object.WaitSemaphore (argument words 0) (argument words 1))
+call_of service.SignalSemaphore words = call.Object (object.SignalSemaphore (argument words 0))
+call_of service.GetSemaphoreId words = call.Object (object.GetSemaphoreId (argument words 0))
+call_of service.GetSemaphoreStatus words = call.Object (object.GetSemaphoreStatus (argument words 0))
+call_of service.CreateEvent words = call.Object (object.CreateEvent (argument words 0))
+call_of service.SetEvent words = call.Object (object.SetEvent (argument words 0))
+call_of service.ResetEvent words = call.Object (object.ResetEvent (argument words 0))
+call_of service.WaitEvent words = call.Object (object.WaitEvent (argument words 0) (argument words 1))
+call_of service.GetEventId words = call.Object (object.GetEventId (argument words 0))
+call_of service.GetEventStatus words = call.Object (object.GetEventStatus (argument words 0))
+call_of service.CreateSamplingPort words = call.Port (port.CreateSamplingPort (argument words 0))
+call_of service.WriteSamplingMessage words = call.Port (port.WriteSamplingMessage (argument words 0) (array_argument words 1) (argument words 3))
+call_of service.ReadSamplingMessage words = call.Port (port.ReadSamplingMessage (argument words 0) (array_argument words 1))
+call_of service.GetSamplingPortId words = call.Port (port.GetSamplingPortId (argument words 0))
+call_of service.GetSamplingPortStatus words = call.Port (port.GetSamplingPortStatus (argument words 0))
+call_of service.CreateQueuingPort words = call.Port (port.CreateQueuingPort (argument words 0))
+call_of service.SendQueuingMessage words = call.Port (port.SendQueuingMessage (argument words 0) (array_argument words 1) (argument words 3) (argument words 4))
+call_of service.ReceiveQueuingMessage words = call.Port (port.ReceiveQueuingMessage (argument words 0) (array_argument words 1) (argument words 3))
+call_of service.GetQueuingPortId words = call.Port (port.GetQueuingPortId (argument words 0))
+call_of service.GetQueuingPortStatus words = call.Port (port.GetQueuingPortStatus (argument words 0))
+call_of service.ClearQueuingPort words = call.Port (port.ClearQueuingPort (argument words 0))
 call_of service.ReportApplicationMessage words = call.ReportApplicationMessage (array_argument words 0) (argument words 2)
 call_of service.CreateErrorHandler words = call.CreateErrorHandler
 call_of service.GetErrorStatus words = call.GetErrorStatus (array_argument words 0)
 call_of service.RaiseApplicationError words = call.RaiseApplicationError (argument words 0) (array_argument words 1) (argument words 3)
 
 -- the array argument of a call, if it has one
+abbrev pub array_of_object : ObjectCall → Option ArrayPlace
+array_of_object (object.SendBuffer _ a _ _) = Some a
+array_of_object (object.ReceiveBuffer _ a _) = Some a
+array_of_object (object.DisplayBlackboard _ a _) = Some a
+array_of_object (object.ReadBlackboard _ a _) = Some a
+array_of_object _ = None
+
+abbrev pub array_of_port : PortCall → Option ArrayPlace
+array_of_port (port.WriteSamplingMessage _ a _) = Some a
+array_of_port (port.ReadSamplingMessage _ a) = Some a
+array_of_port (port.SendQueuingMessage _ a _ _) = Some a
+array_of_port (port.ReceiveQueuingMessage _ a _) = Some a
+array_of_port _ = None
+
 abbrev pub array_of : Call → Option ArrayPlace
-array_of (call.SendBuffer _ a _ _) = Some a
-array_of (call.ReceiveBuffer _ a _) = Some a
-array_of (call.DisplayBlackboard _ a _) = Some a
-array_of (call.ReadBlackboard _ a _) = Some a
-array_of (call.WriteSamplingMessage _ a _) = Some a
-array_of (call.ReadSamplingMessage _ a) = Some a
-array_of (call.SendQueuingMessage _ a _ _) = Some a
-array_of (call.ReceiveQueuingMessage _ a _) = Some a
+array_of (call.Object c) = array_of_object c
+array_of (call.Port c) = array_of_port c
 array_of (call.ReportApplicationMessage a _) = Some a
 array_of (call.GetErrorStatus a) = Some a
 array_of (call.RaiseApplicationError _ a _) = Some a

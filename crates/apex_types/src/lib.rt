@@ -47,7 +47,7 @@ pub use row::{
     BlackboardRow, BodyRow, BufferRow, ChannelEnd, HealthTable, PortDirection, PortKind, PortRow,
     ProcessRow, RoutineRow, Section, SemaphoreRow, WindowRow,
 };
-pub use service::{ArrayPlace, Call, SERVICES, Service};
+pub use service::{ArrayPlace, Call, ObjectCall, PortCall, SERVICES, Service};
 pub use shape::{ArgumentKind, ServiceClass, Shape};
 pub use sink::{Sink, SinkFault, WriterSink, put_all};
 pub use text::{TraceBuffer, write_event};

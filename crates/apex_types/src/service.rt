@@ -215,6 +215,28 @@ pub enum Call {
     Replenish {
         budget: i64,
     },
+    ReportApplicationMessage {
+        array: ArrayPlace,
+        length: i64,
+    },
+    CreateErrorHandler,
+    GetErrorStatus {
+        array: ArrayPlace,
+    },
+    RaiseApplicationError {
+        error: i64,
+        array: ArrayPlace,
+        length: i64,
+    },
+    /// A call on a semaphore, an event, a buffer or a blackboard.
+    Object(ObjectCall),
+    /// A call on a port.
+    Port(PortCall),
+}
+
+/// A call of a service on semaphores, events, buffers or blackboards, with its arguments.
+#[derive(Clone, Copy)]
+pub enum ObjectCall {
     CreateBuffer {
         name: i64,
     },
@@ -292,6 +314,11 @@ pub enum Call {
     GetEventStatus {
         event: i64,
     },
+}
+
+/// A call of a service on ports, with its arguments.
+#[derive(Clone, Copy)]
+pub enum PortCall {
     CreateSamplingPort {
         name: i64,
     },
@@ -332,18 +359,5 @@ pub enum Call {
     },
     ClearQueuingPort {
         port: i64,
-    },
-    ReportApplicationMessage {
-        array: ArrayPlace,
-        length: i64,
-    },
-    CreateErrorHandler,
-    GetErrorStatus {
-        array: ArrayPlace,
-    },
-    RaiseApplicationError {
-        error: i64,
-        array: ArrayPlace,
-        length: i64,
     },
 }

@@ -2,7 +2,8 @@
 use Rattle.isolation.proofs.Prelude.{ℕ, ℤ, Bool, List, ◌∷◌, length, Option, Some, None, nat_lt, pos, if◌then◌else◌, ArrayVec, Mode, At, Runner, ProcessStatus, Waiting, PortRow, ArrayPlace, Call, Objects, Sharing, on, Step, message, blocks, first_waiting, waiting}
 use Rattle.std.proofs.Common.{[]}
 use Rattle.apex_types.specs.declared.codes.ReturnCode.TheVariants as code
-use Rattle.apex_types.specs.declared.service.Call.TheVariants as call
+use Rattle.apex_types.specs.declared.service.ObjectCall.{ObjectCall}
+use Rattle.apex_types.specs.declared.service.ObjectCall.TheVariants as object
 use Rattle.kernel_meaning.specs.BlackboardServices as blackboards
 use Rattle.kernel_meaning.specs.BufferServices as buffers
 use Rattle.kernel_meaning.specs.EventServices as events
@@ -109,13 +110,13 @@ module _ (rows : List PortRow) where
     read_blackboard_sound at id array limit = search (either, on_sound, reads_shown_sound)
 
     -- Each service on objects. The last clause is for the services that change no process.
-    pub objects_sound : (m : Mode) (at : At) (c : Call) (words : List ℤ) → IsKept (serves_objects m at b p c words)
-    objects_sound m at (call.SendBuffer id array size limit) words = send_buffer_sound at id array size limit words
-    objects_sound m at (call.ReceiveBuffer id array limit) words = receive_buffer_sound at id array limit
-    objects_sound m at (call.DisplayBlackboard id array size) words = display_blackboard_sound id array size words
-    objects_sound m at (call.ReadBlackboard id array limit) words = read_blackboard_sound at id array limit
-    objects_sound m at (call.WaitSemaphore id limit) words = wait_semaphore_sound at id limit
-    objects_sound m at (call.SignalSemaphore id) words = signal_semaphore_sound id
-    objects_sound m at (call.SetEvent id) words = set_event_sound id
-    objects_sound m at (call.WaitEvent id limit) words = wait_event_sound at id limit
+    pub objects_sound : (m : Mode) (at : At) (c : ObjectCall) (words : List ℤ) → IsKept (serves_objects m at b p c words)
+    objects_sound m at (object.SendBuffer id array size limit) words = send_buffer_sound at id array size limit words
+    objects_sound m at (object.ReceiveBuffer id array limit) words = receive_buffer_sound at id array limit
+    objects_sound m at (object.DisplayBlackboard id array size) words = display_blackboard_sound id array size words
+    objects_sound m at (object.ReadBlackboard id array limit) words = read_blackboard_sound at id array limit
+    objects_sound m at (object.WaitSemaphore id limit) words = wait_semaphore_sound at id limit
+    objects_sound m at (object.SignalSemaphore id) words = signal_semaphore_sound id
+    objects_sound m at (object.SetEvent id) words = set_event_sound id
+    objects_sound m at (object.WaitEvent id limit) words = wait_event_sound at id limit
     objects_sound m at c words = search (either, on_sound)

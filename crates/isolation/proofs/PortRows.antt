@@ -3,6 +3,8 @@ use Rattle.isolation.proofs.Prelude.{◌≡◌, ℕ, zero, suc, ◌≤◌, ℤ, 
 use Rattle.std.proofs.Common.{[], refl, ap, subst}
 use Rattle.apex_types.specs.declared.codes.ReturnCode.TheVariants as code
 use Rattle.apex_types.specs.declared.service.Call.TheVariants as call
+use Rattle.apex_types.specs.declared.service.PortCall.{PortCall}
+use Rattle.apex_types.specs.declared.service.PortCall.TheVariants as port
 use Rattle.apex_types.specs.declared.service.Service.TheVariants as service
 use Rattle.kernel_meaning.specs.Objects.{numbered_in, placed}
 use Rattle.kernel_meaning.specs.Objects.{sampling, queuing, those_sampling, those_queuing, if_sampling, unless_sampling}
@@ -149,16 +151,16 @@ module _ (rows : List PortRow) where
         one k z f goes (m ∷ rest) = put_sound k z (record z { messages = rest; overflowed = false }) f refl (λ g source. absurd (never z goes source))
 
     -- Each service on ports, with what its call hands in out of data that its array is within.
-    pub ports_sound : AreShort rows → (m : Mode) (at : At) (p : Runner) (c : Call) (words : List ℤ) → AsksWithin (length words) (Calls c) → Sound (serves_ports m at b p c (given (Calls c) words))
-    ports_sound short m at p (call.CreateSamplingPort name) words within = create_sound m p service.CreateSamplingPort name (sampling b.shared name) (sampling_found name)
-    ports_sound short m at p (call.WriteSamplingMessage id array size) words within = write_sound short p id array size _ (λ most few e. handed_length array size words most few within e)
-    ports_sound short m at p (call.ReadSamplingMessage id array) words within = read_sound at p id array
-    ports_sound short m at p (call.GetSamplingPortId name) words within = get_id_sound p service.GetSamplingPortId name (sampling b.shared name)
-    ports_sound short m at p (call.GetSamplingPortStatus id) words within = get_status_sound p service.GetSamplingPortStatus (sampling b.shared id) _
-    ports_sound short m at p (call.CreateQueuingPort name) words within = create_sound m p service.CreateQueuingPort name (queuing b.shared name) (queuing_found name)
-    ports_sound short m at p (call.SendQueuingMessage id array size limit) words within = send_sound short at p id array size limit _ (λ most few e. handed_length array size words most few within e)
-    ports_sound short m at p (call.ReceiveQueuingMessage id array limit) words within = receive_sound at p id array limit
-    ports_sound short m at p (call.GetQueuingPortId name) words within = get_id_sound p service.GetQueuingPortId name (queuing b.shared name)
-    ports_sound short m at p (call.GetQueuingPortStatus id) words within = get_status_sound p service.GetQueuingPortStatus (queuing b.shared id) _
-    ports_sound short m at p (call.ClearQueuingPort id) words within = clear_sound p id
+    pub ports_sound : AreShort rows → (m : Mode) (at : At) (p : Runner) (c : PortCall) (words : List ℤ) → AsksWithin (length words) (Calls (call.Port c)) → Sound (serves_ports m at b p c (given (Calls (call.Port c)) words))
+    ports_sound short m at p (port.CreateSamplingPort name) words within = create_sound m p service.CreateSamplingPort name (sampling b.shared name) (sampling_found name)
+    ports_sound short m at p (port.WriteSamplingMessage id array size) words within = write_sound short p id array size _ (λ most few e. handed_length array size words most few within e)
+    ports_sound short m at p (port.ReadSamplingMessage id array) words within = read_sound at p id array
+    ports_sound short m at p (port.GetSamplingPortId name) words within = get_id_sound p service.GetSamplingPortId name (sampling b.shared name)
+    ports_sound short m at p (port.GetSamplingPortStatus id) words within = get_status_sound p service.GetSamplingPortStatus (sampling b.shared id) _
+    ports_sound short m at p (port.CreateQueuingPort name) words within = create_sound m p service.CreateQueuingPort name (queuing b.shared name) (queuing_found name)
+    ports_sound short m at p (port.SendQueuingMessage id array size limit) words within = send_sound short at p id array size limit _ (λ most few e. handed_length array size words most few within e)
+    ports_sound short m at p (port.ReceiveQueuingMessage id array limit) words within = receive_sound at p id array limit
+    ports_sound short m at p (port.GetQueuingPortId name) words within = get_id_sound p service.GetQueuingPortId name (queuing b.shared name)
+    ports_sound short m at p (port.GetQueuingPortStatus id) words within = get_status_sound p service.GetQueuingPortStatus (queuing b.shared id) _
+    ports_sound short m at p (port.ClearQueuingPort id) words within = clear_sound p id
     ports_sound short m at p c words within = h

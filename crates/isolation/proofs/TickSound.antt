@@ -5,13 +5,14 @@ use Rattle.apex_types.specs.declared.codes.ReturnCode.TheVariants as code
 use Rattle.apex_types.specs.declared.identity.Runner.TheVariants as runner
 use Rattle.apex_types.specs.declared.process.Due.TheVariants as due_time
 use Rattle.apex_types.specs.declared.service.Call.TheVariants as call
+use Rattle.apex_types.specs.declared.service.ObjectCall.{ObjectCall}
+use Rattle.apex_types.specs.declared.service.PortCall.{PortCall}
 use Rattle.kernel_meaning.specs.Times.{Treated, timed_out, ends_wait, treats_due, misses, treats_deadline, treats, due_from, is_past, tick_of}
 use Rattle.kernel_meaning.specs.HealthServices.{starts_handler, begins_if_dormant, is_message_length, is_waiting}
 use Rattle.kernel_meaning.specs.Kernel.{with_objects}
 use Rattle.kernel_meaning.specs.Partition as partition
-use Rattle.kernel_meaning.specs.Partition.{preempts, runs, leaves_processor, takes_processor, are_same, pick, chooses, ticked_some, serves_processes, serves_shared}
+use Rattle.kernel_meaning.specs.Partition.{preempts, runs, leaves_processor, takes_processor, are_same, pick, chooses, ticked_some}
 use Rattle.kernel_meaning.specs.Processes.{is_dormant}
-use Rattle.kernel_meaning.specs.PortServices.{is_on_ports}
 use Rattle.kernel_meaning.specs.ProcessServices.{number_of}
 use Rattle.kernel_meaning.specs.Times.{released_at}
 use Rattle.isolation.proofs.ErrorRows.{either as either_kernel, create_handler_sound, error_status_sound, ends_body_sound, set_mode_sound, raise_sound, faults_sound}
@@ -104,36 +105,13 @@ module _ (rows : List PortRow) where
     so : (s : Processes) → Sound s → IsSound rows k.ports.ports s
     so s g = record { holding = h.holding; processes = g }
 
-    on_ports_sound : (c : Call) (words : List ℤ) → AsksWithin (length words) (Calls c) → IsKept (partition.serves_ports at k p c (given (Calls c) words))
+    on_ports_sound : (c : PortCall) (words : List ℤ) → AsksWithin (length words) (Calls (call.Port c)) → IsKept (partition.serves_ports at k p c (given (Calls (call.Port c)) words))
     on_ports_sound c words within =
         let g = ports_sound rows (with_ports k) (record { holding = h.holding; processes = h.processes }) short k.mode at p c words within in
         record { holding = g.holding; processes = g.processes }
 
-    on_objects_sound : (c : Call) (words : List ℤ) → IsKept (partition.serves_objects at k p c words)
+    on_objects_sound : (c : ObjectCall) (words : List ℤ) → IsKept (partition.serves_objects at k p c words)
     on_objects_sound c words = record { holding = h.holding; processes = objects_sound rows (with_objects k) h.processes p k.mode at c words }
-
-    shared_sound : (c : Call) (words : List ℤ) → AsksWithin (length words) (Calls c) → IsKept (serves_shared at k p c (given (Calls c) words))
-    shared_sound c words within = either_kernel rows (is_on_ports c) _ _ (on_ports_sound c words within) (on_objects_sound c (given (Calls c) words))
-
-    processes_sound : (c : Call) (words : List ℤ) → AsksWithin (length words) (Calls c) → IsKept (serves_processes at k p c (given (Calls c) words))
-    processes_sound (call.GetProcessId name) words within = so _ (get_process_id_sound rows k.processes h.processes p name)
-    processes_sound (call.GetProcessStatus id) words within = so _ (get_process_status_sound rows k.processes h.processes p id)
-    processes_sound (call.CreateProcess name) words within = so _ (create_process_sound rows k.processes h.processes p k.mode name)
-    processes_sound (call.SetPriority id v) words within = so _ (set_priority_sound rows k.processes h.processes p id v)
-    processes_sound (call.SuspendSelf limit) words within = so _ (suspend_self_sound rows k.processes h.processes p at limit)
-    processes_sound (call.Suspend id) words within = so _ (suspend_sound rows k.processes h.processes p id)
-    processes_sound (call.Resume id) words within = so _ (resume_sound rows k.processes h.processes p id)
-    processes_sound (call.Stop id) words within = so _ (stop_sound rows k.processes h.processes p id)
-    processes_sound (call.Start id) words within = so _ (start_sound rows k.processes h.processes p k.mode at (next_release_of at k) id)
-    processes_sound (call.DelayedStart id delay) words within = so _ (delayed_start_sound rows k.processes h.processes p k.mode at (next_release_of at k) id delay)
-    processes_sound call.LockPreemption words within = so _ (lock_preemption_sound rows k.processes h.processes p k.mode)
-    processes_sound call.UnlockPreemption words within = so _ (unlock_preemption_sound rows k.processes h.processes p k.mode)
-    processes_sound call.GetMyId words within = so _ (get_my_id_sound rows k.processes h.processes p (number_of p))
-    processes_sound (call.TimedWait delay) words within = so _ (timed_wait_sound rows k.processes h.processes p at delay)
-    processes_sound call.PeriodicWait words within = so _ (periodic_wait_sound rows k.processes h.processes p)
-    processes_sound call.GetTime words within = h
-    processes_sound (call.Replenish budget) words within = so _ (replenish_sound rows k.processes h.processes p k.mode at budget)
-    processes_sound c words within = shared_sound c words within
 
     -- Each service, with what its call hands in.
     serves_sound : (c : Call) (words : List ℤ) → AsksWithin (length words) (Calls c) → IsKept (serves at k p c (given (Calls c) words))
@@ -144,7 +122,25 @@ module _ (rows : List PortRow) where
     serves_sound call.CreateErrorHandler words within = record { holding = h.holding; processes = create_handler_sound rows (with_errors k) h.processes p k.mode }
     serves_sound (call.GetErrorStatus array) words within = record { holding = h.holding; processes = error_status_sound rows (with_errors k) h.processes p array }
     serves_sound (call.RaiseApplicationError e array size) words within = raise_sound rows k p e array size _ h
-    serves_sound c words within = processes_sound c words within
+    serves_sound (call.GetProcessId name) words within = so _ (get_process_id_sound rows k.processes h.processes p name)
+    serves_sound (call.GetProcessStatus id) words within = so _ (get_process_status_sound rows k.processes h.processes p id)
+    serves_sound (call.CreateProcess name) words within = so _ (create_process_sound rows k.processes h.processes p k.mode name)
+    serves_sound (call.SetPriority id v) words within = so _ (set_priority_sound rows k.processes h.processes p id v)
+    serves_sound (call.SuspendSelf limit) words within = so _ (suspend_self_sound rows k.processes h.processes p at limit)
+    serves_sound (call.Suspend id) words within = so _ (suspend_sound rows k.processes h.processes p id)
+    serves_sound (call.Resume id) words within = so _ (resume_sound rows k.processes h.processes p id)
+    serves_sound (call.Stop id) words within = so _ (stop_sound rows k.processes h.processes p id)
+    serves_sound (call.Start id) words within = so _ (start_sound rows k.processes h.processes p k.mode at (next_release_of at k) id)
+    serves_sound (call.DelayedStart id delay) words within = so _ (delayed_start_sound rows k.processes h.processes p k.mode at (next_release_of at k) id delay)
+    serves_sound call.LockPreemption words within = so _ (lock_preemption_sound rows k.processes h.processes p k.mode)
+    serves_sound call.UnlockPreemption words within = so _ (unlock_preemption_sound rows k.processes h.processes p k.mode)
+    serves_sound call.GetMyId words within = so _ (get_my_id_sound rows k.processes h.processes p (number_of p))
+    serves_sound (call.TimedWait delay) words within = so _ (timed_wait_sound rows k.processes h.processes p at delay)
+    serves_sound call.PeriodicWait words within = so _ (periodic_wait_sound rows k.processes h.processes p)
+    serves_sound call.GetTime words within = h
+    serves_sound (call.Replenish budget) words within = so _ (replenish_sound rows k.processes h.processes p k.mode at budget)
+    serves_sound (call.Object c) words within = on_objects_sound c (given (Calls (call.Object c)) words)
+    serves_sound (call.Port c) words within = on_ports_sound c words within
 
     asked_sound : (a : Asks) (words : List ℤ) → AsksWithin (length words) a → IsKept (treats_asked at k p a (given a words))
     asked_sound Nothing words within = h

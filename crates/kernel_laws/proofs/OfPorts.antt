@@ -5,6 +5,8 @@ use Rattle.std.specs.Prelude.{length}
 use Rattle.apex_types.specs.declared.codes.ReturnCode.TheVariants as code
 use Rattle.apex_types.specs.declared.identity.Runner.TheVariants as runner
 use Rattle.apex_types.specs.declared.service.Call.TheVariants as call
+use Rattle.apex_types.specs.declared.service.PortCall.{PortCall}
+use Rattle.apex_types.specs.declared.service.PortCall.TheVariants as port
 use Rattle.apex_types.specs.declared.service.Service.TheVariants as service
 use Rattle.kernel_meaning.specs.PortServices.{admits, all_enter, arrived, arrives, arrives_at, arrives_queuing, enters_found, enters_port, is_lost}
 use Rattle.kernel_meaning.specs.PortServices.{becomes_port, clear_queuing_port, clears_port, code_of_receive, create_queuing_port, create_sampling_port, creates, is_created, is_valid, list, read_sampling_message, reads_sample, receive_queuing_message, receiver, receives, send_queuing_message, sender, sends, serves_ports, validity_number, write_sampling_message, writes_sample}
@@ -131,14 +133,14 @@ module _ (d : ListKey → Discipline) (names : ℕ → List ℕ) where
       (λ k. puts may b f.0 (record f.1 { messages = []; overflowed = false }) k (queuing_fits b id f k e))))
 
   -- The last clause is for services that only write lines.
-  pub serves_ports_shares : (m : Mode) (at : At) (b : Sharing Ports) (p : Runner) (c : Call) (words : List ℤ) → Set b → To (may_by p c) b (serves_ports m at b p c words)
-  serves_ports_shares m at b p (call.CreateSamplingPort name) words h = create_sampling_port_shares (may_by p (call.CreateSamplingPort name)) m b p name h
-  serves_ports_shares m at b p (call.WriteSamplingMessage id array length) words h = write_sampling_message_shares (may_by p (call.WriteSamplingMessage id array length)) b p id array length words h
-  serves_ports_shares m at b p (call.ReadSamplingMessage id array) words h = read_sampling_message_shares (may_by p (call.ReadSamplingMessage id array)) at b p id array h
-  serves_ports_shares m at b p (call.CreateQueuingPort name) words h = create_queuing_port_shares (may_by p (call.CreateQueuingPort name)) m b p name h
-  serves_ports_shares m at b p (call.SendQueuingMessage id array length limit) words h = send_queuing_message_shares (may_by p (call.SendQueuingMessage id array length limit)) at b p id array length limit words h refl
-  serves_ports_shares m at b p (call.ReceiveQueuingMessage id array limit) words h = receive_queuing_message_shares (may_by p (call.ReceiveQueuingMessage id array limit)) at b p id array limit h refl
-  serves_ports_shares m at b p (call.ClearQueuingPort id) words h = clear_queuing_port_shares (may_by p (call.ClearQueuingPort id)) b p id h
+  pub serves_ports_shares : (m : Mode) (at : At) (b : Sharing Ports) (p : Runner) (c : PortCall) (words : List ℤ) → Set b → To (may_by p (call.Port c)) b (serves_ports m at b p c words)
+  serves_ports_shares m at b p (port.CreateSamplingPort name) words h = create_sampling_port_shares (may_by p (call.Port (port.CreateSamplingPort name))) m b p name h
+  serves_ports_shares m at b p (port.WriteSamplingMessage id array length) words h = write_sampling_message_shares (may_by p (call.Port (port.WriteSamplingMessage id array length))) b p id array length words h
+  serves_ports_shares m at b p (port.ReadSamplingMessage id array) words h = read_sampling_message_shares (may_by p (call.Port (port.ReadSamplingMessage id array))) at b p id array h
+  serves_ports_shares m at b p (port.CreateQueuingPort name) words h = create_queuing_port_shares (may_by p (call.Port (port.CreateQueuingPort name))) m b p name h
+  serves_ports_shares m at b p (port.SendQueuingMessage id array length limit) words h = send_queuing_message_shares (may_by p (call.Port (port.SendQueuingMessage id array length limit))) at b p id array length limit words h refl
+  serves_ports_shares m at b p (port.ReceiveQueuingMessage id array limit) words h = receive_queuing_message_shares (may_by p (call.Port (port.ReceiveQueuingMessage id array limit))) at b p id array limit h refl
+  serves_ports_shares m at b p (port.ClearQueuingPort id) words h = clear_queuing_port_shares (may_by p (call.Port (port.ClearQueuingPort id))) b p id h
   serves_ports_shares m at b p c words h = search (get_id_shares, get_status_shares, nothing_shares)
 
   -- ---- arrival

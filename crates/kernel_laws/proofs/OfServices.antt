@@ -1,5 +1,5 @@
 -- The services and the choice continue the numbers.
-use Rattle.kernel_laws.proofs.Prelude.{Bool, List, None, Option, Some, false, refl, true, ℕ, ℤ, ◌∙◌, ◌∷◌, ◌≡◌, if◌then◌else◌, not, ◌&&◌, place_of, Discipline, Mode, Ready, Running, At, ListKey, Runner, ProcessStatus, WaitingError, ArrayPlace, Call, Asks, Nothing, Calls, Faults, Ends, Errors, begins_if_dormant, create_error_handler, creates_found, get_error_status, is_message_length, is_waiting, starts_handler, takes_error, Kernel, of_objects, of_ports, with_errors, with_objects, with_ports, chooses_with_handler, pick, treats_asked, are_same, chooses, leaves_processor, preempts, runs, serves, serves_processes, serves_shared, takes_processor, next_release_of, number_of, Processes, is_dormant, is_normal, put_ready, put_unready, row_of, is_same, Sharing, is_large_enough, begins, Step, after, lifted, nothing, Goes, subject_at, May, nobody, may_by, may_asked}
+use Rattle.kernel_laws.proofs.Prelude.{Bool, List, None, Option, Some, false, refl, true, ℕ, ℤ, ◌∙◌, ◌∷◌, ◌≡◌, if◌then◌else◌, not, ◌&&◌, place_of, Discipline, Mode, Ready, Running, At, ListKey, Runner, ProcessStatus, WaitingError, ArrayPlace, Call, Asks, Nothing, Calls, Faults, Ends, Errors, begins_if_dormant, create_error_handler, creates_found, get_error_status, is_message_length, is_waiting, starts_handler, takes_error, Kernel, of_objects, of_ports, with_errors, with_objects, with_ports, chooses_with_handler, pick, treats_asked, are_same, chooses, leaves_processor, preempts, runs, serves, takes_processor, next_release_of, number_of, Processes, is_dormant, is_normal, put_ready, put_unready, row_of, is_same, Sharing, is_large_enough, begins, Step, after, lifted, nothing, Goes, subject_at, May, nobody, may_by, may_asked}
 use Rattle.std.proofs.Common.{[]}
 use Rattle.std.specs.Prelude.{length}
 use Rattle.apex_types.specs.declared.limits.TheConstants.{MOST_REPORT_WORDS}
@@ -11,9 +11,7 @@ use Rattle.apex_types.specs.declared.service.Call.TheVariants as call
 use Rattle.apex_types.specs.declared.service.Service.TheVariants as service
 use Rattle.kernel_meaning.specs.HealthServices.{error_status, is_handler_created, report}
 use Rattle.kernel_meaning.specs.Kernel.{of_errors}
-use Rattle.kernel_meaning.specs.ObjectServices as objects
 use Rattle.kernel_meaning.specs.PartitionServices.{status_of}
-use Rattle.kernel_meaning.specs.PortServices as ports
 use Rattle.kernel_meaning.specs.Processes.{refuses}
 use Rattle.kernel_meaning.specs.Sharing as sharing
 use Rattle.kernel_laws.proofs.OfKernel.{Moves, IsReady, of_moves, of_objects_moves, of_ports_moves, set_mode_moves, ends_body_moves, raise_moves, faults_moves}
@@ -25,44 +23,6 @@ use Rattle.kernel_laws.proofs.Shares.{Shares, IsSet, row_shares, after_shares, b
 use Rattle.kernel_laws.proofs.NumberSteps.{Named, nothing_goes, after_goes, put_goes, row_is_of, refuse_goes, answer_goes, row_goes}
 
 module _ (d : ListKey → Discipline) (names : ℕ → List ℕ) where
-  shared_moves : (at : At) (k : Kernel) (p : Runner) (c : Call) (words : List ℤ) → IsReady d names k → Moves d names (may_by p c) k (serves_shared at k p c words)
-  shared_moves at k p c words h = either (ports.is_on_ports c)
-    where
-      either : (b : Bool)
-          → Moves d names (may_by p c) k (if b then of_ports k (ports.serves_ports k.mode at (with_ports k) p c words) else of_objects k (objects.serves_objects k.mode at (with_objects k) p c words))
-      either true = of_ports_moves d names (may_by p c) k _ h (serves_ports_shares d names k.mode at (with_ports k) p c words (record { named = h.named; fit = h.ports }))
-      either false = of_objects_moves d names (may_by p c) k _ h (serves_objects_shares d names k.mode at (with_objects k) p c words (record { named = h.named; fit = h.objects }))
-
-  processes_moves : (at : At) (k : Kernel) (p : Runner) (c : Call) (words : List ℤ) → IsReady d names k → Moves d names (may_by p c) k (serves_processes at k p c words)
-  processes_moves at k p (call.GetProcessId name) words h =
-      of_moves d names (may_by p (call.GetProcessId name)) k _ h (get_process_id_goes d names (may_by p (call.GetProcessId name)) k.processes p name h.named)
-  processes_moves at k p (call.GetProcessStatus id) words h =
-      of_moves d names (may_by p (call.GetProcessStatus id)) k _ h (get_process_status_goes d names (may_by p (call.GetProcessStatus id)) k.processes p id h.named)
-  processes_moves at k p (call.CreateProcess name) words h =
-      of_moves d names (may_by p (call.CreateProcess name)) k _ h (create_process_goes d names (may_by p (call.CreateProcess name)) k.mode k.processes p name h.named)
-  processes_moves at k p (call.SetPriority id v) words h = of_moves d names (may_by p (call.SetPriority id v)) k _ h (set_priority_goes d names k.processes p id v h.named)
-  processes_moves at k p (call.SuspendSelf limit) words h =
-      of_moves d names (may_by p (call.SuspendSelf limit)) k _ h (suspend_self_goes d names (may_by p (call.SuspendSelf limit)) at k.processes p limit h.named)
-  processes_moves at k p (call.Suspend id) words h = of_moves d names (may_by p (call.Suspend id)) k _ h (suspend_goes d names (may_by p (call.Suspend id)) k.processes p id h.named)
-  processes_moves at k p (call.Resume id) words h = of_moves d names (may_by p (call.Resume id)) k _ h (resume_goes d names (may_by p (call.Resume id)) k.processes p id h.named)
-  processes_moves at k p (call.Stop id) words h = of_moves d names (may_by p (call.Stop id)) k _ h (stop_goes d names (may_by p (call.Stop id)) k.processes p id h.named)
-  processes_moves at k p (call.Start id) words h =
-      of_moves d names (may_by p (call.Start id)) k _ h (start_goes d names (may_by p (call.Start id)) k.mode at (next_release_of at k) k.processes p id h.named)
-  processes_moves at k p (call.DelayedStart id delay) words h =
-      of_moves d names (may_by p (call.DelayedStart id delay)) k _ h (delayed_start_goes d names (may_by p (call.DelayedStart id delay)) k.mode at
-      (next_release_of at k) k.processes p id delay h.named)
-  processes_moves at k p call.LockPreemption words h =
-      of_moves d names (may_by p call.LockPreemption) k _ h (lock_preemption_goes d names (may_by p call.LockPreemption) k.mode k.processes p h.named)
-  processes_moves at k p call.UnlockPreemption words h =
-      of_moves d names (may_by p call.UnlockPreemption) k _ h (unlock_preemption_goes d names (may_by p call.UnlockPreemption) k.mode k.processes p h.named)
-  processes_moves at k p call.GetMyId words h = of_moves d names (may_by p call.GetMyId) k _ h (get_my_id_goes d names (may_by p call.GetMyId) k.processes p (number_of p) h.named)
-  processes_moves at k p (call.TimedWait delay) words h = of_moves d names (may_by p (call.TimedWait delay)) k _ h (timed_wait_goes d names at k.processes p delay h.named)
-  processes_moves at k p call.PeriodicWait words h = of_moves d names (may_by p call.PeriodicWait) k _ h (periodic_wait_goes d names (may_by p call.PeriodicWait) k.processes p h.named)
-  processes_moves at k p call.GetTime words h = of_moves d names (may_by p call.GetTime) k _ h (get_time_goes d names (may_by p call.GetTime) at k.processes p h.named)
-  processes_moves at k p (call.Replenish budget) words h =
-      of_moves d names (may_by p (call.Replenish budget)) k _ h (replenish_goes d names (may_by p (call.Replenish budget)) k.mode at k.processes p budget h.named)
-  processes_moves at k p c words h = shared_moves at k p c words h
-
   -- ---- errors
 
   abbrev ToErrors : May → sharing.Sharing Errors → Step (sharing.Sharing Errors) → Type 0
@@ -114,7 +74,37 @@ module _ (d : ListKey → Discipline) (names : ℕ → List ℕ) where
   serves_moves at k p call.CreateErrorHandler words h = of_errors_moves nobody k _ h (create_handler_shares nobody k.mode (with_errors k) p (record { named = h.named; fit = tt }))
   serves_moves at k p (call.GetErrorStatus array) words h = of_errors_moves nobody k _ h (error_status_shares nobody (with_errors k) p array (record { named = h.named; fit = tt }))
   serves_moves at k p (call.RaiseApplicationError e array length) words h = raise_moves d names nobody k p e array length words h
-  serves_moves at k p c words h = processes_moves at k p c words h
+  serves_moves at k p (call.GetProcessId name) words h =
+      of_moves d names (may_by p (call.GetProcessId name)) k _ h (get_process_id_goes d names (may_by p (call.GetProcessId name)) k.processes p name h.named)
+  serves_moves at k p (call.GetProcessStatus id) words h =
+      of_moves d names (may_by p (call.GetProcessStatus id)) k _ h (get_process_status_goes d names (may_by p (call.GetProcessStatus id)) k.processes p id h.named)
+  serves_moves at k p (call.CreateProcess name) words h =
+      of_moves d names (may_by p (call.CreateProcess name)) k _ h (create_process_goes d names (may_by p (call.CreateProcess name)) k.mode k.processes p name h.named)
+  serves_moves at k p (call.SetPriority id v) words h = of_moves d names (may_by p (call.SetPriority id v)) k _ h (set_priority_goes d names k.processes p id v h.named)
+  serves_moves at k p (call.SuspendSelf limit) words h =
+      of_moves d names (may_by p (call.SuspendSelf limit)) k _ h (suspend_self_goes d names (may_by p (call.SuspendSelf limit)) at k.processes p limit h.named)
+  serves_moves at k p (call.Suspend id) words h = of_moves d names (may_by p (call.Suspend id)) k _ h (suspend_goes d names (may_by p (call.Suspend id)) k.processes p id h.named)
+  serves_moves at k p (call.Resume id) words h = of_moves d names (may_by p (call.Resume id)) k _ h (resume_goes d names (may_by p (call.Resume id)) k.processes p id h.named)
+  serves_moves at k p (call.Stop id) words h = of_moves d names (may_by p (call.Stop id)) k _ h (stop_goes d names (may_by p (call.Stop id)) k.processes p id h.named)
+  serves_moves at k p (call.Start id) words h =
+      of_moves d names (may_by p (call.Start id)) k _ h (start_goes d names (may_by p (call.Start id)) k.mode at (next_release_of at k) k.processes p id h.named)
+  serves_moves at k p (call.DelayedStart id delay) words h =
+      of_moves d names (may_by p (call.DelayedStart id delay)) k _ h (delayed_start_goes d names (may_by p (call.DelayedStart id delay)) k.mode at
+      (next_release_of at k) k.processes p id delay h.named)
+  serves_moves at k p call.LockPreemption words h =
+      of_moves d names (may_by p call.LockPreemption) k _ h (lock_preemption_goes d names (may_by p call.LockPreemption) k.mode k.processes p h.named)
+  serves_moves at k p call.UnlockPreemption words h =
+      of_moves d names (may_by p call.UnlockPreemption) k _ h (unlock_preemption_goes d names (may_by p call.UnlockPreemption) k.mode k.processes p h.named)
+  serves_moves at k p call.GetMyId words h = of_moves d names (may_by p call.GetMyId) k _ h (get_my_id_goes d names (may_by p call.GetMyId) k.processes p (number_of p) h.named)
+  serves_moves at k p (call.TimedWait delay) words h = of_moves d names (may_by p (call.TimedWait delay)) k _ h (timed_wait_goes d names at k.processes p delay h.named)
+  serves_moves at k p call.PeriodicWait words h = of_moves d names (may_by p call.PeriodicWait) k _ h (periodic_wait_goes d names (may_by p call.PeriodicWait) k.processes p h.named)
+  serves_moves at k p call.GetTime words h = of_moves d names (may_by p call.GetTime) k _ h (get_time_goes d names (may_by p call.GetTime) at k.processes p h.named)
+  serves_moves at k p (call.Replenish budget) words h =
+      of_moves d names (may_by p (call.Replenish budget)) k _ h (replenish_goes d names (may_by p (call.Replenish budget)) k.mode at k.processes p budget h.named)
+  serves_moves at k p (call.Object c) words h =
+      of_objects_moves d names (may_by p (call.Object c)) k _ h (serves_objects_shares d names k.mode at (with_objects k) p c words (record { named = h.named; fit = h.objects }))
+  serves_moves at k p (call.Port c) words h =
+      of_ports_moves d names (may_by p (call.Port c)) k _ h (serves_ports_shares d names k.mode at (with_ports k) p c words (record { named = h.named; fit = h.ports }))
 
   pub asked_moves : (at : At) (k : Kernel) (p : Runner) (a : Asks) (words : List ℤ) → IsReady d names k → Moves d names (may_asked p a) k (treats_asked at k p a words)
   asked_moves at k p Nothing words h = of_moves d names nobody k _ h (nothing_goes d names nobody k.processes h.named)

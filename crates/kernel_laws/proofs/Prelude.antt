@@ -48,7 +48,7 @@ pub use Rattle.kernel_meaning.specs.HealthServices.{action_of, acts_on_error, be
 pub use Rattle.kernel_meaning.specs.Kernel.{Errors, Kernel, of_objects, of_ports, of_processes, with_errors, with_objects, with_ports}
 pub use Rattle.kernel_meaning.specs.ObjectServices.{serves_objects}
 pub use Rattle.kernel_meaning.specs.Objects.{ApexEvent, Blackboard, Buffer, Objects, Port, Ports, Semaphore, discipline_of, is_full, is_sampling, numbered_in, port_at}
-pub use Rattle.kernel_meaning.specs.Partition.{Member, Moved, World, act, act_all, admits, are_same, choice_phase, chooses, chooses_with_handler, clearing_phase, control_at, followed_by, given, is_ready, leaves_processor, messages_to_move, moved, pick, place_of_port, preempts, runs, serves, serves_processes, serves_shared, spends_chosen, takes_processor, tick, ticked, treats_asked, treats_due, unless_held, with_world}
+pub use Rattle.kernel_meaning.specs.Partition.{Member, Moved, World, act, act_all, admits, are_same, choice_phase, chooses, chooses_with_handler, clearing_phase, control_at, followed_by, given, is_ready, leaves_processor, messages_to_move, moved, pick, place_of_port, preempts, runs, serves, spends_chosen, takes_processor, tick, ticked, treats_asked, treats_due, unless_held, with_world}
 pub use Rattle.kernel_meaning.specs.PartitionServices.{clears, ends_body, enters_mode, forgotten, is_cold, is_warm, mode_of, next_release_of, ready_init, set_partition_mode, started_rows, starts_normally, wants}
 pub use Rattle.kernel_meaning.specs.ProcessServices.{create_process, creates, deadline_in, delayed_start, delays, get_my_id, get_process_id, get_process_status, has_no_deadline, is_beyond, is_holder, is_priority, is_ready_state, level_of, lock_preemption, locked_by, may_not_lock, number_of, of_row, periodic_wait, priority_of, reaches_past, replenish, replenishes, resume, resumes, resumes_from, set_priority, start, stop, suspend, suspend_self, suspends, suspends_self, takes_priority, tells_status, time_out, timed_wait, unlock_preemption, unlocked, waits_for_period, waits_periodically, waits_until, with_lock, yields}
 pub use Rattle.kernel_meaning.specs.Processes.{Processes, answers, behind_equals, goes_last, index, is_busy, is_created, is_dormant, is_held, is_no_other, is_normal, is_periodic, is_same, is_suspended, is_unknown, leaves, no_longer_waits, numbered, on, process_at, put_ready, put_row, put_unready, released, rests, rests_found, row_of, waits, wakes, without, zeros_of_wait}

@@ -5,7 +5,10 @@ use Rattle.std.proofs.Common.{[]}
 use Rattle.apex_types.specs.declared.codes.ReturnCode.TheVariants as code
 use Rattle.apex_types.specs.declared.identity.Runner.TheVariants as runner
 use Rattle.apex_types.specs.declared.process.Waiting.{Waiting}
-use Rattle.apex_types.specs.declared.service.Call.TheVariants as call
+use Rattle.apex_types.specs.declared.service.ObjectCall.{ObjectCall}
+use Rattle.apex_types.specs.declared.service.ObjectCall.TheVariants as object
+use Rattle.apex_types.specs.declared.service.PortCall.{PortCall}
+use Rattle.apex_types.specs.declared.service.PortCall.TheVariants as port
 use Rattle.kernel_meaning.specs.BlackboardServices as blackboards
 use Rattle.kernel_meaning.specs.BufferServices as buffers
 use Rattle.kernel_meaning.specs.EventServices as events
@@ -119,15 +122,15 @@ module _ (b : Sharing Objects) (h : RecordsAgree b.processes) (p : Runner) where
   read_blackboard_agrees at id array limit = search (either, on_agrees, reads_shown_agrees)
 
   -- Each service on objects. The last clause is for the services that change no process.
-  pub objects_agree : (m : Mode) (at : At) (c : Call) (words : List ℤ) → IsKept (serves_objects m at b p c words)
-  objects_agree m at (call.SendBuffer id array size limit) words = send_buffer_agrees at id array size limit words
-  objects_agree m at (call.ReceiveBuffer id array limit) words = receive_buffer_agrees at id array limit
-  objects_agree m at (call.DisplayBlackboard id array size) words = display_blackboard_agrees id array size words
-  objects_agree m at (call.ReadBlackboard id array limit) words = read_blackboard_agrees at id array limit
-  objects_agree m at (call.WaitSemaphore id limit) words = wait_semaphore_agrees at id limit
-  objects_agree m at (call.SignalSemaphore id) words = signal_semaphore_agrees id
-  objects_agree m at (call.SetEvent id) words = set_event_agrees id
-  objects_agree m at (call.WaitEvent id limit) words = wait_event_agrees at id limit
+  pub objects_agree : (m : Mode) (at : At) (c : ObjectCall) (words : List ℤ) → IsKept (serves_objects m at b p c words)
+  objects_agree m at (object.SendBuffer id array size limit) words = send_buffer_agrees at id array size limit words
+  objects_agree m at (object.ReceiveBuffer id array limit) words = receive_buffer_agrees at id array limit
+  objects_agree m at (object.DisplayBlackboard id array size) words = display_blackboard_agrees id array size words
+  objects_agree m at (object.ReadBlackboard id array limit) words = read_blackboard_agrees at id array limit
+  objects_agree m at (object.WaitSemaphore id limit) words = wait_semaphore_agrees at id limit
+  objects_agree m at (object.SignalSemaphore id) words = signal_semaphore_agrees id
+  objects_agree m at (object.SetEvent id) words = set_event_agrees id
+  objects_agree m at (object.WaitEvent id limit) words = wait_event_agrees at id limit
   objects_agree m at c words = search (either, on_agrees)
 
 -- ---- ports
@@ -166,10 +169,10 @@ module _ (b : Sharing Ports) (h : RecordsAgree b.processes) (p : Runner) where
   receive_queuing_agrees at id array limit = search (either, on_agrees, receives_own_at_port_agrees) depth 8
 
   -- Each service on ports. The last clause is for the services that change no process.
-  pub ports_agree : (m : Mode) (at : At) (c : Call) (words : List ℤ) → IsPortKept (ports.serves_ports m at b p c words)
-  ports_agree m at (call.ReadSamplingMessage id array) words = read_sampling_agrees at id array
-  ports_agree m at (call.SendQueuingMessage id array size limit) words = send_queuing_agrees at id array size limit words
-  ports_agree m at (call.ReceiveQueuingMessage id array limit) words = receive_queuing_agrees at id array limit
+  pub ports_agree : (m : Mode) (at : At) (c : PortCall) (words : List ℤ) → IsPortKept (ports.serves_ports m at b p c words)
+  ports_agree m at (port.ReadSamplingMessage id array) words = read_sampling_agrees at id array
+  ports_agree m at (port.SendQueuingMessage id array size limit) words = send_queuing_agrees at id array size limit words
+  ports_agree m at (port.ReceiveQueuingMessage id array limit) words = receive_queuing_agrees at id array limit
   ports_agree m at c words = search (either, on_agrees)
 
 -- ---- messages that arrive, and senders that enter

@@ -1,9 +1,8 @@
 -- Each step of a partition keeps the agreement of the ready list with the records.
-use Rattle.kernel_laws.proofs.Prelude.{◌≡◌, ℤ, List, ◌∷◌, refl, ◌∙◌, not, At, Runner, Action, Call, Engine, Asks, Nothing, Calls, Faults, Ends, is_message_length, Kernel, of_processes, with_errors, with_objects, with_ports, World, act, act_all, chooses_with_handler, pick, serves, serves_processes, serves_shared, treats_asked, treats_due, next_release_of, number_of, Processes, Step, chosen_among}
+use Rattle.kernel_laws.proofs.Prelude.{◌≡◌, ℤ, List, ◌∷◌, refl, ◌∙◌, not, At, Runner, Action, Call, Engine, Asks, Nothing, Calls, Faults, Ends, is_message_length, Kernel, of_processes, with_errors, with_objects, with_ports, World, act, act_all, chooses_with_handler, pick, serves, treats_asked, treats_due, next_release_of, number_of, Processes, Step, chosen_among}
 use Rattle.std.proofs.Common.{[]}
 use Rattle.apex_types.specs.Runners as action
 use Rattle.apex_types.specs.declared.service.Call.TheVariants as call
-use Rattle.kernel_meaning.specs.PortServices.{is_on_ports}
 use Rattle.kernel_laws.proofs.RecordChoice.{chooses_agrees, picked_runs}
 use Rattle.kernel_laws.proofs.RecordKernel.{KernelAgrees, create_handler_agrees, due_from_agrees, ends_body_agrees, error_status_agrees, faults_agrees, handler_agrees, raise_agrees, set_mode_agrees}
 use Rattle.kernel_laws.proofs.RecordObjects.{objects_agree, ports_agree}
@@ -16,29 +15,6 @@ module _ (at : At) (k : Kernel) (h : KernelAgrees k) (p : Runner) (caller : IsCa
   abbrev IsKept : Step Kernel → Type 0
   IsKept s = KernelAgrees s.part
 
-  shared_agrees : (c : Call) (words : List ℤ) → IsKept (serves_shared at k p c words)
-  shared_agrees c words = either (λ (x : Kernel). x.processes) (is_on_ports c) _ _ (λ e. ports_agree (with_ports k) h p k.mode at c words) (λ e. objects_agree (with_objects k) h p k.mode at c words)
-
-  processes_agree : (c : Call) (words : List ℤ) → IsKept (serves_processes at k p c words)
-  processes_agree (call.GetProcessId name) words = get_process_id_agrees k.processes h p name
-  processes_agree (call.GetProcessStatus id) words = get_process_status_agrees k.processes h p id
-  processes_agree (call.CreateProcess name) words = create_process_agrees k.processes h p k.mode name
-  processes_agree (call.SetPriority id v) words = set_priority_agrees k.processes h p id v
-  processes_agree (call.SuspendSelf limit) words = suspend_self_agrees k.processes h p at limit
-  processes_agree (call.Suspend id) words = suspend_agrees k.processes h p id
-  processes_agree (call.Resume id) words = resume_agrees k.processes h p id
-  processes_agree (call.Stop id) words = stop_agrees k.processes h p id
-  processes_agree (call.Start id) words = start_agrees k.processes h p k.mode at (next_release_of at k) id
-  processes_agree (call.DelayedStart id delay) words = delayed_start_agrees k.processes h p k.mode at (next_release_of at k) id delay
-  processes_agree call.LockPreemption words = lock_preemption_agrees k.processes h p k.mode caller
-  processes_agree call.UnlockPreemption words = unlock_preemption_agrees k.processes h p k.mode
-  processes_agree call.GetMyId words = get_my_id_agrees k.processes h p (number_of p)
-  processes_agree (call.TimedWait delay) words = timed_wait_agrees k.processes h p at delay caller
-  processes_agree call.PeriodicWait words = periodic_wait_agrees k.processes h p
-  processes_agree call.GetTime words = h
-  processes_agree (call.Replenish budget) words = replenish_agrees k.processes h p k.mode at budget
-  processes_agree c words = shared_agrees c words
-
   serves_agrees : (c : Call) (words : List ℤ) → IsKept (serves at k p c words)
   serves_agrees call.GetPartitionStatus words = h
   serves_agrees (call.SetPartitionMode m) words = set_mode_agrees at k p m h
@@ -47,7 +23,25 @@ module _ (at : At) (k : Kernel) (h : KernelAgrees k) (p : Runner) (caller : IsCa
   serves_agrees call.CreateErrorHandler words = create_handler_agrees (with_errors k) h p k.mode
   serves_agrees (call.GetErrorStatus array) words = error_status_agrees (with_errors k) h p array
   serves_agrees (call.RaiseApplicationError e array size) words = raise_agrees k p e array size words h
-  serves_agrees c words = processes_agree c words
+  serves_agrees (call.GetProcessId name) words = get_process_id_agrees k.processes h p name
+  serves_agrees (call.GetProcessStatus id) words = get_process_status_agrees k.processes h p id
+  serves_agrees (call.CreateProcess name) words = create_process_agrees k.processes h p k.mode name
+  serves_agrees (call.SetPriority id v) words = set_priority_agrees k.processes h p id v
+  serves_agrees (call.SuspendSelf limit) words = suspend_self_agrees k.processes h p at limit
+  serves_agrees (call.Suspend id) words = suspend_agrees k.processes h p id
+  serves_agrees (call.Resume id) words = resume_agrees k.processes h p id
+  serves_agrees (call.Stop id) words = stop_agrees k.processes h p id
+  serves_agrees (call.Start id) words = start_agrees k.processes h p k.mode at (next_release_of at k) id
+  serves_agrees (call.DelayedStart id delay) words = delayed_start_agrees k.processes h p k.mode at (next_release_of at k) id delay
+  serves_agrees call.LockPreemption words = lock_preemption_agrees k.processes h p k.mode caller
+  serves_agrees call.UnlockPreemption words = unlock_preemption_agrees k.processes h p k.mode
+  serves_agrees call.GetMyId words = get_my_id_agrees k.processes h p (number_of p)
+  serves_agrees (call.TimedWait delay) words = timed_wait_agrees k.processes h p at delay caller
+  serves_agrees call.PeriodicWait words = periodic_wait_agrees k.processes h p
+  serves_agrees call.GetTime words = h
+  serves_agrees (call.Replenish budget) words = replenish_agrees k.processes h p k.mode at budget
+  serves_agrees (call.Object c) words = objects_agree (with_objects k) h p k.mode at c words
+  serves_agrees (call.Port c) words = ports_agree (with_ports k) h p k.mode at c words
 
   pub asked_agrees : (a : Asks) (words : List ℤ) → IsKept (treats_asked at k p a words)
   asked_agrees Nothing words = h

@@ -17,6 +17,8 @@ use Rattle.apex_types.specs.declared.process.Entry.{Entry}
 use Rattle.apex_types.specs.declared.process.ProcessStatus.{ProcessStatus}
 use Rattle.apex_types.specs.declared.service.Call.{Call}
 use Rattle.apex_types.specs.declared.service.Call.TheVariants as call
+use Rattle.apex_types.specs.declared.service.ObjectCall.TheVariants as object
+use Rattle.apex_types.specs.declared.service.PortCall.TheVariants as port
 use Rattle.kernel_laws.specs.Choice.{IsNumbered, takes}
 use Rattle.engine_meaning.specs.Engine.{Asks, Calls}
 use Rattle.kernel_meaning.specs.Objects.{Objects}
@@ -134,13 +136,13 @@ goes_last_by p _ = None
 
 -- a call of p makes p wait in the list of an object or a port, if the service may do so
 abbrev pub waits_by : Runner → Call → Option ℕ
-waits_by p (call.SendBuffer id array length limit) = itself p
-waits_by p (call.ReceiveBuffer id array limit) = itself p
-waits_by p (call.ReadBlackboard id array limit) = itself p
-waits_by p (call.WaitSemaphore id limit) = itself p
-waits_by p (call.WaitEvent id limit) = itself p
-waits_by p (call.SendQueuingMessage id array length limit) = itself p
-waits_by p (call.ReceiveQueuingMessage id array limit) = itself p
+waits_by p (call.Object (object.SendBuffer id array length limit)) = itself p
+waits_by p (call.Object (object.ReceiveBuffer id array limit)) = itself p
+waits_by p (call.Object (object.ReadBlackboard id array limit)) = itself p
+waits_by p (call.Object (object.WaitSemaphore id limit)) = itself p
+waits_by p (call.Object (object.WaitEvent id limit)) = itself p
+waits_by p (call.Port (port.SendQueuingMessage id array length limit)) = itself p
+waits_by p (call.Port (port.ReceiveQueuingMessage id array limit)) = itself p
 waits_by p _ = None
 
 abbrev pub may_by : Runner → Call → May

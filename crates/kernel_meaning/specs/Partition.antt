@@ -25,6 +25,8 @@ use Rattle.apex_types.specs.declared.process.WaitingError.{WaitingError}
 use Rattle.apex_types.specs.declared.service.ArrayPlace.{ArrayPlace}
 use Rattle.apex_types.specs.declared.service.Call.{Call}
 use Rattle.apex_types.specs.declared.service.Call.TheVariants as call
+use Rattle.apex_types.specs.declared.service.ObjectCall.{ObjectCall}
+use Rattle.apex_types.specs.declared.service.PortCall.{PortCall}
 use Rattle.kernel_meaning.specs.Times.{Treated, due}
 use Rattle.engine_meaning.specs.Engine.{Engine, Ticked, Asks, Nothing, Calls, Faults, Ends}
 use Rattle.kernel_meaning.specs.Kernel.{queued, Kernel, of_processes, of_errors, of_objects, of_ports, of_ports_alone, with_errors, with_objects, with_ports}
@@ -120,36 +122,13 @@ abbrev pub given : Asks → List ℤ → List ℤ
 given (Calls c) words = handed (array_of c) words
 given _ words = []
 
-abbrev pub serves_ports : At → Kernel → Runner → Call → List ℤ → Step Kernel
+abbrev pub serves_ports : At → Kernel → Runner → PortCall → List ℤ → Step Kernel
 serves_ports at k p c words = of_ports k (ports.serves_ports k.mode at (with_ports k) p c words)
 
-abbrev pub serves_objects : At → Kernel → Runner → Call → List ℤ → Step Kernel
+abbrev pub serves_objects : At → Kernel → Runner → ObjectCall → List ℤ → Step Kernel
 serves_objects at k p c words = of_objects k (objects.serves_objects k.mode at (with_objects k) p c words)
 
-abbrev pub serves_shared : At → Kernel → Runner → Call → List ℤ → Step Kernel
-serves_shared at k p c words = if ports.is_on_ports c then serves_ports at k p c words else serves_objects at k p c words
-
--- the services on processes and on time, then those on objects and on ports
-abbrev pub serves_processes : At → Kernel → Runner → Call → List ℤ → Step Kernel
-serves_processes at k p (call.GetProcessId name) words = of_processes k (get_process_id k.processes p name)
-serves_processes at k p (call.GetProcessStatus id) words = of_processes k (get_process_status k.processes p id)
-serves_processes at k p (call.CreateProcess name) words = of_processes k (create_process k.mode k.processes p name)
-serves_processes at k p (call.SetPriority id v) words = of_processes k (set_priority k.processes p id v)
-serves_processes at k p (call.SuspendSelf limit) words = of_processes k (suspend_self at k.processes p limit)
-serves_processes at k p (call.Suspend id) words = of_processes k (suspend k.processes p id)
-serves_processes at k p (call.Resume id) words = of_processes k (resume k.processes p id)
-serves_processes at k p (call.Stop id) words = of_processes k (stop k.processes p id)
-serves_processes at k p (call.Start id) words = of_processes k (start k.mode at (next_release_of at k) k.processes p id)
-serves_processes at k p (call.DelayedStart id delay) words = of_processes k (delayed_start k.mode at (next_release_of at k) k.processes p id delay)
-serves_processes at k p call.LockPreemption words = of_processes k (lock_preemption k.mode k.processes p)
-serves_processes at k p call.UnlockPreemption words = of_processes k (unlock_preemption k.mode k.processes p)
-serves_processes at k p call.GetMyId words = of_processes k (get_my_id k.processes p (number_of p))
-serves_processes at k p (call.TimedWait delay) words = of_processes k (timed_wait at k.processes p delay)
-serves_processes at k p call.PeriodicWait words = of_processes k (periodic_wait k.processes p)
-serves_processes at k p call.GetTime words = of_processes k (get_time at k.processes p)
-serves_processes at k p (call.Replenish budget) words = of_processes k (replenish k.mode at k.processes p budget)
-serves_processes at k p c words = serves_shared at k p c words
-
+-- the services on the partition and its errors, on processes and on time, then those on objects and on ports
 abbrev pub serves : At → Kernel → Runner → Call → List ℤ → Step Kernel
 serves at k p call.GetPartitionStatus words = get_partition_status k p
 serves at k p (call.SetPartitionMode m) words = set_partition_mode at k p m
@@ -158,7 +137,25 @@ serves at k p (call.ReportApplicationMessage array length) words = of_processes 
 serves at k p call.CreateErrorHandler words = of_errors k (create_error_handler k.mode (with_errors k) p)
 serves at k p (call.GetErrorStatus array) words = of_errors k (get_error_status (with_errors k) p array)
 serves at k p (call.RaiseApplicationError error array length) words = raises_application_error k p error array length words
-serves at k p c words = serves_processes at k p c words
+serves at k p (call.GetProcessId name) words = of_processes k (get_process_id k.processes p name)
+serves at k p (call.GetProcessStatus id) words = of_processes k (get_process_status k.processes p id)
+serves at k p (call.CreateProcess name) words = of_processes k (create_process k.mode k.processes p name)
+serves at k p (call.SetPriority id v) words = of_processes k (set_priority k.processes p id v)
+serves at k p (call.SuspendSelf limit) words = of_processes k (suspend_self at k.processes p limit)
+serves at k p (call.Suspend id) words = of_processes k (suspend k.processes p id)
+serves at k p (call.Resume id) words = of_processes k (resume k.processes p id)
+serves at k p (call.Stop id) words = of_processes k (stop k.processes p id)
+serves at k p (call.Start id) words = of_processes k (start k.mode at (next_release_of at k) k.processes p id)
+serves at k p (call.DelayedStart id delay) words = of_processes k (delayed_start k.mode at (next_release_of at k) k.processes p id delay)
+serves at k p call.LockPreemption words = of_processes k (lock_preemption k.mode k.processes p)
+serves at k p call.UnlockPreemption words = of_processes k (unlock_preemption k.mode k.processes p)
+serves at k p call.GetMyId words = of_processes k (get_my_id k.processes p (number_of p))
+serves at k p (call.TimedWait delay) words = of_processes k (timed_wait at k.processes p delay)
+serves at k p call.PeriodicWait words = of_processes k (periodic_wait k.processes p)
+serves at k p call.GetTime words = of_processes k (get_time at k.processes p)
+serves at k p (call.Replenish budget) words = of_processes k (replenish k.mode at k.processes p budget)
+serves at k p (call.Object c) words = serves_objects at k p c words
+serves at k p (call.Port c) words = serves_ports at k p c words
 
 abbrev pub treats_asked : At → Kernel → Runner → Asks → List ℤ → Step Kernel
 treats_asked at k p Nothing words = nothing k

@@ -10,8 +10,8 @@ use Rattle.apex_types.specs.declared.identity.ListKey.TheVariants as key
 use Rattle.apex_types.specs.declared.identity.Runner.{Runner}
 use Rattle.apex_types.specs.declared.process.Waiting.{Waiting}
 use Rattle.apex_types.specs.declared.service.ArrayPlace.{ArrayPlace}
-use Rattle.apex_types.specs.declared.service.Call.{Call}
-use Rattle.apex_types.specs.declared.service.Call.TheVariants as call
+use Rattle.apex_types.specs.declared.service.PortCall.{PortCall}
+use Rattle.apex_types.specs.declared.service.PortCall.TheVariants as port
 use Rattle.apex_types.specs.declared.service.Service.TheVariants as service
 use Rattle.kernel_meaning.specs.Times.{is_duration}
 use Rattle.kernel_meaning.specs.Objects.{Port, Ports, sampling, queuing, put_port, with_sample, with_message, is_source, is_full, refresh_of, depth_of, discipline_of, port_at, is_sampling}
@@ -187,36 +187,19 @@ clear_queuing_port b p id =
 
 -- ---- the dispatch
 
--- whether it is a service on ports
-abbrev pub is_on_ports : Call → Bool
-is_on_ports (call.CreateSamplingPort name) = true
-is_on_ports (call.WriteSamplingMessage id array length) = true
-is_on_ports (call.ReadSamplingMessage id array) = true
-is_on_ports (call.GetSamplingPortId name) = true
-is_on_ports (call.GetSamplingPortStatus id) = true
-is_on_ports (call.CreateQueuingPort name) = true
-is_on_ports (call.SendQueuingMessage id array length limit) = true
-is_on_ports (call.ReceiveQueuingMessage id array limit) = true
-is_on_ports (call.GetQueuingPortId name) = true
-is_on_ports (call.GetQueuingPortStatus id) = true
-is_on_ports (call.ClearQueuingPort id) = true
-is_on_ports _ = false
-
--- The services on ports, in a mode. A service that the kernel does not serve gives its caller
--- no reply.
-abbrev pub serves_ports : Mode → At → Sharing Ports → Runner → Call → List ℤ → Step (Sharing Ports)
-serves_ports m at b p (call.CreateSamplingPort name) words = create_sampling_port m b p name
-serves_ports m at b p (call.WriteSamplingMessage id array length) words = write_sampling_message b p id array length words
-serves_ports m at b p (call.ReadSamplingMessage id array) words = read_sampling_message at b p id array
-serves_ports m at b p (call.GetSamplingPortId name) words = get_sampling_port_id b p name
-serves_ports m at b p (call.GetSamplingPortStatus id) words = get_sampling_port_status b p id
-serves_ports m at b p (call.CreateQueuingPort name) words = create_queuing_port m b p name
-serves_ports m at b p (call.SendQueuingMessage id array length limit) words = send_queuing_message at b p id array length limit words
-serves_ports m at b p (call.ReceiveQueuingMessage id array limit) words = receive_queuing_message at b p id array limit
-serves_ports m at b p (call.GetQueuingPortId name) words = get_queuing_port_id b p name
-serves_ports m at b p (call.GetQueuingPortStatus id) words = get_queuing_port_status b p id
-serves_ports m at b p (call.ClearQueuingPort id) words = clear_queuing_port b p id
-serves_ports m at b p _ words = nothing b
+-- the services on ports, in a mode
+abbrev pub serves_ports : Mode → At → Sharing Ports → Runner → PortCall → List ℤ → Step (Sharing Ports)
+serves_ports m at b p (port.CreateSamplingPort name) words = create_sampling_port m b p name
+serves_ports m at b p (port.WriteSamplingMessage id array length) words = write_sampling_message b p id array length words
+serves_ports m at b p (port.ReadSamplingMessage id array) words = read_sampling_message at b p id array
+serves_ports m at b p (port.GetSamplingPortId name) words = get_sampling_port_id b p name
+serves_ports m at b p (port.GetSamplingPortStatus id) words = get_sampling_port_status b p id
+serves_ports m at b p (port.CreateQueuingPort name) words = create_queuing_port m b p name
+serves_ports m at b p (port.SendQueuingMessage id array length limit) words = send_queuing_message at b p id array length limit words
+serves_ports m at b p (port.ReceiveQueuingMessage id array limit) words = receive_queuing_message at b p id array limit
+serves_ports m at b p (port.GetQueuingPortId name) words = get_queuing_port_id b p name
+serves_ports m at b p (port.GetQueuingPortStatus id) words = get_queuing_port_status b p id
+serves_ports m at b p (port.ClearQueuingPort id) words = clear_queuing_port b p id
 
 -- Messages between partitions: how one arrives at a port, how a port's first message leaves it, and how the
 -- senders that wait for room enter.

@@ -16,15 +16,17 @@ use Rattle.apex_types.specs.declared.identity.Runner.TheVariants as runner
 use Rattle.apex_types.specs.declared.service.ArrayPlace.{ArrayPlace}
 use Rattle.apex_types.specs.declared.service.Call.{Call}
 use Rattle.apex_types.specs.declared.service.Call.TheVariants as call
+use Rattle.apex_types.specs.declared.service.PortCall.{PortCall}
+use Rattle.apex_types.specs.declared.service.PortCall.TheVariants as port
 use Rattle.apex_types.specs.declared.service.Service.{Service}
 use Rattle.apex_types.specs.declared.service.Service.TheVariants as service
 use Rattle.engine_meaning.specs.Engine.{Asks, Nothing, Calls, Faults, Ends}
 use Rattle.kernel_meaning.specs.HealthServices.{acts_on_error, enters_mode as enters_mode_of_action, faults, ignores, is_fault, raise_application_error, raises, then_clears}
 use Rattle.kernel_meaning.specs.Kernel.{of_processes, with_errors, with_ports}
 use Rattle.kernel_meaning.specs.Objects.{cleared_port, is_full, is_sampling, if_sampling, numbered_in, placed, queuing, sampling, those_queuing, those_sampling, unless_sampling, with_message, with_sample}
-use Rattle.kernel_meaning.specs.Partition.{act, act_all, chooses_with_handler, control_at, due_phase, given, prepares, serves, serves_processes, serves_shared, spends_chosen, ticked, treating_phase, treats_asked, treats_due}
+use Rattle.kernel_meaning.specs.Partition.{act, act_all, chooses_with_handler, control_at, due_phase, given, prepares, serves, spends_chosen, ticked, treating_phase, treats_asked, treats_due}
 use Rattle.kernel_meaning.specs.PartitionServices.{clears, ends_body, enters_mode, is_cold, is_warm, mode_of, set_partition_mode, wants}
-use Rattle.kernel_meaning.specs.PortServices.{becomes_port, clear_queuing_port, clears_port, creates, is_created, is_on_ports, is_valid, read_sampling_message, reads_sample, receive_queuing_message, receives, send_queuing_message, sends, serves_ports, write_sampling_message, writes_sample}
+use Rattle.kernel_meaning.specs.PortServices.{becomes_port, clear_queuing_port, clears_port, creates, is_created, is_valid, read_sampling_message, reads_sample, receive_queuing_message, receives, send_queuing_message, sends, serves_ports, write_sampling_message, writes_sample}
 use Rattle.kernel_meaning.specs.Processes.{is_normal, rests_found, row_of}
 use Rattle.kernel_meaning.specs.Sharing.{Sharing, answers, create, get_id, get_status, has, is_large_enough, is_length, on}
 use Rattle.kernel_meaning.specs.Step.{first_words, message}
@@ -145,19 +147,18 @@ module _ (b : Sharing Ports) where
       either (not (has (queuing b.shared id) is_created)) _ _ refl (either (has (queuing b.shared id) is_source) _ _ refl
       (on_keeps (queuing b.shared id) (clears_port b p) (queuing_found id) (λ k z e. becomes_keeps k z (record z { messages = []; overflowed = false }) e refl)))
 
-  ports_keep : (m : Mode) (at : At) (p : Runner) (c : Call) (words : List ℤ) → Keeps (serves_ports m at b p c words)
-  ports_keep m at p (call.CreateSamplingPort name) words = create_keeps m p service.CreateSamplingPort name (sampling b.shared name) (sampling_found name)
-  ports_keep m at p (call.WriteSamplingMessage id array size) words = write_keeps p id array size words
-  ports_keep m at p (call.ReadSamplingMessage id array) words = read_keeps at p id array
-  ports_keep m at p (call.GetSamplingPortId name) words = id_keeps p service.GetSamplingPortId name (sampling b.shared name)
-  ports_keep m at p (call.GetSamplingPortStatus id) words = status_keeps p service.GetSamplingPortStatus (sampling b.shared id) _
-  ports_keep m at p (call.CreateQueuingPort name) words = create_keeps m p service.CreateQueuingPort name (queuing b.shared name) (queuing_found name)
-  ports_keep m at p (call.SendQueuingMessage id array size limit) words = send_keeps at p id array size limit words
-  ports_keep m at p (call.ReceiveQueuingMessage id array limit) words = receive_keeps at p id array limit
-  ports_keep m at p (call.GetQueuingPortId name) words = id_keeps p service.GetQueuingPortId name (queuing b.shared name)
-  ports_keep m at p (call.GetQueuingPortStatus id) words = status_keeps p service.GetQueuingPortStatus (queuing b.shared id) _
-  ports_keep m at p (call.ClearQueuingPort id) words = clear_keeps p id
-  ports_keep m at p _ words = refl
+  ports_keep : (m : Mode) (at : At) (p : Runner) (c : PortCall) (words : List ℤ) → Keeps (serves_ports m at b p c words)
+  ports_keep m at p (port.CreateSamplingPort name) words = create_keeps m p service.CreateSamplingPort name (sampling b.shared name) (sampling_found name)
+  ports_keep m at p (port.WriteSamplingMessage id array size) words = write_keeps p id array size words
+  ports_keep m at p (port.ReadSamplingMessage id array) words = read_keeps at p id array
+  ports_keep m at p (port.GetSamplingPortId name) words = id_keeps p service.GetSamplingPortId name (sampling b.shared name)
+  ports_keep m at p (port.GetSamplingPortStatus id) words = status_keeps p service.GetSamplingPortStatus (sampling b.shared id) _
+  ports_keep m at p (port.CreateQueuingPort name) words = create_keeps m p service.CreateQueuingPort name (queuing b.shared name) (queuing_found name)
+  ports_keep m at p (port.SendQueuingMessage id array size limit) words = send_keeps at p id array size limit words
+  ports_keep m at p (port.ReceiveQueuingMessage id array limit) words = receive_keeps at p id array limit
+  ports_keep m at p (port.GetQueuingPortId name) words = id_keeps p service.GetQueuingPortId name (queuing b.shared name)
+  ports_keep m at p (port.GetQueuingPortStatus id) words = status_keeps p service.GetQueuingPortStatus (queuing b.shared id) _
+  ports_keep m at p (port.ClearQueuingPort id) words = clear_keeps p id
 
 -- ---- a step of the kernel
 
@@ -210,29 +211,6 @@ faults_keep k p e =
     acts_keep s.part p e (raises s.part.fixed.health s.part.mode (with_errors s.part) p e []).part
 
 module _ (at : At) (k : Kernel) (p : Runner) where
-  shared_keeps : (c : Call) (words : List ℤ) → KernelKeeps k (serves_shared at k p c words)
-  shared_keeps c words = either_step k (is_on_ports c) _ _ (ports_keep (with_ports k) k.mode at p c words) refl
-
-  processes_keep : (c : Call) (words : List ℤ) → KernelKeeps k (serves_processes at k p c words)
-  processes_keep (call.GetProcessId name) words = refl
-  processes_keep (call.GetProcessStatus id) words = refl
-  processes_keep (call.CreateProcess name) words = refl
-  processes_keep (call.SetPriority id v) words = refl
-  processes_keep (call.SuspendSelf limit) words = refl
-  processes_keep (call.Suspend id) words = refl
-  processes_keep (call.Resume id) words = refl
-  processes_keep (call.Stop id) words = refl
-  processes_keep (call.Start id) words = refl
-  processes_keep (call.DelayedStart id delay) words = refl
-  processes_keep call.LockPreemption words = refl
-  processes_keep call.UnlockPreemption words = refl
-  processes_keep call.GetMyId words = refl
-  processes_keep (call.TimedWait delay) words = refl
-  processes_keep call.PeriodicWait words = refl
-  processes_keep call.GetTime words = refl
-  processes_keep (call.Replenish budget) words = refl
-  processes_keep c words = shared_keeps c words
-
   serves_keep : (c : Call) (words : List ℤ) → KernelKeeps k (serves at k p c words)
   serves_keep call.GetPartitionStatus words = refl
   serves_keep (call.SetPartitionMode m) words = mode_keeps at k p m
@@ -241,7 +219,25 @@ module _ (at : At) (k : Kernel) (p : Runner) where
   serves_keep call.CreateErrorHandler words = refl
   serves_keep (call.GetErrorStatus array) words = refl
   serves_keep (call.RaiseApplicationError e array size) words = acts_keep k p error.ApplicationError (raise_application_error k.fixed.health k.mode (with_errors k) p e array size words).part
-  serves_keep c words = processes_keep c words
+  serves_keep (call.GetProcessId name) words = refl
+  serves_keep (call.GetProcessStatus id) words = refl
+  serves_keep (call.CreateProcess name) words = refl
+  serves_keep (call.SetPriority id v) words = refl
+  serves_keep (call.SuspendSelf limit) words = refl
+  serves_keep (call.Suspend id) words = refl
+  serves_keep (call.Resume id) words = refl
+  serves_keep (call.Stop id) words = refl
+  serves_keep (call.Start id) words = refl
+  serves_keep (call.DelayedStart id delay) words = refl
+  serves_keep call.LockPreemption words = refl
+  serves_keep call.UnlockPreemption words = refl
+  serves_keep call.GetMyId words = refl
+  serves_keep (call.TimedWait delay) words = refl
+  serves_keep call.PeriodicWait words = refl
+  serves_keep call.GetTime words = refl
+  serves_keep (call.Replenish budget) words = refl
+  serves_keep (call.Object c) words = refl
+  serves_keep (call.Port c) words = ports_keep (with_ports k) k.mode at p c words
 
   asked_keeps : (a : Asks) (words : List ℤ) → KernelKeeps k (treats_asked at k p a words)
   asked_keeps Nothing words = refl

@@ -7,7 +7,7 @@ ghost use Rattle.kernel_meaning.specs.Sharing.{both};
 ghost use Rattle.kernel_meaning.specs.Made.{IsMade};
 ghost use Rattle.partition.specs.declared.rooms.TheConstants.{ACTIONS_TO_SERVE, LINES_TO_SERVE};
 
-use apex_types::{Call, Out, Words};
+use apex_types::{ObjectCall, Out, Words};
 use process_table_base::{Handed, ProcessTable, Request};
 use sync_objects::blackboards::{
     clear_blackboard, create_blackboard, display_blackboard, get_blackboard_id,
@@ -24,13 +24,12 @@ use sync_objects::semaphores::{
 };
 use sync_objects_base::Objects;
 
-/// Serves a call on semaphores, events, buffers or blackboards, as requested. A service that is not served
-/// leaves its caller without a reply.
+/// Serves a call on semaphores, events, buffers or blackboards, as requested.
 pub(crate) fn serve_objects(
     table: &mut ProcessTable,
     objects: &mut Objects,
     request: Request,
-    call: Call,
+    call: ObjectCall,
     words: &Words,
     out: &mut Out,
 )
@@ -42,8 +41,8 @@ pub(crate) fn serve_objects(
     ensures grows { Grows LINES_TO_SERVE ACTIONS_TO_SERVE out.old out.new }
 {
     match call {
-        Call::CreateBuffer { name } => create_buffer(table, objects, request, name, out),
-        Call::SendBuffer {
+        ObjectCall::CreateBuffer { name } => create_buffer(table, objects, request, name, out),
+        ObjectCall::SendBuffer {
             buffer,
             array,
             length,
@@ -52,17 +51,19 @@ pub(crate) fn serve_objects(
             let handed = Handed { array, length };
             send_buffer(table, objects, request, buffer, handed, words, timeout, out)
         }
-        Call::ReceiveBuffer {
+        ObjectCall::ReceiveBuffer {
             buffer,
             array,
             timeout,
         } => receive_buffer(table, objects, request, buffer, array, timeout, out),
-        Call::GetBufferId { name } => get_buffer_id(table, objects, request, name, out),
-        Call::GetBufferStatus { buffer } => {
+        ObjectCall::GetBufferId { name } => get_buffer_id(table, objects, request, name, out),
+        ObjectCall::GetBufferStatus { buffer } => {
             get_buffer_status(table, objects, request, buffer, out)
         }
-        Call::CreateBlackboard { name } => { create_blackboard(table, objects, request, name, out) }
-        Call::DisplayBlackboard {
+        ObjectCall::CreateBlackboard { name } => {
+            create_blackboard(table, objects, request, name, out)
+        }
+        ObjectCall::DisplayBlackboard {
             blackboard,
             array,
             length,
@@ -70,37 +71,42 @@ pub(crate) fn serve_objects(
             let handed = Handed { array, length };
             display_blackboard(table, objects, request, blackboard, handed, words, out)
         }
-        Call::ReadBlackboard {
+        ObjectCall::ReadBlackboard {
             blackboard,
             array,
             timeout,
         } => read_blackboard(table, objects, request, blackboard, array, timeout, out),
-        Call::ClearBlackboard { blackboard } => {
+        ObjectCall::ClearBlackboard { blackboard } => {
             clear_blackboard(table, objects, request, blackboard, out)
         }
-        Call::GetBlackboardId { name } => get_blackboard_id(table, objects, request, name, out),
-        Call::GetBlackboardStatus { blackboard } => {
+        ObjectCall::GetBlackboardId { name } => get_blackboard_id(
+            table, objects, request, name, out,
+        ),
+        ObjectCall::GetBlackboardStatus { blackboard } => {
             get_blackboard_status(table, objects, request, blackboard, out)
         }
-        Call::CreateSemaphore { name } => { create_semaphore(table, objects, request, name, out) }
-        Call::WaitSemaphore { semaphore, timeout } => {
+        ObjectCall::CreateSemaphore { name } => {
+            create_semaphore(table, objects, request, name, out)
+        }
+        ObjectCall::WaitSemaphore { semaphore, timeout } => {
             wait_semaphore(table, objects, request, semaphore, timeout, out)
         }
-        Call::SignalSemaphore { semaphore } => {
+        ObjectCall::SignalSemaphore { semaphore } => {
             signal_semaphore(table, objects, request, semaphore, out)
         }
-        Call::GetSemaphoreId { name } => get_semaphore_id(table, objects, request, name, out),
-        Call::GetSemaphoreStatus { semaphore } => {
+        ObjectCall::GetSemaphoreId { name } => get_semaphore_id(table, objects, request, name, out),
+        ObjectCall::GetSemaphoreStatus { semaphore } => {
             get_semaphore_status(table, objects, request, semaphore, out)
         }
-        Call::CreateEvent { name } => create_event(table, objects, request, name, out),
-        Call::SetEvent { event } => set_event(table, objects, request, event, out),
-        Call::ResetEvent { event } => reset_event(table, objects, request, event, out),
-        Call::WaitEvent { event, timeout } => {
+        ObjectCall::CreateEvent { name } => create_event(table, objects, request, name, out),
+        ObjectCall::SetEvent { event } => set_event(table, objects, request, event, out),
+        ObjectCall::ResetEvent { event } => reset_event(table, objects, request, event, out),
+        ObjectCall::WaitEvent { event, timeout } => {
             wait_event(table, objects, request, event, timeout, out)
         }
-        Call::GetEventId { name } => get_event_id(table, objects, request, name, out),
-        Call::GetEventStatus { event } => get_event_status(table, objects, request, event, out),
-        _ => {}
+        ObjectCall::GetEventId { name } => get_event_id(table, objects, request, name, out),
+        ObjectCall::GetEventStatus { event } => get_event_status(
+            table, objects, request, event, out,
+        ),
     }
 }

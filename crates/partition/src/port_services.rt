@@ -7,7 +7,7 @@ ghost use Rattle.kernel_meaning.specs.Sharing.{both};
 ghost use Rattle.kernel_meaning.specs.Made.{IsMade};
 ghost use Rattle.partition.specs.declared.rooms.TheConstants.{ACTIONS_TO_SERVE, LINES_TO_SERVE};
 
-use apex_types::{Call, Out, Words};
+use apex_types::{Out, PortCall, Words};
 use ports::{
     Ports, clear_queuing_port, create_queuing_port, create_sampling_port, get_queuing_port_id,
     get_queuing_port_status, get_sampling_port_id, get_sampling_port_status, read_sampling_message,
@@ -15,33 +15,12 @@ use ports::{
 };
 use process_table_base::{Handed, ProcessTable, Request};
 
-/// Whether it is a call on ports.
-pub(crate) fn is_on_ports(call: Call) -> bool
-    ensures { result ≡ meaning.is_on_ports call }
-{
-    match call {
-        Call::CreateSamplingPort { .. }
-        | Call::WriteSamplingMessage { .. }
-        | Call::ReadSamplingMessage { .. }
-        | Call::GetSamplingPortId { .. }
-        | Call::GetSamplingPortStatus { .. }
-        | Call::CreateQueuingPort { .. }
-        | Call::SendQueuingMessage { .. }
-        | Call::ReceiveQueuingMessage { .. }
-        | Call::GetQueuingPortId { .. }
-        | Call::GetQueuingPortStatus { .. }
-        | Call::ClearQueuingPort { .. } => true,
-        _ => false,
-    }
-}
-
-/// Serves a call on ports, as requested. A service that is not served leaves its caller without a
-/// reply.
+/// Serves a call on ports, as requested.
 pub(crate) fn serve_ports(
     table: &mut ProcessTable,
     ports: &mut Ports,
     request: Request,
-    call: Call,
+    call: PortCall,
     words: &Words,
     out: &mut Out,
 )
@@ -53,10 +32,10 @@ pub(crate) fn serve_ports(
     ensures grows { Grows LINES_TO_SERVE ACTIONS_TO_SERVE out.old out.new }
 {
     match call {
-        Call::CreateSamplingPort { name } => {
+        PortCall::CreateSamplingPort { name } => {
             create_sampling_port(table, ports, request, name, out)
         }
-        Call::WriteSamplingMessage {
+        PortCall::WriteSamplingMessage {
             port,
             array,
             length,
@@ -64,17 +43,19 @@ pub(crate) fn serve_ports(
             let handed = Handed { array, length };
             write_sampling_message(table, ports, request, port, handed, words, out)
         }
-        Call::ReadSamplingMessage { port, array } => {
+        PortCall::ReadSamplingMessage { port, array } => {
             read_sampling_message(table, ports, request, port, array, out)
         }
-        Call::GetSamplingPortId { name } => get_sampling_port_id(table, ports, request, name, out),
-        Call::GetSamplingPortStatus { port } => {
+        PortCall::GetSamplingPortId { name } => get_sampling_port_id(
+            table, ports, request, name, out,
+        ),
+        PortCall::GetSamplingPortStatus { port } => {
             get_sampling_port_status(table, ports, request, port, out)
         }
-        Call::CreateQueuingPort { name } => {
+        PortCall::CreateQueuingPort { name } => {
             create_queuing_port(table, ports, request, name, out)
         }
-        Call::SendQueuingMessage {
+        PortCall::SendQueuingMessage {
             port,
             array,
             length,
@@ -83,16 +64,17 @@ pub(crate) fn serve_ports(
             let handed = Handed { array, length };
             send_queuing_message(table, ports, request, port, handed, words, timeout, out)
         }
-        Call::ReceiveQueuingMessage {
+        PortCall::ReceiveQueuingMessage {
             port,
             array,
             timeout,
         } => receive_queuing_message(table, ports, request, port, array, timeout, out),
-        Call::GetQueuingPortId { name } => get_queuing_port_id(table, ports, request, name, out),
-        Call::GetQueuingPortStatus { port } => {
+        PortCall::GetQueuingPortId { name } => get_queuing_port_id(
+            table, ports, request, name, out,
+        ),
+        PortCall::GetQueuingPortStatus { port } => {
             get_queuing_port_status(table, ports, request, port, out)
         }
-        Call::ClearQueuingPort { port } => clear_queuing_port(table, ports, request, port, out),
-        _ => {}
+        PortCall::ClearQueuingPort { port } => clear_queuing_port(table, ports, request, port, out),
     }
 }

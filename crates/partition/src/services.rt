@@ -9,7 +9,7 @@ ghost use Rattle.partition.specs.declared.rooms.TheConstants.{ACTIONS_TO_SERVE, 
 
 use crate::kernel::Kernel;
 use crate::object_services::serve_objects;
-use crate::port_services::{is_on_ports, serve_ports};
+use crate::port_services::serve_ports;
 use apex_types::{Call, Moment, Out, Runner, Words};
 use process_table::{
     create_process, delayed_start, get_my_id, get_process_id, get_process_status, get_time,
@@ -58,7 +58,7 @@ impl Kernel {
     }
 
     /// Serves a call; `words` are those that it passes. Calls on objects and on ports have a
-    /// separate dispatch; all others are here.
+    /// separate dispatch.
     fn serve(&mut self, moment: Moment, caller: Runner, call: Call, words: &Words, out: &mut Out)
         requires room { HasRoom LINES_TO_SERVE ACTIONS_TO_SERVE out.old }
         ensures step { IsMade (meaning.serves moment.at self.old caller call words.now.items)
@@ -119,21 +119,19 @@ impl Kernel {
             Call::PeriodicWait => periodic_wait(&mut self.processes, request, out),
             Call::GetTime => get_time(&self.processes, request, out),
             Call::Replenish { budget } => replenish(&mut self.processes, request, budget, out),
-            other if is_on_ports(other) => {
-                serve_ports(
-                    &mut self.processes,
-                    &mut self.ports,
-                    request,
-                    other,
-                    words,
-                    out,
-                )
-            }
-            other => serve_objects(
+            Call::Object(call) => serve_objects(
                 &mut self.processes,
                 &mut self.objects,
                 request,
-                other,
+                call,
+                words,
+                out,
+            ),
+            Call::Port(call) => serve_ports(
+                &mut self.processes,
+                &mut self.ports,
+                request,
+                call,
                 words,
                 out,
             ),
