@@ -34,63 +34,50 @@ pub fn call_of(service: Service, words: &[i64]) -> Call
         Service::SetPartitionMode => Call::SetPartitionMode {
             mode: argument(words, 0),
         },
-
         Service::GetProcessId => Call::GetProcessId {
             name: argument(words, 0),
         },
-
         Service::GetProcessStatus => Call::GetProcessStatus {
             process: argument(words, 0),
         },
-
         Service::CreateProcess => Call::CreateProcess {
             name: argument(words, 0),
         },
-
         Service::SetPriority => Call::SetPriority {
             process: argument(words, 0),
             priority: argument(words, 1),
         },
-
         Service::SuspendSelf => Call::SuspendSelf {
             timeout: argument(words, 0),
         },
-
         Service::Suspend => Call::Suspend {
             process: argument(words, 0),
         },
-
         Service::Resume => Call::Resume {
             process: argument(words, 0),
         },
-
         Service::StopSelf => Call::StopSelf,
         Service::Stop => Call::Stop {
             process: argument(words, 0),
         },
-
         Service::Start => Call::Start {
             process: argument(words, 0),
         },
-
         Service::DelayedStart => Call::DelayedStart {
             process: argument(words, 0),
             delay: argument(words, 1),
         },
-
         Service::LockPreemption => Call::LockPreemption,
         Service::UnlockPreemption => Call::UnlockPreemption,
         Service::GetMyId => Call::GetMyId,
         Service::TimedWait => Call::TimedWait {
             delay: argument(words, 0),
         },
-
         Service::PeriodicWait => Call::PeriodicWait,
         Service::GetTime => Call::GetTime,
         Service::Replenish => Call::Replenish {
             budget: argument(words, 0),
         },
-
         Service::CreateBuffer => Call::Object(ObjectCall::CreateBuffer {
             name: argument(words, 0),
         }),
@@ -213,12 +200,10 @@ pub fn call_of(service: Service, words: &[i64]) -> Call
             array: array_argument(words, 0),
             length: argument(words, 2),
         },
-
         Service::CreateErrorHandler => Call::CreateErrorHandler,
         Service::GetErrorStatus => Call::GetErrorStatus {
             array: array_argument(words, 0),
         },
-
         Service::RaiseApplicationError => Call::RaiseApplicationError {
             error: argument(words, 0),
             array: array_argument(words, 1),
