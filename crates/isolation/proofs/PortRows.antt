@@ -163,4 +163,3 @@ module _ (rows : List PortRow) where
     ports_sound short m at p (port.GetQueuingPortId name) words within = get_id_sound p service.GetQueuingPortId name (queuing b.shared name)
     ports_sound short m at p (port.GetQueuingPortStatus id) words within = get_status_sound p service.GetQueuingPortStatus (queuing b.shared id) _
     ports_sound short m at p (port.ClearQueuingPort id) words within = clear_sound p id
-    ports_sound short m at p c words within = h
