@@ -10,7 +10,7 @@ use Rattle.machine_meaning.specs.MachineMeaning.{machine_module, machine_trace}
 use Rattle.module_meaning.specs.Module.{Plan, of_tick}
 use Rattle.module.specs.Machines.{Machine, course_of, fresh_machine}
 use Rattle.module.specs.Pieces.{LeadsTo}
-use Rattle.module.specs.Standing.{Elapsed, Standing, after, elapse, lines_of, ticks}
+use Rattle.module_meaning.specs.Standing.{Elapsed, Standing, after, elapse, lines_of, ticks}
 use Rattle.module.proofs.DeviceLines.{of_tick_again}
 use Rattle.module.proofs.Machines.{ticks_are_the_trace}
 use Rattle.module.proofs.Standing.{none_down, tick_text}

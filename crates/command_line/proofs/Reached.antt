@@ -14,7 +14,7 @@ use Rattle.module.specs.Written.{AreFrom}
 use Rattle.module.specs.declared.fault.RunFault.{RunFault}
 use Rattle.module.specs.declared.fault.RunFault.TheVariants as fault
 use Rattle.module.proofs.Bursts.{from_lower, skipped_ahead}
-use Rattle.module.specs.Standing.{elapse}
+use Rattle.module_meaning.specs.Standing.{elapse}
 use Rattle.command_line.specs.Stops.{BreaksOff, EndsImage, MayRun, text_to}
 use Rattle.command_line.specs.StopSteps.{IsHeld}
 use Rattle.command_line.specs.Awaited.{has_line}

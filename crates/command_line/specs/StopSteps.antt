@@ -4,7 +4,7 @@ use Rattle.apex_types.specs.Line.{text_of}
 use Rattle.apex_types.specs.declared.device.DeviceLine.{DeviceLine}
 use Rattle.module_meaning.specs.Module.{of_tick}
 use Rattle.module.specs.Machines.{Machine, course_of}
-use Rattle.module.specs.Standing.{after}
+use Rattle.module_meaning.specs.Standing.{after}
 use Rattle.module.specs.Written.{AreFrom}
 
 -- The machine has completed one tick with those of the device lines that are of it, and the bytes

@@ -64,7 +64,8 @@ pub use Rattle.module.specs.Replays.{Replays}
 pub use Rattle.module.specs.Running.{AreRefused, ReplaysSlice, fault_of_text}
 pub use Rattle.module.specs.Runs.{IsDeviceRefusal, IsRun, Runs}
 pub use Rattle.module.specs.Sources.{AreSources, IsSource, programs_of}
-pub use Rattle.module.specs.Standing.{Elapsed, IsNow, Standing, after, at_first, begins, elapse, lines_of, moment_of, origin_of, preceded_by, ticks, ticks_from, ticks_in}
+pub use Rattle.module_meaning.specs.Standing.{Elapsed, IsNow, Standing, after, at_first, begins, elapse, lines_of, origin_of, preceded_by, ticks, ticks_from}
+pub use Rattle.module.specs.Standing.{moment_of, ticks_in}
 pub use Rattle.module.specs.Telling.{TellsSlice}
 pub use Rattle.module.specs.Views.{members_in, plan_of, standing_of}
 pub use Rattle.module.specs.Written.{AreFrom, IsCourse, IsMade}

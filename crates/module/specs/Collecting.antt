@@ -13,7 +13,7 @@ use Rattle.kernel_meaning.specs.Windows.{tick_from}
 use Rattle.isolation.specs.declared.input.Input.{Input}
 use Rattle.isolation.specs.declared.input.InputLine.{InputLine}
 use Rattle.isolation.specs.Brought.{brought_by, brought_tick, held_port, line_in}
-use Rattle.module.specs.Standing.{Standing, after, begins, ticks}
+use Rattle.module_meaning.specs.Standing.{Standing, after, begins, ticks}
 use Rattle.module.specs.declared.inputs_fault.InputsFault.{InputsFault}
 use Rattle.module.specs.declared.inputs_fault.InputsFault.TheVariants as fault
 

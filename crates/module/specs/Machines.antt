@@ -13,7 +13,7 @@ use Rattle.machine_meaning.specs.MachineMeaning.{machine_module}
 use Rattle.image.specs.Views.{image_of}
 use Rattle.partition_base.specs.contracts.machine.PartitionProcessorExecutor.TheImpl.{ghosts as executor}
 use Rattle.module.specs.Pieces.{HasRun, HasSkippedSome, IsBrokenOff}
-use Rattle.module.specs.Standing.{Standing, at_first, after, ticks}
+use Rattle.module_meaning.specs.Standing.{Standing, at_first, after, ticks}
 use Rattle.module.specs.Views.{standing_of}
 use Rattle.module.specs.declared.fault.RunFault.{RunFault}
 use Rattle.module.specs.declared.fault.RunFault.TheVariants as fault

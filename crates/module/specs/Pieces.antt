@@ -11,7 +11,7 @@ use Rattle.module_meaning.specs.Module.{Plan, ports_from, ticks_owner}
 use Rattle.kernel_meaning.specs.Partition.{Member, Moved, World, messages_to_move, tick, with_world}
 use Rattle.kernel_meaning.specs.Windows.{ended, owner, tick_from}
 use Rattle.lone_partition.specs.Sent.{Sent, HasSent}
-use Rattle.module.specs.Standing.{Elapsed, Standing, elapse, preceded_by}
+use Rattle.module_meaning.specs.Standing.{Elapsed, Standing, elapse, preceded_by}
 
 -- n ticks write these lines and lead from one `Standing` to another, whatever ticks follow.
 abbrev pub LeadsTo : {C : Type 0} → Plan → List DeviceLine → ℕ → Standing C → List Event → Standing C → Type 0

@@ -8,7 +8,8 @@ use Rattle.regions.specs.Space.{Space}
 use Rattle.window_table.specs.Schedules.{schedule_of}
 use Rattle.module.specs.Members.{members_of}
 use Rattle.image.specs.declared.value.Image.{Image}
-use Rattle.module.specs.Standing.{Standing, ticks_in}
+use Rattle.module_meaning.specs.Standing.{Standing}
+use Rattle.module.specs.Standing.{ticks_in}
 use Rattle.module.specs.declared.member.Members.{Members}
 use Rattle.module.specs.declared.member.Module.{Module}
 

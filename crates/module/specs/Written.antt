@@ -6,7 +6,7 @@ use Rattle.apex_types.specs.declared.identity.At.{At}
 use Rattle.module_meaning.specs.Module.{Advanced, Course}
 use Rattle.kernel_meaning.specs.Partition.{Member}
 use Rattle.lone_partition.specs.Sent.{Sent, HasSent}
-use Rattle.module.specs.Standing.{Standing, after}
+use Rattle.module_meaning.specs.Standing.{Standing, after}
 
 -- Between two states of an output a step of the module was made, and its lines were to be written.
 pub record IsMade {C : Type 0} (a : Advanced C) (now : List (Member C)) (old new : Sent) : Type 0 where

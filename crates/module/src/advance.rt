@@ -3,7 +3,7 @@
 ghost use Rattle.std.specs.Prelude.{◌≡◌, option_map};
 ghost use Rattle.module_meaning.specs.Module as meaning;
 ghost use Rattle.lone_partition.specs.Outputs.{next_at, sent_of};
-ghost use Rattle.module.specs.Standing.{begins, begins_and_ticks};
+ghost use Rattle.module_meaning.specs.Standing.{begins, begins_and_ticks};
 ghost use Rattle.module.specs.Views.{members_in, plan_of};
 ghost use Rattle.module.specs.Written.{done_in, IsCourse, IsMade};
 

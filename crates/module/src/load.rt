@@ -7,7 +7,7 @@ ghost use Rattle.image.specs.Views.{image_of};
 ghost use Rattle.partition_base.specs.contracts.machine.PartitionProcessorExecutor.TheImpl.{ghosts as machine};
 ghost use Rattle.lone_partition.specs.Loading.{fresh_item};
 ghost use Rattle.module.specs.Members.{members_of, AreFitting};
-ghost use Rattle.module.specs.Standing.{at_first};
+ghost use Rattle.module_meaning.specs.Standing.{at_first};
 ghost use Rattle.module.specs.Views.{standing_of};
 
 use crate::member::{Members, Module};

@@ -11,7 +11,7 @@ ghost use Rattle.machine_meaning.specs.MachineMeaning.{machine_module, machine_t
 ghost use Rattle.module.specs.Isolated.{WritesAlone};
 ghost use Rattle.module.specs.Machines as machines;
 ghost use Rattle.module.specs.Machines.{HasRunOn, HasSkipped, HasTicked, HaveTicked, fresh_machine, machine_of};
-ghost use Rattle.module.specs.Standing.{lines_of};
+ghost use Rattle.module_meaning.specs.Standing.{lines_of};
 ghost use Rattle.module.specs.Running.{AreRefused, RunsImage};
 ghost use Rattle.module.specs.Written.{AreFrom};
 

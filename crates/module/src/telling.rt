@@ -8,7 +8,7 @@ ghost use Rattle.image.specs.Views.{image_of};
 ghost use Rattle.isolation.specs.Slices.{Slice, machine_inputs, slice};
 ghost use Rattle.partition_base.specs.contracts.machine.PartitionProcessorExecutor.TheImpl.{ghosts as machine};
 ghost use Rattle.module.specs.Collecting.{HasNoRoom};
-ghost use Rattle.module.specs.Standing.{at_first};
+ghost use Rattle.module_meaning.specs.Standing.{at_first};
 ghost use Rattle.module.specs.Telling.{Tells, TellsSlice};
 ghost use Rattle.module.specs.Views.{standing_of};
 ghost use Rattle.module.specs.Written.{AreFrom};

@@ -4,7 +4,8 @@ ghost use Rattle.std.specs.Prelude.{◌≡◌, ◌≤◌, ◌<◌, ◌+◌, ◌^
 ghost use Rattle.apex_types.specs.declared.limits.TheConstants.{MOST_TICKS};
 ghost use Rattle.module_meaning.specs.Module as meaning;
 ghost use Rattle.lone_partition.specs.Outputs.{next_at, sent_of};
-ghost use Rattle.module.specs.Standing.{IsNow, moment_of, origin_of, ticks};
+ghost use Rattle.module_meaning.specs.Standing.{IsNow, origin_of, ticks};
+ghost use Rattle.module.specs.Standing.{moment_of};
 ghost use Rattle.module.specs.Views.{members_in, plan_of, standing_of};
 ghost use Rattle.module.specs.Written.{AreFrom, HasGoneOn, IsCourse};
 

@@ -6,7 +6,7 @@ ghost use Rattle.module_meaning.specs.Module as meaning;
 ghost use Rattle.isolation.specs.Brought.{brought_moved, brought_tick};
 ghost use Rattle.lone_partition.specs.Outputs.{next_at};
 ghost use Rattle.module.specs.Collecting.{AreCollected, IsMadeUnseen, brought_next};
-ghost use Rattle.module.specs.Standing.{after, begins, begins_and_ticks, ticks};
+ghost use Rattle.module_meaning.specs.Standing.{after, begins, begins_and_ticks, ticks};
 ghost use Rattle.module.specs.Views.{members_in, plan_of, standing_of};
 
 use crate::bringing::bring_in_all;

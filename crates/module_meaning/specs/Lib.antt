@@ -4,4 +4,5 @@ pub mod TableRules
 pub mod Accepted
 pub mod DeviceText
 pub mod Module
+pub mod Standing
 pub mod SourceMeaning
