@@ -7,8 +7,10 @@ of the files that these name, and so on; each file whole.
     .ci/trust.py --write        writes the numbers of docs/TRUST.md anew, and says which rows it lacks
 
 The lines of a file are those that are not empty and no comment. Types of the code are files too: a definition that names a type of the
-code needs the file in `src` that declares it. They are counted apart, and what they name in turn is not followed. What stands in the
-libraries of the kit is left out.
+code needs the file in `src` that declares it. They are counted apart, and what they name in turn is not followed. What is in the
+libraries of the kit is left out. Of the promises of the programs (`COUNTED`) the page has the counts, and no row for each file.
+
+The README says how many files the main promise needs, of how many in all, and docs/CONTRACTS.md how many promises it lists. These are compared too.
 """
 
 import re
@@ -19,6 +21,10 @@ from pathlib import Path
 ROOT = Path(__file__).resolve().parent.parent
 PAGE = ROOT / "docs/TRUST.md"
 CRATES = ROOT / "crates"
+COUNTED = ("B", "V")
+SHARE = re.compile(r"for sentences 2 and 3 (\d+) of (\d+) files")
+LISTED = re.compile(r"^## The (\w+) promises\n\n\|.*\n\|[-|]*\n((?:\|.*\n)*)", re.M)
+WORDS = ("no", "one", "two", "three", "four", "five", "six", "seven", "eight", "nine")
 PROMISE = re.compile(r"^\| (?P<letter>[A-Z]) \|.*\| \[`(?P<name>\w+)`\]\(\.\./(?P<path>crates/\S+\.antt)\) \| (?P<counts>.*) \|$", re.M)
 ROW = re.compile(r"^\| \[\S+\]\(\.\./(?P<path>crates/\S+\.(?:antt|rt))\) \| (?P<needs>(?:\d+ \| )?[A-Z]+) \| (?P<says>.+) \|$", re.M)
 
@@ -95,14 +101,26 @@ def computed():
             raise Differs(f"{row['name']} is not defined in {row['path']}")
         definitions, types = needed(path)
         promises.append((row, counts_of(definitions, types)))
-        for it in definitions | types:
+        for it in definitions | types if row["letter"] not in COUNTED else ():
             needs[it] = needs.get(it, "") + row["letter"]
     definitions = in_order(it for it in needs if it.suffix == ".antt")
     return promises, {it: f"{lines_of(it)} | {needs[it]}" for it in definitions} | {it: needs[it] for it in sorted(it for it in needs if it.suffix == ".rt")}
 
 
+def compare_counts():
+    """Compares what the README and docs/CONTRACTS.md count."""
+    means, _ = needed(file_of("Means"))
+    computed = (len(means), sum(1 for _ in reading_order()))
+    share = SHARE.search((ROOT / "README.md").read_text())
+    if not share or computed != (int(share[1]), int(share[2])):
+        raise Differs(f"the README has '{share and share[0]}', which is {computed[0]} of {computed[1]}")
+    listed = LISTED.search((ROOT / "docs/CONTRACTS.md").read_text())
+    if not listed or WORDS[listed[2].count("\n")] != listed[1]:
+        raise Differs("docs/CONTRACTS.md counts its promises wrong")
+
+
 def compare():
-    """Compares the page with what is computed; returns what it compared."""
+    """Compares the pages with what is computed; returns what it compared."""
     promises, files = computed()
     for row, counts in promises:
         if row["counts"] != counts:
@@ -117,14 +135,15 @@ def compare():
     for path in rows:
         if path not in files:
             raise Differs(f"docs/TRUST.md has {path.relative_to(ROOT)}, which no promise needs")
+    compare_counts()
     return f"{len(promises)} promises and {len(files)} files"
 
 
 def write():
     """Writes the counts of the page and what is said of its rows before their sentences."""
     promises, files = computed()
-    counts = {row["name"]: it for row, it in promises}
-    text = PROMISE.sub(lambda row: row[0].replace(f" | {row['counts']} |", f" | {counts[row['name']]} |"), PAGE.read_text())
+    counts = {row["letter"]: it for row, it in promises}
+    text = PROMISE.sub(lambda row: row[0].replace(f" | {row['counts']} |", f" | {counts[row['letter']]} |"), PAGE.read_text())
     had = {ROOT / row["path"] for row in ROW.finditer(text)}
     text = ROW.sub(lambda row: row[0].replace(f" | {row['needs']} | ", f" | {files.get(ROOT / row['path'], 'no promise')} | ", 1), text)
     PAGE.write_text(text)
