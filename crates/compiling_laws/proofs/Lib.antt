@@ -15,3 +15,5 @@ pub mod Operands
 pub mod ProgramSizes
 pub mod ProgramCosts
 pub mod Constructs
+pub mod ResolvedParts
+pub mod Resolving

@@ -278,6 +278,9 @@ keeps_within low limit (Some x) h =
     let parts = and_parts (nat_le low x) (nat_le x limit) h in
     (x, refl, leb-true low x parts.0, leb-true x limit parts.1, cond-true (nat_le x limit) x 0 parts.1)
 
+pub few_locals : (b : written.Body) → keeps_body b ≡ true → length b.locals ≤ MOST_LOCALS
+few_locals b keeps = leb-true (length b.locals) MOST_LOCALS (and_parts _ _ (and_parts _ _ keeps).0).0
+
 module _ (ports : List PortRow) (p : written.Program) (procedures : List program.Procedure) (called : (name : List ℕ) (own : List (List ℕ)) → NamesProcedure procedures (scope_of (own_entries 0 own) (declared_entries ports p) name)) where
   -- the statements of a body that has slots for its parameters and locals
   block_of_body : (returns : Bool) (parameters : List (List ℕ)) (b : written.Body) (n : ℕ) → length (parameters ++ b.locals) ≤ n → kinds_hold_in_body (declared_entries ports p) returns parameters b ≡ true → keeps_body b ≡ true
@@ -285,9 +288,6 @@ module _ (ports : List PortRow) (p : written.Program) (procedures : List program
   block_of_body returns parameters b n room kinds keeps =
       let own = parameters ++ b.locals in
       block_fits (scope_of (own_entries 0 own) (declared_entries ports p)) procedures n (slots_in_scope ports p n own room) (λ name. called name own) returns b.block kinds (and_parts _ _ keeps).1
-
-  few_locals : (b : written.Body) → keeps_body b ≡ true → length b.locals ≤ MOST_LOCALS
-  few_locals b keeps = leb-true (length b.locals) MOST_LOCALS (and_parts _ _ (and_parts _ _ keeps).0).0
 
   stack_holds : (stack : Option ℕ) (b : written.Body) → is_between LEAST_STACK_WORDS MOST_STACK_WORDS stack ≡ true → fits_stack (declared_entries ports p) stack b ≡ true → frame_of_body (resolve_body (declared_entries ports p) stack b) ≤ within MOST_STACK_WORDS stack
   stack_holds None b h fits = absurd cc

@@ -38,7 +38,7 @@ record Step (limit before after more : ℕ) : Type 0 where
 stays : (limit n : ℕ) → Step limit n n 0
 stays limit n = record { is = omega arith; most = λ h. h }
 
-counted_most : (limit count more n : ℕ) → counted limit count more ≡ Some n → (n ≡ more + count) × (more + count ≤ limit)
+pub counted_most : (limit count more n : ℕ) → counted limit count more ≡ Some n → (n ≡ more + count) × (more + count ≤ limit)
 counted_most limit count more n h = let c = cond_some (nat_le (more + count) limit) (more + count) n h in (sym c.1, leb-true (more + count) limit c.0)
 
 goes : (limit count more n size : ℕ) → counted limit count more ≡ Some n → size ≡ more → Step limit count n size

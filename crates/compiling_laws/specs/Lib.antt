@@ -4,3 +4,4 @@ pub mod CompiledCode
 pub mod Fits
 pub mod Related
 pub mod Lifting
+pub mod Resolved

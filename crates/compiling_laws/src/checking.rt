@@ -1,16 +1,17 @@
 //! Programs that the checker accepts are fit for the compiler and for an image.
 
-ghost use Rattle.std.specs.Prelude.{◌≡◌, ℕ, ◌*◌, ◌≤◌, List, length, Ok, All, FitsSigned};
+ghost use Rattle.std.specs.Prelude.{◌≡◌, ℕ, ◌*◌, ◌≤◌, List, length, Ok, Some, All, FitsSigned};
 ghost use Rattle.std.specs.Int.{w64};
 ghost use Rattle.apex_types.specs.Versions.{third_limits};
 ghost use Rattle.apex_types.specs.declared.cost.Costs.{Costs};
-ghost use Rattle.apex_types.specs.declared.limits.TheConstants.{MOST_INSTRUCTIONS, MOST_SOURCE_BYTES};
+ghost use Rattle.apex_types.specs.declared.limits.TheConstants.{MOST_INSTRUCTIONS, MOST_PORTS, MOST_SOURCE_BYTES};
 ghost use Rattle.apex_types.specs.declared.row.PortRow.{PortRow};
 ghost use Rattle.pal_meaning.specs.Syntax as written;
 ghost use Rattle.pal_meaning.specs.Program as program;
 ghost use Rattle.pal_meaning.specs.WellFormed.{verdict};
 ghost use Rattle.compiling_laws.specs.Bounds.{AreCostsHeld};
 ghost use Rattle.compiling_laws.specs.Fits.{Fits};
+ghost use Rattle.compiling_laws.specs.Resolved.{resolved};
 ghost use Rattle.pal_meaning.specs.Grammar.{IsWritten};
 ghost use Rattle.pal_meaning.specs.Grammar.{words_of};
 ghost use Rattle.pal_meaning.specs.Program.{size_of};
@@ -43,4 +44,12 @@ pub fn accepted_section_is_lawful()
     ensures { (ports : List PortRow) (period : ℕ) (p : written.Program) (r : program.Program)
         → verdict ports period p ≡ Ok r → size_of r ≤ MOST_INSTRUCTIONS
         → All (FitsSigned w64) r.initial → IsSection third_limits period (section_of r) }
+{}
+
+/// An accepted program is resolved exactly, in a partition with as many ports as it may have: none of
+/// the cases is met in which `Resolve` gives 0 for what is wrong, or stops counting.
+pub fn accepted_program_resolves_exactly()
+    ensures { (ports : List PortRow) (period : ℕ) (p : written.Program) (r : program.Program)
+        → length ports ≤ MOST_PORTS → verdict ports period p ≡ Ok r
+        → resolved ports p ≡ Some r }
 {}
