@@ -1,5 +1,5 @@
 -- The parts of an accepted program are resolved exactly: names, expressions and statements.
-use Rattle.compiling_laws.proofs.Prelude.{◌≡◌, ℕ, ◌+◌, ◌≤◌, pos, Bool, true, false, cond, nat_eq, nat_le, List, ◌∷◌, ◌++◌, map, Option, Some, None, refl, sym, ap, ◌∙◌, and_parts, cond-true, list_all, filter_map, cons_option, option_map, MOST_WORK_TICKS, Denotation, ArgumentKind, arguments_of, answer_words, Scope, place_of, within, resolve_expr, resolve_links, resolve_exprs, resolve_argument, resolve_arguments, resolve_stmt, resolve_block, is_between}
+use Rattle.compiling_laws.proofs.Prelude.{◌≡◌, ℕ, pos, Bool, true, nat_eq, List, ◌∷◌, ◌++◌, map, Option, Some, None, refl, sym, ap, ◌∙◌, and_parts, cond-true, list_all, filter_map, cons_option, option_map, MOST_WORK_TICKS, Denotation, ArgumentKind, arguments_of, answer_words, Scope, place_of, within, resolve_expr, resolve_links, resolve_exprs, resolve_argument, resolve_arguments, resolve_stmt, resolve_block, is_between}
 use Rattle.std.proofs.Common.{[]}
 use Rattle.std.specs.Prelude.{flat_map, is_some}
 use Rattle.apex_types.specs.declared.denotation.Denotation.TheVariants as denotation
@@ -32,7 +32,7 @@ pub flat : {A B : Type 0} (g : A → List B) (xs : List A) → flat_map (λ ys. 
 flat g [] = refl
 flat g (x ∷ xs) = ap (λ ys. g x ++ ys) (flat g xs)
 
-pub joined_is : {A B : Type 0} (f : A → Option (List B)) (g : A → List B) (test : A → Bool) → ((x : A) → test x ≡ true → f x ≡ Some (g x)) → (xs : List A) → list_all test xs ≡ true → joined f xs ≡ Some (flat_map g xs)
+joined_is : {A B : Type 0} (f : A → Option (List B)) (g : A → List B) (test : A → Bool) → ((x : A) → test x ≡ true → f x ≡ Some (g x)) → (xs : List A) → list_all test xs ≡ true → joined f xs ≡ Some (flat_map g xs)
 joined_is f g test is xs h = ap (option_map (flat_map (λ ys. ys))) (each_is f g test is xs h) ∙ ap Some (flat g xs)
 
 put : {A : Type 0} (o : Option A) (xs : List A) → one_or_none o ++ xs ≡ cons_option o xs
@@ -48,7 +48,7 @@ picked_is f g test is xs h = joined_is f (λ x. one_or_none (g x)) test is xs h 
 
 -- ---- numbers
 
-pub number_is : (o : Option ℕ) → is_some o ≡ true → o ≡ Some (value_or_zero o)
+number_is : (o : Option ℕ) → is_some o ≡ true → o ≡ Some (value_or_zero o)
 number_is None h = absurd cc
 number_is (Some n) h = refl
 

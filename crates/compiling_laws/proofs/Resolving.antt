@@ -1,8 +1,9 @@
 -- An accepted program is resolved exactly.
-use Rattle.compiling_laws.proofs.Prelude.{◌≡◌, ℕ, ◌+◌, ◌-◌, ◌≤◌, ℤ, pos, Bool, true, false, cond, nat_le, nat_lt, List, ◌∷◌, ◌++◌, length, map, take, replicate, Option, Some, None, Ok, refl, sym, ap, ◌∙◌, subst, length-append, filter_map, option_map, unwrap_or, bytes_eq, list_all, and_parts, leb-true, cond-true, le-leb, lt-ltb, sum_by-cons, LEAST_STACK_WORDS, MOST_LOCALS, MOST_PARAMETERS, MOST_PROCEDURES, MOST_PROCESSES, MOST_STACK_WORDS, is_name, PortRow, Counts, no_counts, counted, after, count_within, Entry, declaration_entries, process_entries, own_entries, scope_of, within, resolve_block, resolve_body, resolve_body_block, resolve_stack_body, resolve_process, procedure_of, resolve, verdict, is_between, keeps_counts, keeps_declaration, keeps_handler, keeps_kind, keeps_process, keeps_stack_body, limits_hold}
-use Rattle.std.proofs.Common.{[], arith}
+use Rattle.compiling_laws.proofs.Prelude.{◌≡◌, ℕ, ◌+◌, ◌≤◌, ℤ, pos, Bool, true, false, cond, nat_eq, nat_le, nat_lt, List, ◌∷◌, ◌++◌, length, map, Option, Some, None, Ok, refl, sym, ap, ◌∙◌, subst, length-append, option_map, unwrap_or, list_all, and_parts, leb-true, cond-true, le-leb, lt-ltb, sum_by-cons, LEAST_STACK_WORDS, MOST_LOCALS, MOST_PARAMETERS, MOST_PROCESSES, MOST_STACK_WORDS, is_name, PortRow, Counts, no_counts, counted, after, count_within, Entry, declaration_entries, process_entries, own_entries, scope_of, within, resolve_body, resolve_body_block, resolve_stack_body, resolve_process, procedure_of, resolve, verdict, is_between, keeps_counts, keeps_declaration, keeps_handler, keeps_kind, keeps_process, keeps_stack_body, limits_hold}
+use Rattle.std.proofs.Common.{[], arith, not}
+use Rattle.module_meaning.specs.Table.{◌>>=◌}
 use Rattle.std.proofs.lemmas.List.{take_all}
-use Rattle.std.specs.Prelude.{◌&&◌, flat_map, position, count_by, is_some, ◌-ℤ◌}
+use Rattle.std.specs.Prelude.{◌&&◌, flat_map, count_by, is_some, ◌-ℤ◌}
 use Rattle.apex_types.specs.declared.denotation.Denotation.TheVariants as denotation
 use Rattle.apex_types.specs.declared.denotation.ObjectKind.TheVariants as object
 use Rattle.apex_types.specs.declared.limits.TheConstants.{GREATEST_PRIORITY, MOST_DATA_WORDS, MOST_DEPTH, MOST_OBJECTS, MOST_PORTS, MOST_SEMAPHORE_VALUE, MOST_SLOTS, MOST_TICKS, MOST_WORDS}
@@ -11,9 +12,9 @@ use Rattle.apex_types.specs.declared.row.BufferRow.{BufferRow}
 use Rattle.apex_types.specs.declared.row.BlackboardRow.{BlackboardRow}
 use Rattle.pal_meaning.specs.Program as program
 use Rattle.pal_meaning.specs.Syntax as written
-use Rattle.pal_meaning.specs.Resolve.{array_words, blackboard_of, buffer_of, counts_of, declared_entries, declared_meaning, next, port_number, semaphore_of, signed_word, slot, time_of, value_or_zero, words_of}
+use Rattle.pal_meaning.specs.Resolve.{array_words, blackboard_of, buffer_of, counts_of, declared_entries, declared_meaning, next, semaphore_of, signed_word, slot, time_of, value_or_zero, words_of}
 use Rattle.pal_meaning.specs.WellFormed.{fits_stack, holds_of_handler, holds_of_procedure, is_time, is_word, keeps_body, kinds_hold, kinds_hold_in_body, value_at_most}
-use Rattle.compiling_laws.specs.Resolved.{with_two, each, joined, signed_number, resolved_time, counts_with, number_of_port, meaning_with, resolved_declarations, numbered_processes, own_slots, resolved_block, resolved_statements, resolved_body, resolved_handler, resolved_process, words_made, semaphores_made, buffers_made, blackboards_made, procedures_made, is_event, resolved_among, resolved}
+use Rattle.compiling_laws.specs.Resolved.{each, joined, signed_number, resolved_time, counts_with, number_of_port, meaning_with, resolved_declarations, numbered_processes, own_slots, resolved_block, resolved_statements, resolved_body, resolved_handler, resolved_process, words_made, semaphores_made, buffers_made, blackboards_made, procedures_made, is_event, resolved}
 use Rattle.compiling_laws.proofs.WellFormedFits.{accepted, few_locals, count_is, counted_is, counts_next, mapped_some}
 use Rattle.compiling_laws.proofs.WellFormedObjects.{counted_most, one_or_none}
 use Rattle.compiling_laws.proofs.ResolvedParts.{between_is, block_is, both, each_is, flat, four, picked_is}
@@ -21,8 +22,7 @@ use Rattle.compiling_laws.proofs.ResolvedParts.{between_is, block_is, both, each
 -- ---- numbers
 
 most_is : (most : Option ℕ) (limit : ℕ) (o : Option ℕ) → value_at_most o most ≡ true → is_between 1 limit most ≡ true → o ≡ Some (within limit o)
-most_is None limit None h k = absurd cc
-most_is None limit (Some n) h k = absurd cc
+most_is None limit o h k = absurd cc
 most_is (Some m) limit None h k = absurd cc
 most_is (Some m) limit (Some n) h k =
     let a = leb-true n m h in
@@ -39,9 +39,14 @@ word_is i h = signed i.negative i.magnitude h
 time_is : (i : written.Integer) → is_time i ≡ true → resolved_time i ≡ Some (time_of i)
 time_is i h = timed i.negative i.magnitude h
   where
-    timed : (b : Bool) (o : Option ℕ) → cond b (is_between 1 1 o) (is_between 1 MOST_TICKS o) ≡ true → option_map (λ n. cond b None (Some n)) o ≡ Some (cond b None (Some (within MOST_TICKS o)))
+    timed : (b : Bool) (o : Option ℕ) → cond b (is_between 1 1 o) (is_between 1 MOST_TICKS o) ≡ true → (o >>= λ n. cond (not b) (Some (Some n)) (cond (nat_eq n 1) (Some None) None)) ≡ Some (cond b None (Some (within MOST_TICKS o)))
     timed true None h = absurd cc
-    timed true (Some n) h = refl
+    timed true (Some n) h =
+        let parts = and_parts (nat_le 1 n) (nat_le n 1) h in
+        let least = leb-true 1 n parts.0 in
+        let most = leb-true n 1 parts.1 in
+        let one : n ≡ 1 = omega arith in
+        rw one refl
     timed false None h = absurd cc
     timed false (Some n) h = ap (λ (x : Option ℕ). Some x) (between_is 1 MOST_TICKS (Some n) h)
 
@@ -106,20 +111,6 @@ meaning_is ports declared c n name (written.Blackboard words) few h keeps = ap (
 meaning_is ports declared c n name written.Port few h keeps = ap (λ (ps : List PortRow). Some (denotation.Object object.Port (number_of_port ps name))) (sym (take_all MOST_PORTS ports few))
 meaning_is ports declared c n name (written.Procedure parameters body) few h keeps = refl
 
-declarations_are : (ports : List PortRow) (declared : List Entry) (c : Counts) (ds : List written.Declaration) → length ports ≤ MOST_PORTS → keeps_counts c ds ≡ true → list_all (keeps_declaration declared) ds ≡ true → resolved_declarations ports c ds ≡ Some (declaration_entries ports c ds)
-declarations_are ports declared c [] few counts keeps = refl
-declarations_are ports declared c (d ∷ ds) few counts keeps =
-    let later = counts_next (after c d.kind) ds counts in
-    let kept = and_parts (keeps_declaration declared d) (list_all (keeps_declaration declared) ds) keeps in
-    let kind = and_parts (is_name d.name) (keeps_kind declared d.kind) kept.0 in
-    let is : later.0 ≡ unwrap_or (after c d.kind) c = ap (λ (o : Option Counts). unwrap_or o c) (sym later.1) in
-    let meaning = meaning_is ports declared c later.0 d.name d.kind few later.1 kind.1 in
-    let counted = counts_are declared c later.0 d.kind later.1 kind.1 in
-    let rest = declarations_are ports declared later.0 ds few later.2 kept.1 in
-    rw (meaning, counted, rest) (ap (λ (n : Counts). Some (record { name = d.name; meaning = declared_meaning ports c d.name d.kind } ∷ declaration_entries ports n ds)) is)
-
--- ---- how many events
-
 abbrev events_in : Option Counts → ℕ
 events_in None = 0
 events_in (Some c) = c.events
@@ -128,19 +119,6 @@ event_counted : (c n : Counts) (k : written.Kind) → counts_with c k ≡ Some n
 event_counted c n (written.Array None values) h = absurd cc
 event_counted c n (written.Array (Some size) values) h = omega (arith, ap events_in h)
 event_counted c n _ h = omega (arith, ap events_in h)
-
-events_are : (declared : List Entry) (c : Counts) (ds : List written.Declaration) → keeps_counts c ds ≡ true → list_all (keeps_declaration declared) ds ≡ true → c.events + count_by (λ (d : written.Declaration). is_event d.kind) ds ≡ (counts_of c ds).events
-events_are declared c [] counts keeps = omega arith
-events_are declared c (d ∷ ds) counts keeps =
-    let later = counts_next (after c d.kind) ds counts in
-    let kept = and_parts (keeps_declaration declared d) (list_all (keeps_declaration declared) ds) keeps in
-    let kind = and_parts (is_name d.name) (keeps_kind declared d.kind) kept.0 in
-    let is : later.0 ≡ unwrap_or (after c d.kind) c = ap (λ (o : Option Counts). unwrap_or o c) (sym later.1) in
-    let one = event_counted c later.0 d.kind (counts_are declared c later.0 d.kind later.1 kind.1) in
-    let rest = events_are declared later.0 ds later.2 kept.1 in
-    let all = sum_by-cons (λ (x : written.Declaration). cond (is_event x.kind) 1 0) d ds in
-    let total : c.events + count_by (λ (x : written.Declaration). is_event x.kind) (d ∷ ds) ≡ (counts_of later.0 ds).events = omega arith in
-    total ∙ ap (λ (n : Counts). (counts_of n ds).events) is
 
 -- ---- what the declarations make
 
@@ -175,14 +153,32 @@ words_are declared c n (written.Array (Some size) values) h keeps =
     rw (first, test) (ap (λ (s : ℕ). Some (array_words s values)) (size_is _ c.words size n h))
 words_are declared c n _ h keeps = refl
 
-each_words : (declared : List Entry) (c : Counts) (ds : List written.Declaration) → keeps_counts c ds ≡ true → list_all (keeps_declaration declared) ds ≡ true
-    → each (λ (d : written.Declaration). words_made d.kind) ds ≡ Some (map (λ (d : written.Declaration). words_of d.kind) ds)
-each_words declared c [] counts keeps = refl
-each_words declared c (d ∷ ds) counts keeps =
+-- the declarations after those that `c` counts: their meanings, how many are events, and the words of the data
+record Declared (ports : List PortRow) (c : Counts) (ds : List written.Declaration) : Type 0 where
+  entries : resolved_declarations ports c ds ≡ Some (declaration_entries ports c ds)
+  events : c.events + count_by (λ (d : written.Declaration). is_event d.kind) ds ≡ (counts_of c ds).events
+  words : each (λ (d : written.Declaration). words_made d.kind) ds ≡ Some (map (λ (d : written.Declaration). words_of d.kind) ds)
+
+declarations_are : (ports : List PortRow) (declared : List Entry) (c : Counts) (ds : List written.Declaration) → length ports ≤ MOST_PORTS → keeps_counts c ds ≡ true → list_all (keeps_declaration declared) ds ≡ true → Declared ports c ds
+declarations_are ports declared c [] few counts keeps = record { entries = refl; events = omega arith; words = refl }
+declarations_are ports declared c (d ∷ ds) few counts keeps =
     let later = counts_next (after c d.kind) ds counts in
     let kept = and_parts (keeps_declaration declared d) (list_all (keeps_declaration declared) ds) keeps in
     let kind = and_parts (is_name d.name) (keeps_kind declared d.kind) kept.0 in
-    both (λ y ys. y ∷ ys) (words_are declared c later.0 d.kind later.1 kind.1) (each_words declared later.0 ds later.2 kept.1)
+    let is : later.0 ≡ unwrap_or (after c d.kind) c = ap (λ (o : Option Counts). unwrap_or o c) (sym later.1) in
+    let meaning = meaning_is ports declared c later.0 d.name d.kind few later.1 kind.1 in
+    let counted = counts_are declared c later.0 d.kind later.1 kind.1 in
+    let one = event_counted c later.0 d.kind counted in
+    let all = sum_by-cons (λ (x : written.Declaration). cond (is_event x.kind) 1 0) d ds in
+    let rest = declarations_are ports declared later.0 ds few later.2 kept.1 in
+    let entries = rest.entries in
+    let more = rest.events in
+    let total : c.events + count_by (λ (x : written.Declaration). is_event x.kind) (d ∷ ds) ≡ (counts_of later.0 ds).events = omega arith in
+    record {
+      entries = rw (meaning, counted, entries) (ap (λ (n : Counts). Some (record { name = d.name; meaning = declared_meaning ports c d.name d.kind } ∷ declaration_entries ports n ds)) is);
+      events = total ∙ ap (λ (n : Counts). (counts_of n ds).events) is;
+      words = both (λ y ys. y ∷ ys) (words_are declared c later.0 d.kind later.1 kind.1) rest.words;
+    }
 
 -- ---- bodies
 
@@ -191,9 +187,9 @@ module _ (declared : List Entry) where
       → resolved_statements declared parameters b ≡ Some (resolve_body_block declared parameters b)
   statements_are returns parameters b few kinds keeps =
       let own = parameters ++ b.locals in
-      let kept = and_parts _ _ keeps in
       let locals = few_locals b keeps in
       let room : 0 + length own ≤ MOST_SLOTS = omega (arith, length-append parameters b.locals) in
+      let kept = and_parts _ _ keeps in
       subst (λ (es : List Entry). resolved_block (scope_of es declared) b.block ≡ Some (resolve_body_block declared parameters b)) (sym (own_are 0 own room)) (block_is (scope_of (own_entries 0 own) declared) returns b.block kinds kept.1)
 
   body_is : (stack : Option ℕ) (b : written.Body) → kinds_hold_in_body declared false [] b ≡ true → keeps_stack_body declared stack b ≡ true → resolved_body declared stack b ≡ Some (resolve_body declared stack b)
@@ -241,43 +237,37 @@ all_both t u (x ∷ xs) h k =
     let b = and_parts (u x) (list_all u xs) k in
     rw (a.0, b.0) (all_both t u xs a.1 b.1)
 
-among_is : (ports : List PortRow) (p : written.Program) → kinds_hold ports p ≡ true → limits_hold ports p ≡ true → resolved_among (declared_entries ports p) p ≡ Some (resolve ports p)
-among_is ports p kinds limits =
+program_is : (ports : List PortRow) (p : written.Program) → length ports ≤ MOST_PORTS → kinds_hold ports p ≡ true → limits_hold ports p ≡ true → resolved ports p ≡ Some (resolve ports p)
+program_is ports p few kinds limits =
     let declared = declared_entries ports p in
     let ds = p.declarations in
-    let k1 = and_parts _ _ kinds in
-    let k2 = and_parts _ _ k1.0 in
-    let k3 = and_parts _ _ k2.0 in
     let l1 = and_parts _ _ limits in
     let l2 = and_parts _ _ l1.0 in
     let l3 = and_parts _ _ l2.0 in
     let l4 = and_parts _ _ l3.0 in
     let l5 = and_parts (keeps_counts no_counts ds) (list_all (keeps_declaration declared) ds) l4.0 in
     let kind : (d : written.Declaration) → keeps_declaration declared d ≡ true → keeps_kind declared d.kind ≡ true = λ d h. (and_parts (is_name d.name) (keeps_kind declared d.kind) h).1 in
+    let made = declarations_are ports declared no_counts ds few l5.0 l5.1 in
+    let entries = made.entries in
+    let most = leb-true (length p.processes) MOST_PROCESSES l1.1 in
+    let numbered = processes_are 0 p.processes (omega arith) in
+    let k1 = and_parts _ _ kinds in
+    let k2 = and_parts _ _ k1.0 in
+    let k3 = and_parts _ _ k2.0 in
     let initial : joined (λ (d : written.Declaration). words_made d.kind) ds ≡ Some (flat_map (λ (d : written.Declaration). words_of d.kind) ds) =
-        ap (option_map (flat_map (λ ys. ys))) (each_words declared no_counts ds l5.0 l5.1) ∙ ap Some (flat (λ (d : written.Declaration). words_of d.kind) ds) in
+    ap (option_map (flat_map (λ ys. ys))) made.words ∙ ap Some (flat (λ (d : written.Declaration). words_of d.kind) ds) in
     let semaphores = picked_is (λ (d : written.Declaration). semaphores_made d.kind) (λ (d : written.Declaration). semaphore_of d.kind) (keeps_declaration declared) (λ d h. semaphores_are declared d.kind (kind d h)) ds l5.1 in
     let buffers = picked_is (λ (d : written.Declaration). buffers_made d.kind) (λ (d : written.Declaration). buffer_of d.kind) (keeps_declaration declared) (λ d h. buffers_are declared d.kind (kind d h)) ds l5.1 in
     let blackboards = picked_is (λ (d : written.Declaration). blackboards_made d.kind) (λ (d : written.Declaration). blackboard_of d.kind) (keeps_declaration declared) (λ d h. blackboards_are declared d.kind (kind d h)) ds l5.1 in
     let calls = λ (d : written.Declaration). holds_of_procedure (kinds_hold_in_body declared) d.kind in
     let procedures = picked_is (λ (d : written.Declaration). procedures_made declared d.kind) (λ (d : written.Declaration). procedure_of declared d.kind) (λ d. keeps_declaration declared d && calls d)
-        (λ d h. let parts = and_parts (keeps_declaration declared d) (calls d) h in procedures_are declared d.kind (kind d parts.0) parts.1) ds (all_both (keeps_declaration declared) calls ds l5.1 k1.1) in
+    (λ d h. let parts = and_parts (keeps_declaration declared d) (calls d) h in procedures_are declared d.kind (kind d parts.0) parts.1) ds (all_both (keeps_declaration declared) calls ds l5.1 k1.1) in
     let init = body_is declared p.init.stack p.init.body k3.0 l4.1 in
     let handler = handler_is declared p.handler k3.1 l3.1 in
     let holds = λ (q : written.Process). kinds_hold_in_body declared false [] q.body in
     let processes = each_is (resolved_process declared) (resolve_process declared) (λ q. keeps_process declared q && holds q) (process_is declared) p.processes (all_both (keeps_process declared) holds p.processes l2.1 k2.1) in
-    let events : count_by (λ (d : written.Declaration). is_event d.kind) ds ≡ (counts_of no_counts ds).events = omega (arith, events_are declared no_counts ds l5.0 l5.1) in
-    rw (initial, semaphores, buffers, blackboards, procedures, init, handler, processes) (ap (λ (n : ℕ). Some (record (resolve ports p) { events = n })) events)
+    let events : count_by (λ (d : written.Declaration). is_event d.kind) ds ≡ (counts_of no_counts ds).events = omega (arith, made.events) in
+    rw (entries, numbered, initial, semaphores, buffers, blackboards, procedures, init, handler, processes) (ap (λ (n : ℕ). Some (record (resolve ports p) { events = n })) events)
 
 pub resolved_exactly : (ports : List PortRow) (period : ℕ) (p : written.Program) (r : program.Program) → length ports ≤ MOST_PORTS → verdict ports period p ≡ Ok r → resolved ports p ≡ Some r
-resolved_exactly ports period p r few h =
-    let a = accepted ports period p r h in
-    let l1 = and_parts _ _ a.limits in
-    let l2 = and_parts _ _ l1.0 in
-    let l3 = and_parts _ _ l2.0 in
-    let l4 = and_parts _ _ l3.0 in
-    let l5 = and_parts (keeps_counts no_counts p.declarations) (list_all (keeps_declaration (declared_entries ports p)) p.declarations) l4.0 in
-    let most = leb-true (length p.processes) MOST_PROCESSES l1.1 in
-    let declarations = declarations_are ports (declared_entries ports p) no_counts p.declarations few l5.0 l5.1 in
-    let processes = processes_are 0 p.processes (omega arith) in
-    rw (declarations, processes) (among_is ports p a.kinds a.limits ∙ ap Some a.is)
+resolved_exactly ports period p r few h = let a = accepted ports period p r h in program_is ports p few a.kinds a.limits ∙ ap Some a.is

@@ -1,7 +1,7 @@
--- A program with its names resolved, exactly. There is none where a number or a declaration is
--- missing, where a name has another kind than is wanted, and where a call or a service has another
--- number of arguments than it takes. No number has a limit, and no 0 stands for what is wrong.
-use Rattle.std.specs.Prelude.{ℕ, ◌+◌, ◌-◌, ℤ, pos, ◌-ℤ◌, Bool, true, false, nat_eq, nat_le, if◌then◌else◌, List, [], ◌∷◌, ◌++◌, length, replicate, flat_map, count_by, position, Option, Some, None, option_map, unwrap_or, bytes_eq}
+-- A program with its names resolved, without limits and without a 0 for what is wrong. There is none
+-- where a number or a declaration is missing, where a name has another kind than is wanted, and where
+-- a call or a service has another number of arguments than it takes.
+use Rattle.std.specs.Prelude.{ℕ, ◌+◌, ◌-◌, ℤ, pos, ◌-ℤ◌, Bool, true, false, not, nat_eq, nat_le, if◌then◌else◌, List, [], ◌∷◌, ◌++◌, length, replicate, flat_map, count_by, position, Option, Some, None, option_map, unwrap_or, bytes_eq}
 use Rattle.apex_types.specs.declared.place.Place.{Place}
 use Rattle.apex_types.specs.declared.place.Place.TheVariants.{Data, Slot}
 use Rattle.apex_types.specs.declared.denotation.Denotation.{Denotation}
@@ -44,9 +44,9 @@ joined f xs = option_map (flat_map (λ ys. ys)) (each f xs)
 abbrev pub signed_number : written.Integer → Option ℤ
 signed_number i = option_map (λ n. if i.negative then pos 0 -ℤ pos n else pos n) i.magnitude
 
--- a time in ticks; one with a minus sign is infinite
+-- a time in ticks; -1 is infinite
 abbrev pub resolved_time : written.Integer → Option (Option ℕ)
-resolved_time i = option_map (λ n. if i.negative then None else Some n) i.magnitude
+resolved_time i = i.magnitude >>= λ n. if not i.negative then Some (Some n) else if nat_eq n 1 then Some None else None
 
 -- the counts after one more declaration
 abbrev pub counts_with : Counts → written.Kind → Option Counts
@@ -133,7 +133,7 @@ abbrev mutual
   resolved_exprs scope written.NoExpr = Some program.NoExpr
   resolved_exprs scope (written.MoreExprs first rest) = with_two program.MoreExprs (resolved_expr scope first) (resolved_exprs scope rest)
 
--- the literals of an argument of a service before those that follow
+-- an argument of a service before those that follow: a name is its number, an array its place and size
 abbrev pub resolved_argument : Scope → ArgumentKind → written.Expr → Option program.Exprs → Option program.Exprs
 resolved_argument scope argument.Word e rest = with_two program.MoreExprs (resolved_expr scope e) rest
 resolved_argument scope argument.Array (written.Name name) rest = with_three (λ place size more. program.MoreExprs (program.Literal (pos place)) (program.MoreExprs (program.Literal size) more)) (array_place (scope name)) (array_size (scope name)) rest
