@@ -46,9 +46,9 @@ pub fn accepted_section_is_lawful()
         → All (FitsSigned w64) r.initial → IsSection third_limits period (section_of r) }
 {}
 
-/// An accepted program is resolved as `Resolved` says, without limits. So none of the cases is met in
-/// which `Resolve` gives 0 for what is wrong, or stops counting. The 0 that stays is the number of a
-/// port that the partition lacks. The partition has as many ports as a table may give it.
+/// An accepted program is resolved as `Resolved` says, without limits. So none of the cases is met
+/// in which `Resolve` gives 0 for what is wrong, or stops counting. The 0 that stays is the number
+/// of a port that the partition lacks. The partition has as many ports as a table may give it.
 pub fn accepted_program_resolves_exactly()
     ensures { (ports : List PortRow) (period : ℕ) (p : written.Program) (r : program.Program)
         → length ports ≤ MOST_PORTS → verdict ports period p ≡ Ok r
