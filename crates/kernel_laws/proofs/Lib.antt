@@ -35,3 +35,11 @@ pub mod Law
 pub mod Until
 pub mod Quiet
 pub mod Running
+pub mod WaitingCounts
+pub mod InRange
+pub mod WaitSteps
+pub mod WaitRows
+pub mod WaitObjects
+pub mod WaitKernel
+pub mod WaitTick
+pub mod WaitRuns

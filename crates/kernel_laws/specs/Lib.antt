@@ -9,3 +9,4 @@ pub mod RunLaw
 pub mod Bursts
 pub mod Quiet
 pub mod Running
+pub mod WhoWaits

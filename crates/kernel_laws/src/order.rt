@@ -25,6 +25,7 @@ ghost use Rattle.kernel_laws.specs.History.{Move, members_after};
 ghost use Rattle.kernel_laws.specs.Numbers.{Numbers};
 ghost use Rattle.kernel_laws.specs.OrderLaw.{IsOrdered, TickGoes};
 ghost use Rattle.kernel_laws.specs.RunLaw.{HasOrder, HoldsReady, MoveGoes, RunGoes};
+ghost use Rattle.kernel_laws.specs.WhoWaits.{HoldsWaiting};
 
 /// A tick of a partition whose lists are in order continues its numbers, on any engine: on the
 /// machine as on the sources.
@@ -80,6 +81,21 @@ pub fn ready_ones_are_listed()
     ensures source { (t : Table) (sources : List Program) (devices : List DeviceLine) (n p : ℕ)
         (x : Member SourceControl)
         → at_number (members_after (source_module t sources) devices n) p ≡ Some x → HoldsReady x }
+{}
+
+/// In such a state whoever stands in a waiting list of a partition waits there by its record, stands
+/// there once, and stands in no other list. If the partition has at most 16 ports, and 16 objects of
+/// each kind, whoever waits for an object or a port by its record stands in a list. A record says for
+/// what kind of object its process waits, and the list says for which.
+pub fn waiting_ones_are_listed()
+    ensures machine { (image : Image) (devices : List DeviceLine) (n p : ℕ)
+        (x : Member MachineControl)
+        → at_number (members_after (machine_module image) devices n) p ≡ Some x
+        → HoldsWaiting (machine_module image) p x }
+    ensures source { (t : Table) (sources : List Program) (devices : List DeviceLine) (n p : ℕ)
+        (x : Member SourceControl)
+        → at_number (members_after (source_module t sources) devices n) p ≡ Some x
+        → HoldsWaiting (source_module t sources) p x }
 {}
 
 /// If the lists are in order, an entry is at the head of a waiting list if and only if it is to be
