@@ -1,16 +1,20 @@
 -- In every state of every run the waiting lists of each partition agree with its records.
-use Rattle.kernel_laws.proofs.Prelude.{◌≡◌, ℕ, zero, suc, ◌+◌, ◌<◌, ◌≤◌, Bool, true, false, List, ◌∷◌, map, length, Option, Some, None, refl, sym, subst, ◌∙◌, arith, eqb-true, eqb-false, none-some, same_Some, ◌==◌, is_some, slice_get, slice_set, Discipline, DeviceLine, ListKey, ProcessIndex, ProcessStatus, Objects, Ports, Member, with_world, Module, steps_member, at_number, Schedule, Move, makes, Happening, Moves, Tells, happens, all_happen, members_after, Numbers, first_numbers, AreOrdered, disciplines_of, names_of}
+use Rattle.kernel_laws.proofs.Prelude.{◌≡◌, ℕ, zero, suc, ◌+◌, ◌<◌, ◌≤◌, Bool, true, false, List, ◌∷◌, ◌++◌, map, length, Option, Some, None, refl, sym, subst, ◌∙◌, arith, eqb-true, eqb-false, none-some, same_Some, ◌==◌, is_some, slice_get, slice_set, Discipline, DeviceLine, ListKey, ProcessIndex, ProcessStatus, Objects, Ports, Member, with_world, Module, steps_member, at_number, Schedule, Move, makes, Happening, Moves, Tells, happens, all_happen, members_after, Numbers, first_numbers, AreOrdered, disciplines_of, names_of}
 use Rattle.std.proofs.Common.{[], ap}
 use Rattle.std.proofs.lemmas.Bool.{false≢true}
+use Rattle.std.proofs.lemmas.List.{length-map, length-replicate}
 use Rattle.std.proofs.lemmas.Option.{slice_get_within}
 use Rattle.std.specs.Prelude.{replicate}
-use Rattle.apex_types.specs.Versions.{costs_of}
+use Rattle.apex_types.specs.Versions.{costs_of, limits_of}
 use Rattle.apex_types.specs.declared.cost.Costs.{Costs}
 use Rattle.apex_types.specs.declared.identity.ListKey.TheVariants as key
+use Rattle.apex_types.specs.declared.limits.Limits.{Limits}
 use Rattle.apex_types.specs.declared.limits.TheConstants.{MOST_OBJECTS}
 use Rattle.kernel_meaning.specs.Fresh.{fresh_kernel, fresh_queues}
 use Rattle.kernel_meaning.specs.Kernel.{Fixed}
 use Rattle.machine_meaning.specs.Image.{Image, Item}
+use Rattle.machine_meaning.specs.ImageLimits.{EachBeside, IsItem, IsWithinLimits}
+use Rattle.machine_meaning.specs.MachineControl.{MachineControl}
 use Rattle.machine_meaning.specs.MachineMeaning.{machine_member, machine_members, machine_row}
 use Rattle.module_meaning.specs.SourceMeaning.{source_member, source_members, source_row}
 use Rattle.module_meaning.specs.Table.{Partition, Table, fixed_of}
@@ -153,3 +157,36 @@ machine_holds i = hold_at_first (machine_members (costs_of i.version) i.schedule
 pub source_holds : (t : Table) (sources : List program.Program)
     → AllHold (λ p. HasFewAt (at_number (source_members t.costs t.schedule 1 t.partitions sources) p)) (source_members t.costs t.schedule 1 t.partitions sources)
 source_holds t sources = hold_at_first (source_members t.costs t.schedule 1 t.partitions sources) (source_fresh t.costs t.schedule 1 t.partitions sources)
+
+-- ---- the partitions of an image within its limits
+
+few_mapped : {A B : Type 0} (f : A → B) (xs : List A) → length xs ≤ MOST_OBJECTS → length (map f xs) ≤ MOST_OBJECTS
+few_mapped f xs le = let same = length-map xs f in omega (arith, same, le)
+
+few_replicated : {A : Type 0} (n : ℕ) (x : A) → n ≤ MOST_OBJECTS → length (replicate n x) ≤ MOST_OBJECTS
+few_replicated n x le = let same = length-replicate n x in omega (arith, same, le)
+
+abbrev HasFew : {C : Type 0} → Member C → Type 0
+HasFew x = HasFewObjects x.world.kernel
+
+item_has_few : (k : Costs) (fixed : Fixed) (limits : Limits) (frame : ℕ) (before : List Item) (i : Item) → IsItem limits frame before i → HasFew (machine_member k fixed i.partition.ports i.section)
+item_has_few k fixed limits frame before i is =
+    let o = is.section.objects in
+    record {
+      semaphores = few_mapped _ i.section.semaphores o.semaphore_count.most;
+      events = few_replicated i.section.events _ o.events.most;
+      buffers = few_mapped _ i.section.buffers o.buffer_count.most;
+      blackboards = few_mapped _ i.section.blackboards o.blackboard_count.most;
+      ports = few_mapped _ i.partition.ports is.partition.port_count.most;
+    }
+
+items_have_few : (k : Costs) (s : Schedule) (n : ℕ) (limits : Limits) (frame : ℕ) (before items : List Item) → EachBeside (IsItem limits frame) before items
+    → (place : ℕ) (x : Member MachineControl) → slice_get (machine_members k s n items) place ≡ Some x → HasFew x
+items_have_few k s n limits frame before [] each place x e = absurd (none-some x e)
+items_have_few k s n limits frame before (i ∷ is) each zero x e =
+    subst HasFew (same_Some (machine_member k (fixed_of s n i.partition) i.partition.ports i.section) x e) (item_has_few k (fixed_of s n i.partition) limits frame before i each.0)
+items_have_few k s n limits frame before (i ∷ is) each (suc place) x e = items_have_few k s (n + 1) limits frame (before ++ i ∷ []) is each.1 place x e
+
+pub image_has_few : (image : Image) (p : ℕ) (x : Member MachineControl) → IsWithinLimits image → at_number (machine_members (costs_of image.version) image.schedule 1 image.items) p ≡ Some x → HasFewObjects x.world.kernel
+image_has_few image zero x within e = absurd (none-some x e)
+image_has_few image (suc place) x within e = items_have_few (costs_of image.version) image.schedule 1 (limits_of image.version) image.schedule.frame [] image.items within.items place x e

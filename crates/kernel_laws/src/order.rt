@@ -11,6 +11,7 @@ ghost use Rattle.apex_types.specs.declared.identity.ListKey.{ListKey};
 ghost use Rattle.apex_types.specs.declared.process.Entry.{Entry};
 ghost use Rattle.engine_meaning.specs.Engine.{Engine};
 ghost use Rattle.machine_meaning.specs.Image.{Image};
+ghost use Rattle.machine_meaning.specs.ImageLimits.{IsWithinLimits};
 ghost use Rattle.module_meaning.specs.Table.{Table, at_number};
 ghost use Rattle.kernel_meaning.specs.Kernel.{Kernel};
 ghost use Rattle.machine_meaning.specs.MachineControl.{MachineControl};
@@ -25,7 +26,7 @@ ghost use Rattle.kernel_laws.specs.History.{Move, members_after};
 ghost use Rattle.kernel_laws.specs.Numbers.{Numbers};
 ghost use Rattle.kernel_laws.specs.OrderLaw.{IsOrdered, TickGoes};
 ghost use Rattle.kernel_laws.specs.RunLaw.{HasOrder, HoldsReady, MoveGoes, RunGoes};
-ghost use Rattle.kernel_laws.specs.WhoWaits.{HoldsWaiting};
+ghost use Rattle.kernel_laws.specs.WhoWaits.{HasFewObjects, HoldsWaiting};
 
 /// A tick of a partition whose lists are in order continues its numbers, on any engine: on the
 /// machine as on the sources.
@@ -96,6 +97,12 @@ pub fn waiting_ones_are_listed()
         (x : Member SourceControl)
         → at_number (members_after (source_module t sources) devices n) p ≡ Some x
         → HoldsWaiting (source_module t sources) p x }
+{}
+
+/// An image within its limits has no more ports and objects.
+pub fn images_have_few_objects()
+    ensures { (image : Image) (p : ℕ) (x : Member MachineControl) → IsWithinLimits image
+        → at_number (machine_module image).members p ≡ Some x → HasFewObjects x.world.kernel }
 {}
 
 /// If the lists are in order, an entry is at the head of a waiting list if and only if it is to be
