@@ -27,6 +27,7 @@ pub mod OfPorts
 pub mod OfObjects
 pub mod OfKernel
 pub mod OfServices
+pub mod LastOfEquals
 pub mod OfTick
 pub mod Runs
 pub mod Through

@@ -10,3 +10,4 @@ pub mod Bursts
 pub mod Quiet
 pub mod Running
 pub mod WhoWaits
+pub mod GoingLast

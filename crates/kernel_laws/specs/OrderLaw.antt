@@ -1,19 +1,21 @@
 -- The effect of a partition's steps on its numbers.
-use Rattle.std.specs.Prelude.{◌≡◌, ◌↔◌, ℕ, List, Option, Some, None, map}
+use Rattle.std.specs.Prelude.{◌≡◌, ◌↔◌, ℕ, true, List, Option, Some, None, map}
 use Rattle.apex_types.specs.Runners.{place_of}
 use Rattle.apex_types.specs.declared.codes.Discipline.{Discipline}
 use Rattle.apex_types.specs.declared.event.Event.{Event}
 use Rattle.apex_types.specs.declared.event.EventKind.{EventKind}
 use Rattle.apex_types.specs.declared.identity.At.{At}
 use Rattle.apex_types.specs.declared.identity.ListKey.{ListKey}
+use Rattle.apex_types.specs.declared.identity.ProcessIndex.{ProcessIndex}
 use Rattle.apex_types.specs.declared.identity.Runner.{Runner}
 use Rattle.kernel_laws.specs.Choice.{Picks}
 use Rattle.engine_meaning.specs.Engine.{Engine}
 use Rattle.kernel_meaning.specs.HealthServices.{starts_handler}
 use Rattle.kernel_meaning.specs.Kernel.{Kernel, with_errors}
-use Rattle.kernel_meaning.specs.Partition.{World, Moved, control_at, due_phase, pick, prepares, spending_phase, ticked}
+use Rattle.kernel_meaning.specs.Partition.{World, Moved, control_at, due_phase, is_ready, pick, prepares, spending_phase, ticked}
 use Rattle.kernel_meaning.specs.Processes.{Processes}
-use Rattle.kernel_laws.specs.Agreement.{RecordsAgree}
+use Rattle.kernel_laws.specs.Agreement.{RecordsAgree, record_at}
+use Rattle.kernel_laws.specs.GoingLast.{IsLastOfEquals, has_success}
 use Rattle.kernel_laws.specs.Numbers.{Numbers, Taking, May, nobody, may_asked, AreAllowed, AreNamed, HaveDisciplines, IsInOrder, PortsHaveDisciplines, ready_lines, subject_at, take_all, those_ready}
 
 abbrev pub kind_of : Event → EventKind
@@ -49,9 +51,16 @@ may_spent e w = may_of_chosen e w w.kernel.processes.running
 abbrev pub chosen_among : Kernel → Processes
 chosen_among k = let s = starts_handler k.mode (with_errors k) in s.part
 
+-- The process that may go last must do so, if a service returns NO_ERROR and the process is then READY or RUNNING: none of its priority
+-- stands behind it.
+abbrev pub HasGoneLast : {C : Type 0} → May → Moved C → Type 0
+HasGoneLast may m =
+    (p : ProcessIndex) → may.go_last ≡ Some p.0 → has_success (map kind_of m.lines) ≡ true → is_ready (record_at m.world.kernel.processes.rows p) ≡ true
+    → IsLastOfEquals p m.world.kernel.processes.ready
+
 -- In a tick of a partition, the processes that become ready by what is due take numbers. The choice
 -- gives no process a number: it picks the only runner that `Picks` allows by these numbers. The picked
--- runner runs, and spends the tick; if none is picked, nothing runs.
+-- runner runs, and spends the tick; if none is picked, nothing runs. Who has to go last by its call does.
 pub record TickGoes {C : Type 0} (disciplines : ListKey → Discipline) (names : ℕ → List ℕ) (n : Numbers) (e : Engine C) (at : At) (w : World C) : Type 0 where
   pub due : GoesOn disciplines names nobody n (due_phase e at w)
   pub picks : (p : Runner)
@@ -60,3 +69,4 @@ pub record TickGoes {C : Type 0} (disciplines : ListKey → Discipline) (names :
   pub runs : (prepares e at w).world.kernel.processes.running ≡ pick (due_phase e at w).world.kernel.mode (chosen_among (due_phase e at w).world.kernel)
   pub prepared : IsOrdered disciplines names (take_all due.takings n) (prepares e at w).world.kernel
   pub spent : GoesOn disciplines names (may_spent e (prepares e at w).world) (take_all due.takings n) (spending_phase e at (prepares e at w).world)
+  pub last : HasGoneLast (may_spent e (prepares e at w).world) (spending_phase e at (prepares e at w).world)
