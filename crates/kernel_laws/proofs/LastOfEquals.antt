@@ -1,5 +1,5 @@
 -- The services that put a ready process behind all others of its priority.
-use Rattle.kernel_laws.proofs.Prelude.{◌≡◌, inl, inr, ℕ, zero, suc, ◌+◌, ◌<◌, ℤ, Bool, true, false, List, ◌∷◌, Option, Some, None, refl, sym, subst, ◌∙◌, arith, ltb-true, none-some, same_Some, if◌then◌else◌, nat_lt, not, pos, negsuc, slice_set, place_of, At, Priority, ProcessIndex, ProcessState, Dormant, Ready, Running, Waiting, Runner, Entry, ProcessStatus, Call, Asks, Nothing, Calls, Faults, Ends, Kernel, serves, treats_asked, IsBeforeEach, IsNumbered, entry, is_delay, is_ready, is_ready_state, is_priority, priority_of, set_priority, takes_priority, Processes, row_of, index, numbered, process_at, on, is_busy, is_dormant, is_unknown, answers, refuses, put_ready, put_row, timed_wait, delays, yields, waits_until, behind_equals, without, itself, process_of, may_asked, Step, after, nothing, record_at}
+use Rattle.kernel_laws.proofs.Prelude.{◌≡◌, inl, inr, ℕ, zero, suc, ◌+◌, ◌<◌, ℤ, Bool, true, false, List, ◌∷◌, Option, Some, None, refl, sym, subst, ◌∙◌, arith, ltb-true, none-some, same_Some, if◌then◌else◌, nat_lt, not, pos, negsuc, place_of, At, Priority, ProcessIndex, ProcessState, Dormant, Ready, Running, Waiting, Runner, Entry, ProcessStatus, Call, Asks, Nothing, Calls, Faults, Ends, Kernel, serves, treats_asked, IsBeforeEach, IsNumbered, entry, is_delay, is_ready, is_ready_state, is_priority, priority_of, set_priority, takes_priority, Processes, row_of, index, numbered, process_at, on, is_busy, is_dormant, is_unknown, answers, put_ready, put_row, timed_wait, delays, yields, waits_until, behind_equals, without, itself, process_of, may_asked, Step, after, nothing, record_at}
 use Rattle.std.proofs.Common.{[], ap}
 use Rattle.std.proofs.lemmas.Bool.{false≢true}
 use Rattle.apex_types.specs.declared.codes.ReturnCode.TheVariants as code

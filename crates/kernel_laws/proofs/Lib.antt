@@ -44,3 +44,4 @@ pub mod WaitObjects
 pub mod WaitKernel
 pub mod WaitTick
 pub mod WaitRuns
+pub mod WaitBegins

@@ -1,5 +1,5 @@
 -- Each step of a partition continues the numbers.
-use Rattle.kernel_laws.proofs.Prelude.{List, None, none-some, true, is_ready, record_at, Option, Some, refl, subst, sym, ℕ, ℤ, ◌∙◌, ◌∷◌, ◌≡◌, ◌↔◌, ◌++◌, slice_set, ArrayVec, place_of, Discipline, Mode, StartCondition, EventKind, At, ListKey, PortId, Runner, Action, Entry, IsNumbered, Picks, Engine, breaks, then_clears, Kernel, of_ports, with_errors, with_ports, of_processes, chooses_with_handler, pick, treats_asked, treats_due, World, Member, act, act_all, admits, choice_phase, control_at, given, moved, place_of_port, spends_chosen, ticked, Moved, followed_by, clearing_phase, clears, Port, discipline_of, port_at, Processes, Queues, nothing, Step, RecordsAgree, Goes, IsInOrder, Numbers, ready_lines, take_all, May, nobody, may_asked, IsOrdered, chosen_among}
+use Rattle.kernel_laws.proofs.Prelude.{List, None, none-some, true, is_ready, record_at, Option, Some, refl, subst, sym, ℕ, ℤ, ◌∙◌, ◌∷◌, ◌≡◌, ◌↔◌, ◌++◌, slice_set, ArrayVec, place_of, Discipline, Mode, StartCondition, EventKind, At, ListKey, PortId, Runner, Action, Entry, IsNumbered, Picks, Engine, breaks, then_clears, Kernel, of_ports, with_errors, with_ports, of_processes, chooses_with_handler, pick, treats_asked, treats_due, World, Member, act, act_all, admits, choice_phase, control_at, given, moved, place_of_port, spends_chosen, ticked, Moved, followed_by, clearing_phase, clears, Port, discipline_of, port_at, list_at, Processes, Queues, nothing, Step, RecordsAgree, Goes, IsInOrder, Numbers, ready_lines, take_all, May, nobody, may_asked, IsOrdered, chosen_among}
 use Rattle.std.proofs.Common.{[], ap}
 use Rattle.std.proofs.lemmas.List.{map-append}
 use Rattle.std.specs.Prelude.{map}
@@ -10,8 +10,9 @@ use Rattle.kernel_meaning.specs.PortServices as arrival
 use Rattle.kernel_meaning.specs.Kernel.{of_ports_alone}
 use Rattle.kernel_meaning.specs.Partition.{arrives, breaks_down, cold_start, due_phase, prepares, told, leaves, treating_phase, goes_out}
 use Rattle.kernel_laws.proofs.Choosing as choosing
-use Rattle.kernel_laws.specs.GoingLast.{IsLastOfEquals, has_success}
-use Rattle.kernel_laws.specs.OrderLaw.{GoesOn, HasGoneLast, TickGoes, kind_of, may_of_chosen}
+use Rattle.kernel_laws.specs.GoingLast.{IsLastOfEquals, IsLastUnder, has_success}
+use Rattle.kernel_laws.specs.OrderLaw.{GoesOn, HasBegunToWait, HasGoneLast, TickGoes, kind_of, list_of_chosen, may_of_chosen}
+use Rattle.kernel_laws.specs.WhoWaits.{WaitsForObject}
 use Rattle.kernel_laws.proofs.OfKernel.{IsReady, Moves, breaks_moves, clears_moves, due_moves, of_ports_moves, then_clears_moves}
 use Rattle.kernel_laws.proofs.LastOfEquals.{asked_last}
 use Rattle.kernel_laws.proofs.OfPorts.{admits_shares, arrives_shares}
@@ -22,6 +23,8 @@ use Rattle.kernel_laws.proofs.RecordKernel.{then_clears_agrees, clears_agrees, b
 use Rattle.kernel_laws.proofs.RecordObjects.{arrives_agrees, admits_agree}
 use Rattle.kernel_laws.proofs.RecordTick.{due_agrees, choice_agrees, choice_runs, acts_same, asked_agrees}
 use Rattle.kernel_laws.proofs.Shares.{each_put}
+use Rattle.kernel_laws.proofs.WaitBegins.{asked_behind, asked_caller}
+use Rattle.kernel_laws.proofs.WaitRows.{caller_waits_not}
 
 kinds_told : (name : List ℕ) (at : At) (kinds : List EventKind) → kinds ≡ map kind_of (told name at kinds)
 kinds_told name at [] = refl
@@ -139,6 +142,18 @@ module _ {C : Type 0} (d : ListKey → Discipline) (names : ℕ → List ℕ) wh
       subst (λ (s : Processes). is_ready (record_at s.rows q) ≡ true → IsLastOfEquals q s.ready) (sym (acts_same e t.actions v))
       (asked_last n.ready n.next at w.kernel h.order.ready p q r.asks (given r.asks r.words) own (ap has_success (kinds_told w.kernel.fixed.name at t.lines) ∙ success))
 
+  -- and who begins to wait is the last in the list that its call names
+  spends_begun : (e : Engine C) (at : At) (n : Numbers) (w : World C) (o : Option Runner) → w.kernel.processes.running ≡ o → IsOrdered d names n w.kernel
+      → HasBegunToWait d (may_of_chosen e w o) (list_of_chosen e w o) w.kernel.processes.queues (spends_chosen e at o w)
+  spends_begun e at n w None is h q list own named there = absurd (none-some q.0 own)
+  spends_begun e at n w (Some p) is h q list own named there =
+      let r = ticked e (control_at w.controls (place_of p)) w.words in
+      let t = treats_asked at w.kernel p r.asks (given r.asks r.words) in
+      let v : World C = record w { controls = slice_set w.controls (place_of p) r.control; words = r.words; kernel = t.part } in
+      subst (λ (s : Processes). WaitsForObject (record_at s.rows q) → IsLastUnder (d list) q (list_at s.queues list)) (sym (acts_same e t.actions v))
+      (asked_behind d n.waiting n.next at w.kernel h.objects h.ports h.order.queues q
+      (caller_waits_not w.kernel.processes h.records p (runs_ready w.kernel.processes h.records p is) q (asked_caller p r.asks q own)) list there p r.asks (given r.asks r.words) own named)
+
   pub tick_goes : (n : Numbers) (e : Engine C) (at : At) (w : World C) → IsOrdered d names n w.kernel → TickGoes d names n e at w
   tick_goes n e at w h =
       let g = due_goes e at n w h in
@@ -150,6 +165,7 @@ module _ {C : Type 0} (d : ListKey → Discipline) (names : ℕ → List ℕ) wh
         prepared = k;
         spent = spends_goes e at (take_all g.takings n) (prepares e at w).world (prepares e at w).world.kernel.processes.running refl k;
         last = spends_last e at (take_all g.takings n) (prepares e at w).world (prepares e at w).world.kernel.processes.running k;
+        begun = spends_begun e at (take_all g.takings n) (prepares e at w).world (prepares e at w).world.kernel.processes.running refl k;
       }
 
   pub cold_start_goes : (n : Numbers) (at : At) (c : StartCondition) (x : Member C) → IsOrdered d names n x.world.kernel → GoesOn d names nobody n (cold_start at c x)

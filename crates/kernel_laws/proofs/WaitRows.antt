@@ -1,5 +1,5 @@
 -- The services on processes and on time, and the starts, keep the agreement of the waiting lists with the records.
-use Rattle.kernel_laws.proofs.Prelude.{◌≡◌, ℕ, zero, suc, ◌+◌, ℤ, Bool, true, false, length, Option, Some, None, refl, sym, subst, ◌∙◌, ◌==◌, ◌||◌, if◌then◌else◌, is_some, nat_le, not, pos, negsuc, MOST_LOCK_LEVEL, Mode, Waiting, At, Priority, Runner, Ticks, Due, ProcessStatus, Wait, amount, is_delay, is_duration, is_zero, is_ready, get_process_id, get_process_status, tells_status, create_process, creates, set_priority, takes_priority, is_priority, priority_of, is_ready_state, suspend_self, suspends_self, of_row, is_holder, suspend, suspends, resume, resumes, resumes_from, stop, start, delayed_start, is_beyond, level_of, may_not_lock, lock_preemption, unlock_preemption, get_my_id, Processes, row_of, waits, index, process_at, on, is_created, is_dormant, is_held, is_periodic, is_suspended, is_unknown, is_no_other, is_busy, is_normal, put_row, put_ready, starts, starts_in_normal, starts_if_waiting, starts_waiting, start_from, released_at, ticks, Step, timed_wait, delays, yields, waits_until, periodic_wait, waits_periodically, waits_for_period, replenish, replenishes, deadline_in, has_no_deadline, reaches_past, RecordsAgree}
+use Rattle.kernel_laws.proofs.Prelude.{◌≡◌, ℕ, zero, suc, ◌+◌, ℤ, Bool, true, false, length, Option, Some, None, refl, sym, subst, ◌∙◌, ◌==◌, ◌||◌, if◌then◌else◌, is_some, nat_le, not, pos, negsuc, MOST_LOCK_LEVEL, Mode, Waiting, At, Priority, ProcessIndex, Runner, Ticks, Due, ProcessStatus, Wait, amount, is_delay, is_duration, is_zero, is_ready, get_process_id, get_process_status, tells_status, create_process, creates, set_priority, takes_priority, is_priority, priority_of, is_ready_state, suspend_self, suspends_self, of_row, is_holder, suspend, suspends, resume, resumes, resumes_from, stop, start, delayed_start, is_beyond, level_of, may_not_lock, lock_preemption, unlock_preemption, get_my_id, Processes, row_of, waits, index, process_at, on, is_created, is_dormant, is_held, is_periodic, is_suspended, is_unknown, is_no_other, is_busy, is_normal, put_row, put_ready, starts, starts_in_normal, starts_if_waiting, starts_waiting, start_from, released_at, ticks, Step, timed_wait, delays, yields, waits_until, periodic_wait, waits_periodically, waits_for_period, replenish, replenishes, deadline_in, has_no_deadline, reaches_past, RecordsAgree, record_at}
 use Rattle.std.proofs.Common.{ap}
 use Rattle.std.proofs.lemmas.Bool.{false≢true}
 use Rattle.std.specs.Prelude.{◌-◌}
@@ -10,7 +10,7 @@ use Rattle.apex_types.specs.declared.service.Service.TheVariants as service
 use Rattle.kernel_meaning.specs.ProcessServices.{stop_self}
 use Rattle.kernel_meaning.specs.Processes.{has, is_dormant_state}
 use Rattle.kernel_meaning.specs.Times.{start_all_waiting}
-use Rattle.kernel_laws.specs.WhoWaits.{is_at_object}
+use Rattle.kernel_laws.specs.WhoWaits.{WaitsForObject, is_at_object}
 use Rattle.kernel_laws.proofs.RecordRows.{IsCaller, was_true}
 use Rattle.kernel_laws.proofs.Records.{OfProcess, at_found}
 use Rattle.kernel_laws.proofs.WaitSteps.{Hold, IsOut, either, on_holds, out_by_wait, out_like, ready_holds, released_holds, rests_found_holds, rests_holds, row_holds, same_like, waits_holds, waits_like, wakes_holds}
@@ -25,6 +25,13 @@ caller_idle s h p caller r there q is =
     let was : row_of s (runner.Process q) ≡ Some r = subst (λ (o : Runner). row_of s o ≡ Some r) is there in
     let plain = h.plain q r was in
     ap is_at_object (plain.waits (sym (ap is_ready was) ∙ caller q is))
+
+pub caller_waits_not : (s : Processes) → RecordsAgree s → (p : Runner) → IsCaller s p → (q : ProcessIndex) → p ≡ runner.Process q → WaitsForObject (record_at s.rows q) → ⊥
+caller_waits_not s h p caller q is = by_row (record_at s.rows q) refl
+  where
+    by_row : (o : Option ProcessStatus) → record_at s.rows q ≡ o → WaitsForObject o → ⊥
+    by_row None e a = a
+    by_row (Some r) e a = false≢true (sym (caller_idle s h p caller r (subst (λ (o : Runner). row_of s o ≡ Some r) (sym is) e) q is) ∙ a)
 
 module _ {few : Type 0} (s : Processes) (h : Hold few s) where
   unless : (b : Bool) (t u : Step Processes) → Hold few t.part → (b ≡ false → Hold few u.part) → Hold few (if b then t else u).part

@@ -148,7 +148,7 @@ module _ {C : Type 0} where
   run_holds m devices n p x h run e =
       let g = ends_hold (λ q. HasFewAt (at_number m.members q)) (disciplines_of m.members) (names_of m.members) run.history (λ q. first_numbers) m.members run.order h p x
       (subst (λ (ms : List (Member C)). at_number ms p ≡ Some x) run.members e) in
-      record { waiting = g.holds.waiting; all = g.holds.all }
+      record { waiting = g.holds.waiting; listed = g.holds.all }
 
 pub machine_holds : (i : Image)
     → AllHold (λ p. HasFewAt (at_number (machine_members (costs_of i.version) i.schedule 1 i.items) p)) (machine_members (costs_of i.version) i.schedule 1 i.items)

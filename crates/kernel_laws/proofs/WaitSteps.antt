@@ -55,7 +55,7 @@ module _ (rows : List ProcessStatus) (p : Runner) (r x : ProcessStatus) (there :
   abbrev new : List ProcessStatus
   new = slice_set rows (place_of p) x
 
-  at_new : (P : Option ProcessStatus → Type 0) (q : ProcessIndex) → (p ≡ runner.Process q → record_at rows q ≡ Some r → P (Some x)) → (is_same p (runner.Process q) ≡ false → P (record_at rows q)) → P (record_at new q)
+  pub at_new : (P : Option ProcessStatus → Type 0) (q : ProcessIndex) → (p ≡ runner.Process q → record_at rows q ≡ Some r → P (Some x)) → (is_same p (runner.Process q) ≡ false → P (record_at rows q)) → P (record_at new q)
   at_new P q own other = by_test (is_same p (runner.Process q)) refl
     where
       by_test : (b : Bool) → is_same p (runner.Process q) ≡ b → P (record_at new q)

@@ -9,6 +9,7 @@ use Rattle.apex_types.specs.declared.limits.TheConstants.{MOST_OBJECTS}
 use Rattle.kernel_meaning.specs.Processes.{leaves_queues}
 use Rattle.kernel_meaning.specs.Queues.{each_list, emptied, joined, no_entries, put_list, without_in_all}
 use Rattle.kernel_laws.specs.Ready.{times_listed}
+use Rattle.kernel_laws.specs.WhoWaits.{has_list}
 use Rattle.kernel_laws.proofs.Places.{some_set, some_map}
 use Rattle.kernel_laws.proofs.ReadyLists.{behind-times, one_if, test_other, test_same, without-none}
 use Rattle.kernel_laws.proofs.WaitingOrder.{at_emptied, at_put, at_without}
@@ -49,21 +50,13 @@ place_in (key.Buffer place) = place
 place_in (key.Blackboard place) = place
 place_in (key.Port place) = place
 
--- whether there is a list
-abbrev pub has_list : Queues → ListKey → Bool
-has_list queues (key.Semaphore place) = is_some (slice_get queues.semaphores place)
-has_list queues (key.Event place) = is_some (slice_get queues.events place)
-has_list queues (key.Buffer place) = is_some (slice_get queues.buffers place)
-has_list queues (key.Blackboard place) = is_some (slice_get queues.blackboards place)
-has_list queues (key.Port place) = is_some (slice_get queues.ports place)
-
 -- each kind has its lists
 abbrev pub HasLists : Queues → Type 0
 HasLists queues = (k : ListKey) → place_in k < MOST_OBJECTS → has_list queues k ≡ true
 
 -- ---- lists are changed, and none is lost
 
-there_each : (change : List Entry → List Entry) (queues : Queues) (k : ListKey) → has_list queues k ≡ true → has_list (each_list change queues) k ≡ true
+pub there_each : (change : List Entry → List Entry) (queues : Queues) (k : ListKey) → has_list queues k ≡ true → has_list (each_list change queues) k ≡ true
 there_each change queues (key.Semaphore place) h = some_map change queues.semaphores place h
 there_each change queues (key.Event place) h = some_map change queues.events place h
 there_each change queues (key.Buffer place) h = some_map change queues.buffers place h
@@ -84,7 +77,7 @@ in_put_there [] place list h = absurd (false≢true h)
 in_put_there (first ∷ lists) zero list h = refl
 in_put_there (first ∷ lists) (suc place) list h = in_put_there lists place list h
 
-put_there : (queues : Queues) (k : ListKey) (list : List Entry) → has_list queues k ≡ true → list_at (put_list queues k list) k ≡ list
+pub put_there : (queues : Queues) (k : ListKey) (list : List Entry) → has_list queues k ≡ true → list_at (put_list queues k list) k ≡ list
 put_there queues (key.Semaphore place) list h = in_put_there queues.semaphores place list h
 put_there queues (key.Event place) list h = in_put_there queues.events place list h
 put_there queues (key.Buffer place) list h = in_put_there queues.buffers place list h

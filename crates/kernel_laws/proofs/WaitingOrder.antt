@@ -96,7 +96,7 @@ each_by_priority : (number : ℕ → ℕ) (e : Entry) (es : List Entry) → (IsB
 each_by_priority number e [] = ((λ h. h), (λ h. h))
 each_by_priority number e (x ∷ xs) = let same = each_by_priority number e xs in ((λ h. (h.0, same.0 h.1)), (λ h. (h.0, same.1 h.1)))
 
-ordered_by_priority : (number : ℕ → ℕ) (es : List Entry) → (IsOrderedUnder discipline.Priority number es ↔ IsOrdered number es)
+pub ordered_by_priority : (number : ℕ → ℕ) (es : List Entry) → (IsOrderedUnder discipline.Priority number es ↔ IsOrdered number es)
 ordered_by_priority number [] = ((λ h. h), (λ h. h))
 ordered_by_priority number (x ∷ xs) =
     let each = each_by_priority number x xs in

@@ -15,7 +15,9 @@ use Rattle.kernel_meaning.specs.Kernel.{Kernel, with_errors}
 use Rattle.kernel_meaning.specs.Partition.{World, Moved, control_at, due_phase, is_ready, pick, prepares, spending_phase, ticked}
 use Rattle.kernel_meaning.specs.Processes.{Processes}
 use Rattle.kernel_laws.specs.Agreement.{RecordsAgree, record_at}
-use Rattle.kernel_laws.specs.GoingLast.{IsLastOfEquals, has_success}
+use Rattle.kernel_laws.specs.GoingLast.{IsLastOfEquals, IsLastUnder, has_success, list_asked}
+use Rattle.kernel_meaning.specs.Queues.{Queues, list_at}
+use Rattle.kernel_laws.specs.WhoWaits.{WaitsForObject, has_list}
 use Rattle.kernel_laws.specs.Numbers.{Numbers, Taking, May, nobody, may_asked, AreAllowed, AreNamed, HaveDisciplines, IsInOrder, PortsHaveDisciplines, ready_lines, subject_at, take_all, those_ready}
 
 abbrev pub kind_of : Event → EventKind
@@ -51,16 +53,32 @@ may_spent e w = may_of_chosen e w w.kernel.processes.running
 abbrev pub chosen_among : Kernel → Processes
 chosen_among k = let s = starts_handler k.mode (with_errors k) in s.part
 
--- The process that may go last must do so, if a service returns NO_ERROR and the process is then READY or RUNNING: none of its priority
--- stands behind it.
+-- Who may go last in a move has to, if a service returns NO_ERROR and the process is READY or RUNNING
+-- then: no other of its priority stands behind it among the ready processes.
 abbrev pub HasGoneLast : {C : Type 0} → May → Moved C → Type 0
 HasGoneLast may m =
     (p : ProcessIndex) → may.go_last ≡ Some p.0 → has_success (map kind_of m.lines) ≡ true → is_ready (record_at m.world.kernel.processes.rows p) ≡ true
     → IsLastOfEquals p m.world.kernel.processes.ready
 
+-- the waiting list that the call of the chosen runner names
+abbrev pub list_of_chosen : {C : Type 0} → Engine C → World C → Option Runner → Option ListKey
+list_of_chosen e w None = None
+list_of_chosen e w (Some p) = let r = ticked e (control_at w.controls (place_of p)) w.words in list_asked r.asks
+
+abbrev pub list_spent : {C : Type 0} → Engine C → World C → Option ListKey
+list_spent e w = list_of_chosen e w w.kernel.processes.running
+
+-- Who may begin to wait in a move, and waits for an object or a port then, is the last in the list
+-- that its call names, if there is this list.
+abbrev pub HasBegunToWait : {C : Type 0} → (ListKey → Discipline) → May → Option ListKey → Queues → Moved C → Type 0
+HasBegunToWait disciplines may named before m =
+    (p : ProcessIndex) (list : ListKey) → may.begin_to_wait ≡ Some p.0 → named ≡ Some list → has_list before list ≡ true → WaitsForObject (record_at m.world.kernel.processes.rows p)
+    → IsLastUnder (disciplines list) p (list_at m.world.kernel.processes.queues list)
+
 -- In a tick of a partition, the processes that become ready by what is due take numbers. The choice
 -- gives no process a number: it picks the only runner that `Picks` allows by these numbers. The picked
--- runner runs, and spends the tick; if none is picked, nothing runs. Who has to go last by its call does.
+-- runner runs, and spends the tick; if none is picked, nothing runs. Whoever has to
+-- go last by the runner's call does so, among the ready processes or in a waiting list.
 pub record TickGoes {C : Type 0} (disciplines : ListKey → Discipline) (names : ℕ → List ℕ) (n : Numbers) (e : Engine C) (at : At) (w : World C) : Type 0 where
   pub due : GoesOn disciplines names nobody n (due_phase e at w)
   pub picks : (p : Runner)
@@ -70,3 +88,5 @@ pub record TickGoes {C : Type 0} (disciplines : ListKey → Discipline) (names :
   pub prepared : IsOrdered disciplines names (take_all due.takings n) (prepares e at w).world.kernel
   pub spent : GoesOn disciplines names (may_spent e (prepares e at w).world) (take_all due.takings n) (spending_phase e at (prepares e at w).world)
   pub last : HasGoneLast (may_spent e (prepares e at w).world) (spending_phase e at (prepares e at w).world)
+  pub begun : HasBegunToWait disciplines (may_spent e (prepares e at w).world) (list_spent e (prepares e at w).world) (prepares e at w).world.kernel.processes.queues
+      (spending_phase e at (prepares e at w).world)

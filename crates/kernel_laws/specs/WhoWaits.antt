@@ -1,7 +1,7 @@
--- Who waits: the waiting lists of a partition against the records of its processes. A record says in
--- which service its process waits, and so at what kind of object; at which object of this kind, only
--- the lists say.
-use Rattle.std.specs.Prelude.{◌≡◌, ℕ, ◌<◌, ◌≤◌, Bool, true, false, List, Option, Some, None, length}
+-- Who waits: the waiting lists of a partition and the records of its processes agree. A record says
+-- in which service its process waits, and so at what kind of object; only the lists say at which
+-- object of this kind.
+use Rattle.std.specs.Prelude.{◌≡◌, ℕ, ◌<◌, ◌≤◌, Bool, true, false, List, Option, Some, None, is_some, length, slice_get}
 use Rattle.apex_types.specs.declared.codes.ProcessState.TheVariants.{Waiting}
 use Rattle.apex_types.specs.declared.identity.ListKey.{ListKey}
 use Rattle.apex_types.specs.declared.identity.ListKey.TheVariants as key
@@ -20,7 +20,7 @@ use Rattle.kernel_meaning.specs.Queues.{Queues, list_at}
 use Rattle.module_meaning.specs.Module.{Module}
 use Rattle.module_meaning.specs.Table.{at_number}
 
--- ---- the services in which a process waits at an object
+-- ---- the services in which a process may have to wait at an object or a port
 
 abbrev pub is_at_semaphore : Service → Bool
 is_at_semaphore service.WaitSemaphore = true
@@ -44,7 +44,7 @@ is_at_port service.SendQueuingMessage = true
 is_at_port service.ReceiveQueuingMessage = true
 is_at_port _ = false
 
--- whether a process in this service waits at objects of the list's kind
+-- whether it is a service on objects of the kind that the list belongs to
 abbrev pub is_at_kind : ListKey → Service → Bool
 is_at_kind (key.Semaphore place) v = is_at_semaphore v
 is_at_kind (key.Event place) v = is_at_event v
@@ -52,16 +52,16 @@ is_at_kind (key.Buffer place) v = is_at_buffer v
 is_at_kind (key.Blackboard place) v = is_at_blackboard v
 is_at_kind (key.Port place) v = is_at_port v
 
--- ---- what a record waits for
+-- ---- the records that wait
 
 abbrev pub is_wait_in : ListKey → Wait → Bool
-is_wait_in k (wait.Object v array) = is_at_kind k v
-is_wait_in k _ = false
+is_wait_in list (wait.Object v array) = is_at_kind list v
+is_wait_in list _ = false
 
 -- a record that is WAITING, in a service on an object of the list's kind
 abbrev pub WaitsIn : ListKey → Option ProcessStatus → Type 0
-WaitsIn k None = ⊥
-WaitsIn k (Some r) = (r.state ≡ Waiting) × (is_wait_in k r.wait ≡ true)
+WaitsIn list None = ⊥
+WaitsIn list (Some r) = (r.state ≡ Waiting) × (is_wait_in list r.wait ≡ true)
 
 abbrev pub is_at_object : Wait → Bool
 is_at_object (wait.Object v array) = true
@@ -72,26 +72,34 @@ abbrev pub WaitsForObject : Option ProcessStatus → Type 0
 WaitsForObject None = ⊥
 WaitsForObject (Some r) = is_at_object r.wait ≡ true
 
--- ---- who stands in a list
+-- ---- the processes that stand in a list
 
 -- a process stands in the waiting list of an object or a port
 abbrev pub Stands : Queues → ListKey → ProcessIndex → Type 0
-Stands queues k p = 0 < times_listed p.0 (list_at queues k)
+Stands queues list p = 0 < times_listed p.0 (list_at queues list)
 
--- Whoever stands in a waiting list has a record that waits there. It stands in no other list, and in
--- this one once.
+-- whether there is such a list
+abbrev pub has_list : Queues → ListKey → Bool
+has_list queues (key.Semaphore place) = is_some (slice_get queues.semaphores place)
+has_list queues (key.Event place) = is_some (slice_get queues.events place)
+has_list queues (key.Buffer place) = is_some (slice_get queues.buffers place)
+has_list queues (key.Blackboard place) = is_some (slice_get queues.blackboards place)
+has_list queues (key.Port place) = is_some (slice_get queues.ports place)
+
+-- Whoever stands in a waiting list has a record that waits at an object of its kind. It stands in no
+-- other list, and in this one once.
 pub record AreWaiting (rows : List ProcessStatus) (queues : Queues) : Type 0 where
-  pub waits : (k : ListKey) (p : ProcessIndex) → Stands queues k p → WaitsIn k (record_at rows p)
-  pub alone : (j k : ListKey) (p : ProcessIndex) → Stands queues j p → Stands queues k p → j ≡ k
-  pub once : (k : ListKey) (p : ProcessIndex) → times_listed p.0 (list_at queues k) ≤ 1
+  pub waits : (list : ListKey) (p : ProcessIndex) → Stands queues list p → WaitsIn list (record_at rows p)
+  pub alone : (list other : ListKey) (p : ProcessIndex) → Stands queues list p → Stands queues other p → list ≡ other
+  pub once : (list : ListKey) (p : ProcessIndex) → times_listed p.0 (list_at queues list) ≤ 1
 
 -- Whoever has a record that waits for an object or a port stands in a waiting list.
 abbrev pub AreListed : List ProcessStatus → Queues → Type 0
-AreListed rows queues = (p : ProcessIndex) → WaitsForObject (record_at rows p) → (k : ListKey) × Stands queues k p
+AreListed rows queues = (p : ProcessIndex) → WaitsForObject (record_at rows p) → (list : ListKey) × Stands queues list p
 
 -- ---- in a run
 
--- no more ports, and no more objects of a kind, than there are waiting lists for them
+-- no more ports, and no more objects of a kind, than a partition has waiting lists for them
 pub record HasFewObjects (k : Kernel) : Type 0 where
   pub semaphores : length k.objects.semaphores ≤ MOST_OBJECTS
   pub events : length k.objects.events ≤ MOST_OBJECTS
@@ -103,8 +111,9 @@ abbrev pub HasFewAt : {C : Type 0} → Option (Member C) → Type 0
 HasFewAt None = ⊥
 HasFewAt (Some x) = HasFewObjects x.world.kernel
 
--- The waiting lists of a partition hold processes that wait there, each once and in one list. If the
--- partition with this number began with few objects and ports, they hold all that wait for these.
+-- Whoever stands in a waiting list of a partition waits there, by its record. If the partition with
+-- this number has few objects and ports from its first start on, whoever waits for one stands in a
+-- list.
 pub record HoldsWaiting {C : Type 0} (m : Module C) (number : ℕ) (x : Member C) : Type 0 where
   pub waiting : AreWaiting x.world.kernel.processes.rows x.world.kernel.processes.queues
-  pub all : HasFewAt (at_number m.members number) → AreListed x.world.kernel.processes.rows x.world.kernel.processes.queues
+  pub listed : HasFewAt (at_number m.members number) → AreListed x.world.kernel.processes.rows x.world.kernel.processes.queues

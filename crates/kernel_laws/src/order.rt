@@ -29,7 +29,9 @@ ghost use Rattle.kernel_laws.specs.RunLaw.{HasOrder, HoldsReady, MoveGoes, RunGo
 ghost use Rattle.kernel_laws.specs.WhoWaits.{HasFewObjects, HoldsWaiting};
 
 /// A tick of a partition whose lists are in order continues its numbers, on any engine: on the
-/// machine as on the sources.
+/// machine as on the sources. Who has to go last does: the process that SET_PRIORITY names, and the
+/// caller of TIMED_WAIT without a delay, stand behind all others of their priority. A caller that
+/// begins to wait is the last in the waiting list of the object or the port that its call names.
 pub fn tick_goes_on()
     ensures machine { (disciplines : ListKey → Discipline) (names : ℕ → List ℕ) (n : Numbers)
         (e : Engine MachineControl) (at : At) (w : World MachineControl)
@@ -84,10 +86,11 @@ pub fn ready_ones_are_listed()
         → at_number (members_after (source_module t sources) devices n) p ≡ Some x → HoldsReady x }
 {}
 
-/// In such a state whoever stands in a waiting list of a partition waits there by its record, stands
-/// there once, and stands in no other list. If the partition has at most 16 ports, and 16 objects of
-/// each kind, whoever waits for an object or a port by its record stands in a list. A record says for
-/// what kind of object its process waits, and the list says for which.
+/// In such a state whoever stands in a waiting list of a partition is WAITING by its record, in a
+/// service on an object or a port of this kind; it stands there once, and in no other list. If the
+/// partition has at most 16 ports, and 16 objects of each kind, whoever waits for one of these by its
+/// record stands in a list. A record says for what kind of object its process waits, and the list says
+/// for which: that the call names it, `tick_goes_on` says where the process begins to wait.
 pub fn waiting_ones_are_listed()
     ensures machine { (image : Image) (devices : List DeviceLine) (n p : ℕ)
         (x : Member MachineControl)
@@ -99,7 +102,7 @@ pub fn waiting_ones_are_listed()
         → HoldsWaiting (source_module t sources) p x }
 {}
 
-/// An image within its limits has no more ports and objects.
+/// An image within its limits has no more ports and objects than that.
 pub fn images_have_few_objects()
     ensures { (image : Image) (p : ℕ) (x : Member MachineControl) → IsWithinLimits image
         → at_number (machine_module image).members p ≡ Some x → HasFewObjects x.world.kernel }
