@@ -23,7 +23,7 @@ use Rattle.kernel_meaning.specs.Processes.{released_with}
 use Rattle.kernel_meaning.specs.Queues.{joined, without_in_all}
 use Rattle.kernel_meaning.specs.SemaphoreServices as semaphores
 use Rattle.kernel_meaning.specs.Sharing.{of_processes, on}
-use Rattle.kernel_laws.specs.GoingLast.{IsLast, IsLastUnder, list_asked, list_named, place_of_number}
+use Rattle.kernel_laws.specs.GoingLast.{IsLast, IsLastUnder, list_asked, list_named, place_of_object}
 use Rattle.kernel_laws.specs.Numbers.{waits_by}
 use Rattle.kernel_laws.specs.WhoWaits.{WaitsForObject, has_list, is_at_object}
 use Rattle.kernel_laws.proofs.LastOfEquals.{behind_is_last}
@@ -49,7 +49,7 @@ placed_at : {X : Type 0} (n : ℕ) (o : Option X) (f : ℕ × X) → placed n o 
 placed_at n None f e = absurd (none-some f e)
 placed_at {X = X} n (Some x) f e = sym (ap (λ (g : ℕ × X). g.0) (same_Some (n, x) f e))
 
-named_is : {X : Type 0} (kind : ℕ → ListKey) (xs : List X) (id : ℤ) (f : ℕ × X) (list : ListKey) → option_map kind (place_of_number id) ≡ Some list → numbered_in xs id ≡ Some f → kind f.0 ≡ list
+named_is : {X : Type 0} (kind : ℕ → ListKey) (xs : List X) (id : ℤ) (f : ℕ × X) (list : ListKey) → option_map kind (place_of_object id) ≡ Some list → numbered_in xs id ≡ Some f → kind f.0 ≡ list
 named_is kind xs (negsuc n) f list named e = absurd (none-some f e)
 named_is kind xs (pos zero) f list named e = absurd (none-some f e)
 named_is kind xs (pos (suc n)) f list named e = ap kind (placed_at n (slice_get xs n) f e) ∙ same_Some (kind n) list named
@@ -129,7 +129,7 @@ module _ (d : ListKey → Discipline) (number : ℕ → ℕ) (next : ℕ) (b : S
 
   -- ---- the effects of services on the object found
 
-  takes_found : (at : At) (limit id : ℤ) (f : ℕ × Semaphore) → option_map key.Semaphore (place_of_number id) ≡ Some list → semaphore b.shared id ≡ Some f
+  takes_found : (at : At) (limit id : ℤ) (f : ℕ × Semaphore) → option_map key.Semaphore (place_of_object id) ≡ Some list → semaphore b.shared id ≡ Some f
       → IsKept (semaphores.takes at b (runner.Process q) limit f.0 f.1)
   takes_found at limit id f named e =
       let is = named_is key.Semaphore b.shared.semaphores id f list named e in
@@ -137,18 +137,18 @@ module _ (d : ListKey → Discipline) (number : ℕ → ℕ) (next : ℕ) (b : S
       (waits_behind at limit (semaphores.waiting_for f.0 f.1) (message []) is
       (numbered_is (λ place x. x.row.discipline ≡ d (key.Semaphore place)) b.shared.semaphores id f fit.semaphores e ∙ ap d is))
 
-  awaits_found : (at : At) (limit id : ℤ) (f : ℕ × ApexEvent) → option_map key.Event (place_of_number id) ≡ Some list → event b.shared id ≡ Some f
+  awaits_found : (at : At) (limit id : ℤ) (f : ℕ × ApexEvent) → option_map key.Event (place_of_object id) ≡ Some list → event b.shared id ≡ Some f
       → IsKept (events.awaits at b (runner.Process q) limit f.0 f.1)
   awaits_found at limit id f named e =
       let is = named_is key.Event b.shared.events id f list named e in
       either f.1.up _ _ here
       (waits_behind at limit (events.waiting_for f.0) (message []) is (numbered_is (λ place x. discipline.Fifo ≡ d (key.Event place)) b.shared.events id f fit.events e ∙ ap d is))
 
-  buffer_fits : (id : ℤ) (f : ℕ × Buffer) → option_map key.Buffer (place_of_number id) ≡ Some list → buffer b.shared id ≡ Some f → f.1.row.discipline ≡ d list
+  buffer_fits : (id : ℤ) (f : ℕ × Buffer) → option_map key.Buffer (place_of_object id) ≡ Some list → buffer b.shared id ≡ Some f → f.1.row.discipline ≡ d list
   buffer_fits id f named e =
       numbered_is (λ place x. x.row.discipline ≡ d (key.Buffer place)) b.shared.buffers id f fit.buffers e ∙ ap d (named_is key.Buffer b.shared.buffers id f list named e)
 
-  sends_found : (at : At) (limit : ℤ) (m : ArrayVec ℤ) (id : ℤ) (f : ℕ × Buffer) → option_map key.Buffer (place_of_number id) ≡ Some list → buffer b.shared id ≡ Some f
+  sends_found : (at : At) (limit : ℤ) (m : ArrayVec ℤ) (id : ℤ) (f : ℕ × Buffer) → option_map key.Buffer (place_of_object id) ≡ Some list → buffer b.shared id ≡ Some f
       → IsKept (buffers.sends at b (runner.Process q) limit m f.0 f.1)
   sends_found at limit m id f named e =
       either (buffers.is_full f.1) _ _ (waits_behind at limit (buffers.sender f.0 f.1) m (named_is key.Buffer b.shared.buffers id f list named e) (buffer_fits id f named e)) (takes_message_behind f.0 f.1 m)
@@ -158,7 +158,7 @@ module _ (d : ListKey → Discipline) (number : ℕ → ℕ) (next : ℕ) (b : S
   receives_from at array limit place x [] is same = waits_behind at limit (buffers.receiver place x array) (message []) is same
   receives_from at array limit place x (m ∷ rest) is same = admits_behind place (record x { messages = rest })
 
-  receives_found : (at : At) (array : ArrayPlace) (limit id : ℤ) (f : ℕ × Buffer) → option_map key.Buffer (place_of_number id) ≡ Some list → buffer b.shared id ≡ Some f
+  receives_found : (at : At) (array : ArrayPlace) (limit id : ℤ) (f : ℕ × Buffer) → option_map key.Buffer (place_of_object id) ≡ Some list → buffer b.shared id ≡ Some f
       → IsKept (buffers.receives at b (runner.Process q) array limit f.0 f.1 f.1.messages)
   receives_found at array limit id f named e = receives_from at array limit f.0 f.1 f.1.messages (named_is key.Buffer b.shared.buffers id f list named e) (buffer_fits id f named e)
 
@@ -167,7 +167,7 @@ module _ (d : ListKey → Discipline) (number : ℕ → ℕ) (next : ℕ) (b : S
   reads_from at array limit place None is same = waits_behind at limit (blackboards.reader place array) (message []) is same
   reads_from at array limit place (Some m) is same = here
 
-  reads_found : (at : At) (array : ArrayPlace) (limit id : ℤ) (f : ℕ × Blackboard) → option_map key.Blackboard (place_of_number id) ≡ Some list → blackboard b.shared id ≡ Some f
+  reads_found : (at : At) (array : ArrayPlace) (limit id : ℤ) (f : ℕ × Blackboard) → option_map key.Blackboard (place_of_object id) ≡ Some list → blackboard b.shared id ≡ Some f
       → IsKept (blackboards.reads at b (runner.Process q) array limit f.0 f.1.shown)
   reads_found at array limit id f named e =
       let is = named_is key.Blackboard b.shared.blackboards id f list named e in
@@ -204,14 +204,14 @@ module _ (d : ListKey → Discipline) (number : ℕ → ℕ) (next : ℕ) (b : S
   waits_at_port : (at : At) (limit : ℤ) (w : Waiting) (m : ArrayVec ℤ) → w.list ≡ list → w.discipline ≡ d list → IsPortKept (of_processes b (blocks at b.processes (runner.Process q) limit w m))
   waits_at_port at limit w m is same = blocks_behind d number next b.processes h q list idle at limit w m there is same
 
-  port_is : (id : ℤ) (f : ℕ × Port) → option_map key.Port (place_of_number id) ≡ Some list → queuing b.shared id ≡ Some f → key.Port f.0 ≡ list
+  port_is : (id : ℤ) (f : ℕ × Port) → option_map key.Port (place_of_object id) ≡ Some list → queuing b.shared id ≡ Some f → key.Port f.0 ≡ list
   port_is id f named e = named_is key.Port b.shared.ports id f list named (queuing_of (numbered_in b.shared.ports id) f e)
 
-  port_fits : (id : ℤ) (f : ℕ × Port) → option_map key.Port (place_of_number id) ≡ Some list → queuing b.shared id ≡ Some f → discipline_of f.1.row.kind ≡ d list
+  port_fits : (id : ℤ) (f : ℕ × Port) → option_map key.Port (place_of_object id) ≡ Some list → queuing b.shared id ≡ Some f → discipline_of f.1.row.kind ≡ d list
   port_fits id f named e =
       numbered_is (λ place x. discipline_of x.row.kind ≡ d (key.Port place)) b.shared.ports id f fit (queuing_of (numbered_in b.shared.ports id) f e) ∙ ap d (port_is id f named e)
 
-  sends_to_port : (at : At) (limit : ℤ) (m : ArrayVec ℤ) (id : ℤ) (f : ℕ × Port) → option_map key.Port (place_of_number id) ≡ Some list → queuing b.shared id ≡ Some f
+  sends_to_port : (at : At) (limit : ℤ) (m : ArrayVec ℤ) (id : ℤ) (f : ℕ × Port) → option_map key.Port (place_of_object id) ≡ Some list → queuing b.shared id ≡ Some f
       → IsPortKept (ports.sends at b (runner.Process q) limit m f.0 f.1)
   sends_to_port at limit m id f named e = either_port (is_full f.1) _ _ (waits_at_port at limit (ports.sender f.0 f.1) m (port_is id f named e) (port_fits id f named e)) here_at_port
 
@@ -220,7 +220,7 @@ module _ (d : ListKey → Discipline) (number : ℕ → ℕ) (next : ℕ) (b : S
   receives_from_port at array limit place x [] is same = waits_at_port at limit (ports.receiver place x array) (message []) is same
   receives_from_port at array limit place x (m ∷ rest) is same = here_at_port
 
-  receives_at_port : (at : At) (array : ArrayPlace) (limit id : ℤ) (f : ℕ × Port) → option_map key.Port (place_of_number id) ≡ Some list → queuing b.shared id ≡ Some f
+  receives_at_port : (at : At) (array : ArrayPlace) (limit id : ℤ) (f : ℕ × Port) → option_map key.Port (place_of_object id) ≡ Some list → queuing b.shared id ≡ Some f
       → IsPortKept (ports.receives at b (runner.Process q) array limit f.0 f.1 f.1.messages)
   receives_at_port at array limit id f named e = receives_from_port at array limit f.0 f.1 f.1.messages (port_is id f named e) (port_fits id f named e)
 

@@ -55,19 +55,19 @@ IsLastUnder discipline.Fifo p es = IsLast p es
 IsLastUnder discipline.Priority p es = IsLastOfEquals p es
 
 -- an object or a port has its number one above its place
-abbrev pub place_of_number : ℤ → Option ℕ
-place_of_number (pos (suc n)) = Some n
-place_of_number _ = None
+abbrev pub place_of_object : ℤ → Option ℕ
+place_of_object (pos (suc n)) = Some n
+place_of_object _ = None
 
 -- the list of the object or port that a call names, if its caller may have to wait there
 abbrev pub list_named : Call → Option ListKey
-list_named (call.Object (object.SendBuffer id array length limit)) = option_map key.Buffer (place_of_number id)
-list_named (call.Object (object.ReceiveBuffer id array limit)) = option_map key.Buffer (place_of_number id)
-list_named (call.Object (object.ReadBlackboard id array limit)) = option_map key.Blackboard (place_of_number id)
-list_named (call.Object (object.WaitSemaphore id limit)) = option_map key.Semaphore (place_of_number id)
-list_named (call.Object (object.WaitEvent id limit)) = option_map key.Event (place_of_number id)
-list_named (call.Port (port.SendQueuingMessage id array length limit)) = option_map key.Port (place_of_number id)
-list_named (call.Port (port.ReceiveQueuingMessage id array limit)) = option_map key.Port (place_of_number id)
+list_named (call.Object (object.SendBuffer id array length limit)) = option_map key.Buffer (place_of_object id)
+list_named (call.Object (object.ReceiveBuffer id array limit)) = option_map key.Buffer (place_of_object id)
+list_named (call.Object (object.ReadBlackboard id array limit)) = option_map key.Blackboard (place_of_object id)
+list_named (call.Object (object.WaitSemaphore id limit)) = option_map key.Semaphore (place_of_object id)
+list_named (call.Object (object.WaitEvent id limit)) = option_map key.Event (place_of_object id)
+list_named (call.Port (port.SendQueuingMessage id array length limit)) = option_map key.Port (place_of_object id)
+list_named (call.Port (port.ReceiveQueuingMessage id array limit)) = option_map key.Port (place_of_object id)
 list_named _ = None
 
 abbrev pub list_asked : Asks → Option ListKey
