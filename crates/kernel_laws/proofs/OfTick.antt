@@ -1,5 +1,5 @@
 -- Each step of a partition continues the numbers.
-use Rattle.kernel_laws.proofs.Prelude.{List, None, none-some, true, is_ready, record_at, Option, Some, refl, subst, sym, ℕ, ℤ, ◌∙◌, ◌∷◌, ◌≡◌, ◌↔◌, ◌++◌, slice_set, ArrayVec, place_of, Discipline, Mode, StartCondition, EventKind, At, ListKey, PortId, Runner, Action, Entry, IsNumbered, Picks, Engine, breaks, then_clears, Kernel, of_ports, with_errors, with_ports, of_processes, chooses_with_handler, pick, treats_asked, treats_due, World, Member, act, act_all, admits, choice_phase, control_at, given, moved, place_of_port, spends_chosen, ticked, Moved, followed_by, clearing_phase, clears, Port, discipline_of, port_at, list_at, Processes, Queues, nothing, Step, RecordsAgree, Goes, IsInOrder, Numbers, ready_lines, take_all, May, nobody, may_asked, IsOrdered, chosen_among}
+use Rattle.kernel_laws.proofs.Prelude.{List, None, none-some, ProcessIndex, record_at, Option, Some, refl, subst, sym, ℕ, ℤ, ◌∙◌, ◌∷◌, ◌≡◌, ◌↔◌, ◌++◌, slice_set, ArrayVec, place_of, Discipline, Mode, StartCondition, EventKind, At, ListKey, PortId, Runner, Action, Entry, IsNumbered, Picks, Engine, breaks, then_clears, Kernel, of_ports, with_errors, with_ports, of_processes, chooses_with_handler, pick, treats_asked, treats_due, World, Member, act, act_all, admits, choice_phase, control_at, given, moved, place_of_port, spends_chosen, ticked, Moved, followed_by, clearing_phase, clears, Port, discipline_of, port_at, list_at, Processes, Queues, nothing, Step, RecordsAgree, Goes, IsInOrder, Numbers, ready_lines, take_all, May, nobody, may_asked, IsOrdered, chosen_among}
 use Rattle.std.proofs.Common.{[], ap}
 use Rattle.std.proofs.lemmas.List.{map-append}
 use Rattle.std.specs.Prelude.{map}
@@ -7,14 +7,15 @@ use Rattle.apex_types.specs.declared.codes.Mode.TheVariants as mode
 use Rattle.apex_types.specs.declared.identity.ListKey.TheVariants as key
 use Rattle.apex_types.specs.Runners as action
 use Rattle.kernel_meaning.specs.PortServices as arrival
+use Rattle.engine_meaning.specs.Engine.{Ticked}
 use Rattle.kernel_meaning.specs.Kernel.{of_ports_alone}
 use Rattle.kernel_meaning.specs.Partition.{arrives, breaks_down, cold_start, due_phase, prepares, told, leaves, treating_phase, goes_out}
 use Rattle.kernel_laws.proofs.Choosing as choosing
-use Rattle.kernel_laws.specs.GoingLast.{IsLastOfEquals, IsLastUnder, has_success}
+use Rattle.kernel_laws.specs.GoingLast.{IsLastUnder}
 use Rattle.kernel_laws.specs.OrderLaw.{GoesOn, HasBegunToWait, HasGoneLast, TickGoes, kind_of, list_of_chosen, may_of_chosen}
 use Rattle.kernel_laws.specs.WhoWaits.{WaitsForObject}
 use Rattle.kernel_laws.proofs.OfKernel.{IsReady, Moves, breaks_moves, clears_moves, due_moves, of_ports_moves, then_clears_moves}
-use Rattle.kernel_laws.proofs.LastOfEquals.{asked_last}
+use Rattle.kernel_laws.proofs.LastOfEquals.{IsPutLast, asked_last}
 use Rattle.kernel_laws.proofs.OfPorts.{admits_shares, arrives_shares}
 use Rattle.kernel_laws.proofs.OfServices.{asked_moves, choice_stays, handler_stays}
 use Rattle.kernel_laws.proofs.Primitives.{take_after, told_after, allowed_after}
@@ -133,14 +134,26 @@ module _ {C : Type 0} (d : ListKey → Discipline) (names : ℕ → List ℕ) wh
       (asked_agrees at w.kernel h.records p (runs_ready w.kernel.processes h.records p is) r.asks (given r.asks r.words))
 
   -- who has to go last does
-  spends_last : (e : Engine C) (at : At) (n : Numbers) (w : World C) (o : Option Runner) → IsOrdered d names n w.kernel → HasGoneLast (may_of_chosen e w o) (spends_chosen e at o w)
-  spends_last e at n w None h q own success = absurd (none-some q.0 own)
-  spends_last e at n w (Some p) h q own success =
-      let r = ticked e (control_at w.controls (place_of p)) w.words in
-      let t = treats_asked at w.kernel p r.asks (given r.asks r.words) in
-      let v : World C = record w { controls = slice_set w.controls (place_of p) r.control; words = r.words; kernel = t.part } in
-      subst (λ (s : Processes). is_ready (record_at s.rows q) ≡ true → IsLastOfEquals q s.ready) (sym (acts_same e t.actions v))
-      (asked_last n.ready n.next at w.kernel h.order.ready p q r.asks (given r.asks r.words) own (ap has_success (kinds_told w.kernel.fixed.name at t.lines) ∙ success))
+  spends_last : (e : Engine C) (at : At) (n : Numbers) (w : World C) (o : Option Runner) → w.kernel.processes.running ≡ o → IsOrdered d names n w.kernel
+      → HasGoneLast (may_of_chosen e w o) w.kernel.processes.ready (spends_chosen e at o w)
+  spends_last e at n w None is h = record { goes = λ q own. absurd (none-some q.0 own); stays = λ q own. absurd (none-some q.0 own) }
+  spends_last e at n w (Some p) is h = record { goes = λ q own. let g = at_end q own in g.goes; stays = λ q own. let g = at_end q own in g.stays }
+    where
+      r : Ticked (Option C)
+      r = ticked e (control_at w.controls (place_of p)) w.words
+
+      t : Step Kernel
+      t = treats_asked at w.kernel p r.asks (given r.asks r.words)
+
+      m : Moved C
+      m = spends_chosen e at (Some p) w
+
+      at_end : (q : ProcessIndex) → (may_of_chosen e w (Some p)).go_last ≡ Some q.0 → IsPutLast q w.kernel.processes.ready (map kind_of m.lines) m.world.kernel.processes
+      at_end q own =
+          let v : World C = record w { controls = slice_set w.controls (place_of p) r.control; words = r.words; kernel = t.part } in
+          subst (λ (ls : List EventKind). IsPutLast q w.kernel.processes.ready ls m.world.kernel.processes) (kinds_told w.kernel.fixed.name at t.lines)
+          (subst (λ (s : Processes). IsPutLast q w.kernel.processes.ready t.lines s) (sym (acts_same e t.actions v))
+          (asked_last n.ready n.next at w.kernel h.order.ready q p r.asks (given r.asks r.words) (runs_ready w.kernel.processes h.records p is) own))
 
   -- and who begins to wait is the last in the list that its call names
   spends_begun : (e : Engine C) (at : At) (n : Numbers) (w : World C) (o : Option Runner) → w.kernel.processes.running ≡ o → IsOrdered d names n w.kernel
@@ -164,7 +177,7 @@ module _ {C : Type 0} (d : ListKey → Discipline) (names : ℕ → List ℕ) wh
         runs = chosen_runs e at (due_phase e at w).world g.ordered.records;
         prepared = k;
         spent = spends_goes e at (take_all g.takings n) (prepares e at w).world (prepares e at w).world.kernel.processes.running refl k;
-        last = spends_last e at (take_all g.takings n) (prepares e at w).world (prepares e at w).world.kernel.processes.running k;
+        last = spends_last e at (take_all g.takings n) (prepares e at w).world (prepares e at w).world.kernel.processes.running refl k;
         begun = spends_begun e at (take_all g.takings n) (prepares e at w).world (prepares e at w).world.kernel.processes.running refl k;
       }
 

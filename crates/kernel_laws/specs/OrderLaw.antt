@@ -1,5 +1,5 @@
 -- The effect of a partition's steps on its numbers.
-use Rattle.std.specs.Prelude.{◌≡◌, ◌↔◌, ℕ, true, List, Option, Some, None, map}
+use Rattle.std.specs.Prelude.{◌≡◌, ◌↔◌, ◌⊎◌, ◌&&◌, ℕ, Bool, true, false, List, Option, Some, None, map}
 use Rattle.apex_types.specs.Runners.{place_of}
 use Rattle.apex_types.specs.declared.codes.Discipline.{Discipline}
 use Rattle.apex_types.specs.declared.event.Event.{Event}
@@ -8,6 +8,7 @@ use Rattle.apex_types.specs.declared.identity.At.{At}
 use Rattle.apex_types.specs.declared.identity.ListKey.{ListKey}
 use Rattle.apex_types.specs.declared.identity.ProcessIndex.{ProcessIndex}
 use Rattle.apex_types.specs.declared.identity.Runner.{Runner}
+use Rattle.apex_types.specs.declared.process.Entry.{Entry}
 use Rattle.kernel_laws.specs.Choice.{Picks}
 use Rattle.engine_meaning.specs.Engine.{Engine}
 use Rattle.kernel_meaning.specs.HealthServices.{starts_handler}
@@ -16,7 +17,7 @@ use Rattle.kernel_meaning.specs.Partition.{World, Moved, control_at, due_phase, 
 use Rattle.kernel_meaning.specs.Processes.{Processes}
 use Rattle.kernel_laws.specs.Agreement.{RecordsAgree, record_at}
 use Rattle.kernel_laws.specs.GoingLast.{IsLastOfEquals, IsLastUnder, has_success, list_asked}
-use Rattle.kernel_meaning.specs.Queues.{Queues, list_at}
+use Rattle.kernel_meaning.specs.Queues.{Queues, list_at, without}
 use Rattle.kernel_laws.specs.WhoWaits.{WaitsForObject, has_list}
 use Rattle.kernel_laws.specs.Numbers.{Numbers, Taking, May, nobody, may_asked, AreAllowed, AreNamed, HaveDisciplines, IsInOrder, PortsHaveDisciplines, ready_lines, subject_at, take_all, those_ready}
 
@@ -53,12 +54,16 @@ may_spent e w = may_of_chosen e w w.kernel.processes.running
 abbrev pub chosen_among : Kernel → Processes
 chosen_among k = let s = starts_handler k.mode (with_errors k) in s.part
 
--- Who may go last in a move has to, if a service returns NO_ERROR and the process is READY or RUNNING
--- then: no other of its priority stands behind it among the ready processes.
-abbrev pub HasGoneLast : {C : Type 0} → May → Moved C → Type 0
-HasGoneLast may m =
-    (p : ProcessIndex) → may.go_last ≡ Some p.0 → has_success (map kind_of m.lines) ≡ true → is_ready (record_at m.world.kernel.processes.rows p) ≡ true
-    → IsLastOfEquals p m.world.kernel.processes.ready
+-- whether a service returns NO_ERROR in a move, and this process is READY or RUNNING then
+abbrev pub has_to_go_last : {C : Type 0} → ProcessIndex → Moved C → Bool
+has_to_go_last p m = has_success (map kind_of m.lines) && is_ready (record_at m.world.kernel.processes.rows p)
+
+-- Who may go last in a move has to in this case, and only then: no other of its priority stands
+-- behind it. Otherwise the list of the ready processes is the one before, or the process has left it.
+pub record HasGoneLast {C : Type 0} (may : May) (before : List Entry) (m : Moved C) : Type 0 where
+  pub goes : (p : ProcessIndex) → may.go_last ≡ Some p.0 → has_to_go_last p m ≡ true → IsLastOfEquals p m.world.kernel.processes.ready
+  pub stays : (p : ProcessIndex) → may.go_last ≡ Some p.0 → has_to_go_last p m ≡ false
+      → (m.world.kernel.processes.ready ≡ before) ⊎ (m.world.kernel.processes.ready ≡ without p.0 before)
 
 -- the waiting list that the call of the chosen runner names
 abbrev pub list_of_chosen : {C : Type 0} → Engine C → World C → Option Runner → Option ListKey
@@ -77,8 +82,8 @@ HasBegunToWait disciplines may named before m =
 
 -- In a tick of a partition, the processes that become ready by what is due take numbers. The choice
 -- gives no process a number: it picks the only runner that `Picks` allows by these numbers. The picked
--- runner runs, and spends the tick; if none is picked, nothing runs. Whoever has to
--- go last by the runner's call does so, among the ready processes or in a waiting list.
+-- runner runs, and spends the tick; if none is picked, nothing runs. Whoever has to go last by its
+-- call does so, among the ready processes or in a waiting list.
 pub record TickGoes {C : Type 0} (disciplines : ListKey → Discipline) (names : ℕ → List ℕ) (n : Numbers) (e : Engine C) (at : At) (w : World C) : Type 0 where
   pub due : GoesOn disciplines names nobody n (due_phase e at w)
   pub picks : (p : Runner)
@@ -87,6 +92,6 @@ pub record TickGoes {C : Type 0} (disciplines : ListKey → Discipline) (names :
   pub runs : (prepares e at w).world.kernel.processes.running ≡ pick (due_phase e at w).world.kernel.mode (chosen_among (due_phase e at w).world.kernel)
   pub prepared : IsOrdered disciplines names (take_all due.takings n) (prepares e at w).world.kernel
   pub spent : GoesOn disciplines names (may_spent e (prepares e at w).world) (take_all due.takings n) (spending_phase e at (prepares e at w).world)
-  pub last : HasGoneLast (may_spent e (prepares e at w).world) (spending_phase e at (prepares e at w).world)
+  pub last : HasGoneLast (may_spent e (prepares e at w).world) (prepares e at w).world.kernel.processes.ready (spending_phase e at (prepares e at w).world)
   pub begun : HasBegunToWait disciplines (may_spent e (prepares e at w).world) (list_spent e (prepares e at w).world) (prepares e at w).world.kernel.processes.queues
       (spending_phase e at (prepares e at w).world)

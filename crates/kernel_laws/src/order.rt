@@ -29,9 +29,10 @@ ghost use Rattle.kernel_laws.specs.RunLaw.{HasOrder, HoldsReady, MoveGoes, RunGo
 ghost use Rattle.kernel_laws.specs.WhoWaits.{HasFewObjects, HoldsWaiting};
 
 /// A tick of a partition whose lists are in order continues its numbers, on any engine: on the
-/// machine as on the sources. Who has to go last does: the process that SET_PRIORITY names, and the
-/// caller of TIMED_WAIT without a delay, stand behind all others of their priority. A caller that
-/// begins to wait is the last in the waiting list of the object or the port that its call names.
+/// machine as on the sources. Who has to go last does: a ready process that SET_PRIORITY names, and
+/// the caller of TIMED_WAIT without a delay, go behind all others of their priority, unless the
+/// service is refused. A caller that begins to wait is the last in the waiting list of the object or
+/// the port that its call names.
 pub fn tick_goes_on()
     ensures machine { (disciplines : ListKey → Discipline) (names : ℕ → List ℕ) (n : Numbers)
         (e : Engine MachineControl) (at : At) (w : World MachineControl)
