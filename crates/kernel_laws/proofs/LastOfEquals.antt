@@ -39,26 +39,27 @@ behind_is_last number e (x ∷ xs) h = by_test (nat_lt x.priority.0 e.priority.0
 
 -- ---- steps
 
-abbrev pub Unless : ProcessIndex → List Entry → List Entry → Type 0
-Unless q before after = (after ≡ before) ⊎ (after ≡ without q.0 before)
+-- the list is the one before, or the process has left it
+abbrev pub IsSameOrLeft : ProcessIndex → List Entry → List Entry → Type 0
+IsSameOrLeft q before after = (after ≡ before) ⊎ (after ≡ without q.0 before)
 
--- It stands last, if the service succeeds and it is READY or RUNNING; otherwise the list is the one before, or it has left.
+-- It stands last if the service succeeds and it is READY or RUNNING; otherwise it does not go last.
 pub record IsPutLast (q : ProcessIndex) (before : List Entry) (lines : List EventKind) (after : Processes) : Type 0 where
   pub goes : (has_success lines && is_ready (record_at after.rows q)) ≡ true → IsLastOfEquals q after.ready
-  pub stays : (has_success lines && is_ready (record_at after.rows q)) ≡ false → Unless q before after.ready
+  pub stays : (has_success lines && is_ready (record_at after.rows q)) ≡ false → IsSameOrLeft q before after.ready
 
 abbrev Puts : ProcessIndex → Processes → Step Processes → Type 0
 Puts q s t = IsPutLast q s.ready t.lines t.part
 
 -- nothing succeeds
-fails : (q : ProcessIndex) (s t : Processes) (lines : List EventKind) → has_success lines ≡ false → Unless q s.ready t.ready → IsPutLast q s.ready lines t
+fails : (q : ProcessIndex) (s t : Processes) (lines : List EventKind) → has_success lines ≡ false → IsSameOrLeft q s.ready t.ready → IsPutLast q s.ready lines t
 fails q s t lines none same = record {
   goes = λ e. absurd (false≢true (sym (ap (λ (b : Bool). b && is_ready (record_at t.rows q)) none) ∙ e));
   stays = λ e. same;
 }
 
 -- the process is not ready
-rests : (q : ProcessIndex) (s t : Processes) (lines : List EventKind) → is_ready (record_at t.rows q) ≡ false → Unless q s.ready t.ready → IsPutLast q s.ready lines t
+rests : (q : ProcessIndex) (s t : Processes) (lines : List EventKind) → is_ready (record_at t.rows q) ≡ false → IsSameOrLeft q s.ready t.ready → IsPutLast q s.ready lines t
 rests q s t lines none same = record { goes = λ e. absurd (false≢true (never (has_success lines) e)); stays = λ e. same }
   where
     never : (b : Bool) → (b && is_ready (record_at t.rows q)) ≡ true → false ≡ true

@@ -1,5 +1,5 @@
 -- In every state of every run the waiting lists of each partition agree with its records.
-use Rattle.kernel_laws.proofs.Prelude.{◌≡◌, ℕ, zero, suc, ◌+◌, ◌<◌, ◌≤◌, Bool, true, false, List, ◌∷◌, ◌++◌, map, length, Option, Some, None, refl, sym, subst, ◌∙◌, arith, eqb-true, eqb-false, none-some, same_Some, ◌==◌, is_some, slice_get, slice_set, Discipline, DeviceLine, ListKey, ProcessIndex, ProcessStatus, Objects, Ports, Member, with_world, Module, steps_member, at_number, Schedule, Move, makes, Happening, Moves, Tells, happens, all_happen, members_after, Numbers, first_numbers, AreOrdered, disciplines_of, names_of}
+use Rattle.kernel_laws.proofs.Prelude.{◌≡◌, ℕ, zero, suc, ◌+◌, ◌<◌, ◌≤◌, Bool, true, false, List, ◌∷◌, ◌++◌, map, length, Option, Some, None, refl, sym, subst, ◌∙◌, arith, eqb-true, eqb-false, none-some, same_Some, ◌==◌, is_some, slice_get, slice_set, Discipline, DeviceLine, ListKey, ProcessIndex, ProcessStatus, Kernel, Objects, Ports, Member, with_world, Module, steps_member, at_number, Schedule, Move, makes, Happening, Moves, Tells, happens, all_happen, members_after, Numbers, first_numbers, AreOrdered, disciplines_of, names_of}
 use Rattle.std.proofs.Common.{[], ap}
 use Rattle.std.proofs.lemmas.Bool.{false≢true}
 use Rattle.std.proofs.lemmas.List.{length-map, length-replicate}
@@ -22,7 +22,7 @@ use Rattle.pal_meaning.specs.Program as program
 use Rattle.kernel_laws.specs.Numbers.{EachAt}
 use Rattle.kernel_laws.specs.Ready.{times_listed}
 use Rattle.kernel_laws.specs.RunLaw.{GoThrough, RunGoes}
-use Rattle.kernel_laws.specs.WhoWaits.{HasFewAt, HasFewObjects, HoldsWaiting, Stands, WaitsForObject, is_at_object}
+use Rattle.kernel_laws.specs.WhoWaits.{AreListed, HasFewAt, HasFewObjects, HoldsWaiting, Stands, WaitsForObject, is_at_object}
 use Rattle.kernel_laws.proofs.Fresh.{none_at}
 use Rattle.kernel_laws.proofs.InRange.{IsInRange}
 use Rattle.kernel_laws.proofs.Places.{get_set_other, get_set_same}
@@ -143,12 +143,19 @@ module _ {C : Type 0} where
 
   -- ---- in a run
 
+  state_holds : (few : ℕ → Type 0) (m : Module C) (devices : List DeviceLine) (n p : ℕ) (x : Member C) → AllHold few m.members → RunGoes m devices n → at_number (members_after m devices n) p ≡ Some x
+      → KernelHolds (few p) x.world.kernel
+  state_holds few m devices n p x h run e =
+      ends_hold few (disciplines_of m.members) (names_of m.members) run.history (λ q. first_numbers) m.members run.order h p x (subst (λ (ms : List (Member C)). at_number ms p ≡ Some x) run.members e)
+
   pub run_holds : (m : Module C) (devices : List DeviceLine) (n p : ℕ) (x : Member C) → AllHold (λ q. HasFewAt (at_number m.members q)) m.members → RunGoes m devices n
       → at_number (members_after m devices n) p ≡ Some x → HoldsWaiting m p x
-  run_holds m devices n p x h run e =
-      let g = ends_hold (λ q. HasFewAt (at_number m.members q)) (disciplines_of m.members) (names_of m.members) run.history (λ q. first_numbers) m.members run.order h p x
-      (subst (λ (ms : List (Member C)). at_number ms p ≡ Some x) run.members e) in
-      record { waiting = g.holds.waiting; listed = g.holds.all }
+  run_holds m devices n p x h run e = let g = state_holds (λ q. HasFewAt (at_number m.members q)) m devices n p x h run e in record { waiting = g.holds.waiting; listed = g.holds.all }
+
+  -- if all partitions have few objects and ports
+  pub all_listed : (m : Module C) (devices : List DeviceLine) (n p : ℕ) (x : Member C) → AllHold (λ q. Unit {0}) m.members → RunGoes m devices n
+      → at_number (members_after m devices n) p ≡ Some x → AreListed x.world.kernel.processes.rows x.world.kernel.processes.queues
+  all_listed m devices n p x h run e = let g = state_holds (λ q. Unit {0}) m devices n p x h run e in g.holds.all tt
 
 pub machine_holds : (i : Image)
     → AllHold (λ p. HasFewAt (at_number (machine_members (costs_of i.version) i.schedule 1 i.items) p)) (machine_members (costs_of i.version) i.schedule 1 i.items)
@@ -187,6 +194,15 @@ items_have_few k s n limits frame before (i ∷ is) each zero x e =
     subst HasFew (same_Some (machine_member k (fixed_of s n i.partition) i.partition.ports i.section) x e) (item_has_few k (fixed_of s n i.partition) limits frame before i each.0)
 items_have_few k s n limits frame before (i ∷ is) each (suc place) x e = items_have_few k s (n + 1) limits frame (before ++ i ∷ []) is each.1 place x e
 
-pub image_has_few : (image : Image) (p : ℕ) (x : Member MachineControl) → IsWithinLimits image → at_number (machine_members (costs_of image.version) image.schedule 1 image.items) p ≡ Some x → HasFewObjects x.world.kernel
-image_has_few image zero x within e = absurd (none-some x e)
-image_has_few image (suc place) x within e = items_have_few (costs_of image.version) image.schedule 1 (limits_of image.version) image.schedule.frame [] image.items within.items place x e
+with_few : (k : Kernel) → HasFewObjects k → KernelHolds (HasFewObjects k) k → KernelHolds (Unit {0}) k
+with_few k few h = record {
+  holds = record { waiting = h.holds.waiting; all = λ so. h.holds.all few; lists = h.holds.lists };
+  objects = λ so. h.objects few;
+  ports = λ so. h.ports few;
+}
+
+pub lawful_holds : (i : Image) → IsWithinLimits i → AllHold (λ p. Unit {0}) (machine_members (costs_of i.version) i.schedule 1 i.items)
+lawful_holds i within zero x e = absurd (none-some x e)
+lawful_holds i within (suc place) x e =
+    with_few x.world.kernel (items_have_few (costs_of i.version) i.schedule 1 (limits_of i.version) i.schedule.frame [] i.items within.items place x e)
+    (machine_fresh (costs_of i.version) i.schedule 1 i.items place x e)

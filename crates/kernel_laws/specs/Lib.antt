@@ -3,11 +3,11 @@ pub mod WaitingOrder
 pub mod Ready
 pub mod Numbers
 pub mod Agreement
+pub mod WhoWaits
+pub mod GoingLast
 pub mod OrderLaw
 pub mod History
 pub mod RunLaw
 pub mod Bursts
 pub mod Quiet
 pub mod Running
-pub mod WhoWaits
-pub mod GoingLast

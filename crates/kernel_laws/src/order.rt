@@ -26,7 +26,7 @@ ghost use Rattle.kernel_laws.specs.History.{Move, members_after};
 ghost use Rattle.kernel_laws.specs.Numbers.{Numbers};
 ghost use Rattle.kernel_laws.specs.OrderLaw.{IsOrdered, TickGoes};
 ghost use Rattle.kernel_laws.specs.RunLaw.{HasOrder, HoldsReady, MoveGoes, RunGoes};
-ghost use Rattle.kernel_laws.specs.WhoWaits.{HasFewObjects, HoldsWaiting};
+ghost use Rattle.kernel_laws.specs.WhoWaits.{AreListed, HoldsWaiting};
 
 /// A tick of a partition whose lists are in order continues its numbers, on any engine: on the
 /// machine as on the sources. Who has to go last does: a ready process that SET_PRIORITY names, and
@@ -89,9 +89,10 @@ pub fn ready_ones_are_listed()
 
 /// In such a state whoever stands in a waiting list of a partition is WAITING by its record, in a
 /// service on an object or a port of this kind; it stands there once, and in no other list. If the
-/// partition has at most 16 ports, and 16 objects of each kind, whoever waits for one of these by its
-/// record stands in a list. A record says for what kind of object its process waits, and the list says
-/// for which: that the call names it, `tick_goes_on` says where the process begins to wait.
+/// partition has at most 16 ports, and 16 objects of each kind, as in an image within its limits,
+/// whoever waits for one of these by its record stands in a list. A record says for what kind of
+/// object its process waits, and the list says for which: by `tick_goes_on` a process joins the list
+/// that its call names.
 pub fn waiting_ones_are_listed()
     ensures machine { (image : Image) (devices : List DeviceLine) (n p : ℕ)
         (x : Member MachineControl)
@@ -101,12 +102,10 @@ pub fn waiting_ones_are_listed()
         (x : Member SourceControl)
         → at_number (members_after (source_module t sources) devices n) p ≡ Some x
         → HoldsWaiting (source_module t sources) p x }
-{}
-
-/// An image within its limits has no more ports and objects than that.
-pub fn images_have_few_objects()
-    ensures { (image : Image) (p : ℕ) (x : Member MachineControl) → IsWithinLimits image
-        → at_number (machine_module image).members p ≡ Some x → HasFewObjects x.world.kernel }
+    ensures lawful { (image : Image) (devices : List DeviceLine) (n p : ℕ)
+        (x : Member MachineControl) → IsWithinLimits image
+        → at_number (members_after (machine_module image) devices n) p ≡ Some x
+        → AreListed x.world.kernel.processes.rows x.world.kernel.processes.queues }
 {}
 
 /// If the lists are in order, an entry is at the head of a waiting list if and only if it is to be
