@@ -117,7 +117,7 @@ module _ (number : ℕ → ℕ) (next : ℕ) (s : Processes) (h : IsNumbered num
 
 -- ---- TIMED_WAIT
 
-silent : (who : Subject) (state : ProcessState) → has_success (waiting_lines who state) ≡ false
+pub silent : (who : Subject) (state : ProcessState) → has_success (waiting_lines who state) ≡ false
 silent who Dormant = refl
 silent who Ready = refl
 silent who Running = refl

@@ -35,6 +35,7 @@ pub mod OfObjects
 pub mod OfKernel
 pub mod OfServices
 pub mod LastOfEquals
+pub mod LastTakings
 pub mod OfTick
 pub mod Runs
 pub mod Through
