@@ -1,10 +1,9 @@
 -- Who goes last takes a number for it, and no other does.
-use Rattle.kernel_laws.proofs.Prelude.{◌≡◌, ◌↔◌, ◌&&◌, inl, inr, ℕ, zero, suc, ◌+◌, ℤ, Bool, true, false, List, ◌∷◌, Option, Some, None, refl, sym, subst, ◌∙◌, none-some, same_Some, if◌then◌else◌, not, pos, negsuc, place_of, Discipline, At, ListKey, Priority, ProcessIndex, Runner, ProcessStatus, ReturnCode, Service, Call, Asks, Nothing, Calls, Faults, Ends, Kernel, of_processes, serves, treats_asked, AreAllowed, BeginsToWait, Goes, May, may_asked, nobody, only_last, subject_at, is_delay, is_ready, is_ready_state, is_priority, priority_of, set_priority, takes_priority, Processes, row_of, index, numbered, process_at, on, is_busy, is_dormant, is_unknown, answers, put_ready, put_row, timed_wait, delays, yields, waits_until, Step, after, nothing, record_at}
+use Rattle.kernel_laws.proofs.Prelude.{◌≡◌, ◌↔◌, ◌&&◌, inl, inr, ℕ, zero, suc, ◌+◌, ℤ, Bool, true, false, List, ◌∷◌, Option, Some, None, refl, sym, subst, ◌∙◌, none-some, if◌then◌else◌, not, pos, negsuc, place_of, Discipline, At, ListKey, Priority, ProcessIndex, Runner, ProcessStatus, ReturnCode, Service, AreAllowed, BeginsToWait, Goes, May, nobody, only_last, subject_at, is_delay, is_ready, is_ready_state, is_priority, priority_of, set_priority, takes_priority, Processes, row_of, numbered, process_at, on, is_busy, is_dormant, is_unknown, answers, put_ready, put_row, timed_wait, delays, yields, waits_until, Step, after, nothing, record_at}
 use Rattle.std.proofs.Common.{[], ap}
 use Rattle.std.proofs.lemmas.Bool.{false≢true}
 use Rattle.apex_types.specs.declared.codes.ReturnCode.TheVariants as code
 use Rattle.apex_types.specs.declared.identity.Runner.TheVariants as runner
-use Rattle.apex_types.specs.declared.service.Call.TheVariants as call
 use Rattle.apex_types.specs.declared.service.Service.TheVariants as service
 use Rattle.kernel_meaning.specs.Processes.{has, refuses}
 use Rattle.kernel_laws.specs.GoingLast.{has_success}
@@ -12,16 +11,13 @@ use Rattle.kernel_laws.specs.Numbers.{Taking, BecomesReady, GoesLast}
 use Rattle.kernel_laws.specs.OrderLaw.{HasTaken}
 use Rattle.kernel_laws.proofs.LastOfEquals.{silent}
 use Rattle.kernel_laws.proofs.NumberSteps.{Named, after_goes, answer_goes, nothing_goes, put_goes, refuse_goes, row_is_of, waits_goes}
-use Rattle.kernel_laws.proofs.OfKernel.{IsReady, Moves}
-use Rattle.kernel_laws.proofs.OfServices.{asked_moves}
 use Rattle.kernel_laws.proofs.Places.{get_set_same}
 use Rattle.kernel_laws.proofs.Primitives.{in_order_last, named_set}
-use Rattle.kernel_laws.proofs.RecordRows.{IsCaller}
 
 -- ---- takings
 
 -- nobody goes last, if nobody may
-none_last : (ts : List Taking) (q : ℕ) → AreAllowed nobody ts → HasTaken (GoesLast q) ts → ⊥
+pub none_last : (ts : List Taking) (q : ℕ) → AreAllowed nobody ts → HasTaken (GoesLast q) ts → ⊥
 none_last [] q h t = t
 none_last (BecomesReady p ∷ ts) q h (inl e) = cc
 none_last (BecomesReady p ∷ ts) q h (inr later) = none_last ts q h.1 later
@@ -29,19 +25,19 @@ none_last (GoesLast p ∷ ts) q h t = none-some p h.0
 none_last (BeginsToWait p ∷ ts) q h t = none-some p h.0
 
 -- what nobody needs a leave for, all may do
-all_may : (may : May) (ts : List Taking) → AreAllowed nobody ts → AreAllowed may ts
+pub all_may : (may : May) (ts : List Taking) → AreAllowed nobody ts → AreAllowed may ts
 all_may may [] h = tt
 all_may may (BecomesReady p ∷ ts) h = (tt, all_may may ts h.1)
 all_may may (GoesLast p ∷ ts) h = absurd (none-some p h.0)
 all_may may (BeginsToWait p ∷ ts) h = absurd (none-some p h.0)
 
 -- whether the service succeeds, and the process is READY or RUNNING
-abbrev succeeds : ProcessIndex → Step Processes → Bool
+abbrev pub succeeds : ProcessIndex → Step Processes → Bool
 succeeds q t = has_success t.lines && is_ready (record_at t.part.rows q)
 
 module _ (d : ListKey → Discipline) (names : ℕ → List ℕ) where
   -- a step that continues the numbers, in which this process goes last exactly if it has to
-  record Takes (may : May) (q : ProcessIndex) (s : Processes) (t : Step Processes) : Type 0 where
+  pub record Takes (may : May) (q : ProcessIndex) (s : Processes) (t : Step Processes) : Type 0 where
     pub goes : Goes d names may s t
     pub last : HasTaken (GoesLast q.0) goes.takings ↔ (succeeds q t ≡ true)
 
@@ -80,7 +76,7 @@ module _ (d : ListKey → Discipline) (names : ℕ → List ℕ) where
 
     -- ---- SET_PRIORITY
 
-    takes : (v : Priority) (o : Option ProcessStatus) → row_of s (runner.Process i) ≡ o → Takes_of (after (told service.SetPriority) (on (numbered i o) s (takes_priority s v)))
+    pub takes : (v : Priority) (o : Option ProcessStatus) → row_of s (runner.Process i) ≡ o → Takes_of (after (told service.SetPriority) (on (numbered i o) s (takes_priority s v)))
     takes v None there =
         nobody_takes (only_last (Some i.0)) i s _
         (after_goes d names nobody s (told service.SetPriority) (nothing s) (answer_goes d names nobody s p service.SetPriority code.NoError [] h) (λ k. nothing_goes d names nobody s k)) (ap is_ready there)
@@ -97,7 +93,7 @@ module _ (d : ListKey → Discipline) (names : ℕ → List ℕ) where
             (λ k. put_goes d names nobody s (runner.Process i) raised k (row_is_of d names s (runner.Process i) x h there)))
             (ap is_ready (get_set_same s.rows (place_of (runner.Process i)) x raised there) ∙ e)
 
-    sets : (v : ℤ) (o : Option (Runner × ProcessStatus)) → Takes_of (after (told service.SetPriority) (on o s (takes_priority s (priority_of v)))) → (id : ℤ) → process_at s id ≡ o → Takes_of (set_priority s p id v)
+    pub sets : (v : ℤ) (o : Option (Runner × ProcessStatus)) → Takes_of (after (told service.SetPriority) (on o s (takes_priority s (priority_of v)))) → (id : ℤ) → process_at s id ≡ o → Takes_of (set_priority s p id v)
     sets v o k id e =
         either_takes (only_last (Some i.0)) i s (is_unknown s id) _ _ (refused service.SetPriority code.InvalidParam refl)
         (either_takes (only_last (Some i.0)) i s (not (is_priority v)) _ _ (refused service.SetPriority code.InvalidParam refl)
@@ -126,51 +122,7 @@ module _ (d : ListKey → Discipline) (names : ℕ → List ℕ) where
     delays_takes at (pos zero) = yields_takes (row_of s (runner.Process i)) refl
     delays_takes at (pos (suc n)) = until_takes (row_of s (runner.Process i)) (at.now.0 + suc n) refl
 
-    timed_wait_takes : (at : At) (delay : ℤ) → Takes_itself (timed_wait at s (runner.Process i) delay)
+    pub timed_wait_takes : (at : At) (delay : ℤ) → Takes_itself (timed_wait at s (runner.Process i) delay)
     timed_wait_takes at delay =
         either_takes (only_last (Some i.0)) i s (is_busy s (runner.Process i)) _ _ (refused s h (runner.Process i) i service.TimedWait code.InvalidMode refl)
         (either_takes (only_last (Some i.0)) i s (not (is_delay delay)) _ _ (refused s h (runner.Process i) i service.TimedWait code.InvalidParam refl) (delays_takes at delay))
-
-  -- ---- the requests of a process
-
-  -- a step of a partition that continues the numbers, in which who may go last does exactly if it has to
-  pub record TakesIn (may : May) (k : Kernel) (t : Step Kernel) : Type 0 where
-    pub moves : Moves d names may k t
-    pub last : (q : ProcessIndex) → may.go_last ≡ Some q.0 → (HasTaken (GoesLast q.0) moves.goes.takings ↔ ((has_success t.lines && is_ready (record_at t.part.processes.rows q)) ≡ true))
-
-  module _ (at : At) (k : Kernel) (h : IsReady d names k) where
-    abbrev In : May → Step Kernel → Type 0
-    In may t = TakesIn may k t
-
-    one_takes : (i : ProcessIndex) (t : Step Processes) → Takes (only_last (Some i.0)) i k.processes t → In (only_last (Some i.0)) (of_processes k t)
-    one_takes i t g = record {
-      moves = record { goes = g.goes; objects = h.objects; ports = h.ports };
-      last = λ q own. subst (λ (j : ProcessIndex). HasTaken (GoesLast j.0) g.goes.takings ↔ (succeeds j t ≡ true)) (ap index (same_Some i.0 q.0 own)) g.last;
-    }
-
-    none_takes : (may : May) (t : Step Kernel) → may.go_last ≡ None → Moves d names may k t → In may t
-    none_takes may t none g = record { moves = g; last = λ q own. absurd (none-some q.0 (sym none ∙ own)) }
-
-    set_takes : (p : Runner) (id v : ℤ) (words : List ℤ) → In (may_asked p (Calls (call.SetPriority id v))) (serves at k p (call.SetPriority id v) words)
-    set_takes p (negsuc n) v words = none_takes (only_last None) _ refl (asked_moves d names at k p (Calls (call.SetPriority (negsuc n) v)) words h)
-    set_takes p (pos zero) v words = none_takes (only_last None) _ refl (asked_moves d names at k p (Calls (call.SetPriority (pos zero) v)) words h)
-    set_takes p (pos (suc n)) v words =
-        one_takes (index n) (set_priority k.processes p (pos (suc n)) v)
-        (sets k.processes h.named p (index n) v (numbered (index n) (row_of k.processes (runner.Process (index n)))) (takes k.processes h.named p (index n) (priority_of v) (row_of k.processes (runner.Process (index n))) refl)
-        (pos (suc n)) refl)
-
-    wait_takes : (p : Runner) (delay : ℤ) (words : List ℤ) → IsCaller k.processes p → In (may_asked p (Calls (call.TimedWait delay))) (serves at k p (call.TimedWait delay) words)
-    wait_takes runner.Init delay words caller = none_takes (only_last None) _ refl (asked_moves d names at k runner.Init (Calls (call.TimedWait delay)) words h)
-    wait_takes runner.Handler delay words caller = none_takes (only_last None) _ refl (asked_moves d names at k runner.Handler (Calls (call.TimedWait delay)) words h)
-    wait_takes (runner.Process i) delay words caller = one_takes i (timed_wait at k.processes (runner.Process i) delay) (timed_wait_takes k.processes h.named i (caller i refl) at delay)
-
-    call_takes : (p : Runner) (c : Call) (words : List ℤ) → IsCaller k.processes p → In (may_asked p (Calls c)) (serves at k p c words)
-    call_takes p (call.SetPriority id v) words caller = set_takes p id v words
-    call_takes p (call.TimedWait delay) words caller = wait_takes p delay words caller
-    call_takes p c words caller = none_takes (may_asked p (Calls c)) _ refl (asked_moves d names at k p (Calls c) words h)
-
-    pub asked_takes : (p : Runner) (a : Asks) (words : List ℤ) → IsCaller k.processes p → In (may_asked p a) (treats_asked at k p a words)
-    asked_takes p (Calls c) words caller = call_takes p c words caller
-    asked_takes p Nothing words caller = none_takes nobody _ refl (asked_moves d names at k p Nothing words h)
-    asked_takes p (Faults e) words caller = none_takes nobody _ refl (asked_moves d names at k p (Faults e) words h)
-    asked_takes p Ends words caller = none_takes nobody _ refl (asked_moves d names at k p Ends words h)

@@ -36,6 +36,8 @@ pub mod OfKernel
 pub mod OfServices
 pub mod LastOfEquals
 pub mod LastTakings
+pub mod WaitTakings
+pub mod AskedTakings
 pub mod OfTick
 pub mod Runs
 pub mod Through

@@ -39,7 +39,7 @@ module _ (d : ListKey → Discipline) (names : ℕ → List ℕ) where
   abbrev To : May → Sharing Ports → Step (Sharing Ports) → Type 0
   To may b t = Shares d names Ports (PortsHaveDisciplines d) may b t
 
-  puts : (may : May) (b : Sharing Ports) (place : ℕ) (x : Port) → Set b → discipline_of x.row.kind ≡ d (list place) → To may b (becomes_port b place x)
+  pub puts : (may : May) (b : Sharing Ports) (place : ℕ) (x : Port) → Set b → discipline_of x.row.kind ≡ d (list place) → To may b (becomes_port b place x)
   puts may b place x h k =
       becomes_shares d names Ports (PortsHaveDisciplines d) may b (put_port b.shared place x) h
       (each_put (λ place x. discipline_of x.row.kind ≡ d (list place)) b.shared.ports place x h.fit k)
@@ -47,7 +47,7 @@ module _ (d : ListKey → Discipline) (names : ℕ → List ℕ) where
   sampling_fits : (b : Sharing Ports) (id : ℤ) (f : ℕ × Port) → Set b → sampling b.shared id ≡ Some f → discipline_of f.1.row.kind ≡ d (list f.0)
   sampling_fits b id f h e = numbered_is (λ place x. discipline_of x.row.kind ≡ d (list place)) b.shared.ports id f h.fit (sampling_of (numbered_in b.shared.ports id) f e)
 
-  queuing_fits : (b : Sharing Ports) (id : ℤ) (f : ℕ × Port) → Set b → queuing b.shared id ≡ Some f → discipline_of f.1.row.kind ≡ d (list f.0)
+  pub queuing_fits : (b : Sharing Ports) (id : ℤ) (f : ℕ × Port) → Set b → queuing b.shared id ≡ Some f → discipline_of f.1.row.kind ≡ d (list f.0)
   queuing_fits b id f h e = numbered_is (λ place x. discipline_of x.row.kind ≡ d (list place)) b.shared.ports id f h.fit (queuing_of (numbered_in b.shared.ports id) f e)
 
   pub create_sampling_port_shares : (may : May) (m : Mode) (b : Sharing Ports) (p : Runner) (name : ℤ) → Set b → To may b (create_sampling_port m b p name)

@@ -11,14 +11,14 @@ use Rattle.engine_meaning.specs.Engine.{Ticked}
 use Rattle.kernel_meaning.specs.Kernel.{of_ports_alone}
 use Rattle.kernel_meaning.specs.Partition.{arrives, breaks_down, cold_start, due_phase, prepares, told, leaves, treating_phase, goes_out}
 use Rattle.kernel_laws.proofs.Choosing as choosing
-use Rattle.kernel_laws.specs.Numbers.{GoesLast}
+use Rattle.kernel_laws.specs.Numbers.{BeginsToWait, GoesLast}
 use Rattle.kernel_laws.specs.GoingLast.{IsLastUnder, has_success}
-use Rattle.kernel_laws.specs.OrderLaw.{GoesOn, HasBegunToWait, HasGoneLast, HasTaken, TakesLast, TickGoes, has_to_go_last, kind_of, list_of_chosen, may_of_chosen}
+use Rattle.kernel_laws.specs.OrderLaw.{GoesOn, HasBegunToWait, HasGoneLast, HasTaken, TakesExactly, TickGoes, has_to_go_last, kind_of, list_of_chosen, may_of_chosen}
 use Rattle.kernel_laws.specs.WhoWaits.{WaitsForObject}
 use Rattle.kernel_laws.proofs.OfKernel.{IsReady, Moves, breaks_moves, clears_moves, due_moves, of_ports_moves, then_clears_moves}
 use Rattle.kernel_laws.proofs.LastOfEquals.{IsPutLast, asked_last}
 use Rattle.kernel_laws.proofs.OfPorts.{admits_shares, arrives_shares}
-use Rattle.kernel_laws.proofs.LastTakings.{TakesIn, asked_takes}
+use Rattle.kernel_laws.proofs.AskedTakings.{TakesIn, asked_takes}
 use Rattle.kernel_laws.proofs.OfServices.{choice_stays, handler_stays}
 use Rattle.kernel_laws.proofs.Primitives.{take_after, told_after, allowed_after}
 use Rattle.kernel_laws.proofs.RecordChoice.{runs_ready}
@@ -129,14 +129,14 @@ module _ {C : Type 0} (d : ListKey → Discipline) (names : ℕ → List ℕ) wh
   -- the tick of a runner continues the numbers, and who may go last takes one for it exactly if it has to
   record Spends (may : May) (n : Numbers) (m : Moved C) : Type 0 where
     pub goes : GoesOn d names may n m
-    pub taken : TakesLast may goes.takings m
+    pub taken : TakesExactly may goes.takings m
 
   spends_goes : (e : Engine C) (at : At) (n : Numbers) (w : World C) (o : Option Runner) → w.kernel.processes.running ≡ o → IsOrdered d names n w.kernel → Spends (may_of_chosen e w o) n (spends_chosen e at o w)
   unfolding moved_goes
-  spends_goes e at n w None is h = record { goes = record { takings = []; ordered = h; told = refl; allowed = tt }; taken = record { last = λ q own. absurd (none-some q.0 own) } }
+  spends_goes e at n w None is h = record { goes = record { takings = []; ordered = h; told = refl; allowed = tt }; taken = record { last = λ q own. absurd (none-some q.0 own); begins = λ q own. absurd (none-some q.0 own) } }
   spends_goes e at n w (Some p) is h = record {
     goes = moved_goes at e (may_asked p r.asks) n t v h g.moves (asked_agrees at w.kernel h.records p caller r.asks (given r.asks r.words));
-    taken = record { last = taken };
+    taken = record { last = taken; begins = begins };
   }
     where
       r : Ticked (Option C)
@@ -155,7 +155,11 @@ module _ {C : Type 0} (d : ListKey → Discipline) (names : ℕ → List ℕ) wh
       caller = runs_ready w.kernel.processes h.records p is
 
       g : TakesIn d names (may_asked p r.asks) w.kernel t
-      g = asked_takes d names at w.kernel (ready_of d names n w.kernel h) p r.asks (given r.asks r.words) caller
+      g = asked_takes d names at w.kernel (ready_of d names n w.kernel h) p caller (caller_waits_not w.kernel.processes h.records p caller) r.asks (given r.asks r.words)
+
+      begins : (q : ProcessIndex) → (may_of_chosen e w (Some p)).begin_to_wait ≡ Some q.0 → (HasTaken (BeginsToWait q.0) g.moves.goes.takings ↔ WaitsForObject (record_at m.world.kernel.processes.rows q))
+      begins q own =
+          subst (λ (s : Processes). HasTaken (BeginsToWait q.0) g.moves.goes.takings ↔ WaitsForObject (record_at s.rows q)) (sym (acts_same e t.actions (record v { kernel = t.part }))) (g.begins q own)
 
       taken : (q : ProcessIndex) → (may_of_chosen e w (Some p)).go_last ≡ Some q.0 → (HasTaken (GoesLast q.0) g.moves.goes.takings ↔ has_to_go_last q m ≡ true)
       taken q own =

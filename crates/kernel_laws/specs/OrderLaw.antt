@@ -19,7 +19,7 @@ use Rattle.kernel_laws.specs.Agreement.{RecordsAgree, record_at}
 use Rattle.kernel_laws.specs.GoingLast.{IsLastOfEquals, IsLastUnder, has_success, list_asked}
 use Rattle.kernel_meaning.specs.Queues.{Queues, list_at, without}
 use Rattle.kernel_laws.specs.WhoWaits.{WaitsForObject, has_list}
-use Rattle.kernel_laws.specs.Numbers.{Numbers, Taking, GoesLast, May, nobody, may_asked, AreAllowed, AreNamed, HaveDisciplines, IsInOrder, PortsHaveDisciplines, ready_lines, subject_at, take_all, those_ready}
+use Rattle.kernel_laws.specs.Numbers.{Numbers, Taking, BeginsToWait, GoesLast, May, nobody, may_asked, AreAllowed, AreNamed, HaveDisciplines, IsInOrder, PortsHaveDisciplines, ready_lines, subject_at, take_all, those_ready}
 
 abbrev pub kind_of : Event → EventKind
 kind_of e = e.kind
@@ -70,9 +70,11 @@ abbrev pub HasTaken : Taking → List Taking → Type 0
 HasTaken taking [] = ⊥
 HasTaken taking (t ∷ ts) = (taking ≡ t) ⊎ HasTaken taking ts
 
--- Who may go last in a move takes a number for it if and only if it has to go last.
-pub record TakesLast {C : Type 0} (may : May) (takings : List Taking) (m : Moved C) : Type 0 where
+-- Who may go last in a move takes a number for it if and only if it has to go last. Who may begin to
+-- wait takes one if and only if it waits for an object or a port then.
+pub record TakesExactly {C : Type 0} (may : May) (takings : List Taking) (m : Moved C) : Type 0 where
   pub last : (p : ProcessIndex) → may.go_last ≡ Some p.0 → (HasTaken (GoesLast p.0) takings ↔ has_to_go_last p m ≡ true)
+  pub begins : (p : ProcessIndex) → may.begin_to_wait ≡ Some p.0 → (HasTaken (BeginsToWait p.0) takings ↔ WaitsForObject (record_at m.world.kernel.processes.rows p))
 
 -- the waiting list that the call of the chosen runner names
 abbrev pub list_of_chosen : {C : Type 0} → Engine C → World C → Option Runner → Option ListKey
@@ -101,7 +103,7 @@ pub record TickGoes {C : Type 0} (disciplines : ListKey → Discipline) (names :
   pub runs : (prepares e at w).world.kernel.processes.running ≡ pick (due_phase e at w).world.kernel.mode (chosen_among (due_phase e at w).world.kernel)
   pub prepared : IsOrdered disciplines names (take_all due.takings n) (prepares e at w).world.kernel
   pub spent : GoesOn disciplines names (may_spent e (prepares e at w).world) (take_all due.takings n) (spending_phase e at (prepares e at w).world)
-  pub taken : TakesLast (may_spent e (prepares e at w).world) spent.takings (spending_phase e at (prepares e at w).world)
+  pub taken : TakesExactly (may_spent e (prepares e at w).world) spent.takings (spending_phase e at (prepares e at w).world)
   pub last : HasGoneLast (may_spent e (prepares e at w).world) (prepares e at w).world.kernel.processes.ready (spending_phase e at (prepares e at w).world)
   pub begun : HasBegunToWait disciplines (may_spent e (prepares e at w).world) (list_spent e (prepares e at w).world) (prepares e at w).world.kernel.processes.queues
       (spending_phase e at (prepares e at w).world)

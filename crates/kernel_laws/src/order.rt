@@ -29,10 +29,11 @@ ghost use Rattle.kernel_laws.specs.RunLaw.{HasOrder, HoldsReady, MoveGoes, RunGo
 ghost use Rattle.kernel_laws.specs.WhoWaits.{AreListed, HoldsWaiting};
 
 /// A tick of a partition whose lists are in order continues its numbers, on any engine: on the
-/// machine as on the sources. Who has to go last does: a ready process that SET_PRIORITY names, and
-/// the caller of TIMED_WAIT without a delay, go behind all others of their priority, unless the
-/// service is refused. A caller that begins to wait is the last in the waiting list of the object or
-/// the port that its call names.
+/// machine as on the sources. A process that its lines call ready takes a number. So does, by the call
+/// of the chosen runner, a ready process that SET_PRIORITY names, and the caller of TIMED_WAIT without
+/// a delay, if the service succeeds: it goes behind all others of its priority. So does a caller that
+/// begins to wait: it is the last in the waiting list of the object or the port that its call names.
+/// No other process takes a number.
 pub fn tick_goes_on()
     ensures machine { (disciplines : ListKey → Discipline) (names : ℕ → List ℕ) (n : Numbers)
         (e : Engine MachineControl) (at : At) (w : World MachineControl)
