@@ -1,13 +1,11 @@
 -- A caller that begins to wait is the last in the list that its call names.
-use Rattle.kernel_laws.proofs.Prelude.{◌≡◌, inl, inr, ℕ, suc, zero, ℤ, Bool, true, false, List, ◌∷◌, ◌++◌, Option, Some, None, refl, sym, subst, ◌∙◌, none-some, same_Some, nat_lt, if◌then◌else◌, option_map, pos, negsuc, slice_get, slice_set, place_of, ArrayVec, Ready, Discipline, Mode, ReturnCode, At, ListKey, Priority, ProcessIndex, Runner, Entry, ProcessStatus, ArrayPlace, Call, Asks, Nothing, Calls, Faults, Ends, Kernel, with_objects, with_ports, serves_objects, serves, treats_asked, Objects, Blackboard, Buffer, Semaphore, ApexEvent, Port, Ports, is_full, numbered_in, HaveDisciplines, PortsHaveDisciplines, discipline_of, Processes, row_of, is_zero, is_busy, entry, itself, may_asked, Sharing, Step, message, blocks, waits_at, first_waiting, zeros_of_wait, joins, list_at, IsQueue, AreQueues, without, record_at}
+use Rattle.kernel_laws.proofs.Prelude.{◌≡◌, inl, inr, ℕ, suc, zero, ℤ, Bool, true, false, List, ◌∷◌, ◌++◌, Option, Some, None, refl, sym, subst, ◌∙◌, none-some, same_Some, nat_lt, if◌then◌else◌, option_map, pos, negsuc, slice_get, ArrayVec, Discipline, Mode, ReturnCode, At, ListKey, Priority, ProcessIndex, Runner, Entry, ProcessStatus, ArrayPlace, Call, Asks, Nothing, Calls, Faults, Ends, Kernel, with_objects, with_ports, serves_objects, serves, treats_asked, Objects, Blackboard, Buffer, Semaphore, ApexEvent, Port, Ports, is_full, numbered_in, HaveDisciplines, PortsHaveDisciplines, discipline_of, Processes, row_of, is_zero, is_busy, entry, itself, may_asked, Sharing, Step, message, blocks, waits_at, first_waiting, zeros_of_wait, joins, list_at, IsQueue, AreQueues, without, record_at}
 use Rattle.std.proofs.Common.{[], ap}
-use Rattle.std.proofs.lemmas.Bool.{false≢true}
 use Rattle.std.specs.Prelude.{length}
 use Rattle.apex_types.specs.declared.codes.Discipline.TheVariants as discipline
 use Rattle.apex_types.specs.declared.codes.ReturnCode.TheVariants as code
 use Rattle.apex_types.specs.declared.identity.ListKey.TheVariants as key
 use Rattle.apex_types.specs.declared.identity.Runner.TheVariants as runner
-use Rattle.apex_types.specs.declared.process.Wait.TheVariants as wait
 use Rattle.apex_types.specs.declared.process.Waiting.{Waiting}
 use Rattle.apex_types.specs.declared.service.Call.TheVariants as call
 use Rattle.apex_types.specs.declared.service.ObjectCall.{ObjectCall}
@@ -25,12 +23,12 @@ use Rattle.kernel_meaning.specs.SemaphoreServices as semaphores
 use Rattle.kernel_meaning.specs.Sharing.{of_processes, on}
 use Rattle.kernel_laws.specs.GoingLast.{IsLast, IsLastUnder, list_asked, list_named, place_of_object}
 use Rattle.kernel_laws.specs.Numbers.{waits_by}
-use Rattle.kernel_laws.specs.WhoWaits.{WaitsForObject, has_list, is_at_object}
+use Rattle.kernel_laws.specs.WhoWaits.{WaitsForObject, has_list}
 use Rattle.kernel_laws.proofs.LastOfEquals.{behind_is_last}
 use Rattle.kernel_laws.proofs.OfPorts.{queuing_of}
 use Rattle.kernel_laws.proofs.Records.{IsFound, first_waiting_found}
 use Rattle.kernel_laws.proofs.Shares.{numbered_is}
-use Rattle.kernel_laws.proofs.WaitSteps.{at_new}
+use Rattle.kernel_laws.proofs.WaitSteps.{released_idle}
 use Rattle.kernel_laws.proofs.WaitingCounts.{put_there, there_each}
 use Rattle.kernel_laws.proofs.WaitingOrder.{leaves, ordered_by_priority}
 
@@ -84,13 +82,8 @@ module _ (d : ListKey → Discipline) (number : ℕ → ℕ) (next : ℕ) (s : P
         found None = λ a. absurd (idle a)
         found (Some r) = λ a. join_is_last r.current_priority w.list w.discipline there is same
 
-    -- the end of a wait lets nobody wait
     pub released_behind : (p : Runner) (r : ProcessStatus) (c : ReturnCode) (outputs : List ℤ) → row_of s p ≡ Some r → IsBehind (released_with s p r c outputs).part
-    released_behind p r c outputs there =
-        either_of (λ t. t) r.suspended _ _ (λ a. absurd (gone (record r { wait = wait.Nothing; due = None }) refl a)) (λ a. absurd (gone (record r { state = Ready; wait = wait.Nothing; due = None }) refl a))
-      where
-        gone : (y : ProcessStatus) → is_at_object y.wait ≡ false → WaitsForObject (record_at (slice_set s.rows (place_of p) y) q) → ⊥
-        gone y none a = at_new s.rows p r y there (λ (o : Option ProcessStatus). WaitsForObject o → ⊥) q (λ is was k. false≢true (sym none ∙ k)) (λ e. idle) a
+    released_behind p r c outputs there = λ a. absurd (released_idle s q idle p r c outputs there a)
 
 -- ---- objects
 

@@ -55,7 +55,7 @@ module _ (rows : List ProcessStatus) (p : Runner) (r x : ProcessStatus) (there :
   abbrev new : List ProcessStatus
   new = slice_set rows (place_of p) x
 
-  pub at_new : (P : Option ProcessStatus → Type 0) (q : ProcessIndex) → (p ≡ runner.Process q → record_at rows q ≡ Some r → P (Some x)) → (is_same p (runner.Process q) ≡ false → P (record_at rows q)) → P (record_at new q)
+  at_new : (P : Option ProcessStatus → Type 0) (q : ProcessIndex) → (p ≡ runner.Process q → record_at rows q ≡ Some r → P (Some x)) → (is_same p (runner.Process q) ≡ false → P (record_at rows q)) → P (record_at new q)
   at_new P q own other = by_test (is_same p (runner.Process q)) refl
     where
       by_test : (b : Bool) → is_same p (runner.Process q) ≡ b → P (record_at new q)
@@ -245,3 +245,19 @@ all_given_hold {few = few} (e ∷ es) m s h = all_given_hold es m _ (one (number
     one : (o : Option (Runner × ProcessStatus)) → IsFound s o → Hold few (gives_found s o m).part
     one None found = h
     one (Some f) found = gives_holds s h f.0 f.1 m (found f refl)
+
+-- ---- a process that waits for no object
+
+either_idle : (q : ProcessIndex) (b : Bool) (t u : Step Processes) → (WaitsForObject (record_at t.part.rows q) → ⊥) → (WaitsForObject (record_at u.part.rows q) → ⊥)
+    → WaitsForObject (record_at (if b then t else u).part.rows q) → ⊥
+either_idle q true t u j k = j
+either_idle q false t u j k = k
+
+-- the end of a wait lets nobody wait who did not
+pub released_idle : (s : Processes) (q : ProcessIndex) → (WaitsForObject (record_at s.rows q) → ⊥) → (p : Runner) (r : ProcessStatus) (c : ReturnCode) (outputs : List ℤ) → row_of s p ≡ Some r
+    → WaitsForObject (record_at (released_with s p r c outputs).part.rows q) → ⊥
+released_idle s q idle p r c outputs there =
+    either_idle q r.suspended _ _ (gone (record r { wait = wait.Nothing; due = None }) refl) (gone (record r { state = Ready; wait = wait.Nothing; due = None }) refl)
+  where
+    gone : (y : ProcessStatus) → is_at_object y.wait ≡ false → WaitsForObject (record_at (slice_set s.rows (place_of p) y) q) → ⊥
+    gone y none a = at_new s.rows p r y there (λ (o : Option ProcessStatus). WaitsForObject o → ⊥) q (λ is was k. false≢true (sym none ∙ k)) (λ e. idle) a

@@ -1,7 +1,6 @@
 -- A caller that begins to wait takes a number for it, and no other does.
-use Rattle.kernel_laws.proofs.Prelude.{◌≡◌, ◌↔◌, inl, inr, ℕ, ◌-◌, ℤ, Bool, true, false, List, ◌∷◌, length, Option, Some, None, refl, sym, subst, ◌∙◌, none-some, nat_lt, if◌then◌else◌, pos, slice_set, ArrayVec, place_of, Ready, Waiting, Discipline, Mode, ReturnCode, At, ListKey, ProcessIndex, Runner, Due, Place, ProcessStatus, ArrayPlace, Service, serves_objects, Objects, Blackboard, Buffer, Semaphore, ApexEvent, Port, Ports, discipline_of, is_full, AreAllowed, BeginsToWait, Follows, Goes, HaveDisciplines, IsInOrder, May, PortsHaveDisciplines, nobody, take_one, Processes, row_of, entry, is_busy, is_zero, joins, waits, Sharing, Step, message, blocks, enters, first_waiting, time_out, waits_at, zeros_of_wait, record_at}
+use Rattle.kernel_laws.proofs.Prelude.{◌≡◌, ◌↔◌, inl, inr, ℕ, ◌-◌, ℤ, Bool, true, false, List, ◌∷◌, length, Option, Some, None, refl, sym, subst, none-some, nat_lt, if◌then◌else◌, pos, ArrayVec, place_of, Waiting, Discipline, Mode, ReturnCode, At, ListKey, ProcessIndex, Runner, Due, Place, ProcessStatus, ArrayPlace, Service, serves_objects, Objects, Blackboard, Buffer, Semaphore, ApexEvent, Port, Ports, discipline_of, is_full, AreAllowed, BeginsToWait, Follows, Goes, HaveDisciplines, IsInOrder, May, PortsHaveDisciplines, nobody, take_one, Processes, row_of, entry, is_busy, is_zero, joins, waits, Sharing, Step, message, blocks, enters, first_waiting, time_out, waits_at, zeros_of_wait, record_at}
 use Rattle.std.proofs.Common.{[]}
-use Rattle.std.proofs.lemmas.Bool.{false≢true}
 use Rattle.apex_types.specs.declared.codes.Discipline.TheVariants as discipline
 use Rattle.apex_types.specs.declared.codes.ReturnCode.TheVariants as code
 use Rattle.apex_types.specs.declared.identity.Runner.TheVariants as runner
@@ -17,13 +16,13 @@ use Rattle.kernel_meaning.specs.BufferServices as buffers
 use Rattle.kernel_meaning.specs.EventServices as events
 use Rattle.kernel_meaning.specs.Objects.{blackboard, buffer, event, queuing, semaphore}
 use Rattle.kernel_meaning.specs.PortServices as ports
-use Rattle.kernel_meaning.specs.Processes.{refuses as refuses_alone, released_with}
+use Rattle.kernel_meaning.specs.Processes.{refuses as refuses_alone}
 use Rattle.kernel_meaning.specs.SemaphoreServices as semaphores
 use Rattle.kernel_meaning.specs.Sharing.{answers, of_processes, on, refuses}
 use Rattle.kernel_meaning.specs.Step.{nothing}
 use Rattle.kernel_laws.specs.Numbers.{Taking, BecomesReady, GoesLast, waits_by}
 use Rattle.kernel_laws.specs.OrderLaw.{HasTaken}
-use Rattle.kernel_laws.specs.WhoWaits.{WaitsForObject, is_at_object}
+use Rattle.kernel_laws.specs.WhoWaits.{WaitsForObject}
 use Rattle.kernel_laws.proofs.LastTakings.{all_may}
 use Rattle.kernel_laws.proofs.NumberSteps.{Named, nothing_goes, refuse_goes, row_is_of, waits_goes}
 use Rattle.kernel_laws.proofs.OfBlackboards as of_blackboards
@@ -35,7 +34,7 @@ use Rattle.kernel_laws.proofs.Places.{get_set_same}
 use Rattle.kernel_laws.proofs.Primitives.{in_order_enters}
 use Rattle.kernel_laws.proofs.Records.{IsFound, first_waiting_found}
 use Rattle.kernel_laws.proofs.Shares.{Shares, IsSet, after_shares, answers_shares, fills_shares, nothing_shares, refuses_shares}
-use Rattle.kernel_laws.proofs.WaitSteps.{at_new}
+use Rattle.kernel_laws.proofs.WaitSteps.{released_idle}
 
 -- nobody begins to wait, if nobody may
 none_begins : (ts : List Taking) (q : ℕ) → AreAllowed nobody ts → HasTaken (BeginsToWait q) ts → ⊥
@@ -44,20 +43,6 @@ none_begins (BecomesReady p ∷ ts) q h (inl e) = cc
 none_begins (BecomesReady p ∷ ts) q h (inr later) = none_begins ts q h.1 later
 none_begins (GoesLast p ∷ ts) q h t = none-some p h.0
 none_begins (BeginsToWait p ∷ ts) q h t = none-some p h.0
-
-either_idle : (q : ProcessIndex) (b : Bool) (t u : Step Processes) → (WaitsForObject (record_at t.part.rows q) → ⊥) → (WaitsForObject (record_at u.part.rows q) → ⊥)
-    → WaitsForObject (record_at (if b then t else u).part.rows q) → ⊥
-either_idle q true t u j k = j
-either_idle q false t u j k = k
-
--- the end of a wait lets nobody wait
-released_idle : (s : Processes) (q : ProcessIndex) → (WaitsForObject (record_at s.rows q) → ⊥) → (p : Runner) (r : ProcessStatus) (c : ReturnCode) (outputs : List ℤ) → row_of s p ≡ Some r
-    → WaitsForObject (record_at (released_with s p r c outputs).part.rows q) → ⊥
-released_idle s q idle p r c outputs there =
-    either_idle q r.suspended _ _ (gone (record r { wait = wait.Nothing; due = None }) refl) (gone (record r { state = Ready; wait = wait.Nothing; due = None }) refl)
-  where
-    gone : (y : ProcessStatus) → is_at_object y.wait ≡ false → WaitsForObject (record_at (slice_set s.rows (place_of p) y) q) → ⊥
-    gone y none a = at_new s.rows p r y there (λ (o : Option ProcessStatus). WaitsForObject o → ⊥) q (λ is was k. false≢true (sym none ∙ k)) (λ e. idle) a
 
 -- who may go last, and who may begin to wait
 abbrev pub only_waits : ProcessIndex → May
