@@ -27,7 +27,7 @@ none_in zero place = refl
 none_in (suc n) zero = refl
 none_in (suc n) (suc place) = none_in n place
 
-none_at : (k : ListKey) → list_at fresh_queues k ≡ []
+pub none_at : (k : ListKey) → list_at fresh_queues k ≡ []
 none_at (key.Semaphore place) = none_in MOST_OBJECTS place
 none_at (key.Event place) = none_in MOST_OBJECTS place
 none_at (key.Buffer place) = none_in MOST_OBJECTS place

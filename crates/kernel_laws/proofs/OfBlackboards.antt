@@ -25,10 +25,10 @@ module _ (d : ListKey → Discipline) (names : ℕ → List ℕ) where
     blackboards = each_put (λ place x. discipline.Fifo ≡ d (list place)) b.shared.blackboards place x h.fit.blackboards k;
   }
 
-  found_fits : (b : Sharing Objects) (id : ℤ) (f : ℕ × Blackboard) → Set b → blackboard b.shared id ≡ Some f → (λ (place : ℕ) (x : Blackboard). discipline.Fifo ≡ d (list place)) f.0 f.1
+  pub found_fits : (b : Sharing Objects) (id : ℤ) (f : ℕ × Blackboard) → Set b → blackboard b.shared id ≡ Some f → (λ (place : ℕ) (x : Blackboard). discipline.Fifo ≡ d (list place)) f.0 f.1
   found_fits b id f h e = numbered_is (λ place x. discipline.Fifo ≡ d (list place)) b.shared.blackboards id f h.fit.blackboards e
 
-  puts : (may : May) (b : Sharing Objects) (place : ℕ) (x : Blackboard) → Set b → discipline.Fifo ≡ d (list place) → To may b (becomes b (put_blackboard b.shared place x))
+  pub puts : (may : May) (b : Sharing Objects) (place : ℕ) (x : Blackboard) → Set b → discipline.Fifo ≡ d (list place) → To may b (becomes b (put_blackboard b.shared place x))
   puts may b place x h k = becomes_shares d names Objects (HaveDisciplines d) may b (put_blackboard b.shared place x) h (put_fits b place x h k)
 
   pub create_blackboard_shares : (may : May) (m : Mode) (b : Sharing Objects) (p : Runner) (name : ℤ) → Set b → To may b (create_blackboard m b p name)

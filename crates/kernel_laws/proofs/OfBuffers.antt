@@ -24,10 +24,10 @@ module _ (d : ListKey → Discipline) (names : ℕ → List ℕ) where
     blackboards = h.fit.blackboards;
   }
 
-  found_fits : (b : Sharing Objects) (id : ℤ) (f : ℕ × Buffer) → Set b → buffer b.shared id ≡ Some f → (λ (place : ℕ) (x : Buffer). x.row.discipline ≡ d (list place)) f.0 f.1
+  pub found_fits : (b : Sharing Objects) (id : ℤ) (f : ℕ × Buffer) → Set b → buffer b.shared id ≡ Some f → (λ (place : ℕ) (x : Buffer). x.row.discipline ≡ d (list place)) f.0 f.1
   found_fits b id f h e = numbered_is (λ place x. x.row.discipline ≡ d (list place)) b.shared.buffers id f h.fit.buffers e
 
-  puts : (may : May) (b : Sharing Objects) (place : ℕ) (x : Buffer) → Set b → x.row.discipline ≡ d (list place) → To may b (becomes b (put_buffer b.shared place x))
+  pub puts : (may : May) (b : Sharing Objects) (place : ℕ) (x : Buffer) → Set b → x.row.discipline ≡ d (list place) → To may b (becomes b (put_buffer b.shared place x))
   puts may b place x h k = becomes_shares d names Objects (HaveDisciplines d) may b (put_buffer b.shared place x) h (put_fits b place x h k)
 
   pub create_buffer_shares : (may : May) (m : Mode) (b : Sharing Objects) (p : Runner) (name : ℤ) → Set b → To may b (create_buffer m b p name)
@@ -35,7 +35,7 @@ module _ (d : ListKey → Discipline) (names : ℕ → List ℕ) where
       create_shares d names Objects (HaveDisciplines d) may m b p service.CreateBuffer name (buffer b.shared name) is_created (creates b) h
       (λ f e. puts may b f.0 (record f.1 { created = true }) h (found_fits b name f h e))
 
-  message_shares : (may : May) (b : Sharing Objects) (place : ℕ) (x : Buffer) (m : ArrayVec ℤ) → Set b → x.row.discipline ≡ d (list place) → (o : Option (Runner × ProcessStatus))
+  pub message_shares : (may : May) (b : Sharing Objects) (place : ℕ) (x : Buffer) (m : ArrayVec ℤ) → Set b → x.row.discipline ≡ d (list place) → (o : Option (Runner × ProcessStatus))
       → first_waiting b.processes (list place) ≡ o → To may b (takes_message b place x m o)
   message_shares may b place x m h e None q = puts may b place (with_message x m) h e
   message_shares may b place x m h e (Some f) q =
@@ -58,7 +58,7 @@ module _ (d : ListKey → Discipline) (names : ℕ → List ℕ) where
       (on_shares d names Objects (HaveDisciplines d) may b (buffer b.shared id) (sends at b p limit (message (first_words length words))) h
       (λ f e. sends_shares may at b p limit (message (first_words length words)) f.0 f.1 h own (found_fits b id f h e)))
 
-  admits_shares : (may : May) (b : Sharing Objects) (place : ℕ) (x : Buffer) → Set b → x.row.discipline ≡ d (list place) → (o : Option (Runner × ProcessStatus))
+  pub admits_shares : (may : May) (b : Sharing Objects) (place : ℕ) (x : Buffer) → Set b → x.row.discipline ≡ d (list place) → (o : Option (Runner × ProcessStatus))
       → first_waiting b.processes (list place) ≡ o → To may b (admits b place x o)
   admits_shares may b place x h e None q = puts may b place x h e
   admits_shares may b place x h e (Some f) q =

@@ -24,10 +24,10 @@ module _ (d : ListKey → Discipline) (names : ℕ → List ℕ) where
     blackboards = h.fit.blackboards;
   }
 
-  found_fits : (b : Sharing Objects) (id : ℤ) (f : ℕ × ApexEvent) → Set b → event b.shared id ≡ Some f → (λ (place : ℕ) (x : ApexEvent). discipline.Fifo ≡ d (list place)) f.0 f.1
+  pub found_fits : (b : Sharing Objects) (id : ℤ) (f : ℕ × ApexEvent) → Set b → event b.shared id ≡ Some f → (λ (place : ℕ) (x : ApexEvent). discipline.Fifo ≡ d (list place)) f.0 f.1
   found_fits b id f h e = numbered_is (λ place x. discipline.Fifo ≡ d (list place)) b.shared.events id f h.fit.events e
 
-  puts : (may : May) (b : Sharing Objects) (place : ℕ) (x : ApexEvent) → Set b → discipline.Fifo ≡ d (list place) → To may b (becomes b (put_event b.shared place x))
+  pub puts : (may : May) (b : Sharing Objects) (place : ℕ) (x : ApexEvent) → Set b → discipline.Fifo ≡ d (list place) → To may b (becomes b (put_event b.shared place x))
   puts may b place x h k = becomes_shares d names Objects (HaveDisciplines d) may b (put_event b.shared place x) h (put_fits b place x h k)
 
   pub create_event_shares : (may : May) (m : Mode) (b : Sharing Objects) (p : Runner) (name : ℤ) → Set b → To may b (create_event m b p name)

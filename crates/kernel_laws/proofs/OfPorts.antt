@@ -14,6 +14,24 @@ use Rattle.kernel_meaning.specs.Objects.{if_sampling, is_source, put_port, queui
 use Rattle.kernel_laws.proofs.Shares.{Shares, IsSet, of_shares, becomes_shares, nothing_shares, fills_shares, answers_shares, refuses_shares, either_shares, row_shares, after_shares, on_shares, create_shares, get_id_shares, get_status_shares, each_put, numbered_is}
 use Rattle.kernel_laws.proofs.NumberSteps.{release_goes, gives_goes, blocks_goes, first_is_of, IsOf, row_is_of}
 
+-- ---- the port found
+
+sampling_of : (o : Option (ℕ × Port)) (f : ℕ × Port) → those_sampling o ≡ Some f → o ≡ Some f
+sampling_of None f e = absurd (none-some f e)
+sampling_of (Some g) f e = by_kind (is_sampling g.1) e
+  where
+    by_kind : (test : Bool) → if_sampling test g ≡ Some f → Some g ≡ Some f
+    by_kind false q = absurd (none-some f q)
+    by_kind true q = q
+
+pub queuing_of : (o : Option (ℕ × Port)) (f : ℕ × Port) → those_queuing o ≡ Some f → o ≡ Some f
+queuing_of None f e = absurd (none-some f e)
+queuing_of (Some g) f e = by_kind (is_sampling g.1) e
+  where
+    by_kind : (test : Bool) → unless_sampling test g ≡ Some f → Some g ≡ Some f
+    by_kind true q = absurd (none-some f q)
+    by_kind false q = q
+
 module _ (d : ListKey → Discipline) (names : ℕ → List ℕ) where
   abbrev Set : Sharing Ports → Type 0
   Set b = IsSet d names Ports (PortsHaveDisciplines d) b
@@ -21,31 +39,15 @@ module _ (d : ListKey → Discipline) (names : ℕ → List ℕ) where
   abbrev To : May → Sharing Ports → Step (Sharing Ports) → Type 0
   To may b t = Shares d names Ports (PortsHaveDisciplines d) may b t
 
-  puts : (may : May) (b : Sharing Ports) (place : ℕ) (x : Port) → Set b → discipline_of x.row.kind ≡ d (list place) → To may b (becomes_port b place x)
+  pub puts : (may : May) (b : Sharing Ports) (place : ℕ) (x : Port) → Set b → discipline_of x.row.kind ≡ d (list place) → To may b (becomes_port b place x)
   puts may b place x h k =
       becomes_shares d names Ports (PortsHaveDisciplines d) may b (put_port b.shared place x) h
       (each_put (λ place x. discipline_of x.row.kind ≡ d (list place)) b.shared.ports place x h.fit k)
 
-  sampling_of : (o : Option (ℕ × Port)) (f : ℕ × Port) → those_sampling o ≡ Some f → o ≡ Some f
-  sampling_of None f e = absurd (none-some f e)
-  sampling_of (Some g) f e = by_kind (is_sampling g.1) e
-    where
-      by_kind : (test : Bool) → if_sampling test g ≡ Some f → Some g ≡ Some f
-      by_kind false q = absurd (none-some f q)
-      by_kind true q = q
-
-  queuing_of : (o : Option (ℕ × Port)) (f : ℕ × Port) → those_queuing o ≡ Some f → o ≡ Some f
-  queuing_of None f e = absurd (none-some f e)
-  queuing_of (Some g) f e = by_kind (is_sampling g.1) e
-    where
-      by_kind : (test : Bool) → unless_sampling test g ≡ Some f → Some g ≡ Some f
-      by_kind true q = absurd (none-some f q)
-      by_kind false q = q
-
   sampling_fits : (b : Sharing Ports) (id : ℤ) (f : ℕ × Port) → Set b → sampling b.shared id ≡ Some f → discipline_of f.1.row.kind ≡ d (list f.0)
   sampling_fits b id f h e = numbered_is (λ place x. discipline_of x.row.kind ≡ d (list place)) b.shared.ports id f h.fit (sampling_of (numbered_in b.shared.ports id) f e)
 
-  queuing_fits : (b : Sharing Ports) (id : ℤ) (f : ℕ × Port) → Set b → queuing b.shared id ≡ Some f → discipline_of f.1.row.kind ≡ d (list f.0)
+  pub queuing_fits : (b : Sharing Ports) (id : ℤ) (f : ℕ × Port) → Set b → queuing b.shared id ≡ Some f → discipline_of f.1.row.kind ≡ d (list f.0)
   queuing_fits b id f h e = numbered_is (λ place x. discipline_of x.row.kind ≡ d (list place)) b.shared.ports id f h.fit (queuing_of (numbered_in b.shared.ports id) f e)
 
   pub create_sampling_port_shares : (may : May) (m : Mode) (b : Sharing Ports) (p : Runner) (name : ℤ) → Set b → To may b (create_sampling_port m b p name)

@@ -24,10 +24,10 @@ module _ (d : ListKey → Discipline) (names : ℕ → List ℕ) where
     blackboards = h.fit.blackboards;
   }
 
-  found_fits : (b : Sharing Objects) (id : ℤ) (f : ℕ × Semaphore) → Set b → semaphore b.shared id ≡ Some f → (λ (place : ℕ) (x : Semaphore). x.row.discipline ≡ d (list place)) f.0 f.1
+  pub found_fits : (b : Sharing Objects) (id : ℤ) (f : ℕ × Semaphore) → Set b → semaphore b.shared id ≡ Some f → (λ (place : ℕ) (x : Semaphore). x.row.discipline ≡ d (list place)) f.0 f.1
   found_fits b id f h e = numbered_is (λ place x. x.row.discipline ≡ d (list place)) b.shared.semaphores id f h.fit.semaphores e
 
-  puts : (may : May) (b : Sharing Objects) (place : ℕ) (x : Semaphore) → Set b → x.row.discipline ≡ d (list place) → To may b (becomes b (put_semaphore b.shared place x))
+  pub puts : (may : May) (b : Sharing Objects) (place : ℕ) (x : Semaphore) → Set b → x.row.discipline ≡ d (list place) → To may b (becomes b (put_semaphore b.shared place x))
   puts may b place x h k = becomes_shares d names Objects (HaveDisciplines d) may b (put_semaphore b.shared place x) h (put_fits b place x h k)
 
   pub create_semaphore_shares : (may : May) (m : Mode) (b : Sharing Objects) (p : Runner) (name : ℤ) → Set b → To may b (create_semaphore m b p name)

@@ -1,5 +1,5 @@
 -- Each step of a partition continues the numbers.
-use Rattle.kernel_laws.proofs.Prelude.{List, None, Option, Some, refl, subst, sym, ℕ, ℤ, ◌∙◌, ◌∷◌, ◌≡◌, ◌↔◌, ◌++◌, slice_set, ArrayVec, place_of, Discipline, Mode, StartCondition, EventKind, At, ListKey, PortId, Runner, Action, Entry, IsNumbered, Picks, Engine, breaks, then_clears, Kernel, of_ports, with_errors, with_ports, of_processes, chooses_with_handler, pick, treats_asked, treats_due, World, Member, act, act_all, admits, choice_phase, control_at, given, moved, place_of_port, spends_chosen, ticked, Moved, followed_by, clearing_phase, clears, Port, discipline_of, port_at, Processes, Queues, nothing, Step, RecordsAgree, Goes, IsInOrder, Numbers, ready_lines, take_all, May, nobody, may_asked, IsOrdered, chosen_among}
+use Rattle.kernel_laws.proofs.Prelude.{List, None, none-some, true, is_ready, ◌&&◌, ProcessIndex, record_at, Option, Some, refl, subst, sym, ℕ, ℤ, ◌∙◌, ◌∷◌, ◌≡◌, ◌↔◌, ◌++◌, slice_set, ArrayVec, place_of, Discipline, Mode, StartCondition, EventKind, At, ListKey, PortId, Runner, Action, Entry, IsNumbered, Picks, Engine, breaks, then_clears, Kernel, of_ports, with_errors, with_ports, of_processes, chooses_with_handler, pick, treats_asked, treats_due, World, Member, act, act_all, admits, choice_phase, control_at, given, moved, place_of_port, spends_chosen, ticked, Moved, followed_by, clearing_phase, clears, Port, discipline_of, port_at, list_at, Processes, Queues, nothing, Step, RecordsAgree, Goes, IsInOrder, Numbers, ready_lines, take_all, May, nobody, may_asked, IsOrdered, chosen_among}
 use Rattle.std.proofs.Common.{[], ap}
 use Rattle.std.proofs.lemmas.List.{map-append}
 use Rattle.std.specs.Prelude.{map}
@@ -7,19 +7,28 @@ use Rattle.apex_types.specs.declared.codes.Mode.TheVariants as mode
 use Rattle.apex_types.specs.declared.identity.ListKey.TheVariants as key
 use Rattle.apex_types.specs.Runners as action
 use Rattle.kernel_meaning.specs.PortServices as arrival
+use Rattle.engine_meaning.specs.Engine.{Ticked}
 use Rattle.kernel_meaning.specs.Kernel.{of_ports_alone}
 use Rattle.kernel_meaning.specs.Partition.{arrives, breaks_down, cold_start, due_phase, prepares, told, leaves, treating_phase, goes_out}
 use Rattle.kernel_laws.proofs.Choosing as choosing
-use Rattle.kernel_laws.specs.OrderLaw.{GoesOn, TickGoes, kind_of, may_of_chosen}
+use Rattle.kernel_laws.specs.Numbers.{BeginsToWait, GoesLast}
+use Rattle.kernel_laws.specs.GoingLast.{IsLastUnder, has_success}
+use Rattle.kernel_laws.specs.OrderLaw.{GoesOn, HasBegunToWait, HasGoneLast, HasTaken, TakesExactly, TickGoes, has_to_go_last, kind_of, list_of_chosen, may_of_chosen}
+use Rattle.kernel_laws.specs.WhoWaits.{WaitsForObject}
 use Rattle.kernel_laws.proofs.OfKernel.{IsReady, Moves, breaks_moves, clears_moves, due_moves, of_ports_moves, then_clears_moves}
+use Rattle.kernel_laws.proofs.LastOfEquals.{IsPutLast, asked_last}
 use Rattle.kernel_laws.proofs.OfPorts.{admits_shares, arrives_shares}
-use Rattle.kernel_laws.proofs.OfServices.{asked_moves, choice_stays, handler_stays}
+use Rattle.kernel_laws.proofs.AskedTakings.{TakesIn, asked_takes}
+use Rattle.kernel_laws.proofs.OfServices.{choice_stays, handler_stays}
 use Rattle.kernel_laws.proofs.Primitives.{take_after, told_after, allowed_after}
 use Rattle.kernel_laws.proofs.RecordChoice.{runs_ready}
+use Rattle.kernel_laws.proofs.RecordRows.{IsCaller}
 use Rattle.kernel_laws.proofs.RecordKernel.{then_clears_agrees, clears_agrees, breaks_agrees}
 use Rattle.kernel_laws.proofs.RecordObjects.{arrives_agrees, admits_agree}
 use Rattle.kernel_laws.proofs.RecordTick.{due_agrees, choice_agrees, choice_runs, acts_same, asked_agrees}
 use Rattle.kernel_laws.proofs.Shares.{each_put}
+use Rattle.kernel_laws.proofs.WaitBegins.{asked_behind, asked_caller}
+use Rattle.kernel_laws.proofs.WaitRows.{caller_waits_not}
 
 kinds_told : (name : List ℕ) (at : At) (kinds : List EventKind) → kinds ≡ map kind_of (told name at kinds)
 kinds_told name at [] = refl
@@ -117,26 +126,94 @@ module _ {C : Type 0} (d : ListKey → Discipline) (names : ℕ → List ℕ) wh
       let s = chooses_with_handler w.kernel in
       ap (λ (t : Processes). t.running) (acts_same e s.actions (record w { kernel = s.part })) ∙ choice_runs w.kernel h
 
-  spends_goes : (e : Engine C) (at : At) (n : Numbers) (w : World C) (o : Option Runner) → w.kernel.processes.running ≡ o → IsOrdered d names n w.kernel
-      → GoesOn d names (may_of_chosen e w o) n (spends_chosen e at o w)
-  spends_goes e at n w None is h = record { takings = []; ordered = h; told = refl; allowed = tt }
-  spends_goes e at n w (Some p) is h =
+  -- the tick of a runner continues the numbers, and who may go last takes one for it exactly if it has to
+  record Spends (may : May) (n : Numbers) (m : Moved C) : Type 0 where
+    pub goes : GoesOn d names may n m
+    pub taken : TakesExactly may goes.takings m
+
+  spends_goes : (e : Engine C) (at : At) (n : Numbers) (w : World C) (o : Option Runner) → w.kernel.processes.running ≡ o → IsOrdered d names n w.kernel → Spends (may_of_chosen e w o) n (spends_chosen e at o w)
+  unfolding moved_goes
+  spends_goes e at n w None is h = record { goes = record { takings = []; ordered = h; told = refl; allowed = tt }; taken = record { last = λ q own. absurd (none-some q.0 own); begins = λ q own. absurd (none-some q.0 own) } }
+  spends_goes e at n w (Some p) is h = record {
+    goes = moved_goes at e (may_asked p r.asks) n t v h g.moves (asked_agrees at w.kernel h.records p caller r.asks (given r.asks r.words));
+    taken = record { last = taken; begins = begins };
+  }
+    where
+      r : Ticked (Option C)
+      r = ticked e (control_at w.controls (place_of p)) w.words
+
+      t : Step Kernel
+      t = treats_asked at w.kernel p r.asks (given r.asks r.words)
+
+      v : World C
+      v = record w { controls = slice_set w.controls (place_of p) r.control; words = r.words }
+
+      m : Moved C
+      m = spends_chosen e at (Some p) w
+
+      caller : IsCaller w.kernel.processes p
+      caller = runs_ready w.kernel.processes h.records p is
+
+      g : TakesIn d names (may_asked p r.asks) w.kernel t
+      g = asked_takes d names at w.kernel (ready_of d names n w.kernel h) p caller (caller_waits_not w.kernel.processes h.records p caller) r.asks (given r.asks r.words)
+
+      begins : (q : ProcessIndex) → (may_of_chosen e w (Some p)).begin_to_wait ≡ Some q.0 → (HasTaken (BeginsToWait q.0) g.moves.goes.takings ↔ WaitsForObject (record_at m.world.kernel.processes.rows q))
+      begins q own =
+          subst (λ (s : Processes). HasTaken (BeginsToWait q.0) g.moves.goes.takings ↔ WaitsForObject (record_at s.rows q)) (sym (acts_same e t.actions (record v { kernel = t.part }))) (g.begins q own)
+
+      taken : (q : ProcessIndex) → (may_of_chosen e w (Some p)).go_last ≡ Some q.0 → (HasTaken (GoesLast q.0) g.moves.goes.takings ↔ has_to_go_last q m ≡ true)
+      taken q own =
+          subst (λ (ls : List EventKind). HasTaken (GoesLast q.0) g.moves.goes.takings ↔ (has_success ls && is_ready (record_at m.world.kernel.processes.rows q)) ≡ true) (kinds_told w.kernel.fixed.name at t.lines)
+          (subst (λ (s : Processes). HasTaken (GoesLast q.0) g.moves.goes.takings ↔ (has_success t.lines && is_ready (record_at s.rows q)) ≡ true) (sym (acts_same e t.actions (record v { kernel = t.part }))) (g.last q own))
+
+  -- who has to go last does
+  spends_last : (e : Engine C) (at : At) (n : Numbers) (w : World C) (o : Option Runner) → w.kernel.processes.running ≡ o → IsOrdered d names n w.kernel
+      → HasGoneLast (may_of_chosen e w o) w.kernel.processes.ready (spends_chosen e at o w)
+  spends_last e at n w None is h = record { goes = λ q own. absurd (none-some q.0 own); stays = λ q own. absurd (none-some q.0 own) }
+  spends_last e at n w (Some p) is h = record { goes = λ q own. let g = at_end q own in g.goes; stays = λ q own. let g = at_end q own in g.stays }
+    where
+      r : Ticked (Option C)
+      r = ticked e (control_at w.controls (place_of p)) w.words
+
+      t : Step Kernel
+      t = treats_asked at w.kernel p r.asks (given r.asks r.words)
+
+      m : Moved C
+      m = spends_chosen e at (Some p) w
+
+      at_end : (q : ProcessIndex) → (may_of_chosen e w (Some p)).go_last ≡ Some q.0 → IsPutLast q w.kernel.processes.ready (map kind_of m.lines) m.world.kernel.processes
+      at_end q own =
+          let v : World C = record w { controls = slice_set w.controls (place_of p) r.control; words = r.words; kernel = t.part } in
+          subst (λ (ls : List EventKind). IsPutLast q w.kernel.processes.ready ls m.world.kernel.processes) (kinds_told w.kernel.fixed.name at t.lines)
+          (subst (λ (s : Processes). IsPutLast q w.kernel.processes.ready t.lines s) (sym (acts_same e t.actions v))
+          (asked_last n.ready n.next at w.kernel h.order.ready q p r.asks (given r.asks r.words) (runs_ready w.kernel.processes h.records p is) own))
+
+  -- and who begins to wait is the last in the list that its call names
+  spends_begun : (e : Engine C) (at : At) (n : Numbers) (w : World C) (o : Option Runner) → w.kernel.processes.running ≡ o → IsOrdered d names n w.kernel
+      → HasBegunToWait d (may_of_chosen e w o) (list_of_chosen e w o) w.kernel.processes.queues (spends_chosen e at o w)
+  spends_begun e at n w None is h q list own named there = absurd (none-some q.0 own)
+  spends_begun e at n w (Some p) is h q list own named there =
       let r = ticked e (control_at w.controls (place_of p)) w.words in
-      let v : World C = record w { controls = slice_set w.controls (place_of p) r.control; words = r.words } in
-      moved_goes at e (may_asked p r.asks) n (treats_asked at w.kernel p r.asks (given r.asks r.words)) v h
-      (asked_moves d names at w.kernel p r.asks (given r.asks r.words) (ready_of d names n w.kernel h))
-      (asked_agrees at w.kernel h.records p (runs_ready w.kernel.processes h.records p is) r.asks (given r.asks r.words))
+      let t = treats_asked at w.kernel p r.asks (given r.asks r.words) in
+      let v : World C = record w { controls = slice_set w.controls (place_of p) r.control; words = r.words; kernel = t.part } in
+      subst (λ (s : Processes). WaitsForObject (record_at s.rows q) → IsLastUnder (d list) q (list_at s.queues list)) (sym (acts_same e t.actions v))
+      (asked_behind d n.waiting n.next at w.kernel h.objects h.ports h.order.queues q
+      (caller_waits_not w.kernel.processes h.records p (runs_ready w.kernel.processes h.records p is) q (asked_caller p r.asks q own)) list there p r.asks (given r.asks r.words) own named)
 
   pub tick_goes : (n : Numbers) (e : Engine C) (at : At) (w : World C) → IsOrdered d names n w.kernel → TickGoes d names n e at w
   tick_goes n e at w h =
       let g = due_goes e at n w h in
       let k = choice_keeps e at (take_all g.takings n) (due_phase e at w).world g.ordered in
+      let spent = spends_goes e at (take_all g.takings n) (prepares e at w).world (prepares e at w).world.kernel.processes.running refl k in
       record {
         due = g;
         picks = picks_allowed d names (take_all g.takings n) (due_phase e at w).world.kernel g.ordered;
         runs = chosen_runs e at (due_phase e at w).world g.ordered.records;
         prepared = k;
-        spent = spends_goes e at (take_all g.takings n) (prepares e at w).world (prepares e at w).world.kernel.processes.running refl k;
+        spent = spent.goes;
+        taken = spent.taken;
+        last = spends_last e at (take_all g.takings n) (prepares e at w).world (prepares e at w).world.kernel.processes.running refl k;
+        begun = spends_begun e at (take_all g.takings n) (prepares e at w).world (prepares e at w).world.kernel.processes.running refl k;
       }
 
   pub cold_start_goes : (n : Numbers) (at : At) (c : StartCondition) (x : Member C) → IsOrdered d names n x.world.kernel → GoesOn d names nobody n (cold_start at c x)

@@ -1,5 +1,5 @@
--- The items of a list after one of them is replaced.
-use Rattle.kernel_laws.proofs.Prelude.{◌≡◌, ◌≢◌, ℕ, zero, suc, true, List, ◌∷◌, Some, refl, none-some, is_some, slice_get, slice_set}
+-- The items of a list after one of them, or each, is replaced.
+use Rattle.kernel_laws.proofs.Prelude.{◌≡◌, ◌≢◌, ℕ, zero, suc, true, List, ◌∷◌, Some, refl, none-some, is_some, map, slice_get, slice_set}
 use Rattle.std.proofs.Common.{[], ap}
 
 pub get_set_same : {A : Type 0} (xs : List A) (i : ℕ) (x y : A) → slice_get xs i ≡ Some x → slice_get (slice_set xs i y) i ≡ Some y
@@ -21,3 +21,8 @@ some_set (a ∷ xs) zero zero y h = refl
 some_set (a ∷ xs) zero (suc j) y h = h
 some_set (a ∷ xs) (suc i) zero y h = refl
 some_set (a ∷ xs) (suc i) (suc j) y h = some_set xs i j y h
+
+pub some_map : {A B : Type 0} (f : A → B) (xs : List A) (i : ℕ) → is_some (slice_get xs i) ≡ true → is_some (slice_get (map f xs) i) ≡ true
+some_map f [] i h = h
+some_map f (x ∷ xs) zero h = refl
+some_map f (x ∷ xs) (suc i) h = some_map f xs i h

@@ -14,13 +14,13 @@ all_times-nil : (n : ℕ) → all_times n [] ≡ 0
 all_times-nil zero = refl
 all_times-nil (suc n) = omega (arith, all_times-nil n)
 
-abbrev one_if : Bool → ℕ
+abbrev pub one_if : Bool → ℕ
 one_if b = if b then 1 else 0
 
-test_other : (p q : ℕ) → (p ≡ q → ⊥) → one_if (nat_eq p q) ≡ 0
+pub test_other : (p q : ℕ) → (p ≡ q → ⊥) → one_if (nat_eq p q) ≡ 0
 test_other p q h = grind (arith, nat_tests)
 
-test_same : (p q : ℕ) → p ≡ q → one_if (nat_eq p q) ≡ 1
+pub test_same : (p q : ℕ) → p ≡ q → one_if (nat_eq p q) ≡ 1
 test_same p q h = grind (arith, nat_tests)
 
 all_times-past : (n : ℕ) (e : Entry) (es : List Entry) → n ≤ e.process.0 → all_times n (e ∷ es) ≡ all_times n es
@@ -62,7 +62,7 @@ all_times-lt (suc n) p es h none lt = elim (cases_lt p n) [
 
 -- ---- a process that leaves
 
-without-none : (p : ℕ) (es : List Entry) → times_listed p (without p es) ≡ 0
+pub without-none : (p : ℕ) (es : List Entry) → times_listed p (without p es) ≡ 0
 without-none p [] = refl
 without-none p (e ∷ es) =
     (elim (nat_eq p e.process.0) as (λ b. nat_eq p e.process.0 ≡ b → times_listed p (cond (not b) (e ∷ without p es) (without p es)) ≡ 0) [
@@ -97,7 +97,7 @@ length-without n p es h lt =
 
 -- ---- a process that is put after its equals
 
-behind-times : (e : Entry) (q : ℕ) (es : List Entry) → times_listed q (behind_equals e es) ≡ times_listed q (e ∷ es)
+pub behind-times : (e : Entry) (q : ℕ) (es : List Entry) → times_listed q (behind_equals e es) ≡ times_listed q (e ∷ es)
 behind-times e q [] = refl
 behind-times e q (x ∷ xs) =
     elim (nat_lt x.priority.0 e.priority.0) as (λ b. times_listed q (cond b (e ∷ x ∷ xs) (x ∷ behind_equals e xs)) ≡ times_listed q (e ∷ x ∷ xs)) [

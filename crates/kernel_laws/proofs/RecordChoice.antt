@@ -23,11 +23,11 @@ is_process : Runner → Bool
 is_process (runner.Process p) = true
 is_process _ = false
 
-not_init : (q : ProcessIndex) → runner.Init ≡ runner.Process q → ⊥
+pub not_init : (q : ProcessIndex) → runner.Init ≡ runner.Process q → ⊥
 unfolding is_process
 not_init q e = false≢true (ap is_process e)
 
-not_handler : (q : ProcessIndex) → runner.Handler ≡ runner.Process q → ⊥
+pub not_handler : (q : ProcessIndex) → runner.Handler ≡ runner.Process q → ⊥
 unfolding is_process
 not_handler q e = false≢true (ap is_process e)
 
@@ -92,7 +92,7 @@ module _ (s : Processes) (h : RecordsAgree s) where
           let k = kept_agrees s h p r x there (λ q is. sym (as_ready p r x there ready q is)) (λ q is n. refl) (as_plain p r x there ready refl refl refl) in
           record { listed = k.listed; plain = k.plain; runs = λ q n. absurd (none-some (runner.Process q) n); holds = k.holds; init = k.init; handler = k.handler }
 
-  leaves_agrees : (o : Option Runner) → s.running ≡ o → RecordsAgree (leaves_processor s o).part
+  pub leaves_agrees : (o : Option Runner) → s.running ≡ o → RecordsAgree (leaves_processor s o).part
   leaves_agrees None e = h
   leaves_agrees (Some p) e = preempts_agrees p e
 
@@ -163,7 +163,7 @@ module _ (s : Processes) (h : RecordsAgree s) where
 
   -- ---- the choice
 
-  picked_after : (m : Mode) (p : Runner) → pick m s ≡ Some p → IsCaller (leaves_processor s s.running).part p
+  pub picked_after : (m : Mode) (p : Runner) → pick m s ≡ Some p → IsCaller (leaves_processor s s.running).part p
   picked_after m p k q is = kept_ready s.running refl q (picked_ready m p k q is)
 
 runs_by : (b : Bool) (t u : Step Processes) (o : Option Runner) → (b ≡ true → t.part.running ≡ o) → (b ≡ false → u.part.running ≡ o) → (if b then t else u).part.running ≡ o

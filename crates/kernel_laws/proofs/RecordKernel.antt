@@ -14,7 +14,7 @@ use Rattle.apex_types.specs.declared.service.Service.TheVariants as service
 use Rattle.kernel_meaning.specs.Times.{treats_due}
 use Rattle.kernel_meaning.specs.HealthServices.{enters_mode as enters_mode_of_action, ignores}
 use Rattle.kernel_meaning.specs.PartitionServices.{cleared_processes}
-use Rattle.kernel_laws.proofs.Places.{get_set_other, some_set}
+use Rattle.kernel_laws.proofs.Places.{get_set_other, some_map, some_set}
 use Rattle.kernel_laws.proofs.RecordObjects.{either as either_shared}
 use Rattle.kernel_laws.proofs.RecordRows.{all_start_agree, row_agrees, stop_self_agrees}
 use Rattle.kernel_laws.proofs.Records.{either, not_free, not_ready_plain, released_agrees, rests_found_agrees, wakes_agrees}
@@ -27,16 +27,11 @@ forgotten_at [] place r e = absurd (none-some r e)
 forgotten_at (x ∷ xs) zero r e = subst (λ (y : ProcessStatus). is_ready_state y.state ≡ false) (same_Some (forgotten x) r e) refl
 forgotten_at (x ∷ xs) (suc place) r e = forgotten_at xs place r e
 
-some_map : {A B : Type 0} (f : A → B) (xs : List A) (i : ℕ) → is_some (slice_get xs i) ≡ true → is_some (slice_get (map f xs) i) ≡ true
-some_map f [] i h = h
-some_map f (x ∷ xs) zero h = refl
-some_map f (x ∷ xs) (suc i) h = some_map f xs i h
-
 init_at : (o : Option ProcessStatus) (rows : List ProcessStatus) (q : ProcessIndex) → record_at (ready_init o rows) q ≡ record_at rows q
 init_at None rows q = refl
 init_at (Some r) rows q = get_set_other rows 0 (place_of (runner.Process q)) (record r { state = Ready }) (λ e. cc)
 
-started_at : (m : Mode) (rows : List ProcessStatus) (q : ProcessIndex) → record_at (started_rows m rows) q ≡ record_at rows q
+pub started_at : (m : Mode) (rows : List ProcessStatus) (q : ProcessIndex) → record_at (started_rows m rows) q ≡ record_at rows q
 started_at mode.Idle rows q = refl
 started_at mode.ColdStart rows q = init_at (slice_get rows 0) rows q
 started_at mode.WarmStart rows q = init_at (slice_get rows 0) rows q

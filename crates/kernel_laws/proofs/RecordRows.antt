@@ -19,7 +19,7 @@ or_right : (a b : Bool) → (a || b) ≡ false → b ≡ false
 or_right true b e = absurd (false≢true (sym e))
 or_right false b e = e
 
-was_true : (b : Bool) → not b ≡ false → b ≡ true
+pub was_true : (b : Bool) → not b ≡ false → b ≡ true
 was_true true e = refl
 was_true false e = absurd (false≢true (sym e))
 

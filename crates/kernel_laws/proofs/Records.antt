@@ -22,7 +22,7 @@ the_same runner.Init q e = absurd (false≢true e)
 the_same runner.Handler q e = absurd (false≢true e)
 the_same (runner.Process p) q e = ap (λ (n : ℕ). runner.Process (index n)) (eqb-true p.0 q.0 e)
 
-other_place : (p : Runner) (q : ProcessIndex) → is_same p (runner.Process q) ≡ false → place_of p ≢ place_of (runner.Process q)
+pub other_place : (p : Runner) (q : ProcessIndex) → is_same p (runner.Process q) ≡ false → place_of p ≢ place_of (runner.Process q)
 other_place runner.Init q e k = absurd (omega (arith, k))
 other_place runner.Handler q e k = absurd (omega (arith, k))
 other_place (runner.Process p) q e k = eqb-false p.0 q.0 e (omega (arith, k))

@@ -43,7 +43,7 @@ at_each change queues (key.Buffer place) none = in_each change queues.buffers pl
 at_each change queues (key.Blackboard place) none = in_each change queues.blackboards place none
 at_each change queues (key.Port place) none = in_each change queues.ports place none
 
-at_without : (p : ℕ) (queues : Queues) (k : ListKey) → list_at (without_in_all p queues) k ≡ without p (list_at queues k)
+pub at_without : (p : ℕ) (queues : Queues) (k : ListKey) → list_at (without_in_all p queues) k ≡ without p (list_at queues k)
 at_without p queues k = at_each (without p) queues k refl
 
 pub leaves : (disciplines : ListKey → Discipline) (number : ℕ → ℕ) (next p : ℕ) (lists : Queues) → AreQueues disciplines number next lists → AreQueues disciplines number next (without_in_all p lists)
@@ -96,7 +96,7 @@ each_by_priority : (number : ℕ → ℕ) (e : Entry) (es : List Entry) → (IsB
 each_by_priority number e [] = ((λ h. h), (λ h. h))
 each_by_priority number e (x ∷ xs) = let same = each_by_priority number e xs in ((λ h. (h.0, same.0 h.1)), (λ h. (h.0, same.1 h.1)))
 
-ordered_by_priority : (number : ℕ → ℕ) (es : List Entry) → (IsOrderedUnder discipline.Priority number es ↔ IsOrdered number es)
+pub ordered_by_priority : (number : ℕ → ℕ) (es : List Entry) → (IsOrderedUnder discipline.Priority number es ↔ IsOrdered number es)
 ordered_by_priority number [] = ((λ h. h), (λ h. h))
 ordered_by_priority number (x ∷ xs) =
     let each = each_by_priority number x xs in
@@ -128,7 +128,7 @@ in_put (first ∷ lists) (suc k) list zero = inl refl
 in_put (first ∷ lists) (suc k) list (suc j) = named suc (in_put lists k list j)
 
 -- a list is put at one key, if it is put at all
-at_put : (queues : Queues) (k : ListKey) (list : List Entry) (j : ListKey) → IsPut (list_at queues j) list (list_at (put_list queues k list) j) k j
+pub at_put : (queues : Queues) (k : ListKey) (list : List Entry) (j : ListKey) → IsPut (list_at queues j) list (list_at (put_list queues k list) j) k j
 at_put queues (key.Semaphore place) list (key.Semaphore other) = named key.Semaphore (in_put queues.semaphores place list other)
 at_put queues (key.Event place) list (key.Event other) = named key.Event (in_put queues.events place list other)
 at_put queues (key.Buffer place) list (key.Buffer other) = named key.Buffer (in_put queues.buffers place list other)
@@ -202,7 +202,7 @@ released_first disciplines number next k e lists h = let queue = h k in first_of
 
 -- ---- no process waits
 
-at_emptied : (queues : Queues) (k : ListKey) → list_at (emptied queues) k ≡ []
+pub at_emptied : (queues : Queues) (k : ListKey) → list_at (emptied queues) k ≡ []
 at_emptied queues k = at_each no_entries queues k refl
 
 pub all_empty : (disciplines : ListKey → Discipline) (number : ℕ → ℕ) (next : ℕ) (lists : Queues) → AreQueues disciplines number next (emptied lists)

@@ -3,6 +3,8 @@ pub mod WaitingOrder
 pub mod Ready
 pub mod Numbers
 pub mod Agreement
+pub mod WhoWaits
+pub mod GoingLast
 pub mod OrderLaw
 pub mod History
 pub mod RunLaw

@@ -11,6 +11,7 @@ ghost use Rattle.apex_types.specs.declared.identity.ListKey.{ListKey};
 ghost use Rattle.apex_types.specs.declared.process.Entry.{Entry};
 ghost use Rattle.engine_meaning.specs.Engine.{Engine};
 ghost use Rattle.machine_meaning.specs.Image.{Image};
+ghost use Rattle.machine_meaning.specs.ImageLimits.{IsWithinLimits};
 ghost use Rattle.module_meaning.specs.Table.{Table, at_number};
 ghost use Rattle.kernel_meaning.specs.Kernel.{Kernel};
 ghost use Rattle.machine_meaning.specs.MachineControl.{MachineControl};
@@ -25,9 +26,14 @@ ghost use Rattle.kernel_laws.specs.History.{Move, members_after};
 ghost use Rattle.kernel_laws.specs.Numbers.{Numbers};
 ghost use Rattle.kernel_laws.specs.OrderLaw.{IsOrdered, TickGoes};
 ghost use Rattle.kernel_laws.specs.RunLaw.{HasOrder, HoldsReady, MoveGoes, RunGoes};
+ghost use Rattle.kernel_laws.specs.WhoWaits.{AreListed, HoldsWaiting};
 
 /// A tick of a partition whose lists are in order continues its numbers, on any engine: on the
-/// machine as on the sources.
+/// machine as on the sources. A process that its lines call ready takes a number. So does, by the call
+/// of the chosen runner, a ready process that SET_PRIORITY names, and the caller of TIMED_WAIT without
+/// a delay, if the service succeeds: it goes behind all others of its priority. So does a caller that
+/// begins to wait: it is the last in the waiting list of the object or the port that its call names.
+/// No other process takes a number.
 pub fn tick_goes_on()
     ensures machine { (disciplines : ListKey → Discipline) (names : ℕ → List ℕ) (n : Numbers)
         (e : Engine MachineControl) (at : At) (w : World MachineControl)
@@ -80,6 +86,27 @@ pub fn ready_ones_are_listed()
     ensures source { (t : Table) (sources : List Program) (devices : List DeviceLine) (n p : ℕ)
         (x : Member SourceControl)
         → at_number (members_after (source_module t sources) devices n) p ≡ Some x → HoldsReady x }
+{}
+
+/// In such a state whoever stands in a waiting list of a partition is WAITING by its record, in a
+/// service on an object or a port of this kind; it stands there once, and in no other list. If the
+/// partition has at most 16 ports, and 16 objects of each kind, as in an image within its limits,
+/// whoever waits for one of these by its record stands in a list. A record says for what kind of
+/// object its process waits, and the list says for which: by `tick_goes_on` a process joins the list
+/// that its call names.
+pub fn waiting_ones_are_listed()
+    ensures machine { (image : Image) (devices : List DeviceLine) (n p : ℕ)
+        (x : Member MachineControl)
+        → at_number (members_after (machine_module image) devices n) p ≡ Some x
+        → HoldsWaiting (machine_module image) p x }
+    ensures source { (t : Table) (sources : List Program) (devices : List DeviceLine) (n p : ℕ)
+        (x : Member SourceControl)
+        → at_number (members_after (source_module t sources) devices n) p ≡ Some x
+        → HoldsWaiting (source_module t sources) p x }
+    ensures lawful { (image : Image) (devices : List DeviceLine) (n p : ℕ)
+        (x : Member MachineControl) → IsWithinLimits image
+        → at_number (members_after (machine_module image) devices n) p ≡ Some x
+        → AreListed x.world.kernel.processes.rows x.world.kernel.processes.queues }
 {}
 
 /// If the lists are in order, an entry is at the head of a waiting list if and only if it is to be
