@@ -1,5 +1,5 @@
 -- From the outcome of a command to its exit status.
-use Rattle.std.proofs.Common.{◌≡◌, ◌⊎◌, inl, inr, ℕ, ◌+◌, ◌-◌, ◌^◌, ◌<◌, Bool, true, false, List, [], ◌∷◌, Some, Result, Ok, Err, refl, sym, ap, subst, ◌∙◌, arith, true≢false}
+use Rattle.std.proofs.Common.{◌≡◌, ◌⊎◌, inl, inr, ℕ, ◌+◌, ◌-◌, ◌^◌, ◌<◌, Bool, true, false, [], ◌∷◌, Some, Result, Ok, Err, refl, sym, ap, subst, ◌∙◌, arith, true≢false}
 use Rattle.std.specs.Prelude.{IfErr, IsErr, IsErrAnd, ◌≢◌}
 use Rattle.clap.specs.Faults.{is_simple_and_free}
 use Rattle.clap.specs.Kinds.{HasKind, Kinds, IsAmong}
@@ -89,11 +89,11 @@ pub words_untaken : (kinds : Kinds) (order : Order) (s : State) (e : Error) (ans
     → IsErr answer × IsErrAnd answer (λ f. (kind_of e ≡ kind.OutOfMemory → f ≡ Refused refusal.Memory) × (kind_of e ≢ kind.OutOfMemory → f ≡ Usage e))
     → AnswersWords kinds order s s answer
 words_untaken kinds order s e answer has h =
-    go answer h (untaken refusal.Memory kinds (λ f. AnswersWords kinds order s s (Err f)) e answer has h (memory_ended order s) (λ among. ((refl, (refl, refl)), refl, inl among)))
+    go answer h.0 (untaken refusal.Memory kinds (λ f. AnswersWords kinds order s s (Err f)) e answer has h (memory_ended order s) (λ among. ((refl, (refl, refl)), refl, inl among)))
   where
-    go : {P : Failure Refusal → Type 0} (answer : Result Outcome (Failure Refusal)) → IsErr answer × IsErrAnd answer P → IfErr answer (λ f. AnswersWords kinds order s s (Err f)) → AnswersWords kinds order s s answer
-    go (Ok x) h told = absurd (true≢false (sym h.0))
-    go (Err f) h told = told
+    go : (answer : Result Outcome (Failure Refusal)) → IsErr answer → IfErr answer (λ f. AnswersWords kinds order s s (Err f)) → AnswersWords kinds order s s answer
+    go (Ok x) is_err told = absurd (true≢false (sym is_err))
+    go (Err f) is_err told = told
 
 -- ---- the status
 
@@ -144,7 +144,7 @@ of_usage kinds order asked before mid new_out old_err new_err status e (untouche
 
 pub answered : (kinds : Kinds) (order : Order) (asked explained : Bool) (note : Note) (before mid : State) (new_out old_err new_err : Seen) (status : ℕ) (outcome : Result Outcome (Failure Refusal))
     → (asked ≡ false → explained ≡ false) → AnswersWords kinds order before mid outcome → IsTold outcome explained note mid.out new_out old_err new_err status → IsAnswer kinds order asked before (with_out mid new_out) old_err new_err status
-answered kinds order asked explained note before mid new_out old_err new_err status (Ok Usual) quiet_if (none, done, well) (zero, same, quiet) =
+answered kinds order asked explained note before mid new_out old_err new_err status (Ok Usual) quiet_if (none, (done, well)) (zero, same, quiet) =
     subst (λ out. IsAnswer kinds order asked before (with_out mid out) old_err new_err status) (sym same) record {
       range = omega (arith, zero);
       done = λ z. ((well, inl (none, done)), quiet);
@@ -152,7 +152,7 @@ answered kinds order asked explained note before mid new_out old_err new_err sta
       usage = λ two. absurd (omega (arith, zero, two));
       remarkable = λ three. absurd (omega (arith, zero, three));
     }
-answered kinds order asked explained note before mid new_out old_err new_err status (Ok Remarkable) quiet_if (none, done, well) (three, same, quiet) =
+answered kinds order asked explained note before mid new_out old_err new_err status (Ok Remarkable) quiet_if (none, (done, well)) (three, same, quiet) =
     subst (λ out. IsAnswer kinds order asked before (with_out mid out) old_err new_err status) (sym same) record {
       range = omega (arith, three);
       done = λ zero. absurd (omega (arith, three, zero));

@@ -1,12 +1,11 @@
 -- Files of which a beginning was read: what it settles holds for the whole file.
-use Rattle.std.proofs.Common.{◌≡◌, ◌⊎◌, inl, inr, ℕ, ◌≤◌, ◌<◌, Bool, true, false, List, [], ◌∷◌, ◌++◌, Option, Some, None, Result, Ok, Err, IfOk, IfErr, refl, sym, ap, subst, ◌∙◌, append-nil}
-use Rattle.apex_types.specs.declared.device.DeviceLine.{DeviceLine}
+use Rattle.std.proofs.Common.{◌≡◌, inl, inr, ℕ, Bool, true, false, List, [], ◌∷◌, ◌++◌, Option, Some, None, Result, Ok, Err, refl, sym, ap, subst, ◌∙◌, append-nil}
 use Rattle.apex_types.specs.declared.device.DeviceFault.{DeviceFault}
 use Rattle.isolation.specs.ReplayText.{replay_verdict}
 use Rattle.isolation.specs.declared.input.InputLine.{InputLine}
 use Rattle.machine_meaning.specs.Image.{Image}
 use Rattle.machine_meaning.specs.ImageReading.{Fault, image_at}
-use Rattle.machine_meaning.specs.MachineMeaning.{row_of_item, verdict_for}
+use Rattle.machine_meaning.specs.MachineMeaning.{verdict_for}
 use Rattle.module_meaning.specs.Table.{Partition}
 use Rattle.module.specs.Replays.{IsInputRefusal, Replays}
 use Rattle.module.specs.Runs.{IsDeviceRefusal, Runs}

@@ -1,5 +1,5 @@
 -- Tables that were read whole, and sources of which a beginning was read: these are accepted or refused as the whole files.
-use Rattle.std.proofs.Common.{◌≡◌, ◌⊎◌, inl, inr, ℕ, ◌+◌, Bool, true, List, [], ◌∷◌, ◌++◌, length, map, take, drop, suc, Bor, false, ◌≤◌, ◌<◌, append_assoc, length-append, true≢false, arith, Option, Some, None, Result, Ok, Err, IfOk, IfErr, refl, sym, ap, subst, ◌∙◌, append-nil}
+use Rattle.std.proofs.Common.{◌≡◌, inl, inr, ℕ, ◌+◌, Bool, true, List, [], ◌∷◌, ◌++◌, length, map, take, drop, suc, Bor, false, ◌<◌, append_assoc, length-append, true≢false, arith, Option, Some, None, Result, Ok, Err, IfOk, IfErr, refl, sym, ap, subst, ◌∙◌, append-nil}
 use Rattle.apex_types.specs.declared.cost.Costs.{Costs}
 use Rattle.apex_types.specs.declared.limits.TheConstants.{MOST_SOURCE_BYTES}
 use Rattle.std.specs.Prelude.{nat_lt}
@@ -27,7 +27,7 @@ use Rattle.module.specs.declared.costing.PartitionCosts.{PartitionCosts}
 use Rattle.module.specs.declared.fault.BuildFault.{BuildFault}
 use Rattle.module.specs.declared.fault.BuildFault.TheVariants as fault
 use Rattle.streams.specs.Beginnings.{HoldsFrom, IsBeginningOf}
-use Rattle.streams.specs.Contents.{Contents, HoldAll, Holds}
+use Rattle.streams.specs.Contents.{Contents, HoldAll}
 use Rattle.text_beginnings.specs.Settled.{settles_source, settles_table}
 use Rattle.text_beginnings.specs.declared.beginning.TheConstants.{MOST_TABLE_BYTES}
 use Rattle.text_beginnings.proofs.Sources.{no_source}

@@ -1,5 +1,5 @@
 -- What is found in the texts of the files that are named.
-use Rattle.std.proofs.Common.{◌≡◌, ℕ, Bool, true, false, List, [], ◌∷◌, ◌++◌, length, map, Option, Result, Ok, Err, IfOk, IfErr, OnOk, refl, sym, ap, subst, ◌∙◌, append-nil, append_assoc, arith}
+use Rattle.std.proofs.Common.{◌≡◌, ℕ, Bool, true, false, List, [], ◌∷◌, ◌++◌, length, map, Option, Result, Ok, Err, IfErr, OnOk, refl, sym, ap, subst, ◌∙◌, append-nil, append_assoc, arith}
 use Rattle.apex_types.specs.declared.cost.Costs.{Costs}
 use Rattle.module_meaning.specs.Table.{Partition}
 use Rattle.pal_meaning.specs.Syntax as written
@@ -21,7 +21,7 @@ use Rattle.module.specs.Sources.{AreSources}
 use Rattle.streams.specs.Contents.{Contents}
 use Rattle.command_line.specs.Done.{AreFoundIn, IsLinted, IsModuleIn}
 use Rattle.command_line.specs.Ends.{Ends}
-use Rattle.command_line.specs.Linting.{AddsFound, AddsTrees, AreAllFound, AreFoundOf, AreFoundOfModule, AreShown, AreToldOf, AreTrees, HasTree, HaveTrees, IsFoundOf, IsReadModule}
+use Rattle.command_line.specs.Linting.{AddsFound, AddsTrees, AreAllFound, AreFoundOf, AreFoundOfModule, AreShown, AreToldOf, AreTrees, HasTree, HaveTrees, IsFoundOf}
 use Rattle.command_line.specs.Orders.{Lint}
 use Rattle.command_line.specs.States.{State}
 use Rattle.command_line.specs.declared.linting.ReadModule.{ReadModule}

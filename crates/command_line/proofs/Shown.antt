@@ -1,5 +1,5 @@
 -- The text that listings have written.
-use Rattle.std.proofs.Common.{◌≡◌, ℕ, ◌+◌, List, true, length, Option, Result, Ok, Err, ap, sym, subst, arith, ◌∙◌}
+use Rattle.std.proofs.Common.{◌≡◌, ℕ, ◌+◌, List, true, length, Result, Ok, Err, ap, sym, subst, arith, ◌∙◌}
 use Rattle.std.proofs.Math.Seq.{take-length}
 use Rattle.std.specs.Prelude.{OnErr, OnOk}
 use Rattle.std.specs.Io.KnownBytes.{Appends, Keeps}

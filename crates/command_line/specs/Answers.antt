@@ -1,10 +1,10 @@
 -- The meaning of each exit status of a command.
-use Rattle.std.specs.Prelude.{◌≡◌, ◌⊎◌, ◌≤◌, ℕ, Bool, false, List, [], Option, Some, None, Result, Ok, Err}
+use Rattle.std.specs.Prelude.{◌≡◌, ◌⊎◌, ◌≤◌, ℕ, Bool, false, [], Option, Some, None, Result, Ok, Err}
 use Rattle.clap.specs.Kinds.{Kinds}
 use Rattle.command_words.specs.Kinds.{AreMistaken, AskForHelp}
 use Rattle.command_words.specs.Told.{IsUsageTold}
 use Rattle.command_words.specs.declared.page.Page.{Page}
-use Rattle.streams.specs.States.{HasFailed, IsFlushed, IsWritten, Seen, TakesText}
+use Rattle.streams.specs.States.{HasFailed, IsWritten, Seen, TakesText}
 use Rattle.command_line.specs.Done.{IsDone, IsRemarkable}
 use Rattle.command_line.specs.Ends.{AnswersWords, IsWell}
 use Rattle.command_line.specs.Explained.{told_text}

@@ -148,7 +148,8 @@ impl Note {
     /// Notes the explanation of a run whose image or device text is refused, if it is wanted and there
     /// is memory for it.
     pub fn explain_run(&mut self, alloc: Global, files: RunFiles<'_>, fault: &RunFault)
-        ensures { IsNotedBy (λ style. IsOfRun style (files_of files.entry) fault.now) self.old self.new }
+        ensures { IsNotedBy (λ style. IsOfRun style (files_of files.entry) fault.now) self.old
+            self.new }
     {
         let Note::Wanted(style) = *self else {
             return;
@@ -371,7 +372,8 @@ fn explained_with(
 ) -> Option<String>
     ensures { IfSome result
         (λ text.
-        IsExplainedWith (form_of form.entry) (table_of table.now) (map (λ s. s.now) given.entry.files.now)
+        IsExplainedWith (form_of form.entry) (table_of table.now)
+        (map (λ s. s.now) given.entry.files.now)
         (map (λ s. s.now) given.entry.texts.now) partition.now fault (string_bytes text)) }
 {
     let rows = table.partitions.as_slice();
@@ -459,7 +461,8 @@ fn length_explained_with(
 ) -> Option<String>
     ensures { IfSome result
         (λ text.
-        IsLengthExplainedWith (form_of form.entry) costs.now (map (λ s. s.now) given.entry.files.now)
+        IsLengthExplainedWith (form_of form.entry) costs.now
+        (map (λ s. s.now) given.entry.files.now)
         (map (λ s. s.now) given.entry.texts.now) partition.now (string_bytes text)) }
 {
     let costed = costed_of(costs, given.files, given.texts, partition)?;

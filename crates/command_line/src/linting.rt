@@ -83,9 +83,11 @@ fn module_named<F: Files>(
     note: &mut Note,
 ) -> Result<ReadModule, Refusal>
     ensures read { IfOk result
-        (λ m. IsModuleIn (F.contents files.old) names.entry.table.now (map (λ s. s.now) names.entry.sources.now) m) }
+        (λ m. IsModuleIn (F.contents files.old) names.entry.table.now
+        (map (λ s. s.now) names.entry.sources.now) m) }
     ensures refused { IfErr result
-        (λ r. IsNotCosted (F.contents files.old) names.entry.table.now (map (λ s. s.now) names.entry.sources.now) r) }
+        (λ r. IsNotCosted (F.contents files.old) names.entry.table.now
+        (map (λ s. s.now) names.entry.sources.now) r) }
     ensures unchanged { F.contents files.new ≡ F.contents files.old }
     ensures noted { OnOk result (F.failed files.new ≡ F.failed files.old) }
     ensures named { IfErr result (λ r. IsOfFailed (F.failed files.old) (F.failed files.new) r) }

@@ -65,10 +65,11 @@ fn loaded_named<F: Files>(
 ) -> Result<Loaded, Refusal>
     ensures loaded { IfOk result
         (λ loaded.
-        IsLoadIn (F.contents files.old) names.entry.table.now (map (λ s. s.now) names.entry.sources.now)
-        (shown_of loaded)) }
+        IsLoadIn (F.contents files.old) names.entry.table.now
+        (map (λ s. s.now) names.entry.sources.now) (shown_of loaded)) }
     ensures refused { IfErr result
-        (λ r. IsNotLoadedFrom (F.contents files.old) names.entry.table.now (map (λ s. s.now) names.entry.sources.now) r) }
+        (λ r. IsNotLoadedFrom (F.contents files.old) names.entry.table.now
+        (map (λ s. s.now) names.entry.sources.now) r) }
     ensures unchanged { F.contents files.new ≡ F.contents files.old }
     ensures noted { OnOk result (F.failed files.new ≡ F.failed files.old) }
     ensures named { IfErr result (λ r. IsOfFailed (F.failed files.old) (F.failed files.new) r) }

@@ -113,9 +113,11 @@ pub fn build_named<F: Files>(
 ) -> Result<Vec<u8>, Refusal>
     ensures built { IfOk result
         (λ image.
-        IsBuilt (F.contents files.old) names.entry.table.now (map (λ s. s.now) names.entry.sources.now) image.items) }
+        IsBuilt (F.contents files.old) names.entry.table.now
+        (map (λ s. s.now) names.entry.sources.now) image.items) }
     ensures refused { IfErr result
-        (λ r. IsNotBuilt (F.contents files.old) names.entry.table.now (map (λ s. s.now) names.entry.sources.now) r) }
+        (λ r. IsNotBuilt (F.contents files.old) names.entry.table.now
+        (map (λ s. s.now) names.entry.sources.now) r) }
     ensures unchanged { F.contents files.new ≡ F.contents files.old }
     ensures noted { OnOk result (F.failed files.new ≡ F.failed files.old) }
     ensures named { IfErr result (λ r. IsOfFailed (F.failed files.old) (F.failed files.new) r) }
@@ -156,9 +158,11 @@ pub fn costs_named<F: Files>(
 ) -> Result<Vec<PartitionCosts>, Refusal>
     ensures costed { IfOk result
         (λ costs.
-        AreCosted (F.contents files.old) names.entry.table.now (map (λ s. s.now) names.entry.sources.now) costs.items) }
+        AreCosted (F.contents files.old) names.entry.table.now
+        (map (λ s. s.now) names.entry.sources.now) costs.items) }
     ensures refused { IfErr result
-        (λ r. IsNotCosted (F.contents files.old) names.entry.table.now (map (λ s. s.now) names.entry.sources.now) r) }
+        (λ r. IsNotCosted (F.contents files.old) names.entry.table.now
+        (map (λ s. s.now) names.entry.sources.now) r) }
     ensures unchanged { F.contents files.new ≡ F.contents files.old }
     ensures noted { OnOk result (F.failed files.new ≡ F.failed files.old) }
     ensures named { IfErr result (λ r. IsOfFailed (F.failed files.old) (F.failed files.new) r) }

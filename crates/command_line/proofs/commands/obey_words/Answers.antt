@@ -39,4 +39,4 @@ pub returns-clause-asked : goal.returns-clause-asked
 returns-clause-asked g c = λ before none.
     let words = map (λ s. s.now) c.args.words.now in
     let entered = entered_is mb_app words c.in_ok-grammar.field-0 c.in_ok-matches.matches c.in_ok-grammar.ensures mb_is_simple c.in_ok-matches.ensures.matches in
-    c.asks.ensures ∙ ap asks entered ∙ none
+    c.asks-noted.ensures ∙ ap asks entered ∙ none

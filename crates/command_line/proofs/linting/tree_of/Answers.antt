@@ -1,4 +1,3 @@
-use Rattle.std.proofs.Common.{Result, Ok, Err}
 use Rattle.command_line.proofs.Linted.{memory_alone}
 use Rattle.command_line.proofs.linting.tree_of.Goals as goal
 

@@ -1,4 +1,4 @@
-use Rattle.std.proofs.Common.{rules, ◌≡◌}
+use Rattle.std.proofs.Common.{rules}
 use Rattle.clap.specs.Matches.{found_of}
 use Rattle.command_words.proofs.Found.{words_are}
 use Rattle.command_line.proofs.order.words.Goals as goal

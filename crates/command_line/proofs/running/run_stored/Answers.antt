@@ -23,8 +23,10 @@ returns-in_err-flush g c = λ files failed.
     refused_as (Ends First (state_of files failed (out c.args.out.now)) (state_of files failed (out c.flush.new.self))) Write c.from_residual-in_err-flush.result c.from_residual-in_err-flush.ensures (
       (
         refl,
-        c.in_err-flush.ensures.failed ∙ ap (λ (n : ℕ). n + 1) c.in_ok-trace_stored.ensures.quiet,
-        kept_stored (taken c.args.out.now) (taken c.trace_stored.new.out) (taken c.flush.new.self) c.in_ok-trace_stored.ensures.trace c.in_err-flush.ensures.kept,
+        (
+          c.in_err-flush.ensures.failed ∙ ap (λ (n : ℕ). n + 1) c.in_ok-trace_stored.ensures.quiet,
+          kept_stored (taken c.args.out.now) (taken c.trace_stored.new.out) (taken c.flush.new.self) c.in_ok-trace_stored.ensures.trace c.in_err-flush.ensures.kept,
+        ),
       ),
       refl,
     )

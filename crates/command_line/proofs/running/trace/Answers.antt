@@ -1,4 +1,5 @@
-use Rattle.std.proofs.Common.{rules, ◌≡◌, ◌≢◌, [], map, Err}
+use Rattle.std.proofs.Common.{rules, ◌≢◌, [], map, Err}
+use Rattle.std.proofs.lemmas.List.{nil_from_length}
 use Rattle.machine_meaning.specs.ImageReading.{image_at}
 use Rattle.streams.specs.States.{seen}
 use Rattle.command_line.specs.declared.outcome.Outcome.TheVariants.{Usual}
@@ -8,11 +9,11 @@ use Rattle.command_line.proofs.running.trace.Goals as goal
 
 pub returns-in-Ok-clause-trace : goal.returns-in-Ok-clause-trace
 returns-in-Ok-clause-trace g c =
-    traced_whole (image_at c.args.files.image.now) c.args.files.text.now c.args.until.now c.args.ticks _ _ (Ok Usual) (search rules) c.in-Ok.ensures.trace
+    traced_whole (image_at c.args.files.image.now) c.args.files.text.now c.args.until.now c.args.ticks _ _ (Ok Usual) (nil_from_length c.args.until.now (search rules)) c.in-Ok.ensures.trace
 
 pub returns-in-Err-clause-trace : goal.returns-in-Err-clause-trace
 returns-in-Err-clause-trace g c =
-    traced_whole (image_at c.args.files.image.now) c.args.files.text.now c.args.until.now c.args.ticks _ _ (Err c.in-Err.fault) (search rules) c.in-Err.ensures.trace
+    traced_whole (image_at c.args.files.image.now) c.args.files.text.now c.args.until.now c.args.ticks _ _ (Err c.in-Err.fault) (nil_from_length c.args.until.now (search rules)) c.in-Err.ensures.trace
 
 pub returns-in-Err-clause-failed : goal.returns-in-Err-clause-failed
 returns-in-Err-clause-failed g c =
