@@ -57,7 +57,8 @@ fn table_of<F: Sources>(alloc: Global, name: &str, sources: &mut F) -> Result<Mo
 /// The table that a reader has.
 fn read_from<R: Read + Drop>(alloc: Global, table: Opened<R>) -> Result<ModuleTable, Refusal>
     ensures table { OnOk result (IfSome (R.remaining table.reader) (λ text. IsTable text)) }
-    ensures refused { IfErr result (λ r. IsBadTable (R.remaining table.reader) (string_bytes table.name) r) }
+    ensures refused { IfErr result
+        (λ r. IsBadTable (R.remaining table.reader) (string_bytes table.name) r) }
 {
     let Opened { name, mut reader } = table;
     let mut text = Vec::new(alloc);

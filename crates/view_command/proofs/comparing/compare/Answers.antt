@@ -12,8 +12,8 @@ pub returns-in_err-one-clause-refused : goal.returns-in_err-one-clause-refused
 returns-in_err-one-clause-refused g c =
     let unopened = g.F.Sources.unopened in
     let r = c.in_err-one.field-0.0 in
-    unopened_or _ _ None (string_bytes c.args.pair.now.first) _ _ (unopened c.args.sources.now) r c.from_residual-in_err-one.result
-    refl refl (subst (λ n. IsUnopened n (unopened c.args.sources.now) (unopened c.open_text.new.sources) r) c.as_str-first.ensures.value c.in_err-one.ensures.refused) c.from_residual-in_err-one.ensures
+    unopened_or _ _ None (string_bytes c.args.pair.now.first) _ _ (unopened c.args.sources.now) r c.from_residual.result
+    refl refl (subst (λ n. IsUnopened n (unopened c.args.sources.now) (unopened c.open_text.new.sources) r) c.as_str-first.ensures.value c.in_err-one.ensures.refused) c.from_residual.ensures
 
 pub returns-in_err-other-clause-refused : goal.returns-in_err-other-clause-refused
 returns-in_err-other-clause-refused g c =
@@ -21,7 +21,7 @@ returns-in_err-other-clause-refused g c =
     let mid = unopened c.open_text.new.sources in
     let r = c.in_err-other.field-0.0 in
     second_unopened _ _ None (string_bytes c.args.pair.now.second) _ _ mid r c.from_residual-in_err-other.result
-    refl c.in_ok-one.ensures.noted (subst (λ n. IsUnopened n mid (unopened c.open_text-other.new.sources) r) c.as_str-second.ensures.value c.in_err-other.ensures.refused) c.from_residual-in_err-other.ensures
+    refl c.in_ok-one.ensures.noted (subst (λ n. IsUnopened n mid (unopened c.open_text-2.new.sources) r) c.as_str-second.ensures.value c.in_err-other.ensures.refused) c.from_residual-in_err-other.ensures
 
 pub returns-in_err-read_both-clause-refused : goal.returns-in_err-read_both-clause-refused
 returns-in_err-read_both-clause-refused g c =

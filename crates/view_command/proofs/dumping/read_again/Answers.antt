@@ -7,5 +7,5 @@ pub returns-in_err-text-clause-cut : goal.returns-in_err-text-clause-cut
 returns-in_err-text-clause-cut g c =
     let r = c.in_err-text.field-0.0 in
     let unopened = g.F.Sources.unopened in
-    unopened_again (string_bytes c.args.request.now.trace) _ _ r c.from_residual-in_err-text.result refl
-    (subst (λ n. IsUnopened n (unopened c.args.sources.now) (unopened c.open_text.new.sources) r) c.as_str-trace.ensures.value c.in_err-text.ensures.refused) c.from_residual-in_err-text.ensures
+    unopened_again (string_bytes c.args.request.now.trace) _ _ r c.from_residual.result refl
+    (subst (λ n. IsUnopened n (unopened c.args.sources.now) (unopened c.open_text.new.sources) r) c.as_str-trace.ensures.value c.in_err-text.ensures.refused) c.from_residual.ensures
