@@ -12,8 +12,8 @@ use Rattle.command_words.specs.Kinds.{AskForHelp, IsHelp, IsMistake}
 use Rattle.command_words.specs.Told.{CanTakeHelp, IsUsageTold}
 use Rattle.command_words.proofs.ErrorKinds.{help_or}
 use Rattle.command_words.proofs.Failed.{untaken}
-use Rattle.command_line.specs.Answers.{AreNoCommand, IsAnswer, IsTold}
-use Rattle.command_line.specs.Ends.{Answers, AnswersWords, Ends, as_answer}
+use Rattle.command_line.specs.Answers.{AreNoCommand, IsAnswer, IsExplainedFor, IsTold}
+use Rattle.command_line.specs.Ends.{Answers, AnswersWords, Ends, NotesAsked, as_answer}
 use Rattle.command_line.specs.Lines.{line_of}
 use Rattle.command_line.specs.declared.outcome.Outcome.{Outcome}
 use Rattle.command_line.specs.declared.outcome.Outcome.TheVariants.{Usual, Remarkable}
@@ -95,11 +95,51 @@ words_untaken kinds order s e answer has h =
     go (Ok x) is_err told = absurd (true≢false (sym is_err))
     go (Err f) is_err told = told
 
+-- ---- whether an explanation is asked for
+
+-- noted of words that are read as a command
+pub noted_exactly : (kinds : Kinds) (asks noted : Bool) (answer : Result Outcome (Failure Refusal)) → noted ≡ asks → NotesAsked kinds asks answer noted
+noted_exactly kinds asks noted (Ok outcome) same = same
+noted_exactly kinds asks noted (Err (Refused (refusal.Build fault))) same = same
+noted_exactly kinds asks noted (Err (Refused (refusal.Run fault))) same = same
+noted_exactly kinds asks noted (Err (Refused (refusal.Replay fault))) same = same
+noted_exactly kinds asks noted (Err (Refused (refusal.Inputs fault))) same = same
+noted_exactly kinds asks noted (Err (Refused (refusal.File name reason))) same = same
+noted_exactly kinds asks noted (Err (Refused (refusal.LongTable name))) same = same
+noted_exactly kinds asks noted (Err (Refused refusal.Memory)) same = λ none. same ∙ none
+noted_exactly kinds asks noted (Err (Refused refusal.Write)) same = same
+noted_exactly kinds asks noted (Err (Usage e)) same = λ none. same
+
+-- nothing is noted of words that the library does not take
+pub noted_untaken : (kinds : Kinds) (asks noted : Bool) (e : Error) (answer : Result Outcome (Failure Refusal)) → noted ≡ false → HasKind kinds e
+    → IsErr answer × IsErrAnd answer (λ f. (kind_of e ≡ kind.OutOfMemory → f ≡ Refused refusal.Memory) × (kind_of e ≢ kind.OutOfMemory → f ≡ Usage e))
+    → NotesAsked kinds asks answer noted
+noted_untaken kinds asks noted e answer unnoted has h =
+    go answer h.0 (untaken refusal.Memory kinds (λ f. NotesAsked kinds asks (Err f) noted) e answer has h (λ none. unnoted) (λ among. λ none. absurd (subst (IsAmong (kind_of e)) none among)))
+  where
+    go : (answer : Result Outcome (Failure Refusal)) → IsErr answer → IfErr answer (λ f. NotesAsked kinds asks (Err f) noted) → NotesAsked kinds asks answer noted
+    go (Ok x) is_err told = absurd (true≢false (sym is_err))
+    go (Err f) is_err told = told
+
+explained_for : (kinds : Kinds) (asked explained : Bool) (r : Refusal) → NotesAsked kinds asked (Err (Refused r)) explained → IsExplainedFor kinds asked r explained
+explained_for kinds asked explained (refusal.Build fault) same = ((λ none. same ∙ none), (λ none. same))
+explained_for kinds asked explained (refusal.Run fault) same = ((λ none. same ∙ none), (λ none. same))
+explained_for kinds asked explained (refusal.Replay fault) same = ((λ none. same ∙ none), (λ none. same))
+explained_for kinds asked explained (refusal.Inputs fault) same = ((λ none. same ∙ none), (λ none. same))
+explained_for kinds asked explained (refusal.File name reason) same = ((λ none. same ∙ none), (λ none. same))
+explained_for kinds asked explained (refusal.LongTable name) same = ((λ none. same ∙ none), (λ none. same))
+explained_for kinds asked explained refusal.Memory h = h
+explained_for kinds asked explained refusal.Write same = ((λ none. same ∙ none), (λ none. same))
+
+-- no words that ask for help are a command
+no_help_asked : (kinds : Kinds) → AskForHelp kinds → kinds ≡ [] → ⊥
+no_help_asked kinds (k, among, help) none = subst (IsAmong k) none among
+
 -- ---- the status
 
 -- the state after a report, which may have written help
 abbrev pub with_out : State → Seen → State
-with_out s out = state_of s.files s.failed out
+with_out s out = state_of s.files s.failed s.reads out
 
 of_usage : (kinds : Kinds) (order : Order) (asked : Bool) (before mid : State) (new_out old_err new_err : Seen) (status : ℕ) (e : Error) → AnswersWords kinds order before mid (Err (Usage e)) → IsUsageTold e (Some (line_of refusal.Write)) mid.out new_out old_err new_err status
     → IsHelp (kind_of e) ⊎ IsMistake (kind_of e) → IsAnswer kinds order asked before (with_out mid new_out) old_err new_err status
@@ -137,14 +177,14 @@ of_usage kinds order asked before mid new_out old_err new_err status e (untouche
     by (inr (one, failed, line)) = record {
       range = omega (arith, one);
       done = λ zero. absurd (omega (arith, zero, one));
-      refused = λ o. (refusal.Write, inr (refl, wants why, failed ∙ ap (λ (n : ℕ). n + 1) untouched.1.1, untouched.0, unfailed), (false, Unwanted, (λ no. refl), line));
+      refused = λ o. (refusal.Write, inr (refl, wants why, failed ∙ ap (λ (n : ℕ). n + 1) untouched.1.1, untouched.0, unfailed), (false, Unwanted, ((λ no. refl), (λ none. absurd (no_help_asked kinds (wants why) none))), line));
       usage = λ two. absurd (omega (arith, one, two));
       remarkable = λ three. absurd (omega (arith, one, three));
     }
 
 pub answered : (kinds : Kinds) (order : Order) (asked explained : Bool) (note : Note) (before mid : State) (new_out old_err new_err : Seen) (status : ℕ) (outcome : Result Outcome (Failure Refusal))
-    → (asked ≡ false → explained ≡ false) → AnswersWords kinds order before mid outcome → IsTold outcome explained note mid.out new_out old_err new_err status → IsAnswer kinds order asked before (with_out mid new_out) old_err new_err status
-answered kinds order asked explained note before mid new_out old_err new_err status (Ok Usual) quiet_if (none, (done, well)) (zero, same, quiet) =
+    → NotesAsked kinds asked outcome explained → AnswersWords kinds order before mid outcome → IsTold outcome explained note mid.out new_out old_err new_err status → IsAnswer kinds order asked before (with_out mid new_out) old_err new_err status
+answered kinds order asked explained note before mid new_out old_err new_err status (Ok Usual) noted (none, (done, well)) (zero, same, quiet) =
     subst (λ out. IsAnswer kinds order asked before (with_out mid out) old_err new_err status) (sym same) record {
       range = omega (arith, zero);
       done = λ z. ((well, inl (none, done)), quiet);
@@ -152,7 +192,7 @@ answered kinds order asked explained note before mid new_out old_err new_err sta
       usage = λ two. absurd (omega (arith, zero, two));
       remarkable = λ three. absurd (omega (arith, zero, three));
     }
-answered kinds order asked explained note before mid new_out old_err new_err status (Ok Remarkable) quiet_if (none, (done, well)) (three, same, quiet) =
+answered kinds order asked explained note before mid new_out old_err new_err status (Ok Remarkable) noted (none, (done, well)) (three, same, quiet) =
     subst (λ out. IsAnswer kinds order asked before (with_out mid out) old_err new_err status) (sym same) record {
       range = omega (arith, three);
       done = λ zero. absurd (omega (arith, three, zero));
@@ -160,15 +200,15 @@ answered kinds order asked explained note before mid new_out old_err new_err sta
       usage = λ two. absurd (omega (arith, three, two));
       remarkable = λ t. ((well, none, done), quiet);
     }
-answered kinds order asked explained note before mid new_out old_err new_err status (Err (Refused r)) quiet_if ended (one, same, line) =
+answered kinds order asked explained note before mid new_out old_err new_err status (Err (Refused r)) noted ended (one, same, line) =
     subst (λ out. IsAnswer kinds order asked before (with_out mid out) old_err new_err status) (sym same) record {
       range = omega (arith, one);
       done = λ zero. absurd (omega (arith, zero, one));
-      refused = λ o. (r, inl ended, (explained, note, quiet_if, line));
+      refused = λ o. (r, inl ended, (explained, note, explained_for kinds asked explained r noted, line));
       usage = λ two. absurd (omega (arith, one, two));
       remarkable = λ three. absurd (omega (arith, one, three));
     }
-answered kinds order asked explained note before mid new_out old_err new_err status (Err (Usage e)) quiet_if ended told =
+answered kinds order asked explained note before mid new_out old_err new_err status (Err (Usage e)) noted ended told =
     of_usage kinds order asked before mid new_out old_err new_err status e ended told (help_or (kind_of e))
 
 -- output can take the help: nothing was written to it before

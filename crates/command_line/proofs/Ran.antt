@@ -23,6 +23,7 @@ use Rattle.command_line.specs.Outcomes.{is_remarkable}
 use Rattle.command_line.specs.declared.outcome.Outcome.{Outcome}
 use Rattle.command_line.specs.declared.outcome.Outcome.TheVariants.{Usual, Remarkable}
 use Rattle.streams.specs.Contents.{Contents}
+use Rattle.streams.specs.Reads.{Reads}
 use Rattle.streams.specs.States.{Seen}
 use Rattle.module.specs.declared.fault.BuildAndRunFault.{BuildAndRunFault}
 use Rattle.module.specs.declared.fault.BuildAndRunFault.TheVariants as both
@@ -162,6 +163,6 @@ run_refused_by image devices until n v before after (refusal.Replay fault) is h 
 run_refused_by image devices until n v before after (refusal.Inputs fault) is h = absurd h
 
 -- the stored module is refused
-pub first_refused : (files : Option Contents) (failed : List (List ℕ)) (old new : Seen) (f : BuildAndRunFault) → HasFailedByBoth f old new → IsFirstRun old.taken new.taken (Err f) → Ends First (state_of files failed old) (state_of files failed new) (Err (refusal_of_both f))
-first_refused files failed old new (both.Build fault) quiet run = ((refl, (quiet, run)), refl)
-first_refused files failed old new (both.Run fault) quiet run = ((refl, (quiet, run)), refl)
+pub first_refused : (files : Option Contents) (failed : List (List ℕ)) (reads : Reads) (old new : Seen) (f : BuildAndRunFault) → HasFailedByBoth f old new → IsFirstRun old.taken new.taken (Err f) → Ends First (state_of files failed reads old) (state_of files failed reads new) (Err (refusal_of_both f))
+first_refused files failed reads old new (both.Build fault) quiet run = ((refl, (quiet, run)), refl)
+first_refused files failed reads old new (both.Run fault) quiet run = ((refl, (quiet, run)), refl)

@@ -1,5 +1,7 @@
--- No file is named where texts are refused.
-use Rattle.std.proofs.Common.{◌≡◌, ℕ, List, Result, Ok, Err, IfErr}
+-- No file is named where texts are refused; and the names of the files that were read.
+use Rattle.std.proofs.Common.{◌≡◌, ℕ, List, [], ◌∷◌, ◌++◌, length, map, drop, Bor, Some, None, Result, Ok, Err, IfErr, refl, sym, ap, subst, ◌∙◌, append-nil, append_assoc}
+use Rattle.streams.specs.Reads.{Reads, Remembers}
+use Rattle.command_line.specs.Done.{AreRead}
 use Rattle.command_line.specs.Reading.{IsRefusedText, IsUncostedText}
 use Rattle.command_line.specs.Told.{IsOfFailed}
 use Rattle.command_line.specs.declared.refusal.Refusal.{Refusal}
@@ -28,3 +30,26 @@ unnamed_costs old new table_text texts (Err (File name reason)) same h = absurd 
 unnamed_costs old new table_text texts (Err (LongTable name)) same h = absurd h
 unnamed_costs old new table_text texts (Err Memory) same h = same
 unnamed_costs old new table_text texts (Err Write) same h = same
+
+-- ---- the names of the files that were read
+
+pub read_first : (name : List ℕ) (names : List (List ℕ)) (old mid new : Reads) → Remembers name old mid → AreRead names mid new → AreRead (name ∷ names) old new
+read_first name names None mid new one rest = tt
+read_first name names (Some old) None new one rest = absurd one
+read_first name names (Some old) (Some mid) None one rest = absurd rest
+read_first name names (Some old) (Some mid) (Some new) one rest = rest ∙ ap (λ (ns : List (List ℕ)). ns ++ names) one ∙ append_assoc old (name ∷ []) names
+
+none_read : (reads : Reads) → AreRead [] reads reads
+none_read None = tt
+none_read (Some names) = sym (append-nil names)
+
+-- all files were read
+pub all_read : (names : List (Bor (List ℕ))) (i : ℕ) (old new : Reads) → i ≡ length names
+    → ((later : Reads) → AreRead (map (λ s. s.now) (drop i names)) new later → AreRead (map (λ s. s.now) names) old later) → AreRead (map (λ s. s.now) names) old new
+all_read names i old new at before =
+    let none : drop i names ≡ [] = ap (λ k. drop k names) at ∙ drop-all names in
+    before new (subst (λ (ns : List (Bor (List ℕ))). AreRead (map (λ s. s.now) ns) new new) (sym none) (none_read new))
+  where
+    drop-all : {X : Type 0} (xs : List X) → drop (length xs) xs ≡ []
+    drop-all [] = refl
+    drop-all (x ∷ xs) = drop-all xs

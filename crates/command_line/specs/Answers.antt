@@ -19,7 +19,7 @@ use Rattle.command_line.specs.declared.explaining.Note.{Note}
 use Rattle.command_words.specs.declared.failure.Failure.{Failure}
 use Rattle.command_words.specs.declared.failure.Failure.TheVariants.{Refused, Usage}
 use Rattle.command_line.specs.declared.refusal.Refusal.{Refusal}
-use Rattle.command_line.specs.declared.refusal.Refusal.TheVariants.{Write}
+use Rattle.command_line.specs.declared.refusal.Refusal.TheVariants.{Memory, Write}
 
 -- the words are no command, or one of them is wrong: a word for ticks without digits, or a word that is only `-`
 abbrev pub AreNoCommand : Kinds → Order → Type 0
@@ -38,9 +38,14 @@ IsRefusedFor kinds order before after r =
     AnswersWords kinds order before after (Err (Refused r))
     ⊎ ((r ≡ Write) × AskForHelp kinds × HasFailed before.out after.out × (after.files ≡ before.files) × (after.failed ≡ before.failed))
 
--- unless it failed, standard error has the line of the refusal, followed by an explanation only if the words ask for one
-abbrev pub IsRefusalTold : Bool → Seen → Seen → Refusal → Type 0
-IsRefusalTold asked old_err new_err r = (explained : Bool) × (note : Note) × (asked ≡ false → explained ≡ false) × TakesText old_err new_err (told_text explained r note)
+-- A refusal is explained only if the words ask for an explanation; and if they are a command, exactly then, unless memory ran out.
+abbrev pub IsExplainedFor : Kinds → Bool → Refusal → Bool → Type 0
+IsExplainedFor kinds asked Memory explained = asked ≡ false → explained ≡ false
+IsExplainedFor kinds asked r explained = (asked ≡ false → explained ≡ false) × (kinds ≡ [] → explained ≡ asked)
+
+-- unless it failed, standard error has the line of the refusal, followed by an explanation if the words ask for one
+abbrev pub IsRefusalTold : Kinds → Bool → Seen → Seen → Refusal → Type 0
+IsRefusalTold kinds asked old_err new_err r = (explained : Bool) × (note : Note) × IsExplainedFor kinds asked r explained × TakesText old_err new_err (told_text explained r note)
 
 -- With 0 the order is done, and standard error is unchanged; with 1 it is refused, and standard error has
 -- the line of the refusal, with an explanation if that was asked for; with 2 the words are no command, neither files nor standard output were
@@ -49,7 +54,7 @@ IsRefusalTold asked old_err new_err r = (explained : Bool) × (note : Note) × (
 pub record IsAnswer (kinds : Kinds) (order : Order) (asked : Bool) (before after : State) (old_err new_err : Seen) (status : ℕ) : Type 0 where
   pub range : status ≤ 3
   pub done : status ≡ 0 → IsDoneOrHelp kinds order before after × (new_err ≡ old_err)
-  pub refused : status ≡ 1 → (r : Refusal) × IsRefusedFor kinds order before after r × IsRefusalTold asked old_err new_err r
+  pub refused : status ≡ 1 → (r : Refusal) × IsRefusedFor kinds order before after r × IsRefusalTold kinds asked old_err new_err r
   pub usage : status ≡ 2 → IsUntouched before after × (after.failed ≡ before.failed) × AreNoCommand kinds order × IsWritten old_err new_err
   pub remarkable : status ≡ 3 → (IsWell before after × (kinds ≡ []) × IsRemarkable order before after) × (new_err ≡ old_err)
 

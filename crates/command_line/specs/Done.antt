@@ -1,5 +1,5 @@
 -- The effect of a command that is done.
-use Rattle.std.specs.Prelude.{◌≡◌, ◌≤◌, ◌<◌, ℕ, Bool, true, false, List, [], ◌∷◌, ◌++◌, length, Option, Result, Ok, Err, codes}
+use Rattle.std.specs.Prelude.{◌≡◌, ◌≤◌, ◌<◌, ℕ, Bool, true, false, List, [], ◌∷◌, ◌++◌, length, Option, Some, None, Result, Ok, Err, codes}
 use Rattle.std.specs.Fmt.{decimal}
 use Rattle.std.specs.Io.KnownBytes.{Appends}
 use Rattle.std.specs.Str.Parse.{IsNumeral, digits_value}
@@ -19,6 +19,7 @@ use Rattle.module.specs.declared.fault.BuildAndRunFault.{BuildAndRunFault}
 use Rattle.module.specs.declared.inputs_fault.InputsFault.{InputsFault}
 use Rattle.module.specs.declared.fault.RunFault.{RunFault}
 use Rattle.streams.specs.Contents.{Contents, Holds, HoldAll, Spares}
+use Rattle.streams.specs.Reads.{IsUnread, Reads}
 use Rattle.text_beginnings.specs.declared.beginning.TheConstants.{MOST_TABLE_BYTES}
 use Rattle.command_line.specs.Stops.{RunsUntil}
 use Rattle.command_line.specs.Orders.{Order, First, Check, Build, Run, Replay, Inputs, Cost, Dis, Upgrade, Load, Lint, Dashed}
@@ -48,6 +49,12 @@ pub record Texts (files : Option Contents) (table : List ℕ) (sources : List (L
   pub source_texts : List (List ℕ)
   pub in_table : IsTableIn files table table_text
   pub in_sources : HoldAll files sources source_texts
+
+-- the files of these names were read one after another, if it is known which files were read
+abbrev pub AreRead : List (List ℕ) → Reads → Reads → Type 0
+AreRead names None new = Unit {0}
+AreRead names (Some old) None = ⊥
+AreRead names (Some old) (Some new) = new ≡ old ++ names
 
 -- They are accepted, and this is their image.
 pub record IsBuilt (files : Option Contents) (table : List ℕ) (sources : List (List ℕ)) (image : List ℕ) : Type 0 where
@@ -152,6 +159,15 @@ abbrev pub AreInputsDone : List ℕ → List ℕ → List ℕ → ℕ → State 
 AreInputsDone image partition devices n before after =
     (after.files ≡ before.files) × (given : ImageAndText before.files image devices) × AreInputsOf given partition n before.out.taken after.out.taken is_ok
 
+-- An image was built and written as the file of this name, and no other file was touched. This file is none of those that were
+-- read by then, the table and the sources among them.
+pub record IsImageWritten (table : List ℕ) (sources : List (List ℕ)) (name image : List ℕ) (before after : State) : Type 0 where
+  pub built : IsBuilt before.files table sources image
+  pub held : Holds after.files name image
+  pub others : Spares name before.files after.files
+  pub read : AreRead (table ∷ sources) before.reads after.reads
+  pub unread : IsUnread name after.reads
+
 -- the findings of a module were written, if there are any
 abbrev pub IsLinted : Bool → List ℕ → List (List ℕ) → State → State → Type 0
 IsLinted any table sources before after =
@@ -163,8 +179,7 @@ IsDone First before after = (after.files ≡ before.files) × IsFirstRun before.
 IsDone (Check table sources) before after =
     (after.files ≡ before.files) × ((image : List ℕ) × IsBuilt before.files table sources image) × Appends before.out.taken after.out.taken accepted_text
 IsDone (Build table name sources) before after =
-    (image : List ℕ) × IsBuilt before.files table sources image × Holds after.files name image × Spares name before.files after.files
-    × Appends before.out.taken after.out.taken (size_text (length image))
+    (image : List ℕ) × IsImageWritten table sources name image before after × Appends before.out.taken after.out.taken (size_text (length image))
 IsDone (Run image devices ticks until) before after = IsNumeral 10 ticks × IsRunDone image devices until (digits_value 10 ticks) Usual before after
 IsDone (Replay image partition inputs ticks) before after = IsNumeral 10 ticks × IsReplayDone image partition inputs (digits_value 10 ticks) before after
 IsDone (Inputs image partition devices ticks) before after = IsNumeral 10 ticks × AreInputsDone image partition devices (digits_value 10 ticks) before after

@@ -1,6 +1,6 @@
 -- How an order ends between two states, and with which result. If it is done, all that was written is flushed, and no file
 -- failed. If it is refused, then for a true reason, and the file that the refusal names failed.
-use Rattle.std.specs.Prelude.{◌≡◌, ◌⊎◌, ℕ, List, [], Result, Ok, Err}
+use Rattle.std.specs.Prelude.{◌≡◌, ◌⊎◌, ℕ, Bool, false, List, [], Result, Ok, Err}
 use Rattle.clap.specs.Kinds.{Kinds, IsAmong}
 use Rattle.clap.specs.Values.{kind_of}
 use Rattle.clap.specs.declared.error.kind.ErrorKind.TheVariants.{ValueValidation}
@@ -57,6 +57,14 @@ AnswersWords kinds order before after (Err (Refused Memory)) = Ends order before
 AnswersWords kinds order before after (Err (Refused r)) = (kinds ≡ []) × Ends order before after (Err r)
 AnswersWords kinds order before after (Err (Usage error)) =
     IsUntouched before after × (after.failed ≡ before.failed) × (IsAmong (kind_of error) kinds ⊎ ((kinds ≡ []) × HasWrongWord order × (kind_of error ≡ ValueValidation)))
+
+-- What is noted of words that ask for an explanation of a refusal, or do not: exactly this, once they are read as a command. If
+-- memory ran out, this may have been before.
+abbrev pub NotesAsked : Kinds → Bool → Result Outcome (Failure Refusal) → Bool → Type 0
+NotesAsked kinds asks (Ok outcome) noted = noted ≡ asks
+NotesAsked kinds asks (Err (Refused Memory)) noted = asks ≡ false → noted ≡ false
+NotesAsked kinds asks (Err (Refused r)) noted = noted ≡ asks
+NotesAsked kinds asks (Err (Usage error)) noted = kinds ≡ [] → noted ≡ asks
 
 abbrev pub as_answer : Result Outcome Refusal → Result Outcome (Failure Refusal)
 as_answer (Ok outcome) = Ok outcome

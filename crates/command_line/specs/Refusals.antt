@@ -18,7 +18,7 @@ use Rattle.module.specs.declared.inputs_fault.InputsFault.TheVariants as input_f
 use Rattle.module.specs.declared.fault.RunFault.{RunFault}
 use Rattle.module.specs.declared.fault.RunFault.TheVariants as faults
 use Rattle.streams.specs.Contents.{Contents, Holds, Spares}
-use Rattle.command_line.specs.Done.{Texts, IsTableIn, IsLongTable, IsBuilt, AreCosted, AreFoundIn, IsLoadIn, IsImageIn, IsUpgradedIn, ImageAndText, IsRunOf, IsRunDone, IsReplayOf, IsReplayDone, AreInputsOf, AreInputsDone, IsFirstRun, is_ok}
+use Rattle.command_line.specs.Done.{Texts, IsTableIn, IsLongTable, IsBuilt, AreCosted, AreFoundIn, IsLoadIn, IsImageIn, IsImageWritten, IsUpgradedIn, ImageAndText, IsRunOf, IsRunDone, IsReplayOf, IsReplayDone, AreInputsOf, AreInputsDone, IsFirstRun, is_ok}
 use Rattle.command_line.specs.Orders.{Order, First as first, Check as check, Build as build, Run as run, Replay as replay, Inputs as inputs, Cost as cost, Dis as dis, Upgrade as upgrade, Load as load, Lint as lint, Dashed as dashed}
 use Rattle.command_line.specs.Loading.{IsRefusedTable, Shown}
 use Rattle.lint.specs.Sentences.{findings_text}
@@ -113,7 +113,7 @@ IsCheckRefused table sources before after r = IsUntouched before after × IsNotB
 
 abbrev pub IsBuildRefused : List ℕ → List ℕ → List (List ℕ) → State → State → Refusal → Type 0
 IsBuildRefused table name sources before after Write =
-    HasFailed before.out after.out × (image : List ℕ) × IsBuilt before.files table sources image × Holds after.files name image × Spares name before.files after.files
+    HasFailed before.out after.out × ((image : List ℕ) × IsImageWritten table sources name image before after)
 IsBuildRefused table name sources before after r =
     IsSilent before.out after.out
     × (((after.files ≡ before.files) × IsNotBuilt before.files table sources r) ⊎ IsNotWritten table sources name before after r)

@@ -10,7 +10,7 @@ ghost use Rattle.command_line.specs.Orders.{Build, Check, Upgrade, asks, is_aske
 ghost use Rattle.command_line.specs.Spelled.{spelled};
 ghost use Rattle.command_line.specs.States.{state};
 ghost use Rattle.command_line.specs.Words.{mb_app};
-ghost use Rattle.command_line.specs.Ends.{Answers, AnswersWords, Ends, as_answer};
+ghost use Rattle.command_line.specs.Ends.{Answers, AnswersWords, Ends, NotesAsked, as_answer};
 
 use crate::dashes::dashed_command;
 use crate::explaining::{Note, Noted, Style};
@@ -45,12 +45,13 @@ pub fn perform<S: AsStr, F: Files, O: Stream, W: Watch>(
 ) -> Result<Outcome, Failure<Refusal>>
     requires { O.failures out.old < 2 ^ 64 - 1 }
     ensures asked { noted.old.asked ≡ false
-        → asks (subcommand_of mb_app (spelled (map S.text words.now))) ≡ false
-        → noted.new.asked ≡ false }
+        → NotesAsked (fault_of mb_app (spelled (map S.text words.now)))
+        (asks (subcommand_of mb_app (spelled (map S.text words.now)))) result noted.new.asked }
     ensures ended { AnswersWords (fault_of mb_app (spelled (map S.text words.now)))
         (order_of (subcommand_of mb_app (spelled (map S.text words.now))))
-        (state F.contents F.failed O.taken O.failures O.is_flushed files.old out.old)
-        (state F.contents F.failed O.taken O.failures O.is_flushed files.new out.new) result }
+        (state F.contents F.failed F.reads O.taken O.failures O.is_flushed files.old out.old)
+        (state F.contents F.failed F.reads O.taken O.failures O.is_flushed files.new out.new)
+        result }
 {
     match spelled(alloc, words) {
         Ok(words) => obey_words(alloc, words.as_slice(), files, out, watch, noted),
@@ -69,12 +70,13 @@ fn obey_words<F: Files, O: Stream, W: Watch>(
 ) -> Result<Outcome, Failure<Refusal>>
     requires { O.failures out.old < 2 ^ 64 - 1 }
     ensures asked { noted.old.asked ≡ false
-        → asks (subcommand_of mb_app (map (λ s. s.now) words.now)) ≡ false
-        → noted.new.asked ≡ false }
+        → NotesAsked (fault_of mb_app (map (λ s. s.now) words.now))
+        (asks (subcommand_of mb_app (map (λ s. s.now) words.now))) result noted.new.asked }
     ensures ended { AnswersWords (fault_of mb_app (map (λ s. s.now) words.now))
         (order_of (subcommand_of mb_app (map (λ s. s.now) words.now)))
-        (state F.contents F.failed O.taken O.failures O.is_flushed files.old out.old)
-        (state F.contents F.failed O.taken O.failures O.is_flushed files.new out.new) result }
+        (state F.contents F.failed F.reads O.taken O.failures O.is_flushed files.old out.old)
+        (state F.contents F.failed F.reads O.taken O.failures O.is_flushed files.new out.new)
+        result }
 {
     let matches = grammar(alloc)?.try_get_matches_from(words)?;
     noted.asked = asks(&matches);
@@ -120,8 +122,9 @@ fn obey<F: Files, O: Stream, W: Watch>(
 ) -> Result<Outcome, Failure<Refusal>>
     requires { O.failures out.old < 2 ^ 64 - 1 }
     ensures { Answers (order_of (subcommand_rows_of matches.now))
-        (state F.contents F.failed O.taken O.failures O.is_flushed files.old out.old)
-        (state F.contents F.failed O.taken O.failures O.is_flushed files.new out.new) result }
+        (state F.contents F.failed F.reads O.taken O.failures O.is_flushed files.old out.old)
+        (state F.contents F.failed F.reads O.taken O.failures O.is_flushed files.new out.new)
+        result }
 {
     if let Some(name) = dashed_command(matches) {
         return Err(Failure::Usage(lone_dash(alloc, name)?));
@@ -140,8 +143,9 @@ fn obey_order<F: Files, O: Stream, W: Watch>(
 ) -> Result<Outcome, Failure<Refusal>>
     requires { O.failures out.old < 2 ^ 64 - 1 }
     ensures { Answers (meant order.entry)
-        (state F.contents F.failed O.taken O.failures O.is_flushed files.old out.old)
-        (state F.contents F.failed O.taken O.failures O.is_flushed files.new out.new) result }
+        (state F.contents F.failed F.reads O.taken O.failures O.is_flushed files.old out.old)
+        (state F.contents F.failed F.reads O.taken O.failures O.is_flushed files.new out.new)
+        result }
 {
     match order {
         Order::First => ended(run_stored(alloc, out)),
@@ -188,8 +192,9 @@ fn check<F: Files, O: Stream>(
 ) -> Result<Outcome, Refusal>
     requires { O.failures out.old < 2 ^ 64 - 1 }
     ensures { Ends (Check names.entry.table.now (map (λ s. s.now) names.entry.sources.now))
-        (state F.contents F.failed O.taken O.failures O.is_flushed files.old out.old)
-        (state F.contents F.failed O.taken O.failures O.is_flushed files.new out.new) result }
+        (state F.contents F.failed F.reads O.taken O.failures O.is_flushed files.old out.old)
+        (state F.contents F.failed F.reads O.taken O.failures O.is_flushed files.new out.new)
+        result }
 {
     build_named(alloc, names, files, note)?;
     write_line(out, "accepted")?;
@@ -207,8 +212,9 @@ fn build<F: Files, O: Stream>(
 ) -> Result<Outcome, Refusal>
     requires { O.failures out.old < 2 ^ 64 - 1 }
     ensures { Ends (Build names.entry.table.now name.now (map (λ s. s.now) names.entry.sources.now))
-        (state F.contents F.failed O.taken O.failures O.is_flushed files.old out.old)
-        (state F.contents F.failed O.taken O.failures O.is_flushed files.new out.new) result }
+        (state F.contents F.failed F.reads O.taken O.failures O.is_flushed files.old out.old)
+        (state F.contents F.failed F.reads O.taken O.failures O.is_flushed files.new out.new)
+        result }
 {
     let image = build_named(alloc, names, files, note)?;
     let shown = String::from_str(alloc, name)?;
@@ -230,8 +236,9 @@ fn upgrade<F: Files, O: Stream>(
 ) -> Result<Outcome, Refusal>
     requires { O.failures out.old < 2 ^ 64 - 1 }
     ensures { Ends (Upgrade old.now new.now)
-        (state F.contents F.failed O.taken O.failures O.is_flushed files.old out.old)
-        (state F.contents F.failed O.taken O.failures O.is_flushed files.new out.new) result }
+        (state F.contents F.failed F.reads O.taken O.failures O.is_flushed files.old out.old)
+        (state F.contents F.failed F.reads O.taken O.failures O.is_flushed files.new out.new)
+        result }
 {
     let image = upgrade_named(alloc, old, files, note)?;
     let shown = String::from_str(alloc, new)?;

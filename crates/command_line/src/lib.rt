@@ -71,8 +71,8 @@ pub fn command<S: AsStr, F: Files, O: Stream, E: Stream, W: Watch>(
         (fault_of mb_app (spelled (map S.text words.now)))
         (order_of (subcommand_of mb_app (spelled (map S.text words.now))))
         (asks (subcommand_of mb_app (spelled (map S.text words.now))))
-        (state F.contents F.failed O.taken O.failures O.is_flushed files.old out.old)
-        (state F.contents F.failed O.taken O.failures O.is_flushed files.new out.new)
+        (state F.contents F.failed F.reads O.taken O.failures O.is_flushed files.old out.old)
+        (state F.contents F.failed F.reads O.taken O.failures O.is_flushed files.new out.new)
         (seen E.taken E.failures E.is_flushed err.old)
         (seen E.taken E.failures E.is_flushed err.new) result }
 {
@@ -96,8 +96,8 @@ fn answer<S: AsStr, F: Files, O: Stream, E: Stream, W: Watch>(
     ensures { IsAnswer (fault_of mb_app (spelled (map S.text words.now)))
         (order_of (subcommand_of mb_app (spelled (map S.text words.now))))
         (asks (subcommand_of mb_app (spelled (map S.text words.now))))
-        (state F.contents F.failed O.taken O.failures O.is_flushed files.old out.old)
-        (state F.contents F.failed O.taken O.failures O.is_flushed files.new out.new)
+        (state F.contents F.failed F.reads O.taken O.failures O.is_flushed files.old out.old)
+        (state F.contents F.failed F.reads O.taken O.failures O.is_flushed files.new out.new)
         (seen E.taken E.failures E.is_flushed err.old)
         (seen E.taken E.failures E.is_flushed err.new) result }
 {

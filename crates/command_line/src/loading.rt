@@ -46,8 +46,9 @@ pub fn load<F: Files, O: Stream>(
 ) -> Result<Outcome, Refusal>
     requires { O.failures out.old < 2 ^ 64 - 1 }
     ensures { Ends (Load form names.entry.table.now (map (λ s. s.now) names.entry.sources.now))
-        (state F.contents F.failed O.taken O.failures O.is_flushed files.old out.old)
-        (state F.contents F.failed O.taken O.failures O.is_flushed files.new out.new) result }
+        (state F.contents F.failed F.reads O.taken O.failures O.is_flushed files.old out.old)
+        (state F.contents F.failed F.reads O.taken O.failures O.is_flushed files.new out.new)
+        result }
 {
     let loaded = loaded_named(alloc, names, files, note)?;
     let text = shown(alloc, form, &loaded)?;

@@ -1,12 +1,13 @@
 //! The texts of the files that the words name.
 
-ghost use Rattle.std.specs.Prelude.{◌≡◌, map, Ok, IfOk, IfErr, OnOk};
+ghost use Rattle.std.specs.Prelude.{◌≡◌, ◌∷◌, map, Ok, IfOk, IfErr, OnOk};
 ghost use Rattle.machine_meaning.specs.ImageReading.{image_at};
 ghost use Rattle.image.specs.Views.{image_of};
 ghost use Rattle.streams.specs.Beginnings.{HoldsFrom};
+ghost use Rattle.streams.specs.Reads.{Remembers};
 ghost use Rattle.text_beginnings.specs.Kinds.{settles};
 ghost use Rattle.text_beginnings.specs.Settled.{settles_source};
-ghost use Rattle.command_line.specs.Done.{AreCosted, IsBuilt, IsImageIn, IsTableIn, IsUpgradedIn};
+ghost use Rattle.command_line.specs.Done.{AreCosted, AreRead, IsBuilt, IsImageIn, IsTableIn, IsUpgradedIn};
 ghost use Rattle.command_line.specs.Reading.{IsRefusedText, HoldAllFrom, IsHeld, IsNoTable, IsUncostedText, IsUnread, IsUnreadAmong, texts_of};
 ghost use Rattle.module.specs.Building.{IsImageOf};
 ghost use Rattle.module.specs.Costs.{AreCosts, IsAcceptedModule};
@@ -36,6 +37,7 @@ pub fn read_as<F: Files>(
         (λ bytes. HoldsFrom (settles kind) (F.contents files.old) name.now bytes.items) }
     ensures known { OnOk result (IsHeld (F.contents files.old) name.now) }
     ensures refused { IfErr result (λ r. IsUnread name.now r) }
+    ensures remembered { OnOk result (Remembers name.now (F.reads files.old) (F.reads files.new)) }
     ensures unchanged { F.contents files.new ≡ F.contents files.old }
     ensures noted { OnOk result (F.failed files.new ≡ F.failed files.old) }
     ensures named { IfErr result (λ r. IsOfFailed (F.failed files.old) (F.failed files.new) r) }
@@ -53,6 +55,7 @@ pub fn read_table<F: Files>(alloc: Global, name: &str, files: &mut F) -> Result<
         (λ bytes. IsTableIn (F.contents files.old) name.now bytes.items) }
     ensures known { OnOk result (IsHeld (F.contents files.old) name.now) }
     ensures refused { IfErr result (λ r. IsNoTable (F.contents files.old) name.now r) }
+    ensures remembered { OnOk result (Remembers name.now (F.reads files.old) (F.reads files.new)) }
     ensures unchanged { F.contents files.new ≡ F.contents files.old }
     ensures noted { OnOk result (F.failed files.new ≡ F.failed files.old) }
     ensures named { IfErr result (λ r. IsOfFailed (F.failed files.old) (F.failed files.new) r) }
@@ -66,6 +69,7 @@ pub fn read_table<F: Files>(alloc: Global, name: &str, files: &mut F) -> Result<
 
 /// The bytes of the files of these names, in their order, as far as sources need them: a source that
 /// is too long has one byte more than it may.
+#[tactic(auto, using(crate::proofs::Read::read_first))]
 pub fn read_sources<F: Files>(
     alloc: Global,
     names: &[&str],
@@ -77,6 +81,8 @@ pub fn read_sources<F: Files>(
         (texts_of texts.items)) }
     ensures refused { IfErr result
         (λ r. IsUnreadAmong (F.contents files.old) (map (λ s. s.now) names.now) r) }
+    ensures remembered { OnOk result
+        (AreRead (map (λ s. s.now) names.now) (F.reads files.old) (F.reads files.new)) }
     ensures unchanged { F.contents files.new ≡ F.contents files.old }
     ensures noted { OnOk result (F.failed files.new ≡ F.failed files.old) }
     ensures named { IfErr result (λ r. IsOfFailed (F.failed files.old) (F.failed files.new) r) }
@@ -94,6 +100,7 @@ fn read_source<F: Files>(alloc: Global, name: &str, files: &mut F) -> Result<Vec
         (λ bytes. HoldsFrom settles_source (F.contents files.old) name.now bytes.items) }
     ensures known { OnOk result (IsHeld (F.contents files.old) name.now) }
     ensures refused { IfErr result (λ r. IsUnread name.now r) }
+    ensures remembered { OnOk result (Remembers name.now (F.reads files.old) (F.reads files.new)) }
     ensures unchanged { F.contents files.new ≡ F.contents files.old }
     ensures noted { OnOk result (F.failed files.new ≡ F.failed files.old) }
     ensures named { IfErr result (λ r. IsOfFailed (F.failed files.old) (F.failed files.new) r) }
@@ -118,6 +125,9 @@ pub fn build_named<F: Files>(
     ensures refused { IfErr result
         (λ r. IsNotBuilt (F.contents files.old) names.entry.table.now
         (map (λ s. s.now) names.entry.sources.now) r) }
+    ensures remembered { OnOk result
+        (AreRead (names.entry.table.now ∷ map (λ s. s.now) names.entry.sources.now)
+        (F.reads files.old) (F.reads files.new)) }
     ensures unchanged { F.contents files.new ≡ F.contents files.old }
     ensures noted { OnOk result (F.failed files.new ≡ F.failed files.old) }
     ensures named { IfErr result (λ r. IsOfFailed (F.failed files.old) (F.failed files.new) r) }

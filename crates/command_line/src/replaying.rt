@@ -27,8 +27,9 @@ pub fn replay<F: Files, O: Stream>(
 ) -> Result<Outcome, Failure<Refusal>>
     requires { O.failures out.old < 2 ^ 64 - 1 }
     ensures { Answers (replay_meant words.entry)
-        (state F.contents F.failed O.taken O.failures O.is_flushed files.old out.old)
-        (state F.contents F.failed O.taken O.failures O.is_flushed files.new out.new) result }
+        (state F.contents F.failed F.reads O.taken O.failures O.is_flushed files.old out.old)
+        (state F.contents F.failed F.reads O.taken O.failures O.is_flushed files.new out.new)
+        result }
 {
     let Some(ticks) = number_of(words.ticks) else {
         return Err(Failure::Usage(bad_ticks(alloc, "replay", words.ticks)?));
@@ -48,8 +49,9 @@ fn replay_named<F: Files, O: Stream>(
     requires { O.failures out.old < 2 ^ 64 - 1 }
     ensures { EndsReplay wanted.entry.words.image.now wanted.entry.words.partition.now
         wanted.entry.words.inputs.now wanted.entry.ticks
-        (state F.contents F.failed O.taken O.failures O.is_flushed files.old out.old)
-        (state F.contents F.failed O.taken O.failures O.is_flushed files.new out.new) result }
+        (state F.contents F.failed F.reads O.taken O.failures O.is_flushed files.old out.old)
+        (state F.contents F.failed F.reads O.taken O.failures O.is_flushed files.new out.new)
+        result }
 {
     let words = wanted.words;
     let image = read_as(alloc, TextKind::Image, words.image, files)?;
@@ -81,8 +83,9 @@ pub fn inputs<F: Files, O: Stream, W: Watch>(
 ) -> Result<Outcome, Failure<Refusal>>
     requires { O.failures out.old < 2 ^ 64 - 1 }
     ensures { Answers (inputs_meant words.entry)
-        (state F.contents F.failed O.taken O.failures O.is_flushed files.old out.old)
-        (state F.contents F.failed O.taken O.failures O.is_flushed files.new out.new) result }
+        (state F.contents F.failed F.reads O.taken O.failures O.is_flushed files.old out.old)
+        (state F.contents F.failed F.reads O.taken O.failures O.is_flushed files.new out.new)
+        result }
 {
     let Some(ticks) = number_of(words.ticks) else {
         return Err(Failure::Usage(bad_ticks(alloc, "inputs", words.ticks)?));
@@ -103,8 +106,9 @@ fn inputs_named<F: Files, O: Stream, W: Watch>(
     requires { O.failures out.old < 2 ^ 64 - 1 }
     ensures { EndsInputs wanted.entry.words.image.now wanted.entry.words.partition.now
         wanted.entry.words.devices.now wanted.entry.ticks
-        (state F.contents F.failed O.taken O.failures O.is_flushed files.old out.old)
-        (state F.contents F.failed O.taken O.failures O.is_flushed files.new out.new) result }
+        (state F.contents F.failed F.reads O.taken O.failures O.is_flushed files.old out.old)
+        (state F.contents F.failed F.reads O.taken O.failures O.is_flushed files.new out.new)
+        result }
 {
     let words = wanted.words;
     let image = read_as(alloc, TextKind::Image, words.image, files)?;

@@ -9,6 +9,7 @@ ghost use Rattle.command_line.specs.Orders.{First};
 ghost use Rattle.command_line.specs.Refusals.{HasFailedBy, HasFailedByBoth};
 ghost use Rattle.command_line.specs.States.{state, state_of};
 ghost use Rattle.streams.specs.Contents.{Contents};
+ghost use Rattle.streams.specs.Reads.{Reads};
 ghost use Rattle.streams.specs.States.{seen};
 
 use crate::explaining::{Note, RunFiles};
@@ -38,8 +39,9 @@ pub fn run<F: Files, O: Stream, W: Watch>(
 ) -> Result<Outcome, Failure<Refusal>>
     requires { O.failures out.old < 2 ^ 64 - 1 }
     ensures { Answers (run_meant words.entry)
-        (state F.contents F.failed O.taken O.failures O.is_flushed files.old out.old)
-        (state F.contents F.failed O.taken O.failures O.is_flushed files.new out.new) result }
+        (state F.contents F.failed F.reads O.taken O.failures O.is_flushed files.old out.old)
+        (state F.contents F.failed F.reads O.taken O.failures O.is_flushed files.new out.new)
+        result }
 {
     let Some(ticks) = number_of(words.ticks) else {
         return Err(Failure::Usage(bad_ticks(alloc, "run", words.ticks)?));
@@ -61,8 +63,9 @@ fn run_named<F: Files, O: Stream, W: Watch>(
     requires { O.failures out.old < 2 ^ 64 - 1 }
     ensures { EndsRun wanted.entry.words.image.now wanted.entry.words.devices.now
         (map (λ w. w.now) wanted.entry.words.until.now) wanted.entry.ticks
-        (state F.contents F.failed O.taken O.failures O.is_flushed files.old out.old)
-        (state F.contents F.failed O.taken O.failures O.is_flushed files.new out.new) result }
+        (state F.contents F.failed F.reads O.taken O.failures O.is_flushed files.old out.old)
+        (state F.contents F.failed F.reads O.taken O.failures O.is_flushed files.new out.new)
+        result }
 {
     let words = wanted.words;
     let image = read_as(alloc, TextKind::Image, words.image, files)?;
@@ -120,9 +123,9 @@ fn trace<O: Stream, W: Watch>(
 /// Runs the stored module.
 pub fn run_stored<O: Stream>(alloc: Global, out: &mut O) -> Result<Outcome, Refusal>
     requires { O.failures out.old < 2 ^ 64 - 1 }
-    ensures { (files : Option Contents) (failed : List (List ℕ))
-        → Ends First (state_of files failed (seen O.taken O.failures O.is_flushed out.old))
-        (state_of files failed (seen O.taken O.failures O.is_flushed out.new)) result }
+    ensures { (files : Option Contents) (failed : List (List ℕ)) (reads : Reads)
+        → Ends First (state_of files failed reads (seen O.taken O.failures O.is_flushed out.old))
+        (state_of files failed reads (seen O.taken O.failures O.is_flushed out.new)) result }
 {
     trace_stored(alloc, out)?;
     out.flush()?;

@@ -32,8 +32,9 @@ pub fn cost<F: Files, O: Stream>(
 ) -> Result<Outcome, Refusal>
     requires { O.failures out.old < 2 ^ 64 - 1 }
     ensures { Ends (Cost names.entry.table.now (map (λ s. s.now) names.entry.sources.now))
-        (state F.contents F.failed O.taken O.failures O.is_flushed files.old out.old)
-        (state F.contents F.failed O.taken O.failures O.is_flushed files.new out.new) result }
+        (state F.contents F.failed F.reads O.taken O.failures O.is_flushed files.old out.old)
+        (state F.contents F.failed F.reads O.taken O.failures O.is_flushed files.new out.new)
+        result }
 {
     let costs = costs_named(alloc, names, files, note)?;
     show_costs(&costs, out)?;
@@ -50,8 +51,9 @@ pub fn dis<F: Files, O: Stream>(
 ) -> Result<Outcome, Refusal>
     requires { O.failures out.old < 2 ^ 64 - 1 }
     ensures { Ends (Dis image.now)
-        (state F.contents F.failed O.taken O.failures O.is_flushed files.old out.old)
-        (state F.contents F.failed O.taken O.failures O.is_flushed files.new out.new) result }
+        (state F.contents F.failed F.reads O.taken O.failures O.is_flushed files.old out.old)
+        (state F.contents F.failed F.reads O.taken O.failures O.is_flushed files.new out.new)
+        result }
 {
     let image = load_named(alloc, image, files, note)?;
     show_code(&image, out)?;

@@ -1,8 +1,8 @@
 -- A trace that is read again while its dump is written.
-use Rattle.std.proofs.Common.{◌≡◌, ◌⊎◌, inl, inr, ℕ, List, [], ◌∷◌, ◌++◌, Option, Result, Ok, Err, IfErr, sym, ap, subst, ◌∙◌}
-use Rattle.std.specs.Prelude.{IsErr, IsErrAnd, string_bytes}
+use Rattle.std.proofs.Common.{◌≡◌, ◌⊎◌, inl, inr, ℕ, List, Option, Result, Ok, Err, IfErr, sym, ap, subst, ◌∙◌}
+use Rattle.std.specs.Prelude.{IsErr, IsErrAnd}
 use Rattle.streams.specs.Contents.{Contents}
-use Rattle.streams.specs.States.{HasFailed, Seen}
+use Rattle.streams.specs.States.{Seen}
 use Rattle.view_command.specs.Answers.{IsCutShort, IsRefused}
 use Rattle.view_command.specs.Dumping.{IsCut, IsCutAgain}
 use Rattle.view_command.specs.Faults.{IsUnopened, of_view}

@@ -1,5 +1,5 @@
 -- How two traces are read.
-use Rattle.std.specs.Prelude.{ℕ, Option, Some, None, nat_lt, if◌then◌else◌}
+use Rattle.std.specs.Prelude.{Option, Some, None, nat_lt, if◌then◌else◌}
 use Rattle.apex_types.specs.declared.event.Event.{Event}
 use Rattle.trace_lines.specs.declared.side.Side.{Side}
 use Rattle.trace_lines.specs.declared.side.Side.TheVariants as side

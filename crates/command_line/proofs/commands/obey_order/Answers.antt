@@ -5,7 +5,7 @@ use Rattle.command_line.proofs.commands.obey_order.Goals as goal
 
 pub returns-in-First : goal.returns-in-First
 returns-in-First g c =
-    answer_of First _ _ _ c.run_stored.result c.ended.result c.ended.ensures (search rules) (c.run_stored.ensures (g.F.Files.contents c.args.files.now) (g.F.Files.failed c.args.files.now))
+    answer_of First _ _ _ c.run_stored.result c.ended.result c.ended.ensures (search rules) (c.run_stored.ensures (g.F.Files.contents c.args.files.now) (g.F.Files.failed c.args.files.now) (g.F.Files.reads c.args.files.now))
 
 pub returns-in-Check : goal.returns-in-Check
 returns-in-Check g c =

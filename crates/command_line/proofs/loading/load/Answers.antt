@@ -16,5 +16,5 @@ returns g c =
 
 pub returns-in_err-write_bytes : goal.returns-in_err-write_bytes
 returns-in_err-write_bytes g c =
-    refused_as (Ends (Load c.args.form c.args.names.table.now (map (λ s. s.now) c.args.names.sources.now)) (state g.F.Files.contents g.F.Files.failed g.O.Sink.taken g.O.Sink.failures g.O.Stream.is_flushed c.args.files.now c.args.out.now) _) Write c.from_residual-in_err-write_bytes.result c.from_residual-in_err-write_bytes.ensures
+    refused_as (Ends (Load c.args.form c.args.names.table.now (map (λ s. s.now) c.args.names.sources.now)) (state g.F.Files.contents g.F.Files.failed g.F.Files.reads g.O.Sink.taken g.O.Sink.failures g.O.Stream.is_flushed c.args.files.now c.args.out.now) _) Write c.from_residual-in_err-write_bytes.result c.from_residual-in_err-write_bytes.ensures
     ((c.in_err-write_bytes.ensures.failed, c.in_ok-loaded.ensures.unchanged, (shown_of c.in_ok-loaded.loaded, c.in_ok-loaded.ensures.loaded)), c.in_ok-loaded.ensures.noted)

@@ -10,7 +10,7 @@ use Rattle.command_line.proofs.replaying.inputs.Goals as goal
 
 pub returns-in_err-inputs_named : goal.returns-in_err-inputs_named
 returns-in_err-inputs_named g c =
-    let at = state g.F.Files.contents g.F.Files.failed g.O.Sink.taken g.O.Sink.failures g.O.Stream.is_flushed in
+    let at = state g.F.Files.contents g.F.Files.failed g.F.Files.reads g.O.Sink.taken g.O.Sink.failures g.O.Stream.is_flushed in
     let before = at c.args.files.now c.args.out.now in
     let after = at c.inputs_named.new.files c.inputs_named.new.out in
     let r = c.in_err-inputs_named.field-0.0 in
@@ -20,5 +20,5 @@ returns-in_err-inputs_named g c =
 
 pub returns : goal.returns
 returns g c =
-    let at = state g.F.Files.contents g.F.Files.failed g.O.Sink.taken g.O.Sink.failures g.O.Stream.is_flushed in
+    let at = state g.F.Files.contents g.F.Files.failed g.F.Files.reads g.O.Sink.taken g.O.Sink.failures g.O.Stream.is_flushed in
     inputs_end c.args.words.image.now c.args.words.partition.now c.args.words.devices.now c.args.words.ticks.now c.in-Some.ticks (at c.args.files.now c.args.out.now) (at c.inputs_named.new.files c.inputs_named.new.out) c.in_ok-inputs_named.field-0 c.in-Some.ensures.0 c.in-Some.ensures.1 c.in_ok-inputs_named.ensures

@@ -30,11 +30,12 @@ returns-in-Err g c =
 pub returns-in_err-flush : goal.returns-in_err-flush
 returns-in_err-flush g c =
     let taken = g.O.Sink.taken in
+    let at = state g.F.Files.contents g.F.Files.failed g.F.Files.reads g.O.Sink.taken g.O.Sink.failures g.O.Stream.is_flushed in
     let files = g.F.Files.contents c.args.files.now in
     let given = given_from files (g.F.Files.contents c.read_as.new.files) c.args.wanted.words.image.now c.args.wanted.words.devices.now c.in_ok-image.image.items c.in_ok-devices.devices.items c.as_slice.result.now c.as_slice-2.result.now
     c.in_ok-image.ensures.unchanged c.as_slice.ensures.value c.as_slice-2.ensures.value c.in_ok-image.ensures.held c.in_ok-devices.ensures.held in
     let same = c.in_ok-devices.ensures.unchanged ∙ c.in_ok-image.ensures.unchanged in
-    refused_as (EndsInputs c.args.wanted.words.image.now c.args.wanted.words.partition.now c.args.wanted.words.devices.now c.args.wanted.ticks (state g.F.Files.contents g.F.Files.failed g.O.Sink.taken g.O.Sink.failures g.O.Stream.is_flushed c.args.files.now c.args.out.now) _) Write c.from_residual-in_err-flush.result c.from_residual-in_err-flush.ensures (
+    refused_as (EndsInputs c.args.wanted.words.image.now c.args.wanted.words.partition.now c.args.wanted.words.devices.now c.args.wanted.ticks (at c.args.files.now c.args.out.now) (at c.read_as-2.new.files c.flush.new.self)) Write c.from_residual-in_err-flush.result c.from_residual-in_err-flush.ensures (
       (
         c.in_err-flush.ensures.failed ∙ ap (λ (n : ℕ). n + 1) c.in_default.ensures.ok,
         (

@@ -10,7 +10,7 @@ use Rattle.command_line.proofs.running.run.Goals as goal
 
 pub returns-in_err-outcome : goal.returns-in_err-outcome
 returns-in_err-outcome g c =
-    let at = state g.F.Files.contents g.F.Files.failed g.O.Sink.taken g.O.Sink.failures g.O.Stream.is_flushed in
+    let at = state g.F.Files.contents g.F.Files.failed g.F.Files.reads g.O.Sink.taken g.O.Sink.failures g.O.Stream.is_flushed in
     let before = at c.args.files.now c.args.out.now in
     let after = at c.run_named.new.files c.run_named.new.out in
     let until = map (λ w. w.now) c.args.words.until.now in
@@ -21,7 +21,7 @@ returns-in_err-outcome g c =
 
 pub returns : goal.returns
 returns g c =
-    let at = state g.F.Files.contents g.F.Files.failed g.O.Sink.taken g.O.Sink.failures g.O.Stream.is_flushed in
+    let at = state g.F.Files.contents g.F.Files.failed g.F.Files.reads g.O.Sink.taken g.O.Sink.failures g.O.Stream.is_flushed in
     let before = at c.args.files.now c.args.out.now in
     let after = at c.run_named.new.files c.run_named.new.out in
     let until = map (λ w. w.now) c.args.words.until.now in

@@ -1,4 +1,4 @@
-use Rattle.std.proofs.Common.{rules, ◌≡◌, ℕ, None, length, refl, sym, ap, subst, ◌∙◌, string_bytes}
+use Rattle.std.proofs.Common.{rules, ◌≡◌, None, refl, sym, subst, string_bytes}
 use Rattle.streams.specs.Contents.{Opens}
 use Rattle.view_command.specs.Compared.{AreToldBy, asked}
 use Rattle.view_command.specs.Faults.{IsUnopened}

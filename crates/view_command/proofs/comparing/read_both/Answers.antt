@@ -1,10 +1,8 @@
-use Rattle.std.proofs.Common.{rules, ◌≡◌, ◌-◌, ◌^◌, ◌<◌, ◌++◌, ◌∷◌, [], ℕ, Some, None, Ok, inl, inr, refl, ap, sym, subst, ◌∙◌, arith}
+use Rattle.std.proofs.Common.{rules, ◌-◌, ◌^◌, ◌<◌, ◌++◌, ◌∷◌, [], None, inl, inr, sym, subst, arith}
 use Rattle.std.specs.Prelude.{string_bytes}
-use Rattle.trace_lines.specs.declared.side.Side.TheVariants as side
 use Rattle.trace_text.specs.Stream.{left}
 use Rattle.trace_text.specs.Trace.{CanBeWritten}
 use Rattle.view_command.specs.Answers.{IsUnread}
-use Rattle.view_command.specs.Differences.{earlier}
 use Rattle.view_command.proofs.Compared.{IsBetween, at_start, between_next, between_start, between_waits, first_taken, first_turn, in_line, noted_ticks, second_taken, second_turn, so_far}
 use Rattle.view_command.proofs.SoFar.{so_far_start, unread_of}
 use Rattle.view_command.proofs.comparing.read_both.Goals.{in-Some-First+in_ok-take-in-Some-First+in-Ok-next_event-3, in-Some-Second+in_ok-take-in-Some-Second+in-Ok-next_event-4}

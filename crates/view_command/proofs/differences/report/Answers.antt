@@ -1,4 +1,4 @@
-use Rattle.std.proofs.Common.{◌≡◌, ◌+◌, ◌++◌, ap, sym, ◌∙◌, append_assoc, drop}
+use Rattle.std.proofs.Common.{◌+◌, ◌++◌, ap, sym, ◌∙◌, append_assoc, drop}
 use Rattle.std.proofs.lemmas.List.{drop_more}
 use Rattle.view_command.specs.DifferenceTexts as text
 use Rattle.view_command.proofs.differences.report.Goals as goal
