@@ -1,0 +1,3 @@
+pub mod Controls
+pub mod Lines
+pub mod KernelSteps
