@@ -150,6 +150,12 @@ pub record TicksSafely (t : Ticked SourceControl) : Type 0 where
   pub control : NeverAsks t.control
   pub asks : AsksOther t.asks
 
+-- An engine whose INIT never asks for NORMAL.
+pub record IsSafeEngine (e : Engine SourceControl) : Type 0 where
+  pub start : NeverAsks (e.start runner.Init)
+  pub tick : (c : SourceControl) (words : List ℤ) → NeverAsks c → TicksSafely (e.tick c words)
+  pub reply : (c : SourceControl) (answer : List ℤ) → NeverAsks c → NeverAsks (e.reply c answer)
+
 either : (b : Bool) (s t : Ticked SourceControl) → TicksSafely s → TicksSafely t → TicksSafely (if b then s else t)
 either true s t h k = h
 either false s t h k = k
@@ -275,14 +281,6 @@ module _ (program : Program) (safe : NeverSetsNormal program) where
       by_test : (ws : List ℤ) (b : Bool) → nat_eq (length ws) c.awaits ≡ b → NeverAsks (if b then with_answer ws else c)
       by_test ws true e = record { parts = parts_after ws (eqb-true (length ws) c.awaits e) h.parts; callers = h.callers }
       by_test ws false e = h
-
-  -- ---- the engine
-
-  -- An engine whose INIT never asks for NORMAL.
-  pub record IsSafeEngine (e : Engine SourceControl) : Type 0 where
-    pub start : NeverAsks (e.start runner.Init)
-    pub tick : (c : SourceControl) (words : List ℤ) → NeverAsks c → TicksSafely (e.tick c words)
-    pub reply : (c : SourceControl) (answer : List ℤ) → NeverAsks c → NeverAsks (e.reply c answer)
 
   pub engine_is_safe : (costs : Costs) → IsSafeEngine (source_engine costs program)
   engine_is_safe costs = record {

@@ -1,3 +1,5 @@
 pub mod Controls
 pub mod Lines
 pub mod KernelSteps
+pub mod Partitions
+pub mod Histories

@@ -65,7 +65,7 @@ use Rattle.kernel_meaning.specs.Times.{Treated, starts_in_normal, starts, starts
 
 -- ---- lines
 
-abbrev says_normal : EventKind → Bool
+abbrev pub says_normal : EventKind → Bool
 says_normal (event.Mode m) = is_normal m
 says_normal _ = false
 

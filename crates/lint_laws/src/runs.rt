@@ -1,6 +1,21 @@
 //! What is found in a source, and every run of it.
 
-/// Placeholder.
-pub fn nothing_yet()
-    ensures { Unit {0} }
+ghost use Rattle.std.specs.Prelude.{◌≡◌, ℕ, List, Some};
+ghost use Rattle.apex_types.specs.declared.device.DeviceLine.{DeviceLine};
+ghost use Rattle.module_meaning.specs.Accepted.{IsJudged};
+ghost use Rattle.module_meaning.specs.SourceMeaning.{source_trace};
+ghost use Rattle.module_meaning.specs.Table.{Partition, Table, at_number};
+ghost use Rattle.pal_meaning.specs.Program.{Program};
+ghost use Rattle.lint_laws.specs.NormalMode.{NeverNormal, NeverSetsNormal};
+
+/// If no call in INIT or in a procedure of a program sets the mode NORMAL, its partition never enters
+/// it: no line of any run says `MODE NORMAL` of this partition, whatever the devices send.
+pub fn normal_is_asked_for()
+    ensures { (t : Table) (programs : List Program) (devices : List DeviceLine) (n p : ℕ)
+        (row : Partition) (program : Program)
+        → IsJudged t
+        → at_number t.partitions p ≡ Some row
+        → at_number programs p ≡ Some program
+        → NeverSetsNormal program
+        → NeverNormal row.name (source_trace t programs devices n) }
 {}
