@@ -1,6 +1,6 @@
 -- A step of the kernel of a partition that is not in NORMAL does not lead there, unless it serves a call for NORMAL.
-use Rattle.std.proofs.Common.{◌≡◌, ◌≢◌, ℕ, zero, suc, ℤ, pos, negsuc, Bool, true, false, not, List, [], ◌∷◌, ◌++◌, Option, Some, None, refl}
-use Rattle.std.specs.Prelude.{◌+◌, ◌&&◌, if◌then◌else◌, is_some, nat_le}
+use Rattle.std.proofs.Common.{◌≡◌, ◌≢◌, ℕ, zero, suc, ℤ, pos, negsuc, Bool, true, false, List, [], ◌∷◌, Option, Some, None, refl}
+use Rattle.std.specs.Prelude.{◌+◌, if◌then◌else◌, is_some}
 use Rattle.arrayvec.specs.ArrayVec.{ArrayVec}
 use Rattle.apex_types.specs.declared.codes.ErrorKind.{ErrorKind}
 use Rattle.apex_types.specs.declared.codes.ErrorKind.TheVariants as error
@@ -13,9 +13,7 @@ use Rattle.apex_types.specs.declared.codes.Response.TheVariants as response
 use Rattle.apex_types.specs.declared.codes.ReturnCode.TheVariants as code
 use Rattle.apex_types.specs.declared.codes.StartCondition.{StartCondition}
 use Rattle.apex_types.specs.declared.codes.StartCondition.TheVariants as condition
-use Rattle.apex_types.specs.declared.event.EventKind.{EventKind}
 use Rattle.apex_types.specs.declared.identity.At.{At}
-use Rattle.apex_types.specs.declared.identity.PortId.{PortId}
 use Rattle.apex_types.specs.declared.identity.ProcessIndex.{ProcessIndex}
 use Rattle.apex_types.specs.declared.identity.Runner.{Runner}
 use Rattle.apex_types.specs.declared.identity.Runner.TheVariants as runner
@@ -28,14 +26,14 @@ use Rattle.apex_types.specs.declared.service.Call.{Call}
 use Rattle.apex_types.specs.declared.service.Call.TheVariants as call
 use Rattle.apex_types.specs.declared.service.Service.TheVariants as service
 use Rattle.engine_meaning.specs.Engine.{Asks, Nothing, Calls, Faults, Ends}
-use Rattle.kernel_meaning.specs.HealthServices.{report, is_message_length, create_error_handler, creates_found, get_error_status, takes_error, starts_handler, begins_if_dormant, raises, waits_or_leaves, queues, response_of, raise_application_error, ignores, is_fault, enters_mode, acts_on_error, then_acts, handles, faults, then_clears, breaks, raises_application_error, action_of}
+use Rattle.kernel_meaning.specs.HealthServices.{report, create_error_handler, creates_found, get_error_status, takes_error, starts_handler, begins_if_dormant, raises, waits_or_leaves, queues, response_of, raise_application_error, ignores, is_fault, enters_mode, acts_on_error, then_acts, handles, faults, then_clears, breaks, action_of}
 use Rattle.kernel_meaning.specs.Kernel.{Errors, Kernel, of_processes, of_ports, of_ports_alone, with_errors, with_objects, with_ports}
-use Rattle.kernel_meaning.specs.Partition.{preempts, runs, leaves_processor, takes_processor, chooses, chooses_with_handler, treats_due, serves, treats_asked, pick}
+use Rattle.kernel_meaning.specs.Partition.{preempts, runs, leaves_processor, takes_processor, chooses, chooses_with_handler, treats_due, serves, treats_asked}
 use Rattle.kernel_meaning.specs.PartitionServices.{clears, clear_lines, next_release_of, set_partition_mode, is_cold, ends_body}
 use Rattle.kernel_meaning.specs.PortServices as arrival
 use Rattle.kernel_meaning.specs.Objects.{port_at}
-use Rattle.kernel_meaning.specs.Processes.{Processes, row_of, index, is_normal, wakes, answers, refuses, rests_found, zeros_of_wait}
-use Rattle.kernel_meaning.specs.ProcessServices.{number_of, stop_self}
+use Rattle.kernel_meaning.specs.Processes.{Processes, row_of, index, is_normal, answers, refuses, rests_found, zeros_of_wait}
+use Rattle.kernel_meaning.specs.ProcessServices.{number_of}
 use Rattle.kernel_meaning.specs.Sharing.{Sharing, waiting}
 use Rattle.kernel_meaning.specs.Step.{Step, nothing, after}
 use Rattle.kernel_meaning.specs.Times as times

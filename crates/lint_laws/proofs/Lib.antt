@@ -3,3 +3,4 @@ pub mod Lines
 pub mod KernelSteps
 pub mod Partitions
 pub mod Histories
+pub mod Sourced

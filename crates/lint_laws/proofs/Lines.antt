@@ -1,67 +1,44 @@
 -- The lines of the kernel's steps: only the normal start says that the mode becomes NORMAL.
-use Rattle.std.proofs.Common.{◌≡◌, ◌≢◌, ℕ, zero, suc, ℤ, pos, negsuc, Bool, true, false, not, List, [], ◌∷◌, ◌++◌, length, Option, Some, None, refl}
-use Rattle.std.specs.Prelude.{◌+◌, ◌&&◌, ◌||◌, if◌then◌else◌, is_some, nat_le, nat_lt}
+use Rattle.std.proofs.Common.{◌≡◌, ℕ, zero, suc, ℤ, pos, negsuc, Bool, true, false, List, [], ◌∷◌, ◌++◌, length, Option, Some, None, refl}
+use Rattle.std.specs.Prelude.{◌+◌, if◌then◌else◌}
 use Rattle.arrayvec.specs.ArrayVec.{ArrayVec}
-use Rattle.apex_types.specs.declared.codes.ErrorKind.{ErrorKind}
-use Rattle.apex_types.specs.declared.codes.ErrorKind.TheVariants as error
 use Rattle.apex_types.specs.declared.codes.Mode.{Mode}
-use Rattle.apex_types.specs.declared.codes.Mode.TheVariants as mode
-use Rattle.apex_types.specs.declared.codes.PartitionAction.{PartitionAction}
-use Rattle.apex_types.specs.declared.codes.PartitionAction.TheVariants as action
 use Rattle.apex_types.specs.declared.codes.ProcessState.{ProcessState}
 use Rattle.apex_types.specs.declared.codes.ProcessState.TheVariants.{Dormant, Ready, Running, Waiting}
-use Rattle.apex_types.specs.declared.codes.Response.{Response}
-use Rattle.apex_types.specs.declared.codes.Response.TheVariants as response
 use Rattle.apex_types.specs.declared.codes.ReturnCode.{ReturnCode}
 use Rattle.apex_types.specs.declared.codes.ReturnCode.TheVariants as code
-use Rattle.apex_types.specs.declared.codes.StartCondition.{StartCondition}
-use Rattle.apex_types.specs.declared.codes.StartCondition.TheVariants as condition
 use Rattle.apex_types.specs.declared.event.EventKind.{EventKind}
 use Rattle.apex_types.specs.declared.event.EventKind.TheVariants as event
 use Rattle.apex_types.specs.declared.event.Subject.{Subject}
 use Rattle.apex_types.specs.declared.identity.At.{At}
-use Rattle.apex_types.specs.declared.identity.ProcessIndex.{ProcessIndex}
 use Rattle.apex_types.specs.declared.identity.Runner.{Runner}
 use Rattle.apex_types.specs.declared.identity.Runner.TheVariants as runner
 use Rattle.apex_types.specs.declared.identity.Ticks.{Ticks}
 use Rattle.apex_types.specs.declared.process.Due.{Due}
-use Rattle.apex_types.specs.declared.process.Due.TheVariants as due_time
 use Rattle.apex_types.specs.declared.process.Entry.{Entry}
-use Rattle.apex_types.specs.declared.process.Lock.{Lock}
 use Rattle.apex_types.specs.declared.process.ProcessStatus.{ProcessStatus}
 use Rattle.apex_types.specs.declared.process.Wait.{Wait}
 use Rattle.apex_types.specs.declared.process.Wait.TheVariants as wait
 use Rattle.apex_types.specs.declared.process.Waiting.{Waiting as Place}
-use Rattle.apex_types.specs.declared.process.WaitingError.{WaitingError}
 use Rattle.apex_types.specs.declared.service.ArrayPlace.{ArrayPlace}
-use Rattle.apex_types.specs.declared.service.Call.{Call}
-use Rattle.apex_types.specs.declared.service.Call.TheVariants as call
 use Rattle.apex_types.specs.declared.service.ObjectCall.{ObjectCall}
 use Rattle.apex_types.specs.declared.service.ObjectCall.TheVariants as object
 use Rattle.apex_types.specs.declared.service.PortCall.{PortCall}
 use Rattle.apex_types.specs.declared.service.PortCall.TheVariants as port
-use Rattle.apex_types.specs.declared.service.Service.{Service}
 use Rattle.apex_types.specs.declared.service.Service.TheVariants as service
-use Rattle.engine_meaning.specs.Engine.{Asks, Nothing, Calls, Faults, Ends}
-use Rattle.engine_meaning.specs.Operators.{is_zero}
 use Rattle.kernel_meaning.specs.BlackboardServices as blackboards
 use Rattle.kernel_meaning.specs.BufferServices as buffers
 use Rattle.kernel_meaning.specs.EventServices as events
 use Rattle.kernel_meaning.specs.PortServices as ports
 use Rattle.kernel_meaning.specs.SemaphoreServices as semaphores
-use Rattle.kernel_meaning.specs.HealthServices.{report, is_message_length, create_error_handler, creates_found, get_error_status, takes_error, starts_handler, begins_if_dormant, is_waiting, raises, waits_or_leaves, queues, response_of, raise_application_error, ignores, is_fault, enters_mode, acts_on_error, then_acts, handles, faults, then_clears, breaks, raises_application_error, action_of}
-use Rattle.kernel_meaning.specs.Kernel.{Errors, Kernel, of_processes, of_objects, of_ports, of_ports_alone, with_errors, with_objects, with_ports}
 use Rattle.kernel_meaning.specs.ObjectServices.{serves_objects}
-use Rattle.kernel_meaning.specs.Objects.{Objects, Port, Ports, ApexEvent, Blackboard, Buffer, Semaphore, port_at, is_full, is_sampling}
-use Rattle.kernel_meaning.specs.Partition.{pick, preempts, runs, leaves_processor, takes_processor, are_same, chooses, chooses_with_handler, treats_due, serves, treats_asked}
-use Rattle.kernel_meaning.specs.PartitionServices.{clears, clear_lines, next_release_of, set_partition_mode, is_cold, ends_body}
-use Rattle.kernel_meaning.specs.Processes.{Processes, row_of, index, numbered, process_at, on, put_row, waiting_lines, wakes, waits, rests, rests_found, answers_wait, released_with, released, no_longer_waits, zeros_of_wait, is_normal, is_dormant}
-use Rattle.kernel_meaning.specs.ProcessServices.{get_process_id, get_process_status, create_process, set_priority, suspend_self, suspends_self, suspend, suspends, resume, resumes, resumes_from, stop, stop_self, start, delayed_start, lock_preemption, unlock_preemption, get_my_id, number_of, get_time, timed_wait, delays, yields, waits_until, periodic_wait, waits_periodically, waits_for_period, replenish, replenishes, takes_priority, tells_status, creates}
+use Rattle.kernel_meaning.specs.Objects.{Objects, Port, Ports, ApexEvent, Blackboard, Buffer, Semaphore, port_at}
+use Rattle.kernel_meaning.specs.Processes.{Processes, row_of, numbered, on, waiting_lines, wakes, waits, rests_found, answers_wait, released_with, no_longer_waits, zeros_of_wait, is_normal}
+use Rattle.kernel_meaning.specs.ProcessServices.{get_process_id, get_process_status, create_process, set_priority, suspend_self, suspends_self, suspend, resume, resumes_from, stop, start, delayed_start, lock_preemption, unlock_preemption, get_my_id, timed_wait, delays, yields, waits_until, periodic_wait, waits_periodically, waits_for_period, replenish, replenishes}
 use Rattle.kernel_meaning.specs.Sharing as sharing
 use Rattle.kernel_meaning.specs.Sharing.{Sharing, blocks, waits_at, first_waiting, waiting, gives, gives_found, gives_all, releases_found, releases_all, fills, writes, array_of_wait}
-use Rattle.kernel_meaning.specs.Step.{Step, nothing, after, row, message}
-use Rattle.kernel_meaning.specs.Times as times
-use Rattle.kernel_meaning.specs.Times.{Treated, starts_in_normal, starts, starts_waiting, starts_if_waiting, start_from, ends_wait, tick_of, timed_out, released_at, misses, is_past, treats_deadline, treated_after, treats, due_from, mode_of_action}
+use Rattle.kernel_meaning.specs.Step.{Step, after}
+use Rattle.kernel_meaning.specs.Times.{starts_in_normal, starts}
 
 -- ---- lines
 

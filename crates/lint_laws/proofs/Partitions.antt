@@ -1,6 +1,6 @@
 -- A partition whose INIT never asks for NORMAL stays out of it, in each of its moves.
-use Rattle.std.proofs.Common.{◌≡◌, ℕ, zero, suc, ℤ, Bool, true, false, List, [], ◌∷◌, ◌++◌, map, Option, Some, None, refl, sym, ap, ◌∙◌, subst, inl, inr, ◌⊎◌}
-use Rattle.std.specs.Prelude.{slice_get, slice_set}
+use Rattle.std.proofs.Common.{◌≡◌, ℕ, suc, ℤ, false, List, [], ◌∷◌, ◌++◌, map, Option, Some, None, refl, sym, ap, ◌∙◌, subst, inl, inr, ◌⊎◌}
+use Rattle.std.specs.Prelude.{slice_set}
 use Rattle.std.proofs.lemmas.Bool.{false≢true}
 use Rattle.std.proofs.lemmas.Option.{none-some}
 use Rattle.apex_types.specs.Runners.{Action, place_of}
@@ -22,7 +22,7 @@ use Rattle.kernel_laws.specs.OrderLaw.{IsOrdered, chosen_among}
 use Rattle.kernel_laws.proofs.OfTick.{tick_goes}
 use Rattle.kernel_meaning.specs.Kernel.{Kernel, of_processes, of_ports, of_ports_alone, with_ports}
 use Rattle.kernel_meaning.specs.HealthServices.{breaks, then_clears}
-use Rattle.kernel_meaning.specs.Partition.{World, Member, Moved, act, act_all, control_at, replied, no_control, moved, followed_by, told, line, ticked, given, spends_chosen, treats_due, treats_asked, chooses_with_handler, treating_phase, clearing_phase, due_phase, choice_phase, prepares, spending_phase, tick, pick, place_of_port}
+use Rattle.kernel_meaning.specs.Partition.{World, Member, Moved, act, act_all, control_at, replied, no_control, moved, followed_by, told, ticked, given, spends_chosen, treats_due, treats_asked, chooses_with_handler, treating_phase, clearing_phase, due_phase, choice_phase, prepares, spending_phase, tick, pick, place_of_port}
 use Rattle.kernel_meaning.specs.PartitionServices.{clears}
 use Rattle.kernel_meaning.specs.PortServices as arrival
 use Rattle.kernel_meaning.specs.Processes.{Processes, is_normal}
