@@ -4,3 +4,5 @@ pub mod KernelSteps
 pub mod Partitions
 pub mod Histories
 pub mod Sourced
+pub mod Sleeping
+pub mod SleepingServices
