@@ -6,3 +6,4 @@ pub mod Histories
 pub mod Sourced
 pub mod Sleeping
 pub mod SleepingServices
+pub mod SleepingObjects
