@@ -7,3 +7,4 @@ pub mod Sourced
 pub mod Sleeping
 pub mod SleepingServices
 pub mod SleepingObjects
+pub mod SleepingKernel
