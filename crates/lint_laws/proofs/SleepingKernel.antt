@@ -58,6 +58,15 @@ mapped f [] place y e = absurd (none-some y e)
 mapped f (x ∷ xs) zero y e = (x, refl, same_Some (f x) y e)
 mapped f (x ∷ xs) (suc place) y e = mapped f xs place y e
 
+-- a call does not create the process at `q`, and a request is not such a call
+abbrev pub CreatesOther : ℕ → Call → Type 0
+CreatesOther q (call.CreateProcess v) = v ≢ pos (suc q)
+CreatesOther q _ = Unit {0}
+
+abbrev pub AsksForOther : ℕ → Asks → Type 0
+AsksForOther q (Calls c) = CreatesOther q c
+AsksForOther q _ = Unit {0}
+
 module _ (q : ℕ) (name : List ℕ) where
   abbrev pub KernelKeeps : Step Kernel → Type 0
   KernelKeeps t = Keeps q name (lifted (λ (k : Kernel). k.processes) t)
@@ -242,11 +251,7 @@ module _ (q : ℕ) (name : List ℕ) where
     error_status_keeps : (array : ArrayPlace) → Shares (get_error_status (with_errors k) p array)
     error_status_keeps array = either_shared (not (is_same p runner.Handler)) _ _ (told_errors _ _ _) (either_shared _ _ _ (told_errors _ _ _) (takes_error_keeps array k.errors.waiting))
 
-    abbrev CreatesOther : Call → Type 0
-    CreatesOther (call.CreateProcess v) = v ≢ pos (suc q)
-    CreatesOther _ = Unit {0}
-
-    serves_keep : (c : Call) (words : List ℤ) → CreatesOther c → KernelKeeps (serves at k p c words)
+    serves_keep : (c : Call) (words : List ℤ) → CreatesOther q c → KernelKeeps (serves at k p c words)
     serves_keep call.GetPartitionStatus words o = of_kept _ (told _ _ _)
     serves_keep (call.SetPartitionMode m) words o = set_mode_keeps at k p m h
     serves_keep call.StopSelf words o = ends_body_keeps k p other h
@@ -274,12 +279,137 @@ module _ (q : ℕ) (name : List ℕ) where
     serves_keep (call.Object c) words o = let g = objects_keep q name (with_objects k) h p other k.mode at c words in record { part = g.part; lines = g.lines }
     serves_keep (call.Port c) words o = let g = ports_keep q name (with_ports k) h p other k.mode at c words in record { part = g.part; lines = g.lines }
 
-    abbrev AsksForOther : Asks → Type 0
-    AsksForOther (Calls c) = CreatesOther c
-    AsksForOther _ = Unit {0}
-
-    pub asked_keeps : (a : Asks) (words : List ℤ) → AsksForOther a → KernelKeeps (treats_asked at k p a words)
+    pub asked_keeps : (a : Asks) (words : List ℤ) → AsksForOther q a → KernelKeeps (treats_asked at k p a words)
     asked_keeps Nothing words o = same_kernel k h
     asked_keeps (Calls c) words o = serves_keep c words o
     asked_keeps (Faults e) words o = faults_keep k p e other h
     asked_keeps Ends words o = ends_body_keeps k p other h
+
+  -- ---- what is due
+
+  timed_who : (r : ProcessStatus) (w : Wait) → (timed_out r w).who ≡ r.who
+  timed_who r (wait.Service service.SuspendSelf) = refl
+  timed_who r _ = refl
+
+  module _ (at : At) (a : PartitionAction) where
+    ends_keeps : (s : Processes) (h : Sleeps q name s) (p : Runner) (r : ProcessStatus) (d : Due) → IsOther q name p → row_of s p ≡ Some r → Keeps q name (ends_wait s p r d)
+    ends_keeps s h p r (due_time.Release tick) other there = released_with_keeps q name s h p r (released_at tick r) _ (zeros_of_wait r.wait) other there refl
+    ends_keeps s h p r (due_time.Delay tick) other there = released_with_keeps q name s h p r r _ (zeros_of_wait r.wait) other there refl
+    ends_keeps s h p r (due_time.TimeOut tick) other there = released_with_keeps q name s h p r (timed_out r r.wait) _ (zeros_of_wait (timed_out r r.wait).wait) other there (timed_who r r.wait)
+
+    due_keeps : (s : Processes) (h : Sleeps q name s) (p : Runner) (r : ProcessStatus) (o : Option Due) → IsOther q name p → row_of s p ≡ Some r → Keeps q name (times.treats_due at s p r o)
+    due_keeps s h p r None other there = here q name s h [] [] tt
+    due_keeps s h p r (Some d) other there = either q name (nat_le (tick_of d) at.now.0) _ _ (ends_keeps s h p r d other there) (here q name s h [] [] tt)
+
+    misses_keep : (free : ℕ) (s : Processes) (h : Sleeps q name s) (p : ProcessIndex) (r : ProcessStatus) → IsOther q name (runner.Process p) → row_of s (runner.Process p) ≡ Some r → Keeps q name (misses free a s p r).step
+    misses_keep zero s h p r other there = record { part = put_keeps q name s h (runner.Process p) r (record r { deadline = None }) other there refl; lines = (tt, tt) }
+    misses_keep (suc free) s h p r other there = record { part = put_keeps q name s h (runner.Process p) r (record r { deadline = None }) other there refl; lines = (tt, tt) }
+
+    deadline_keeps : (free : ℕ) (s : Processes) (h : Sleeps q name s) (p : ProcessIndex) (o : Option ProcessStatus) → IsOther q name (runner.Process p) → row_of s (runner.Process p) ≡ o → Keeps q name (treats_deadline at free a s p o).step
+    deadline_keeps free s h p None other there = here q name s h [] [] tt
+    deadline_keeps free s h p (Some r) other there = by_test (is_past at.now.0 r.deadline)
+      where
+        by_test : (b : Bool) → Keeps q name (if b then misses free a s p r else record { step = nothing s; free = free; clears = None }).step
+        by_test true = misses_keep free s h p r other there
+        by_test false = here q name s h [] [] tt
+
+    -- the process itself has no due time and no deadline
+    own_deadline : (free : ℕ) (s : Processes) (h : Sleeps q name s) (p : ProcessIndex) (r : ProcessStatus) → IsNew r → Keeps q name (treats_deadline at free a s p (Some r)).step
+    own_deadline free s h p r new = by_test (is_past at.now.0 r.deadline) refl
+      where
+        by_test : (b : Bool) → is_past at.now.0 r.deadline ≡ b → Keeps q name (if b then misses free a s p r else record { step = nothing s; free = free; clears = None }).step
+        by_test true e = absurd (false≢true (sym (ap (is_past at.now.0) new.deadline) ∙ e))
+        by_test false e = here q name s h [] [] tt
+
+    treats_keep : (free : ℕ) (s : Processes) (h : Sleeps q name s) (place : ℕ) (o : Option ProcessStatus) → row_of s (runner.Process (index place)) ≡ o → Keeps q name (treats at free a s (index place) o).step
+    treats_keep free s h place None there = here q name s h [] [] tt
+    treats_keep free s h place (Some r) there = by_test (nat_eq place q) refl
+      where
+        p : Runner
+        p = runner.Process (index place)
+
+        goes : Option Due → Treated
+        goes o = let d = times.treats_due at s p r o in treated_after d (treats_deadline at free a d.part (index place) (row_of d.part p))
+
+        own : IsNew r → Keeps q name (goes None).step
+        own new = subst (λ (o : Option ProcessStatus). Keeps q name (treated_after (nothing s) (treats_deadline at free a s (index place) o)).step) (sym there)
+            (let k = own_deadline free s h (index place) r new in record { part = k.part; lines = k.lines })
+
+        by_test : (b : Bool) → nat_eq place q ≡ b → Keeps q name (goes r.due).step
+        by_test true t =
+            let new = h.rows.own r (subst (λ (i : ℕ). slice_get s.rows (suc (suc i)) ≡ Some r) (eqb-true place q t) there) in
+            subst (λ (o : Option Due). Keeps q name (goes o).step) (sym new.due) (own new)
+        by_test false t =
+            let other : IsOther q name p = λ i. eqb-false place q t (omega (arith, i)) in
+            let d = times.treats_due at s p r r.due in
+            let k = due_keeps s h p r r.due other there in
+            let l = deadline_keeps free d.part k.part (index place) (row_of d.part p) other refl in
+            record { part = l.part; lines = both_other q name d.lines _ k.lines l.lines }
+
+    due_from_keeps : (n place free : ℕ) (s : Processes) → Sleeps q name s → Keeps q name (due_from at a n place free s).step
+    due_from_keeps zero place free s h = here q name s h [] [] tt
+    due_from_keeps (suc n) place free s h =
+        let t = treats at free a s (index place) (row_of s (runner.Process (index place))) in
+        let k = treats_keep free s h place (row_of s (runner.Process (index place))) refl in
+        let rest = due_from_keeps n (place + 1) t.free t.step.part k.part in
+        either_treated (is_some t.clears) t _ k (record { part = rest.part; lines = both_other q name t.step.lines _ k.lines rest.lines })
+      where
+        either_treated : (b : Bool) (t u : Treated) → Keeps q name t.step → Keeps q name u.step → Keeps q name (if b then t else u).step
+        either_treated true t u k l = k
+        either_treated false t u k l = l
+
+  pub treats_due_keeps : (at : At) (k : Kernel) → SleepsIn k → KernelKeeps (of_processes k (treats_due at k).step)
+  treats_due_keeps at k h = let g = due_from_keeps at _ _ 0 _ k.processes h in record { part = g.part; lines = g.lines }
+
+  -- ---- the choice
+
+  -- a runner that is READY or RUNNING is another one
+  pub caller_is_other : (s : Processes) → Sleeps q name s → (p : Runner) → IsCaller s p → IsOther q name p
+  caller_is_other s h runner.Init caller = λ e. absurd (omega (arith, e))
+  caller_is_other s h runner.Handler caller = λ e. absurd (omega (arith, e))
+  caller_is_other s h (runner.Process i) caller = λ e. false≢true (sym (asleep (slice_get s.rows (suc (suc q))) refl) ∙ subst (λ (j : ℕ). is_ready (slice_get s.rows j) ≡ true) e (caller i refl))
+    where
+      asleep : (o : Option ProcessStatus) → slice_get s.rows (suc (suc q)) ≡ o → is_ready o ≡ false
+      asleep None e = refl
+      asleep (Some r) e = let new = h.rows.own r e in ap is_ready_state new.state
+
+  leaves_keep : (s : Processes) (h : Sleeps q name s) (o : Option Runner) → ((p : Runner) → o ≡ Some p → IsOther q name p) → Keeps q name (leaves_processor s o)
+  leaves_keep s h None other = here q name s h [] [] tt
+  leaves_keep s h (Some p) other = by_row (row_of s p) refl
+    where
+      by_row : (o : Option ProcessStatus) → row_of s p ≡ o → Keeps q name (preempts s p o)
+      by_row None e = here q name s h [] [] tt
+      by_row (Some r) e =
+          let k = put_keeps q name s h p r (record r { state = Ready }) (other p refl) e refl in
+          record { part = record { rows = k.rows; queues = k.queues }; lines = (named_other q name s h p r r (other p refl) e refl, tt) }
+
+  takes_keep : (s : Processes) (h : Sleeps q name s) (o : Option Runner) → ((p : Runner) → o ≡ Some p → IsOther q name p) → Keeps q name (takes_processor s o)
+  takes_keep s h None other = here q name s h [] [] tt
+  takes_keep s h (Some p) other = by_row (row_of s p) refl
+    where
+      by_row : (o : Option ProcessStatus) → row_of s p ≡ o → Keeps q name (runs s p o)
+      by_row None e = here q name s h [] [] tt
+      by_row (Some r) e =
+          let k = put_keeps q name s h p r (record r { state = Running }) (other p refl) e refl in
+          record { part = record { rows = k.rows; queues = k.queues }; lines = (named_other q name s h p r r (other p refl) e refl, tt) }
+
+  chooses_keep : (m : Mode) (s : Processes) → Sleeps q name s → RecordsAgree s → Keeps q name (chooses m s)
+  chooses_keep m s h agree =
+      let l = leaves_keep s h s.running (λ p e. caller_is_other s h p (runs_ready s agree p e)) in
+      let t = takes_keep (leaves_processor s s.running).part l.part (pick m s) (λ p e. caller_is_other s h p (picked_ready s agree m p e)) in
+      either q name (are_same s.running (pick m s)) (nothing s) _ (here q name s h [] [] tt) (in_turn q name _ _ l t)
+
+  handler_keeps : (m : Mode) (b : Sharing Errors) → Sleeps q name b.processes → Keeps q name (starts_handler m b)
+  handler_keeps m b h = either q name (is_normal m && is_waiting b.shared.waiting) _ _ (by_row (row_of b.processes runner.Handler) refl) (here q name b.processes h [] [] tt)
+    where
+      by_row : (o : Option ProcessStatus) → row_of b.processes runner.Handler ≡ o → Keeps q name (begins_if_dormant b.processes o)
+      by_row None e = here q name b.processes h [] [] tt
+      by_row (Some r) e =
+          either q name (r.created && is_dormant r) _ _ (in_turn q name (begins b.processes runner.Handler) _ (here q name b.processes h _ _ tt) (wakes_keeps q name b.processes h runner.Handler r r (λ i. absurd (omega (arith, i))) e refl))
+          (here q name b.processes h [] [] tt)
+
+  pub choice_keeps : (k : Kernel) → SleepsIn k → RecordsAgree k.processes → KernelKeeps (chooses_with_handler k)
+  choice_keeps k h agree =
+      let s = handler_keeps k.mode (with_errors k) h in
+      let c = chooses_keep k.mode (chosen_among k) s.part (handler_agrees k.mode (with_errors k) agree) in
+      record { part = c.part; lines = both_other q name (starts_handler k.mode (with_errors k)).lines _ s.lines c.lines }
