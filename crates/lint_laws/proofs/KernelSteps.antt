@@ -38,7 +38,8 @@ use Rattle.kernel_meaning.specs.Sharing.{Sharing, waiting}
 use Rattle.kernel_meaning.specs.Step.{Step, nothing, after}
 use Rattle.kernel_meaning.specs.Times as times
 use Rattle.kernel_meaning.specs.Times.{Treated, begins, ends_wait, timed_out, released_at, misses, is_past, treats_deadline, treats, due_from, mode_of_action}
-use Rattle.lint_laws.proofs.Controls.{CallIsOther, AsksOther}
+use Rattle.lint_laws.proofs.Controls.{AsksAllowed}
+use Rattle.lint_laws.proofs.NormalCalls.{CallIsOther}
 use Rattle.lint_laws.proofs.Lines.{AreSilent, Silent, both, either, in_turn, wakes_silent, rests_silent, released_with_silent, get_process_id_silent, get_process_status_silent, create_process_silent, set_priority_silent, suspend_self_silent, suspend_silent, resume_silent, stop_silent, start_silent, delayed_start_silent, lock_silent, unlock_silent, my_id_silent, timed_wait_silent, periodic_wait_silent, replenish_silent, objects_silent, ports_silent, arrives_silent, enter_silent, leaves_silent}
 
 -- ---- modes
@@ -193,7 +194,7 @@ serves_out at k p (call.Replenish budget) words h o = record { mode = h; lines =
 serves_out at k p (call.Object c) words h o = record { mode = h; lines = objects_silent (with_objects k) p k.mode at c words }
 serves_out at k p (call.Port c) words h o = record { mode = h; lines = ports_silent (with_ports k) p k.mode at c words }
 
-pub asked_out : (at : At) (k : Kernel) (p : Runner) (a : Asks) (words : List ℤ) → IsOut k → AsksOther a → StaysOut (treats_asked at k p a words)
+pub asked_out : (at : At) (k : Kernel) (p : Runner) (a : Asks) (words : List ℤ) → IsOut k → AsksAllowed CallIsOther a → StaysOut (treats_asked at k p a words)
 asked_out at k p Nothing words h o = record { mode = h; lines = tt }
 asked_out at k p (Calls c) words h o = serves_out at k p c words h o
 asked_out at k p (Faults e) words h o = faults_out k p e h

@@ -1,9 +1,10 @@
 pub mod Controls
+pub mod Histories
+pub mod Sourced
+pub mod NormalCalls
 pub mod Lines
 pub mod KernelSteps
 pub mod Partitions
-pub mod Histories
-pub mod Sourced
 pub mod Sleeping
 pub mod SleepingServices
 pub mod SleepingObjects

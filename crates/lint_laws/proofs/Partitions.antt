@@ -1,5 +1,5 @@
 -- A partition whose INIT never asks for NORMAL stays out of it, in each of its moves.
-use Rattle.std.proofs.Common.{◌≡◌, ℕ, suc, ℤ, false, List, [], ◌∷◌, ◌++◌, map, Option, Some, None, refl, sym, ap, ◌∙◌, subst, inl, inr, ◌⊎◌}
+use Rattle.std.proofs.Common.{◌≡◌, ℕ, zero, suc, ℤ, false, List, [], ◌∷◌, ◌++◌, map, Option, Some, None, refl, sym, ap, ◌∙◌, subst, inl, inr, ◌⊎◌}
 use Rattle.std.specs.Prelude.{slice_set}
 use Rattle.std.proofs.lemmas.Bool.{false≢true}
 use Rattle.std.proofs.lemmas.Option.{none-some}
@@ -8,6 +8,7 @@ use Rattle.apex_types.specs.Runners as action
 use Rattle.apex_types.specs.declared.codes.Discipline.{Discipline}
 use Rattle.apex_types.specs.declared.codes.Mode.{Mode}
 use Rattle.apex_types.specs.declared.codes.Mode.TheVariants as mode
+use Rattle.apex_types.specs.declared.device.DeviceLine.{DeviceLine}
 use Rattle.apex_types.specs.declared.event.Event.{Event}
 use Rattle.apex_types.specs.declared.event.EventKind.{EventKind}
 use Rattle.apex_types.specs.declared.event.EventKind.TheVariants as event
@@ -28,16 +29,18 @@ use Rattle.kernel_meaning.specs.PortServices as arrival
 use Rattle.kernel_meaning.specs.Processes.{Processes, is_normal}
 use Rattle.kernel_meaning.specs.Step.{Step}
 use Rattle.pal_meaning.specs.SourceControl.{SourceControl}
-use Rattle.lint_laws.specs.NormalMode.{NeverNormal}
-use Rattle.lint_laws.proofs.Controls.{NeverAsks, AsksOther, IsSafeEngine}
+use Rattle.module_meaning.specs.Accepted.{IsJudged}
+use Rattle.module_meaning.specs.SourceMeaning.{source_trace}
+use Rattle.module_meaning.specs.Table.{Partition, Table, at_number}
+use Rattle.pal_meaning.specs.Program.{Program}
+use Rattle.lint_laws.specs.NormalMode.{NeverNormal, SaysNormal, NeverSetsNormal, sets_mode, IsNotNormal}
+use Rattle.lint_laws.proofs.Controls.{AsksAllowed, engine_is_safe, starts_safely}
+use Rattle.lint_laws.proofs.NormalCalls.{CallIsOther, NeverAsksNormal, KeepsOut, plain_call, mode_call}
+use Rattle.lint_laws.proofs.Histories.{no_line_both, no_line_in_run}
 use Rattle.lint_laws.proofs.Lines.{AreSilent, says_normal}
 use Rattle.lint_laws.proofs.KernelSteps.{IsOut, StaysOut, of_out, clears_out, then_clears_out, breaks_out, asked_out, due_lines, due_clears, choice_out, arrives_out, admits_out, leaves_out}
 
 -- ---- lines
-
-pub never_both : (name : List ℕ) (a b : List Event) → NeverNormal name a → NeverNormal name b → NeverNormal name (a ++ b)
-never_both name [] b h k = k
-never_both name (x ∷ a) b h k = (h.0, never_both name a b h.1 k)
 
 told_never : (name own : List ℕ) (at : At) (kinds : List EventKind) → AreSilent kinds → NeverNormal name (told own at kinds)
 told_never name own at [] h = tt
@@ -48,7 +51,7 @@ told_never name own at (k ∷ ks) h = ((λ says. false≢true (sym h.0 ∙ ap sa
 -- a runner that has nothing left to do, or never asks for NORMAL
 abbrev NeverAsksIn : Option SourceControl → Type 0
 NeverAsksIn None = Unit {0}
-NeverAsksIn (Some c) = NeverAsks c
+NeverAsksIn (Some c) = NeverAsksNormal c
 
 -- It is not in NORMAL, and INIT never asks for NORMAL.
 pub record IsKeptOut (w : World SourceControl) : Type 0 where
@@ -78,7 +81,7 @@ picks_init mode.ColdStart s h = inr refl
 picks_init mode.WarmStart s h = inr refl
 picks_init mode.Normal s h = absurd (false≢true (sym h))
 
-module _ (e : Engine SourceControl) (safe : IsSafeEngine e) where
+module _ (e : Engine SourceControl) (safe : KeepsOut e) (start : NeverAsksNormal (e.start runner.Init)) where
   replied_safe : (o : Option SourceControl) (answer : List ℤ) → NeverAsksIn o → NeverAsksIn (replied e o answer)
   replied_safe None answer h = tt
   replied_safe (Some c) answer h = safe.reply c answer h
@@ -86,7 +89,7 @@ module _ (e : Engine SourceControl) (safe : IsSafeEngine e) where
   -- ---- actions
 
   act_out : (a : Action) (w : World SourceControl) → IsKeptOut w → IsKeptOut (act e a w)
-  act_out (action.Begin runner.Init) w h = record { out = h.out; control = set_first w.controls (Some (e.start runner.Init)) safe.start }
+  act_out (action.Begin runner.Init) w h = record { out = h.out; control = set_first w.controls (Some (e.start runner.Init)) start }
   act_out (action.Begin runner.Handler) w h = record { out = h.out; control = set_later w.controls 0 _ h.control }
   act_out (action.Begin (runner.Process p)) w h = record { out = h.out; control = set_later w.controls (suc p.0) _ h.control }
   act_out (action.Stop runner.Init) w h = record { out = h.out; control = set_first w.controls None tt }
@@ -111,7 +114,7 @@ module _ (e : Engine SourceControl) (safe : IsSafeEngine e) where
   }
 
   followed_out : (m : Moved SourceControl) (rest : World SourceControl → Moved SourceControl) → MovesOut m → (IsKeptOut m.world → MovesOut (rest m.world)) → MovesOut (followed_by m rest)
-  followed_out m rest h k = let n = k h.kept in record { kept = n.kept; lines = λ name. never_both name m.lines (rest m.world).lines (h.lines name) (n.lines name) }
+  followed_out m rest h k = let n = k h.kept in record { kept = n.kept; lines = λ name. no_line_both (SaysNormal name) m.lines (rest m.world).lines (h.lines name) (n.lines name) }
 
   -- ---- a tick
 
@@ -126,7 +129,7 @@ module _ (e : Engine SourceControl) (safe : IsSafeEngine e) where
       followed_out (due_phase e at w) (choice_phase e at) (due_out at w h)
       (λ k. let v = (due_phase e at w).world in moved_out at (chooses_with_handler v.kernel) v (choice_out v.kernel k.out) k.control)
 
-  control_ticks : (o : Option SourceControl) (words : List ℤ) → NeverAsksIn o → NeverAsksIn (ticked e o words).control × AsksOther (ticked e o words).asks
+  control_ticks : (o : Option SourceControl) (words : List ℤ) → NeverAsksIn o → NeverAsksIn (ticked e o words).control × AsksAllowed CallIsOther (ticked e o words).asks
   control_ticks None words h = (tt, tt)
   control_ticks (Some c) words h = let t = safe.tick c words h in (t.control, t.asks)
 
@@ -157,17 +160,30 @@ module _ (e : Engine SourceControl) (safe : IsSafeEngine e) where
 
 -- a partition of an engine whose INIT never asks for NORMAL, and that is not in NORMAL
 pub record IsKept (x : Member SourceControl) : Type 0 where
-  pub engine : IsSafeEngine x.engine
+  pub engine : KeepsOut x.engine
+  pub start : NeverAsksNormal (x.engine.start runner.Init)
   pub world : IsKeptOut x.world
 
 pub move_out : (d : ListKey → Discipline) (names : ℕ → List ℕ) (n : Numbers) (move : Move) (x : Member SourceControl) → IsOrdered d names n x.world.kernel → IsKept x → MovesOut (makes move x)
-move_out d names n (Starts at c) x ordered h = moved_out x.engine h.engine at (clears x.world.kernel mode.ColdStart c) x.world (clears_out x.world.kernel mode.ColdStart c refl) h.world.control
-move_out d names n (BreaksDown at) x ordered h = moved_out x.engine h.engine at (breaks x.world.kernel) x.world (breaks_out x.world.kernel h.world.out) h.world.control
+move_out d names n (Starts at c) x ordered h = moved_out x.engine h.engine h.start at (clears x.world.kernel mode.ColdStart c) x.world (clears_out x.world.kernel mode.ColdStart c refl) h.world.control
+move_out d names n (BreaksDown at) x ordered h = moved_out x.engine h.engine h.start at (breaks x.world.kernel) x.world (breaks_out x.world.kernel h.world.out) h.world.control
 move_out d names n (Arrives at port m) x ordered h =
-    moved_out x.engine h.engine at (of_ports x.world.kernel (arrival.arrives at (with_ports x.world.kernel) (place_of_port port) m)) x.world (arrives_out at x.world.kernel (place_of_port port) m h.world.out) h.world.control
+    moved_out x.engine h.engine h.start at (of_ports x.world.kernel (arrival.arrives at (with_ports x.world.kernel) (place_of_port port) m)) x.world (arrives_out at x.world.kernel (place_of_port port) m h.world.out) h.world.control
 move_out d names n (Leaves at port) x ordered h =
-    moved_out x.engine h.engine at (of_ports_alone x.world.kernel (arrival.leaves x.world.kernel.ports (place_of_port port))) x.world (leaves_out x.world.kernel (place_of_port port) h.world.out) h.world.control
+    moved_out x.engine h.engine h.start at (of_ports_alone x.world.kernel (arrival.leaves x.world.kernel.ports (place_of_port port))) x.world (leaves_out x.world.kernel (place_of_port port) h.world.out) h.world.control
 move_out d names n (Admits at port) x ordered h =
-    moved_out x.engine h.engine at (of_ports x.world.kernel (arrival.admits (with_ports x.world.kernel) (place_of_port port))) x.world (admits_out x.world.kernel (place_of_port port) h.world.out) h.world.control
+    moved_out x.engine h.engine h.start at (of_ports x.world.kernel (arrival.admits (with_ports x.world.kernel) (place_of_port port))) x.world (admits_out x.world.kernel (place_of_port port) h.world.out) h.world.control
 move_out d names n (GoesOut at channel m) x ordered h = record { kept = h.world; lines = λ name. told_never name x.world.kernel.fixed.name at (event.Out channel m ∷ []) (refl, tt) }
-move_out d names n (Advances at) x ordered h = tick_out x.engine h.engine d names n at x.world ordered h.world
+move_out d names n (Advances at) x ordered h = tick_out x.engine h.engine h.start d names n at x.world ordered h.world
+
+-- ---- a run
+
+pub never_normal_run : (t : Table) (programs : List Program) (devices : List DeviceLine) (n p : ℕ) (row : Partition) (program : Program) → IsJudged t → at_number t.partitions p ≡ Some row → at_number programs p ≡ Some program
+    → NeverSetsNormal program → NeverNormal row.name (source_trace t programs devices n)
+never_normal_run t programs devices n zero row program judged e f safe = absurd (none-some row e)
+never_normal_run t programs devices n (suc place) row program judged e f safe =
+    let engine = engine_is_safe sets_mode IsNotNormal CallIsOther plain_call mode_call program safe.procedures t.costs in
+    let start = starts_safely sets_mode IsNotNormal CallIsOther plain_call mode_call program safe.procedures program.init safe.init in
+    no_line_in_run (SaysNormal row.name) IsKept t programs devices n place row program judged e f
+    (record { own = λ l says. says.0; moves = λ d called k move x ordered h. let m = move_out d called k move x ordered h in (record { engine = h.engine; start = h.start; world = m.kept }, m.lines row.name) })
+    (record { engine = engine; start = start; world = record { out = refl; control = tt } })

@@ -49,6 +49,8 @@ use Rattle.kernel_meaning.specs.Sharing.{Sharing}
 use Rattle.kernel_meaning.specs.Step.{Step, nothing, after, lifted}
 use Rattle.kernel_meaning.specs.Times as times
 use Rattle.kernel_meaning.specs.Times.{Treated, begins, ends_wait, tick_of, timed_out, released_at, misses, is_past, treats_deadline, treated_after, treats, due_from, mode_of_action, starts_if_waiting, starts_waiting, start_from, start_all_waiting}
+use Rattle.lint_laws.specs.Creation.{IsNot}
+use Rattle.lint_laws.proofs.Controls.{AsksAllowed}
 use Rattle.lint_laws.proofs.Sleeping.{IsNew, IsOther, LinesAreOther, both_other, Sleeps, RowsSleep, rows_set, Keeps, either, in_turn, here, put_keeps, wakes_keeps, rests_found_keeps, released_with_keeps, absent_emptied, named_other}
 use Rattle.lint_laws.proofs.SleepingObjects.{objects_keep, ports_keep}
 use Rattle.lint_laws.proofs.SleepingServices.{in_normal_keeps, get_process_id_keeps, get_process_status_keeps, create_process_keeps, set_priority_keeps, suspend_self_keeps, suspend_keeps, resume_keeps, stop_keeps, start_keeps, delayed_start_keeps, lock_preemption_keeps, unlock_preemption_keeps, get_my_id_keeps, timed_wait_keeps, periodic_wait_keeps, replenish_keeps}
@@ -58,14 +60,10 @@ mapped f [] place y e = absurd (none-some y e)
 mapped f (x ∷ xs) zero y e = (x, refl, same_Some (f x) y e)
 mapped f (x ∷ xs) (suc place) y e = mapped f xs place y e
 
--- a call does not create the process at `q`, and a request is not such a call
+-- a call does not create the process at `q`
 abbrev pub CreatesOther : ℕ → Call → Type 0
-CreatesOther q (call.CreateProcess v) = v ≢ pos (suc q)
+CreatesOther q (call.CreateProcess v) = IsNot (suc q) v
 CreatesOther q _ = Unit {0}
-
-abbrev pub AsksForOther : ℕ → Asks → Type 0
-AsksForOther q (Calls c) = CreatesOther q c
-AsksForOther q _ = Unit {0}
 
 module _ (q : ℕ) (name : List ℕ) where
   abbrev pub KernelKeeps : Step Kernel → Type 0
@@ -279,7 +277,7 @@ module _ (q : ℕ) (name : List ℕ) where
     serves_keep (call.Object c) words o = let g = objects_keep q name (with_objects k) h p other k.mode at c words in record { part = g.part; lines = g.lines }
     serves_keep (call.Port c) words o = let g = ports_keep q name (with_ports k) h p other k.mode at c words in record { part = g.part; lines = g.lines }
 
-    pub asked_keeps : (a : Asks) (words : List ℤ) → AsksForOther q a → KernelKeeps (treats_asked at k p a words)
+    pub asked_keeps : (a : Asks) (words : List ℤ) → AsksAllowed (CreatesOther q) a → KernelKeeps (treats_asked at k p a words)
     asked_keeps Nothing words o = same_kernel k h
     asked_keeps (Calls c) words o = serves_keep c words o
     asked_keeps (Faults e) words o = faults_keep k p e other h

@@ -1,1 +1,4 @@
+pub mod Lines
+pub mod Numbers
 pub mod NormalMode
+pub mod Creation

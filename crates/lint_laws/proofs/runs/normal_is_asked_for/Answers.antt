@@ -1,4 +1,4 @@
-use Rattle.lint_laws.proofs.Histories.{never_normal_run}
+use Rattle.lint_laws.proofs.Partitions.{never_normal_run}
 use Rattle.lint_laws.proofs.runs.normal_is_asked_for.Goals as goal
 
 pub returns : goal.returns
