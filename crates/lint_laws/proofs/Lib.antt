@@ -9,3 +9,4 @@ pub mod Sleeping
 pub mod SleepingServices
 pub mod SleepingObjects
 pub mod SleepingKernel
+pub mod SleepingPartitions

@@ -1,5 +1,5 @@
 -- Controls and engines that never ask for NORMAL.
-use Rattle.std.proofs.Common.{◌≡◌, ◌≢◌, ℤ, pos, Bool, true, false, List, ◌∷◌, sym, ◌∙◌}
+use Rattle.std.proofs.Common.{◌≡◌, ℤ, true, false, List, ◌∷◌, sym}
 use Rattle.std.specs.Prelude.{take, reverse}
 use Rattle.std.proofs.lemmas.Bool.{false≢true}
 use Rattle.apex_types.specs.ServiceCalls.{call_of}

@@ -1,7 +1,7 @@
 -- A process that is not created is in no list, and no change of another process touches it.
-use Rattle.std.proofs.Common.{◌≡◌, ◌≢◌, ℕ, zero, suc, ℤ, pos, negsuc, Bool, true, false, not, cond, List, [], ◌∷◌, ◌++◌, length, map, nat_eq, Option, Some, None, refl, sym, ap, ◌∙◌, subst, arith}
-use Rattle.std.specs.Prelude.{◌==◌, if◌then◌else◌, nat_lt, filter, slice_get, slice_set, slice_index_or}
-use Rattle.std.proofs.lemmas.Bool.{eqb-true, eqb-false, false≢true}
+use Rattle.std.proofs.Common.{◌≡◌, ◌≢◌, ℕ, zero, suc, ℤ, pos, Bool, true, false, not, cond, List, [], ◌∷◌, ◌++◌, length, map, nat_eq, Option, Some, None, refl, sym, ap, ◌∙◌, subst, arith}
+use Rattle.std.specs.Prelude.{if◌then◌else◌, nat_lt, slice_get, slice_set}
+use Rattle.std.proofs.lemmas.Bool.{eqb-true, eqb-false}
 use Rattle.std.proofs.lemmas.Option.{none-some, same_Some}
 use Rattle.arrayvec.specs.ArrayVec.{ArrayVec}
 use Rattle.apex_types.specs.Runners.{Action, place_of}
@@ -30,10 +30,10 @@ use Rattle.apex_types.specs.declared.process.Waiting.{Waiting as Place}
 use Rattle.engine_meaning.specs.Operators.{is_zero}
 use Rattle.kernel_laws.proofs.Places.{get_set_same, get_set_other}
 use Rattle.kernel_laws.proofs.Records.{numbered_found}
-use Rattle.kernel_meaning.specs.Processes.{Processes, row_of, index, numbered, process_at, on, put_row, put_ready, put_unready, waiting_lines, wakes, waits, rests, rests_found, answers_wait, released_with, released, no_longer_waits, leaves_queues, zeros_of_wait, is_busy}
+use Rattle.kernel_meaning.specs.Processes.{Processes, row_of, numbered, on, put_row, put_ready, put_unready, waiting_lines, wakes, waits, rests, rests_found, answers_wait, released_with, no_longer_waits, leaves_queues, zeros_of_wait, is_busy}
 use Rattle.kernel_meaning.specs.Queues.{Queues, entry, is_entry_of, without, behind_equals, list_in, list_at, put_list, each_list, without_in_all, joined, joins, no_entries, emptied}
 use Rattle.kernel_meaning.specs.Sharing.{blocks, enters, waits_at, found_first, first_waiting, waiting, gives, gives_found, gives_all, releases_found, releases_all}
-use Rattle.kernel_meaning.specs.Step.{Step, nothing, after}
+use Rattle.kernel_meaning.specs.Step.{Step, after}
 
 -- a record of a process that is not created
 pub record IsNew (r : ProcessStatus) : Type 0 where

@@ -1,17 +1,14 @@
 -- No step of the kernel touches a process that is not created, unless it serves a call that creates it.
-use Rattle.std.proofs.Common.{◌≡◌, ◌≢◌, ℕ, zero, suc, ℤ, pos, negsuc, Bool, true, false, not, List, [], ◌∷◌, ◌++◌, length, map, nat_eq, Option, Some, None, refl, sym, ap, ◌∙◌, subst, arith}
-use Rattle.std.specs.Prelude.{◌+◌, ◌-◌, ◌&&◌, if◌then◌else◌, is_some, nat_le, slice_get, slice_set}
+use Rattle.std.proofs.Common.{◌≡◌, ℕ, zero, suc, ℤ, Bool, true, false, not, List, [], ◌∷◌, length, map, nat_eq, Option, Some, None, refl, sym, ap, ◌∙◌, subst, arith}
+use Rattle.std.specs.Prelude.{◌+◌, ◌-◌, ◌&&◌, if◌then◌else◌, is_some, nat_le, slice_get}
 use Rattle.std.proofs.lemmas.Bool.{eqb-true, eqb-false, false≢true}
 use Rattle.std.proofs.lemmas.Option.{none-some, same_Some}
-use Rattle.arrayvec.specs.ArrayVec.{ArrayVec}
-use Rattle.apex_types.specs.Runners.{place_of}
 use Rattle.apex_types.specs.declared.codes.ErrorKind.{ErrorKind}
 use Rattle.apex_types.specs.declared.codes.ErrorKind.TheVariants as error
 use Rattle.apex_types.specs.declared.codes.Mode.{Mode}
 use Rattle.apex_types.specs.declared.codes.Mode.TheVariants as mode
 use Rattle.apex_types.specs.declared.codes.PartitionAction.{PartitionAction}
-use Rattle.apex_types.specs.declared.codes.ProcessState.{ProcessState}
-use Rattle.apex_types.specs.declared.codes.ProcessState.TheVariants.{Dormant, Ready, Running}
+use Rattle.apex_types.specs.declared.codes.ProcessState.TheVariants.{Ready, Running}
 use Rattle.apex_types.specs.declared.codes.Response.{Response}
 use Rattle.apex_types.specs.declared.codes.Response.TheVariants as response
 use Rattle.apex_types.specs.declared.codes.ReturnCode.TheVariants as code
@@ -32,18 +29,18 @@ use Rattle.apex_types.specs.declared.service.Call.{Call}
 use Rattle.apex_types.specs.declared.service.Call.TheVariants as call
 use Rattle.apex_types.specs.declared.service.Service.TheVariants as service
 use Rattle.engine_meaning.specs.Engine.{Asks, Nothing, Calls, Faults, Ends}
-use Rattle.kernel_laws.specs.Agreement.{RecordsAgree, record_at}
+use Rattle.kernel_laws.specs.Agreement.{RecordsAgree}
 use Rattle.kernel_laws.specs.OrderLaw.{chosen_among}
 use Rattle.kernel_laws.proofs.RecordChoice.{runs_ready, picked_ready}
 use Rattle.kernel_laws.proofs.RecordKernel.{handler_agrees}
 use Rattle.kernel_laws.proofs.RecordRows.{IsCaller}
-use Rattle.kernel_meaning.specs.HealthServices.{report, is_message_length, create_error_handler, creates_found, is_handler_created, get_error_status, takes_error, starts_handler, begins_if_dormant, is_waiting, raises, waits_or_leaves, queues, response_of, raise_application_error, ignores, is_fault, enters_mode, acts_on_error, then_acts, handles, faults, then_clears, breaks, raises_application_error, action_of}
+use Rattle.kernel_meaning.specs.HealthServices.{report, is_message_length, create_error_handler, creates_found, is_handler_created, get_error_status, takes_error, starts_handler, begins_if_dormant, is_waiting, raises, waits_or_leaves, queues, response_of, raise_application_error, ignores, is_fault, enters_mode, acts_on_error, then_acts, handles, faults, then_clears, breaks, action_of}
 use Rattle.kernel_meaning.specs.Kernel.{Errors, Kernel, of_processes, with_errors, with_objects, with_ports}
 use Rattle.kernel_meaning.specs.Partition.{preempts, runs, leaves_processor, takes_processor, are_same, chooses, chooses_with_handler, treats_due, serves, treats_asked, pick, is_ready}
 use Rattle.kernel_meaning.specs.PartitionServices.{forgotten, ready_init, started_rows, cleared_processes, clears, clear_lines, next_release_of, starts_normally, mode_of, wants, is_warm, is_cold, set_partition_mode, ends_body}
 use Rattle.kernel_meaning.specs.PartitionServices as services
-use Rattle.kernel_meaning.specs.Processes.{Processes, row_of, index, is_normal, is_dormant, is_same, put_row, rests_found, zeros_of_wait, answers, refuses}
-use Rattle.kernel_meaning.specs.ProcessServices.{number_of, stop_self, is_ready_state}
+use Rattle.kernel_meaning.specs.Processes.{Processes, row_of, index, is_normal, is_dormant, is_same, rests_found, zeros_of_wait, answers, refuses}
+use Rattle.kernel_meaning.specs.ProcessServices.{number_of, is_ready_state}
 use Rattle.kernel_meaning.specs.Sharing as sharing
 use Rattle.kernel_meaning.specs.Sharing.{Sharing}
 use Rattle.kernel_meaning.specs.Step.{Step, nothing, after, lifted}
@@ -55,7 +52,7 @@ use Rattle.lint_laws.proofs.Sleeping.{IsNew, IsOther, LinesAreOther, both_other,
 use Rattle.lint_laws.proofs.SleepingObjects.{objects_keep, ports_keep}
 use Rattle.lint_laws.proofs.SleepingServices.{in_normal_keeps, get_process_id_keeps, get_process_status_keeps, create_process_keeps, set_priority_keeps, suspend_self_keeps, suspend_keeps, resume_keeps, stop_keeps, start_keeps, delayed_start_keeps, lock_preemption_keeps, unlock_preemption_keeps, get_my_id_keeps, timed_wait_keeps, periodic_wait_keeps, replenish_keeps}
 
-mapped : {A B : Type 0} (f : A → B) (xs : List A) (place : ℕ) (y : B) → slice_get (map f xs) place ≡ Some y → (x : A) × (slice_get xs place ≡ Some x) × (f x ≡ y)
+pub mapped : {A B : Type 0} (f : A → B) (xs : List A) (place : ℕ) (y : B) → slice_get (map f xs) place ≡ Some y → (x : A) × (slice_get xs place ≡ Some x) × (f x ≡ y)
 mapped f [] place y e = absurd (none-some y e)
 mapped f (x ∷ xs) zero y e = (x, refl, same_Some (f x) y e)
 mapped f (x ∷ xs) (suc place) y e = mapped f xs place y e

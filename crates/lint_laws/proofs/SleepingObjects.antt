@@ -1,12 +1,11 @@
 -- The services on objects and on ports, and messages, do not touch a process that is not created.
-use Rattle.std.proofs.Common.{◌≡◌, ◌≢◌, ℕ, ℤ, pos, Bool, true, false, List, [], ◌∷◌, ◌++◌, length, Option, Some, None, refl}
-use Rattle.std.specs.Prelude.{if◌then◌else◌, nat_lt}
+use Rattle.std.proofs.Common.{◌≢◌, ℕ, ℤ, Bool, true, false, List, [], ◌∷◌, Option, Some, None, refl}
+use Rattle.std.specs.Prelude.{if◌then◌else◌}
 use Rattle.arrayvec.specs.ArrayVec.{ArrayVec}
 use Rattle.apex_types.specs.declared.codes.Mode.{Mode}
 use Rattle.apex_types.specs.declared.codes.ReturnCode.{ReturnCode}
 use Rattle.apex_types.specs.declared.codes.ReturnCode.TheVariants as code
 use Rattle.apex_types.specs.declared.identity.At.{At}
-use Rattle.apex_types.specs.declared.identity.ListKey.{ListKey}
 use Rattle.apex_types.specs.declared.identity.Runner.{Runner}
 use Rattle.apex_types.specs.declared.identity.Runner.TheVariants as runner
 use Rattle.apex_types.specs.declared.process.Entry.{Entry}
@@ -29,7 +28,7 @@ use Rattle.kernel_meaning.specs.Processes.{row_of, numbered, zeros_of_wait}
 use Rattle.kernel_meaning.specs.Sharing as sharing
 use Rattle.kernel_meaning.specs.Sharing.{Sharing, of_processes, blocks, first_waiting, waiting}
 use Rattle.kernel_meaning.specs.Step.{Step, nothing, after, lifted, message}
-use Rattle.lint_laws.proofs.Sleeping.{IsOther, IsAbsent, FindsOther, Sleeps, Keeps, both_other, here, released_with_keeps, gives_keeps, entry_finds, first_finds, releases_keep, gives_all_keep, blocks_keep, absent_at}
+use Rattle.lint_laws.proofs.Sleeping.{IsOther, IsAbsent, FindsOther, Sleeps, Keeps, both_other, released_with_keeps, gives_keeps, entry_finds, first_finds, releases_keep, gives_all_keep, blocks_keep, absent_at}
 
 module _ (q : ℕ) (name : List ℕ) where
   abbrev pub Shares : {O : Type 0} → Step (Sharing O) → Type 0

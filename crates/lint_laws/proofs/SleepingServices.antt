@@ -1,15 +1,14 @@
 -- The services on processes and on time do not touch a process that is not created, if another runner calls them.
-use Rattle.std.proofs.Common.{◌≡◌, ◌≢◌, ℕ, zero, suc, ℤ, pos, negsuc, Bool, true, false, not, List, [], ◌∷◌, ◌++◌, length, Option, Some, None, refl, sym, ap, ◌∙◌, subst, arith}
-use Rattle.std.specs.Prelude.{◌+◌, ◌-◌, ◌&&◌, ◌||◌, ◌==◌, if◌then◌else◌, is_some, nat_le, slice_get}
+use Rattle.std.proofs.Common.{◌≡◌, ◌≢◌, ℕ, zero, suc, ℤ, pos, negsuc, Bool, true, false, not, List, [], Option, Some, None, refl, sym, ap, ◌∙◌, subst}
+use Rattle.std.specs.Prelude.{◌+◌, ◌||◌, if◌then◌else◌, is_some, nat_le, slice_get}
 use Rattle.std.proofs.lemmas.Bool.{false≢true, or_parts}
-use Rattle.std.proofs.lemmas.Option.{none-some, same_Some}
+use Rattle.std.proofs.lemmas.Option.{none-some}
 use Rattle.apex_types.specs.declared.codes.Mode.{Mode}
 use Rattle.apex_types.specs.declared.codes.ReturnCode.{ReturnCode}
 use Rattle.apex_types.specs.declared.codes.ReturnCode.TheVariants as code
 use Rattle.apex_types.specs.declared.identity.At.{At}
 use Rattle.apex_types.specs.declared.identity.Priority.{Priority}
 use Rattle.apex_types.specs.declared.identity.Runner.{Runner}
-use Rattle.apex_types.specs.declared.identity.Runner.TheVariants as runner
 use Rattle.apex_types.specs.declared.identity.Ticks.{Ticks}
 use Rattle.apex_types.specs.declared.limits.TheConstants.{MOST_LOCK_LEVEL}
 use Rattle.apex_types.specs.declared.process.Lock.{Lock}
@@ -21,10 +20,10 @@ use Rattle.apex_types.specs.declared.service.Service.TheVariants as service
 use Rattle.engine_meaning.specs.Operators.{is_zero}
 use Rattle.kernel_laws.proofs.Records.{at_found}
 use Rattle.kernel_meaning.specs.Processes.{Processes, row_of, index, process_at, has, on, answers, refuses, wakes, waits, rests, released, zeros_of_wait, is_created, is_dormant, is_suspended, is_periodic, is_unknown, is_own, is_no_other, is_busy, is_held, is_normal}
-use Rattle.kernel_meaning.specs.ProcessServices.{get_process_id, get_process_status, tells_status, create_process, creates, set_priority, takes_priority, priority_of, is_priority, is_ready_state, suspend_self, suspends_self, of_row, suspend, suspends, is_holder, resume, resumes, resumes_from, stop, start, delayed_start, is_beyond, lock_preemption, unlock_preemption, with_lock, locked_by, unlocked, level_of, may_not_lock, get_my_id, timed_wait, delays, yields, waits_until, periodic_wait, waits_periodically, waits_for_period, replenish, replenishes, has_no_deadline, reaches_past}
-use Rattle.kernel_meaning.specs.Step.{Step, nothing, after}
-use Rattle.kernel_meaning.specs.Times.{is_delay, is_duration, amount, ticks, starts, starts_in_normal, released_at}
-use Rattle.lint_laws.proofs.Sleeping.{IsNew, IsOther, FindsOther, Sleeps, Keeps, either, in_turn, here, put_keeps, ready_keeps, wakes_keeps, waits_keeps, rests_keeps, released_with_keeps, entry_finds, on_found}
+use Rattle.kernel_meaning.specs.ProcessServices.{get_process_id, get_process_status, tells_status, create_process, creates, set_priority, takes_priority, priority_of, is_priority, is_ready_state, suspend_self, suspends_self, of_row, suspend, suspends, is_holder, resume, resumes, resumes_from, stop, start, delayed_start, is_beyond, lock_preemption, unlock_preemption, with_lock, level_of, may_not_lock, get_my_id, timed_wait, delays, yields, waits_until, periodic_wait, waits_periodically, waits_for_period, replenish, replenishes, has_no_deadline, reaches_past}
+use Rattle.kernel_meaning.specs.Step.{Step, nothing}
+use Rattle.kernel_meaning.specs.Times.{is_delay, is_duration, amount, ticks, starts, starts_in_normal}
+use Rattle.lint_laws.proofs.Sleeping.{IsOther, FindsOther, Sleeps, Keeps, either, in_turn, here, put_keeps, ready_keeps, wakes_keeps, waits_keeps, rests_keeps, released_with_keeps, entry_finds, on_found}
 
 module _ (q : ℕ) (name : List ℕ) (s : Processes) (h : Sleeps q name s) where
   abbrev Kept : Step Processes → Type 0
