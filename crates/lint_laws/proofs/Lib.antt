@@ -1,6 +1,6 @@
+pub mod Lists
 pub mod Controls
 pub mod Histories
-pub mod Sourced
 pub mod NormalCalls
 pub mod Lines
 pub mod KernelSteps
@@ -10,3 +10,8 @@ pub mod SleepingServices
 pub mod SleepingObjects
 pub mod SleepingKernel
 pub mod SleepingPartitions
+pub mod Sourced
+pub mod Sources
+pub mod NormalSources
+pub mod CreationSources
+pub mod InAll

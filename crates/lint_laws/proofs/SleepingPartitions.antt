@@ -49,8 +49,9 @@ use Rattle.lint_laws.specs.Creation.{SaysState, NeverHasState, NeverCreates, Han
 use Rattle.lint_laws.specs.Numbers.{BlockFits}
 use Rattle.lint_laws.proofs.Controls.{AsksAllowed, IsSafeEngine, NeverAsks, engine_is_safe, starts_safely}
 use Rattle.lint_laws.proofs.Histories.{no_line_both, no_line_in_run}
+use Rattle.lint_laws.proofs.Lists.{mapped}
 use Rattle.lint_laws.proofs.Sleeping.{AreAbsent, IsOther, IsNew, LinesAreOther, LineIsOther, RowsSleep, Sleeps, WaitsNowhere}
-use Rattle.lint_laws.proofs.SleepingKernel.{CreatesOther, mapped, KernelKeeps, clears_keep, then_clears_keep, breaks_keep, asked_keeps, treats_due_keeps, caller_is_other, choice_keeps}
+use Rattle.lint_laws.proofs.SleepingKernel.{CreatesOther, KernelKeeps, clears_keep, then_clears_keep, breaks_keep, asked_keeps, treats_due_keeps, caller_is_other, choice_keeps}
 use Rattle.lint_laws.proofs.SleepingObjects.{arrives_keeps, admits_keep}
 
 module _ (q : ℕ) where

@@ -2,4 +2,5 @@
 //! promise a law each.
 #![tactic(auto)]
 
+pub mod listed;
 pub mod runs;
