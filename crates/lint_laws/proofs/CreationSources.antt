@@ -24,7 +24,6 @@ use Rattle.lint.specs.declared.finding.FindingKind.TheVariants as finding
 use Rattle.lint_laws.specs.Creation.{HandlerFits, IsNot, IsProcess, NeverCreates, creates_process}
 use Rattle.lint_laws.specs.Numbers.{BlockFits, CallFits, IsNumber}
 use Rattle.lint_laws.proofs.Lists.{mapped}
-use Rattle.lint_laws.proofs.NormalSources.{none_meets}
 use Rattle.lint_laws.proofs.Sources.{AtCalls, scope_with, none_of_both, body_fits, procedures_fit}
 
 -- ---- names
@@ -167,6 +166,22 @@ entry_at [] count i p e = absurd (none-some p e)
 entry_at (x ∷ xs) count zero p e = (_, refl, ap (λ (y : written.Process). y.name) (same_Some x p e))
 entry_at (x ∷ xs) count (suc i) p e = entry_at xs (unwrap_or (counted MOST_PROCESSES count 1) count) i p e
 
+new_in_second : (before xs ys : List Entry) (j : ℕ) (b : Entry) → AreNew before (xs ++ ys) → slice_get ys j ≡ Some b → is_some (find b.name before) ≡ false
+new_in_second before [] ys j b h e = new_at before ys j b h e
+new_in_second before (x ∷ xs) ys j b h e = let r = new_rest before x (xs ++ ys) h in find_front b.name before (x ∷ []) (new_in_second (before ++ x ∷ []) xs ys j b r.1 e)
+
+differ_across : (before xs ys : List Entry) (i j : ℕ) (a b : Entry) → AreNew before (xs ++ ys) → slice_get xs i ≡ Some a → slice_get ys j ≡ Some b → bytes_eq a.name b.name ≡ false
+differ_across before [] ys i j a b h e f = absurd (none-some a e)
+differ_across before (x ∷ xs) ys zero j a b h e f =
+    let r = new_rest before x (xs ++ ys) h in
+    subst (λ (y : Entry). bytes_eq y.name b.name ≡ false) (same_Some x a e) (find_last b.name before x (new_in_second (before ++ x ∷ []) xs ys j b r.1 f))
+differ_across before (x ∷ xs) ys (suc i) j a b h e f = let r = new_rest before x (xs ++ ys) h in differ_across (before ++ x ∷ []) xs ys i j a b r.1 e f
+
+declaration_at : (ds : List written.Declaration) (ports : List PortRow) (c : Counts) (i : ℕ) (d : written.Declaration) → slice_get ds i ≡ Some d → (e : Entry) × (slice_get (declaration_entries ports c ds) i ≡ Some e) × (e.name ≡ d.name)
+declaration_at [] ports c i d e = absurd (none-some d e)
+declaration_at (x ∷ xs) ports c zero d e = (_, refl, ap (λ (y : written.Declaration). y.name) (same_Some x d e))
+declaration_at (x ∷ xs) ports c (suc i) d e = declaration_at xs ports (unwrap_or (after c x.kind) c) i d e
+
 -- ---- the calls of a program
 
 module _ (ports : List PortRow) (tree : written.Program) (q : ℕ) (process : written.Process) (there : slice_get tree.processes q ≡ Some process) where
@@ -219,9 +234,8 @@ module _ (ports : List PortRow) (tree : written.Program) (q : ℕ) (process : wr
       let parts = none_of_both wants (calls_of r.body) (calls_of_processes rs) h in
       (body_fits creates_process (IsNot (suc q)) wants declared calls_other false [] r.body kinds.0 parts.0, processes_other rs kinds.1 parts.1)
 
-  pub never_creates : kinds_hold ports tree ≡ true → never_created (all_calls tree) (Some object.Process) process.name ≡ found finding.NeverCreated process.name ∷ [] → NeverCreates (suc q) (resolve ports tree)
-  never_creates kinds h =
-      let none = none_meets (list_any wants (all_calls tree)) (found finding.NeverCreated process.name) h in
+  pub never_creates : kinds_hold ports tree ≡ true → list_any wants (all_calls tree) ≡ false → NeverCreates (suc q) (resolve ports tree)
+  never_creates kinds none =
       let three = none_of_both wants (calls_of tree.init.body ++ calls_of_handler tree.handler ++ calls_of_processes tree.processes) (calls_of_procedures tree.declarations) none in
       let two = none_of_both wants (calls_of tree.init.body ++ calls_of_handler tree.handler) (calls_of_processes tree.processes) three.0 in
       let one = none_of_both wants (calls_of tree.init.body) (calls_of_handler tree.handler) two.0 in
@@ -252,6 +266,14 @@ module _ (ports : List PortRow) (tree : written.Program) (q : ℕ) (process : wr
           | inr l ↦ omega (arith, g, l)
         ]
       ]
+
+  pub no_declaration : names_hold ports tree ≡ true → (i : ℕ) (d : written.Declaration) → slice_get tree.declarations i ≡ Some d → d.name ≢ process.name
+  no_declaration names i d e same =
+      let new = (and_parts (are_new [] [] declared) _ names).0 in
+      let a = declaration_at tree.declarations ports no_counts i d e in
+      let b = entry_at tree.processes 0 q process there in
+      let same_name : a.0.name ≡ b.0.name = a.2 ∙ same ∙ sym b.2 in
+      false≢true (sym (differ_across [] (declaration_entries ports no_counts tree.declarations) (process_entries 0 tree.processes) i q a.0 b.0 new a.1 b.1) ∙ (bytes_eq-Decides a.0.name b.0.name).1 same_name)
 
   alone_resolved : AreNew [] declared → (i : ℕ) (other : program.Process) → at_number (map (resolve_process declared) tree.processes) i ≡ Some other → other.name ≡ process.name → i ≡ suc q
   alone_resolved new zero other e same = absurd (none-some other e)

@@ -14,4 +14,5 @@ pub mod Sourced
 pub mod Sources
 pub mod NormalSources
 pub mod CreationSources
+pub mod Listing
 pub mod InAll

@@ -54,15 +54,10 @@ calls_other declared names created s es k h = tt
 
 -- ---- a program
 
-pub none_meets : (b : Bool) (f : Found) → (if b then [] else f ∷ []) ≡ f ∷ [] → b ≡ false
-none_meets true f h = absurd (cc)
-none_meets false f h = refl
-
-pub never_sets : (ports : List PortRow) (tree : written.Program) → kinds_hold ports tree ≡ true → never_normal tree ≡ found finding.NeverNormal [] ∷ [] → NeverSetsNormal (resolve ports tree)
-never_sets ports tree kinds h =
+pub never_sets : (ports : List PortRow) (tree : written.Program) → kinds_hold ports tree ≡ true → list_any (meets NormalMode) (calls_of tree.init.body ++ calls_of_procedures tree.declarations) ≡ false → NeverSetsNormal (resolve ports tree)
+never_sets ports tree kinds none =
     let declared = declared_entries ports tree in
     let test = kinds_hold_in_body declared in
-    let none = none_meets (list_any (meets NormalMode) (calls_of tree.init.body ++ calls_of_procedures tree.declarations)) (found finding.NeverNormal []) h in
     let parts = none_of_both (meets NormalMode) (calls_of tree.init.body) (calls_of_procedures tree.declarations) none in
     let all = and_parts (test false [] tree.init.body && holds_of_handler test tree.handler && list_all (λ q. test false [] q.body) tree.processes) (list_all (λ d. holds_of_procedure test d.kind) tree.declarations) kinds in
     let three = and_parts (test false [] tree.init.body && holds_of_handler test tree.handler) (list_all (λ q. test false [] q.body) tree.processes) all.0 in

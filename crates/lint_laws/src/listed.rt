@@ -1,7 +1,6 @@
 //! What is found in an accepted source, and every run of it.
 
-ghost use Rattle.std.specs.Prelude.{◌≡◌, ℕ, List, Some, [], ◌∷◌};
-ghost use Rattle.apex_types.specs.declared.denotation.ObjectKind.TheVariants as object;
+ghost use Rattle.std.specs.Prelude.{◌≡◌, ℕ, List, Some, []};
 ghost use Rattle.apex_types.specs.declared.device.DeviceLine.{DeviceLine};
 ghost use Rattle.module_meaning.specs.Accepted.{IsModule};
 ghost use Rattle.module_meaning.specs.SourceMeaning.{source_trace};
@@ -9,9 +8,10 @@ ghost use Rattle.module_meaning.specs.Table.{Partition, Table, at_number};
 ghost use Rattle.pal_meaning.specs.Grammar.{IsProgramOf};
 ghost use Rattle.pal_meaning.specs.Program.{Program};
 ghost use Rattle.pal_meaning.specs.Syntax as written;
-ghost use Rattle.lint.specs.Calls.{all_calls};
-ghost use Rattle.lint.specs.Lives.{found, never_created, never_normal};
+ghost use Rattle.lint.specs.Findings.{findings};
+ghost use Rattle.lint.specs.Lives.{found};
 ghost use Rattle.lint.specs.declared.finding.FindingKind.TheVariants as finding;
+ghost use Rattle.lint_laws.specs.Among.{IsListed};
 ghost use Rattle.lint_laws.specs.Creation.{NeverHasState};
 ghost use Rattle.lint_laws.specs.NormalMode.{NeverNormal};
 
@@ -25,7 +25,7 @@ pub fn partition_never_enters_normal()
         → at_number t.partitions p ≡ Some row
         → at_number sources p ≡ Some source
         → IsProgramOf source tree
-        → never_normal tree ≡ found finding.NeverNormal [] ∷ []
+        → IsListed (found finding.NeverNormal []) (findings t.partitions row.ports tree)
         → NeverNormal row.name (source_trace t programs devices n) }
 {}
 
@@ -40,7 +40,7 @@ pub fn process_never_has_a_state()
         → at_number sources p ≡ Some source
         → IsProgramOf source tree
         → at_number tree.processes number ≡ Some process
-        → never_created (all_calls tree) (Some object.Process) process.name
-        ≡ found finding.NeverCreated process.name ∷ []
+        → IsListed (found finding.NeverCreated process.name)
+        (findings t.partitions row.ports tree)
         → NeverHasState row.name process.name (source_trace t programs devices n) }
 {}
