@@ -1,8 +1,8 @@
 -- Where it is found that nothing creates a process, no call of the program creates it.
-use Rattle.std.proofs.Common.{◌≡◌, ◌≢◌, ℕ, zero, suc, ◌+◌, ◌<◌, ℤ, pos, Bool, true, false, nat_abs, nat_eq, nat_le, List, [], ◌∷◌, ◌++◌, map, Option, Some, None, refl, sym, ap, ◌∙◌, subst, arith, inl, inr}
+use Rattle.std.proofs.Common.{◌≡◌, ◌≢◌, ℕ, zero, suc, ◌+◌, ◌<◌, pos, Bool, true, false, nat_abs, nat_le, List, [], ◌∷◌, ◌++◌, map, Option, Some, None, refl, sym, ap, ◌∙◌, subst, arith, inl, inr}
 use Rattle.std.specs.Prelude.{◌&&◌, bytes_eq, if◌then◌else◌, is_some, not, option_map, slice_get, unwrap_or}
 use Rattle.std.specs.List.{list_all, list_any, AllByRecursion}
-use Rattle.std.proofs.lemmas.Bool.{and_parts, cases_lt, false≢true, or_parts}
+use Rattle.std.proofs.lemmas.Bool.{and_parts, cases_lt, false≢true}
 use Rattle.std.proofs.lemmas.Option.{none-some, same_Some, slice_get-map}
 use Rattle.std.proofs.lemmas.Slice.Eq.{bytes_eq-Decides}
 use Rattle.apex_types.specs.ServiceShape.{arguments_of}
@@ -11,18 +11,16 @@ use Rattle.apex_types.specs.declared.denotation.Denotation.TheVariants as denota
 use Rattle.apex_types.specs.declared.denotation.ObjectKind.TheVariants as object
 use Rattle.apex_types.specs.declared.limits.TheConstants.{MOST_PROCESSES}
 use Rattle.apex_types.specs.declared.row.PortRow.{PortRow}
-use Rattle.apex_types.specs.declared.service.Service.{Service}
 use Rattle.apex_types.specs.declared.service.Service.TheVariants as service
 use Rattle.module_meaning.specs.Table.{at_number}
 use Rattle.pal_meaning.specs.Program as program
-use Rattle.pal_meaning.specs.Resolve.{Counts, after, counted, next, Entry, Scope, declaration_entries, declared_entries, declared_meaning, find, no_counts, object_number_of, or_else, own_entries, process_entries, resolve, resolve_arguments, resolve_process, resolve_stack_body, scope_of}
+use Rattle.pal_meaning.specs.Resolve.{Counts, after, counted, next, Entry, declaration_entries, declared_entries, declared_meaning, find, no_counts, object_number_of, or_else, own_entries, process_entries, resolve, resolve_arguments, resolve_process, resolve_stack_body}
 use Rattle.pal_meaning.specs.Syntax as written
-use Rattle.pal_meaning.specs.WellFormed.{are_new, fits_argument, fits_arguments, holds_of_bodies, holds_of_handler, holds_of_procedure, is_object, kinds_hold, kinds_hold_in_body, names_hold}
-use Rattle.lint.specs.Calls.{Call, Created, plain, plains, all_calls, calls_of, calls_of_handler, calls_of_processes, calls_of_procedures}
-use Rattle.lint.specs.Lives.{Creation, meets, found, never_created}
-use Rattle.lint.specs.declared.finding.FindingKind.TheVariants as finding
+use Rattle.pal_meaning.specs.WellFormed.{are_new, fits_arguments, holds_of_handler, holds_of_procedure, is_object, kinds_hold, kinds_hold_in_body, names_hold}
+use Rattle.lint.specs.Calls.{Call, Created, plains, all_calls, calls_of, calls_of_handler, calls_of_processes, calls_of_procedures}
+use Rattle.lint.specs.Lives.{Creation, meets}
 use Rattle.lint_laws.specs.Creation.{HandlerFits, IsNot, IsProcess, NeverCreates, creates_process}
-use Rattle.lint_laws.specs.Numbers.{BlockFits, CallFits, IsNumber}
+use Rattle.lint_laws.specs.Numbers.{BlockFits, IsNumber}
 use Rattle.lint_laws.proofs.Lists.{mapped}
 use Rattle.lint_laws.proofs.Sources.{AtCalls, scope_with, none_of_both, body_fits, procedures_fit}
 

@@ -1,5 +1,5 @@
 -- What findings of lint say of runs.
-use Rattle.std.proofs.Common.{◌≡◌, ℕ, zero, suc, List, [], ◌∷◌, Some}
+use Rattle.std.proofs.Common.{◌≡◌, ℕ, zero, suc, List, [], Some}
 use Rattle.std.proofs.lemmas.Option.{none-some}
 use Rattle.apex_types.specs.declared.device.DeviceLine.{DeviceLine}
 use Rattle.module_meaning.specs.Accepted.{IsJudged, IsModule}

@@ -1,5 +1,5 @@
 -- Which part of the findings a finding on NORMAL or on creation comes from.
-use Rattle.std.proofs.Common.{◌≡◌, ◌≢◌, ◌⊎◌, ℕ, zero, suc, ◌+◌, Bool, true, false, List, [], ◌∷◌, ◌++◌, Option, Some, None, inl, inr, refl, sym, ap, ◌∙◌, subst}
+use Rattle.std.proofs.Common.{◌≡◌, ◌≢◌, ◌⊎◌, ℕ, suc, ◌+◌, Bool, true, false, List, [], ◌∷◌, ◌++◌, Option, Some, None, inl, inr, refl, sym, ap, ◌∙◌, subst}
 use Rattle.std.specs.Prelude.{flat_map, if◌then◌else◌, slice_get}
 use Rattle.std.specs.List.{list_any}
 use Rattle.std.proofs.lemmas.Bool.{false≢true}
@@ -8,12 +8,12 @@ use Rattle.apex_types.specs.declared.denotation.ObjectKind.TheVariants as object
 use Rattle.apex_types.specs.declared.row.PortRow.{PortRow}
 use Rattle.module_meaning.specs.Table.{Partition}
 use Rattle.pal_meaning.specs.Syntax as written
-use Rattle.lint.specs.Arrays.{small_array, small_array_of, small_arrays}
+use Rattle.lint.specs.Arrays.{small_array, small_array_of}
 use Rattle.lint.specs.Calls.{Call, all_calls, calls_of, calls_of_procedures}
 use Rattle.lint.specs.Findings.{creation_findings, findings, port_findings, wait_findings}
 use Rattle.lint.specs.Lives.{Creation, NormalMode, Wanted, found, handler_never_created, lacking, meets, never_created, never_normal, never_started, object_kind, objects_never_created, processes_never_created, wait_in_init, waits_in_init, without_wait, without_waits}
-use Rattle.lint.specs.Ports.{better_row, found_at, undeclared_port, undeclared_ports, unknown_port, unknown_ports, wrong_use, wrong_use_of}
-use Rattle.lint.specs.Unused.{all_names, names_of, unused, unused_declaration, unused_declarations, unused_in_body, unused_in_handler, unused_in_kind, unused_in_procedures, unused_in_processes, unused_names}
+use Rattle.lint.specs.Ports.{better_row, found_at, undeclared_port, unknown_port, wrong_use, wrong_use_of}
+use Rattle.lint.specs.Unused.{all_names, names_of, unused, unused_declaration, unused_in_body, unused_in_handler, unused_in_kind, unused_names}
 use Rattle.lint.specs.Views.{Found}
 use Rattle.lint.specs.declared.finding.FindingKind.{FindingKind}
 use Rattle.lint.specs.declared.finding.FindingKind.TheVariants as finding

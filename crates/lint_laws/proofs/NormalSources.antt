@@ -1,5 +1,5 @@
 -- Where it is found that INIT does not enter NORMAL, no call in INIT or in a procedure of the program sets it.
-use Rattle.std.proofs.Common.{◌≡◌, ◌≢◌, ℕ, Bool, true, false, nat_abs, List, [], ◌∷◌, ◌++◌, Option, Some, None, refl, ap}
+use Rattle.std.proofs.Common.{◌≡◌, Bool, true, false, nat_abs, List, [], ◌++◌, Option, Some, None, ap}
 use Rattle.std.specs.Prelude.{◌&&◌, bytes_eq, if◌then◌else◌}
 use Rattle.std.specs.List.{list_all, list_any}
 use Rattle.std.proofs.lemmas.Bool.{and_parts, eqb-false}
@@ -10,10 +10,8 @@ use Rattle.pal_meaning.specs.Resolve.{Entry, Scope, declared_entries, resolve, r
 use Rattle.pal_meaning.specs.Syntax as written
 use Rattle.pal_meaning.specs.WellFormed.{holds_of_handler, holds_of_procedure, kinds_hold, kinds_hold_in_body}
 use Rattle.lint.specs.Calls.{Created, plain, plains, first_of, calls_of, calls_of_procedures}
-use Rattle.lint.specs.Lives.{NormalMode, meets, found, never_normal}
+use Rattle.lint.specs.Lives.{NormalMode, meets}
 use Rattle.lint.specs.Uses.{Named, Unseen, id_of, may_be_number}
-use Rattle.lint.specs.Views.{Found}
-use Rattle.lint.specs.declared.finding.FindingKind.TheVariants as finding
 use Rattle.lint_laws.specs.NormalMode.{sets_mode, IsNotNormal, NeverSetsNormal}
 use Rattle.lint_laws.specs.Numbers.{IsNumber}
 use Rattle.lint_laws.proofs.Sources.{AtCalls, none_of_both, body_fits, procedures_fit}
