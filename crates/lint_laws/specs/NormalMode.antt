@@ -1,4 +1,5 @@
--- Programs that never ask for the mode NORMAL before it, and traces in which a partition never enters it.
+-- Programs that never ask for the mode NORMAL before it, and traces in which a partition never enters
+-- it.
 use Rattle.std.specs.Prelude.{◌≡◌, ◌≢◌, ℕ, ℤ, pos, Bool, true, false, List, Some}
 use Rattle.std.specs.List.{AllByRecursion}
 use Rattle.apex_types.specs.declared.codes.Mode.TheVariants as mode

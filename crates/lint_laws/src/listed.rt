@@ -1,4 +1,7 @@
 //! What is found in an accepted source, and every run of it.
+//!
+//! Where it is found that nothing starts a process, there is no such law. A procedure may write the
+//! variable that START takes, and lint does not look into procedures for that.
 
 ghost use Rattle.std.specs.Prelude.{◌≡◌, ℕ, List, Some, []};
 ghost use Rattle.apex_types.specs.declared.device.DeviceLine.{DeviceLine};
@@ -15,8 +18,8 @@ ghost use Rattle.lint_laws.specs.Among.{IsListed};
 ghost use Rattle.lint_laws.specs.Creation.{NeverHasState};
 ghost use Rattle.lint_laws.specs.NormalMode.{NeverNormal};
 
-/// Where it is found in an accepted source that INIT does not enter NORMAL, its partition never enters
-/// it: no line of any run says `MODE NORMAL` of this partition, whatever the devices send.
+/// Where it is found in an accepted source that INIT does not enter NORMAL, its partition never
+/// enters it: no line of any run says `MODE NORMAL` of this partition, whatever the devices send.
 pub fn partition_never_enters_normal()
     ensures { (table : List ℕ) (sources : List (List ℕ)) (t : Table) (programs : List Program)
         (devices : List DeviceLine) (n p : ℕ) (row : Partition) (source : List ℕ)
@@ -30,7 +33,7 @@ pub fn partition_never_enters_normal()
 {}
 
 /// Where it is found in an accepted source that nothing creates a process, this process never has a
-/// state: no line of any run tells one, whatever the devices send.
+/// state, not even DORMANT: no line of any run tells one, whatever the devices send.
 pub fn process_never_has_a_state()
     ensures { (table : List ℕ) (sources : List (List ℕ)) (t : Table) (programs : List Program)
         (devices : List DeviceLine) (n p number : ℕ) (row : Partition) (source : List ℕ)

@@ -9,8 +9,8 @@ ghost use Rattle.pal_meaning.specs.Program.{Program};
 ghost use Rattle.lint_laws.specs.Creation.{IsProcess, NeverCreates, NeverHasState};
 ghost use Rattle.lint_laws.specs.NormalMode.{NeverNormal, NeverSetsNormal};
 
-/// If no call in INIT or in a procedure of a program sets the mode NORMAL, its partition never enters
-/// it: no line of any run says `MODE NORMAL` of this partition, whatever the devices send.
+/// If no call in INIT or in a procedure of a program sets the mode NORMAL, its partition never
+/// enters it: no line of any run says `MODE NORMAL` of this partition, whatever the devices send.
 pub fn normal_is_asked_for()
     ensures { (t : Table) (programs : List Program) (devices : List DeviceLine) (n p : ℕ)
         (row : Partition) (program : Program)
