@@ -11,7 +11,7 @@ use Rattle.apex_types.specs.declared.service.Service.TheVariants as service
 use Rattle.engine_meaning.specs.Engine.{Engine}
 use Rattle.pal_meaning.specs.SourceControl.{SourceControl}
 use Rattle.lint_laws.specs.NormalMode.{sets_mode, IsNotNormal}
-use Rattle.lint_laws.proofs.Controls.{NeverAsks, IsSafeEngine}
+use Rattle.lint_laws.proofs.Controls.{AsksOnly, IsSafeEngine}
 
 abbrev pub CallIsOther : Call → Type 0
 CallIsOther (call.SetPartitionMode v) = IsNotNormal v
@@ -26,7 +26,7 @@ mode_call service.SetPartitionMode v below h k = k
 mode_call s v below h k = absurd (false≢true h)
 
 abbrev pub NeverAsksNormal : SourceControl → Type 0
-NeverAsksNormal c = NeverAsks sets_mode IsNotNormal CallIsOther plain_call mode_call c
+NeverAsksNormal c = AsksOnly sets_mode IsNotNormal CallIsOther plain_call mode_call c
 
 abbrev pub KeepsOut : Engine SourceControl → Type 0
 KeepsOut e = IsSafeEngine sets_mode IsNotNormal CallIsOther plain_call mode_call e

@@ -47,7 +47,7 @@ use Rattle.pal_meaning.specs.Program as program
 use Rattle.pal_meaning.specs.SourceControl.{SourceControl, source_body, source_start, body_of_process}
 use Rattle.lint_laws.specs.Creation.{SaysState, NeverHasState, NeverCreates, HandlerFits, IsNot, IsProcess, creates_process}
 use Rattle.lint_laws.specs.Numbers.{BlockFits}
-use Rattle.lint_laws.proofs.Controls.{AsksAllowed, IsSafeEngine, NeverAsks, engine_is_safe, starts_safely}
+use Rattle.lint_laws.proofs.Controls.{AsksAllowed, IsSafeEngine, AsksOnly, engine_is_safe, starts_safely}
 use Rattle.lint_laws.proofs.Histories.{no_line_both, no_line_in_run}
 use Rattle.lint_laws.proofs.Lists.{mapped}
 use Rattle.lint_laws.proofs.Sleeping.{AreAbsent, IsOther, IsNew, LinesAreOther, LineIsOther, RowsSleep, Sleeps, WaitsNowhere}
@@ -64,7 +64,7 @@ module _ (q : ℕ) where
   create_call s v below h k = absurd (false≢true h)
 
   abbrev NeverAsksIt : SourceControl → Type 0
-  NeverAsksIt c = NeverAsks creates_process (IsNot (suc q)) (CreatesOther q) plain_call create_call c
+  NeverAsksIt c = AsksOnly creates_process (IsNot (suc q)) (CreatesOther q) plain_call create_call c
 
   abbrev IsEngine : Engine SourceControl → Type 0
   IsEngine e = IsSafeEngine creates_process (IsNot (suc q)) (CreatesOther q) plain_call create_call e
