@@ -25,10 +25,8 @@ FILE = ROOT / "edits.tried"
 NAMED = ROOT / "docs/WRONG_BODIES.md"
 HEAD = "# The wrong edits that the prover refused, as `.ci/edits` writes them: each with the sum of what it was tried on.\n"
 COMMENT = {".rt": "//", ".antt": "--"}
-# The crates of texts, findings and views, whose edits may stay stale until their printing is tested in place of pinned; and the commands of `mb`, until
-# their edits are tried on the new form of their contracts.
+# The crates of texts, findings and views, whose edits may stay stale until their printing is tested in place of pinned.
 MAY_BE_STALE = {
-    "command_line",
     *("number_tables", "finding_lines", "source_findings", "table_findings", "image_findings", "schedule_load", "lint"),
     *("trace_text", "trace_stays", "trace_windows", "trace_view", "trace_picture", "trace_lines", "trace_page", "wave_dump"),
     *("text_beginnings", "command_words", "view_command"),

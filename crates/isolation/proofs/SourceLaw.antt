@@ -79,10 +79,10 @@ abbrev bare_image : Table → Image
 bare_image t = image_of t (map bare t.partitions)
 
 -- ---- its members
-abbrev source_record : Costs → Schedule → ℕ → Partition → Program → Member SourceControl
+abbrev pub source_record : Costs → Schedule → ℕ → Partition → Program → Member SourceControl
 source_record k s n row program = source_member k (fixed_of s n row) row.ports program
 
-members_at : (c : Costs) (s : Schedule) (n : ℕ) (ps : List Partition) (sources : List Program) (place : ℕ) (row : Partition) (program : Program) → slice_get ps place ≡ Some row → slice_get sources place ≡ Some program
+pub members_at : (c : Costs) (s : Schedule) (n : ℕ) (ps : List Partition) (sources : List Program) (place : ℕ) (row : Partition) (program : Program) → slice_get ps place ≡ Some row → slice_get sources place ≡ Some program
     → slice_get (source_members c s n ps sources) place ≡ Some (source_record c s (n + place) row program)
 members_at c s n [] sources place row program e f = absurd (cc)
 members_at c s n (p ∷ ps) [] place row program e f = absurd (cc)
@@ -111,7 +111,7 @@ module _ (ms : Members) (t : Table) (sources : List Program) (accepted : verdict
   lawful : IsLawful (bare_image t)
   lawful = accepted_image ms t (map bare t.partitions) accepted (bare_rows t.partitions) (bare_sections t.partitions)
 
-  abbrev names : List (List ℕ)
+  abbrev pub names : List (List ℕ)
   names = map name_of (source_members t.costs t.schedule 1 t.partitions sources)
 
   bare_at : (q : ℕ) (row : Partition) → slice_get t.partitions q ≡ Some row → slice_get (map bare t.partitions) q ≡ Some (bare row)
@@ -120,7 +120,7 @@ module _ (ms : Members) (t : Table) (sources : List Program) (accepted : verdict
   bare_name : (q : ℕ) (row : Partition) → slice_get t.partitions q ≡ Some row → slice_get (map name_in (map bare t.partitions)) q ≡ Some row.name
   bare_name q row e = slice_get-map name_in (map bare t.partitions) q ∙ ap (option_map name_in) (bare_at q row e)
 
-  all_apart : (place : ℕ) (name : List ℕ) → slice_get names place ≡ Some name → IsApart name place names
+  pub all_apart : (place : ℕ) (name : List ℕ) → slice_get names place ≡ Some name → IsApart name place names
   all_apart place name e =
       let r = named_at t.costs t.schedule 1 t.partitions sources place name e in
       let apart = image_apart (bare_image t) lawful place (bare r.0) (bare_at place r.0 r.1) in

@@ -27,7 +27,7 @@ get_set_other (a ∷ xs) zero (suc j) y h = refl
 get_set_other (a ∷ xs) (suc i) zero y h = refl
 get_set_other (a ∷ xs) (suc i) (suc j) y h = get_set_other xs i j y (λ e. h (ap suc e))
 
-map_set_same : {A B : Type 0} (f : A → B) (xs : List A) (i : ℕ) (x y : A) → slice_get xs i ≡ Some x → f y ≡ f x → map f (slice_set xs i y) ≡ map f xs
+pub map_set_same : {A B : Type 0} (f : A → B) (xs : List A) (i : ℕ) (x y : A) → slice_get xs i ≡ Some x → f y ≡ f x → map f (slice_set xs i y) ≡ map f xs
 map_set_same f [] i x y h e = refl
 map_set_same f (a ∷ xs) zero x y h e = ap (λ b. b ∷ map f xs) (e ∙ sym (ap f (same_some a x h)))
 map_set_same f (a ∷ xs) (suc i) x y h e = ap (λ bs. f a ∷ bs) (map_set_same f xs i x y h e)

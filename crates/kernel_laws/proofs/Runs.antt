@@ -9,7 +9,7 @@ use Rattle.apex_types.specs.declared.device.DeviceInput.{DeviceInput}
 use Rattle.apex_types.specs.declared.device.DeviceInput.TheVariants as device
 use Rattle.apex_types.specs.declared.row.ChannelEnd.{ChannelEnd}
 use Rattle.apex_types.specs.declared.row.ChannelEnd.TheVariants as ends
-use Rattle.module_meaning.specs.Module.{unless_down, started_member, start_lines, starts_all, delivers, delivers_all, goes_by, fault_line, tells_fault, as_origin, breaks_module, inputs, channel_from, moves_found, moves_message, moves_messages, first_tick, trace}
+use Rattle.module_meaning.specs.Module.{unless_down, started_member, start_lines, starts_all, delivers, delivers_all, goes_by, tells_fault, as_origin, breaks_module, inputs, channel_from, moves_found, moves_message, moves_messages, first_tick, trace}
 use Rattle.kernel_meaning.specs.Partition.{leaving}
 use Rattle.kernel_laws.specs.History.{members_from}
 
@@ -76,8 +76,8 @@ module _ {C : Type 0} where
       let a : Advanced C = steps (makes move) ms p in
       record { history = Moves p move ∷ []; same = ap (leads a.members) (sym (append-nil a.lines)) }
 
-  line_is : (line : Event) (ms : List (Member C)) → IsHistory ms (leads ms (line ∷ []))
-  line_is line ms = record { history = Tells line ∷ []; same = refl }
+  line_is : (at : At) (action : ModuleAction) (ms : List (Member C)) → IsHistory ms (tells_fault at action ms)
+  line_is at action ms = record { history = Tells at action ∷ []; same = refl }
 
   unless_is : (ms : List (Member C)) (c : Course C) (p : At → List (Member C) → Course C) (o : Option At) → IsHistory ms (advanced c)
       → ((at : At) (ns : List (Member C)) → IsHistory ns (advanced (p at ns))) → IsHistory ms (advanced (unless_down c p o))
@@ -132,10 +132,10 @@ module _ {C : Type 0} where
   -- ---- the devices
 
   breaks_is : (at : At) (fault : ModuleAction) (ms : List (Member C)) → IsHistory ms (advanced (breaks_module at fault ms))
-  breaks_is at reaction.Ignore ms = line_is (fault_line at reaction.Ignore) ms
-  breaks_is at reaction.Shutdown ms = line_is (fault_line at reaction.Shutdown) ms
+  breaks_is at reaction.Ignore ms = line_is at reaction.Ignore ms
+  breaks_is at reaction.Shutdown ms = line_is at reaction.Shutdown ms
   breaks_is at reaction.Reset ms =
-      then_is ms (tells_fault at reaction.Reset ms) (starts_all (as_origin at) condition.HmModuleRestart) (line_is (fault_line at reaction.Reset) ms) (starts_is (as_origin at) condition.HmModuleRestart)
+      then_is ms (tells_fault at reaction.Reset ms) (starts_all (as_origin at) condition.HmModuleRestart) (line_is at reaction.Reset ms) (starts_is (as_origin at) condition.HmModuleRestart)
 
   input_is : (plan : Plan) (at : At) (i : DeviceInput) (ms : List (Member C)) → IsHistory ms (advanced (inputs plan at i ms))
   input_is plan at (device.Message channel m) ms = goes_by_is at m (slice_get plan.channels channel.0) ms

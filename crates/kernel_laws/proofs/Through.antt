@@ -76,7 +76,7 @@ module _ {C : Type 0} (d : ℕ → ListKey → Discipline) (names : ℕ → ℕ 
   -- the numbers.
   pub goes_through : (hs : List Happening) (numbers : ℕ → Numbers) (ms : List (Member C)) → AreOrdered d names numbers ms → GoThrough d names hs numbers ms
   goes_through [] numbers ms h = h
-  goes_through (Tells line ∷ hs) numbers ms h = goes_through hs numbers ms h
+  goes_through (Tells at action ∷ hs) numbers ms h = goes_through hs numbers ms h
   goes_through (Moves p move ∷ hs) numbers ms h =
       let g = at_goes (d p) (names p) (numbers p) move (at_number ms p) (h p) in
       (h, (g, goes_through hs _ _ (happens_ordered numbers move p ms h g)))
@@ -84,5 +84,5 @@ module _ {C : Type 0} (d : ℕ → ListKey → Discipline) (names : ℕ → ℕ 
   -- and they are so at its end
   pub ends_ordered : (hs : List Happening) (numbers : ℕ → Numbers) (ms : List (Member C)) → GoThrough d names hs numbers ms → (later : ℕ → Numbers) × AreOrdered d names later (all_happen hs ms).members
   ends_ordered [] numbers ms h = (numbers, h)
-  ends_ordered (Tells line ∷ hs) numbers ms h = ends_ordered hs numbers ms h
+  ends_ordered (Tells at action ∷ hs) numbers ms h = ends_ordered hs numbers ms h
   ends_ordered (Moves p move ∷ hs) numbers ms h = let rest = h.1 in ends_ordered hs _ _ rest.1

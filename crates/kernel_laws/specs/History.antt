@@ -1,12 +1,12 @@
--- A run of a module, step by step. Each step is a move of one partition, or a line that is no partition's.
+-- A run of a module, step by step. Each step is a move of one partition, or the line of a fault of the module.
 use Rattle.std.specs.Prelude.{ℕ, zero, suc, ℤ, List, [], ◌∷◌, Option, Some, None, option_map}
 use Rattle.arrayvec.specs.ArrayVec.{ArrayVec}
+use Rattle.apex_types.specs.declared.codes.ModuleAction.{ModuleAction}
 use Rattle.apex_types.specs.declared.codes.StartCondition.{StartCondition}
 use Rattle.apex_types.specs.declared.device.DeviceLine.{DeviceLine}
-use Rattle.apex_types.specs.declared.event.Event.{Event}
 use Rattle.apex_types.specs.declared.identity.At.{At}
 use Rattle.apex_types.specs.declared.identity.PortId.{PortId}
-use Rattle.module_meaning.specs.Module.{Plan, Module, Advanced, still, then_goes, steps, starts, first_tick, next_tick, module_tick}
+use Rattle.module_meaning.specs.Module.{Plan, Module, Advanced, still, then_goes, steps, starts, first_tick, next_tick, module_tick, tells_fault}
 use Rattle.kernel_meaning.specs.Partition.{Member, Moved, cold_start, breaks_down, arrives, leaves, admits, goes_out, advances}
 
 -- The moves of a module with a partition: it clears it to a cold start, breaks its hardware, lets a
@@ -30,14 +30,14 @@ makes (Admits at port) x = admits at port x
 makes (GoesOut at channel message) x = goes_out at channel message x
 makes (Advances at) x = advances at x
 
--- a move of the partition with a number, or a line that is no partition's
+-- a move of the partition with a number, or the line of a fault of the module
 pub data Happening : Type 0 where
   Moves : (p : ℕ) (move : Move) → Happening
-  Tells : (line : Event) → Happening
+  Tells : (at : At) (action : ModuleAction) → Happening
 
 abbrev pub happens : {C : Type 0} → Happening → List (Member C) → Advanced C
 happens (Moves p move) members = steps (makes move) members p
-happens (Tells line) members = record { members = members; lines = line ∷ [] }
+happens (Tells at action) members = tells_fault at action members
 
 -- each in turn
 abbrev pub all_happen : {C : Type 0} → List Happening → List (Member C) → Advanced C

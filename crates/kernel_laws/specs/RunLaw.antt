@@ -114,7 +114,7 @@ with_numbers p n numbers q = if p == q then n else numbers q
 -- move continues those of its partition.
 abbrev pub GoThrough : {C : Type 0} → (ℕ → ListKey → Discipline) → (ℕ → ℕ → List ℕ) → List Happening → (ℕ → Numbers) → List (Member C) → Type 0
 GoThrough d names [] numbers members = AreOrdered d names numbers members
-GoThrough d names (Tells line ∷ hs) numbers members = GoThrough d names hs numbers members
+GoThrough d names (Tells at action ∷ hs) numbers members = GoThrough d names hs numbers members
 GoThrough d names (Moves p move ∷ hs) numbers members =
     AreOrdered d names numbers members
     × ((g : MoveGoesAt (d p) (names p) (numbers p) move (at_number members p))

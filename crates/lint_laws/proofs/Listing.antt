@@ -1,0 +1,237 @@
+-- Which part of the findings a finding on NORMAL or on creation comes from.
+use Rattle.std.proofs.Common.{◌≡◌, ◌≢◌, ◌⊎◌, ℕ, suc, ◌+◌, Bool, true, false, List, [], ◌∷◌, ◌++◌, Option, Some, None, inl, inr, refl, sym, ap, ◌∙◌, subst}
+use Rattle.std.specs.Prelude.{flat_map, if◌then◌else◌, slice_get}
+use Rattle.std.specs.List.{list_any}
+use Rattle.std.proofs.lemmas.Bool.{false≢true}
+use Rattle.apex_types.specs.declared.denotation.ObjectKind.{ObjectKind}
+use Rattle.apex_types.specs.declared.denotation.ObjectKind.TheVariants as object
+use Rattle.apex_types.specs.declared.row.PortRow.{PortRow}
+use Rattle.module_meaning.specs.Table.{Partition}
+use Rattle.pal_meaning.specs.Syntax as written
+use Rattle.lint.specs.Arrays.{small_array, small_array_of}
+use Rattle.lint.specs.Calls.{Call, all_calls, calls_of, calls_of_procedures}
+use Rattle.lint.specs.Findings.{creation_findings, findings, port_findings, wait_findings}
+use Rattle.lint.specs.Lives.{Creation, NormalMode, Wanted, found, handler_never_created, lacking, meets, never_created, never_normal, never_started, object_kind, objects_never_created, processes_never_created, wait_in_init, waits_in_init, without_wait, without_waits}
+use Rattle.lint.specs.Ports.{better_row, found_at, undeclared_port, unknown_port, wrong_use, wrong_use_of}
+use Rattle.lint.specs.Unused.{all_names, names_of, unused, unused_declaration, unused_in_body, unused_in_handler, unused_in_kind, unused_names}
+use Rattle.lint.specs.Views.{Found}
+use Rattle.lint.specs.declared.finding.FindingKind.{FindingKind}
+use Rattle.lint.specs.declared.finding.FindingKind.TheVariants as finding
+use Rattle.lint_laws.specs.Among.{IsListed}
+
+listed_in : (f : Found) (a b : List Found) → IsListed f (a ++ b) → IsListed f a ⊎ IsListed f b
+listed_in f [] b h = inr h
+listed_in f (x ∷ a) b (inl e) = inl (inl e)
+listed_in f (x ∷ a) b (inr h) = later (listed_in f a b h)
+  where
+    later : IsListed f a ⊎ IsListed f b → IsListed f (x ∷ a) ⊎ IsListed f b
+    later (inl k) = inl (inr k)
+    later (inr k) = inr k
+
+-- ---- findings of other kinds
+
+watched : FindingKind → Bool
+watched finding.NeverCreated = true
+watched finding.NeverNormal = true
+watched _ = false
+
+abbrev ArePlain : List Found → Type 0
+ArePlain [] = Unit {0}
+ArePlain (f ∷ fs) = (watched f.kind ≡ false) × ArePlain fs
+
+plain_absent : (f : Found) (fs : List Found) → watched f.kind ≡ true → ArePlain fs → IsListed f fs → ⊥
+plain_absent f [] w p h = h
+plain_absent f (g ∷ gs) w p (inl e) = false≢true (sym p.0 ∙ ap (λ (x : Found). watched x.kind) e ∙ w)
+plain_absent f (g ∷ gs) w p (inr h) = plain_absent f gs w p.1 h
+
+both : (a b : List Found) → ArePlain a → ArePlain b → ArePlain (a ++ b)
+both [] b h k = k
+both (x ∷ a) b h k = (h.0, both a b h.1 k)
+
+either : (b : Bool) (x y : List Found) → ArePlain x → ArePlain y → ArePlain (if b then x else y)
+either true x y h k = h
+either false x y h k = k
+
+each : {A : Type 0} (g : A → List Found) → ((x : A) → ArePlain (g x)) → (xs : List A) → ArePlain (flat_map g xs)
+each g h [] = tt
+each g h (x ∷ xs) = both (g x) (flat_map g xs) (h x) (each g h xs)
+
+better_plain : (own : ℕ) (ds : List written.Declaration) (rows : List Partition) → ArePlain (better_row own ds rows)
+unfolding watched
+better_plain own ds [] = tt
+better_plain own ds (row ∷ rows) = either _ (record { kind = finding.FitsAnother; subject = row.name } ∷ []) (better_row own ds rows) (refl, tt) (better_plain own ds rows)
+
+use_plain : (row : PortRow) (a b : Bool) → ArePlain (found_at row (if a then Some finding.WrongKind else if b then Some finding.WrongDirection else None))
+unfolding watched
+use_plain row true b = (refl, tt)
+use_plain row false true = (refl, tt)
+use_plain row false false = tt
+
+wrong_use_plain : (c : Call) (o : Option PortRow) → ArePlain (wrong_use_of c o)
+wrong_use_plain c None = tt
+wrong_use_plain c (Some row) = use_plain row _ _
+
+array_plain : (ports : List PortRow) (ds : List written.Declaration) (o : Option ObjectKind) (c : Call) → ArePlain (small_array_of ports ds o c)
+unfolding watched
+array_plain ports ds None c = tt
+array_plain ports ds (Some k) c = either _ (_ ∷ []) [] (refl, tt) tt
+
+handler_plain : (calls : List Call) (o : Option written.StackBody) → ArePlain (handler_never_created calls o)
+unfolding watched
+handler_plain calls None = tt
+handler_plain calls (Some b) = either _ [] (_ ∷ []) tt (refl, tt)
+
+started_plain : (calls : List Call) (number : ℕ) (ps : List written.Process) → ArePlain (never_started calls number ps)
+unfolding watched
+started_plain calls number [] = tt
+started_plain calls number (p ∷ ps) = both _ (never_started calls (number + 1) ps) (either _ [] (found finding.NeverStarted p.name ∷ []) tt (refl, tt)) (started_plain calls (number + 1) ps)
+
+declaration_plain : (names : List (List ℕ)) (k : written.Kind) (name : List ℕ) → ArePlain (unused_declaration names k name)
+unfolding watched
+declaration_plain names (written.Variable value) name = either _ [] (found finding.UnusedVariable name ∷ []) tt (refl, tt)
+declaration_plain names (written.Array size values) name = either _ [] (found finding.UnusedVariable name ∷ []) tt (refl, tt)
+declaration_plain names (written.Procedure parameters body) name = either _ [] (found finding.UnusedProcedure name ∷ []) tt (refl, tt)
+declaration_plain names (written.Semaphore first maximum discipline) name = tt
+declaration_plain names written.Event name = tt
+declaration_plain names (written.Buffer words messages discipline) name = tt
+declaration_plain names (written.Blackboard words) name = tt
+declaration_plain names written.Port name = tt
+
+body_plain : (parameters : List (List ℕ)) (b : written.Body) → ArePlain (unused_in_body parameters b)
+unfolding watched
+body_plain parameters b =
+    both _ _ (each (unused (names_of b) finding.UnusedParameter) (λ n. either _ [] (found finding.UnusedParameter n ∷ []) tt (refl, tt)) parameters)
+    (each (unused (names_of b) finding.UnusedVariable) (λ n. either _ [] (found finding.UnusedVariable n ∷ []) tt (refl, tt)) b.locals)
+
+unused_handler_plain : (o : Option written.StackBody) → ArePlain (unused_in_handler o)
+unused_handler_plain None = tt
+unused_handler_plain (Some b) = body_plain [] b.body
+
+kind_plain : (k : written.Kind) → ArePlain (unused_in_kind k)
+kind_plain (written.Procedure parameters body) = body_plain parameters body
+kind_plain (written.Variable value) = tt
+kind_plain (written.Array size values) = tt
+kind_plain (written.Semaphore first maximum discipline) = tt
+kind_plain written.Event = tt
+kind_plain (written.Buffer words messages discipline) = tt
+kind_plain (written.Blackboard words) = tt
+kind_plain written.Port = tt
+
+unused_plain : (p : written.Program) → ArePlain (unused_names p)
+unused_plain p =
+    both _ _ (both _ _ (both _ _ (both _ _ (each (λ d. unused_declaration (all_names p) d.kind d.name) (λ d. declaration_plain (all_names p) d.kind d.name) p.declarations)
+    (body_plain [] p.init.body)) (unused_handler_plain p.handler)) (each (λ q. unused_in_body [] q.body) (λ q. body_plain [] q.body) p.processes)) (each (λ d. unused_in_kind d.kind) (λ d. kind_plain d.kind) p.declarations)
+
+ports_plain : (rows : List Partition) (ports : List PortRow) (p : written.Program) → ArePlain (port_findings rows ports p)
+unfolding watched
+ports_plain rows ports p =
+    both _ _ (both _ _ (both _ _ (both _ _ (each (unknown_port ports) (λ d. either _ (record { kind = finding.UnknownPort; subject = d.name } ∷ []) [] (refl, tt) tt) p.declarations)
+    (better_plain _ p.declarations rows)) (each (undeclared_port p.declarations) (λ r. either _ [] (record { kind = finding.UndeclaredPort; subject = r.name } ∷ []) tt (refl, tt)) ports))
+    (each (wrong_use ports) (λ c. either _ (wrong_use_of c _) [] (wrong_use_plain c _) tt) (all_calls p))) (each (small_array ports p.declarations) (λ c. array_plain ports p.declarations _ c) (all_calls p))
+
+waits_plain : (p : written.Program) → ArePlain (waits_in_init p)
+unfolding watched
+waits_plain p = each wait_in_init (λ c. either _ (_ ∷ []) [] (refl, tt) tt) (calls_of p.init.body)
+
+periods_plain : (procedures : List Call) (ps : List written.Process) → ArePlain (without_waits procedures ps)
+unfolding watched
+periods_plain procedures ps = each (without_wait procedures) (λ q. either q.period.negative [] _ tt (either _ [] (found finding.NoPeriodicWait q.name ∷ []) tt (refl, tt))) ps
+
+-- ---- the three parts that remain
+
+-- on creation, or on NORMAL
+watched_part : (f : Found) (rows : List Partition) (ports : List PortRow) (p : written.Program) → watched f.kind ≡ true → IsListed f (findings rows ports p)
+    → (IsListed f (objects_never_created (all_calls p) p.declarations) ⊎ IsListed f (processes_never_created (all_calls p) p.processes)) ⊎ IsListed f (never_normal p)
+watched_part f rows ports p w h = by_unused (listed_in f (port_findings rows ports p ++ creation_findings p ++ wait_findings p) (unused_names p) h)
+  where
+    by_waits : IsListed f (never_normal p ++ without_waits (calls_of_procedures p.declarations) p.processes) ⊎ IsListed f (waits_in_init p) → IsListed f (never_normal p)
+    by_waits (inr k) = absurd (plain_absent f _ w (waits_plain p) k)
+    by_waits (inl k) = by_periods (listed_in f (never_normal p) _ k)
+      where
+        by_periods : IsListed f (never_normal p) ⊎ IsListed f (without_waits (calls_of_procedures p.declarations) p.processes) → IsListed f (never_normal p)
+        by_periods (inl l) = l
+        by_periods (inr l) = absurd (plain_absent f _ w (periods_plain (calls_of_procedures p.declarations) p.processes) l)
+
+    by_created : IsListed f (creation_findings p) → IsListed f (objects_never_created (all_calls p) p.declarations) ⊎ IsListed f (processes_never_created (all_calls p) p.processes)
+    by_created k = by_started (listed_in f (objects_never_created (all_calls p) p.declarations ++ processes_never_created (all_calls p) p.processes ++ handler_never_created (all_calls p) p.handler) (never_started (all_calls p) 1 p.processes) k)
+      where
+        by_handler : IsListed f (objects_never_created (all_calls p) p.declarations ++ processes_never_created (all_calls p) p.processes) ⊎ IsListed f (handler_never_created (all_calls p) p.handler) → IsListed f (objects_never_created (all_calls p) p.declarations) ⊎ IsListed f (processes_never_created (all_calls p) p.processes)
+        by_handler (inl l) = listed_in f (objects_never_created (all_calls p) p.declarations) _ l
+        by_handler (inr l) = absurd (plain_absent f _ w (handler_plain (all_calls p) p.handler) l)
+
+        by_started : IsListed f (objects_never_created (all_calls p) p.declarations ++ processes_never_created (all_calls p) p.processes ++ handler_never_created (all_calls p) p.handler) ⊎ IsListed f (never_started (all_calls p) 1 p.processes) → IsListed f (objects_never_created (all_calls p) p.declarations) ⊎ IsListed f (processes_never_created (all_calls p) p.processes)
+        by_started (inl l) = by_handler (listed_in f (objects_never_created (all_calls p) p.declarations ++ processes_never_created (all_calls p) p.processes) _ l)
+        by_started (inr l) = absurd (plain_absent f _ w (started_plain (all_calls p) 1 p.processes) l)
+
+    by_ports : IsListed f (port_findings rows ports p) ⊎ IsListed f (creation_findings p) → (IsListed f (objects_never_created (all_calls p) p.declarations) ⊎ IsListed f (processes_never_created (all_calls p) p.processes)) ⊎ IsListed f (never_normal p)
+    by_ports (inl k) = absurd (plain_absent f _ w (ports_plain rows ports p) k)
+    by_ports (inr k) = inl (by_created k)
+
+    by_wait : IsListed f (port_findings rows ports p ++ creation_findings p) ⊎ IsListed f (wait_findings p) → (IsListed f (objects_never_created (all_calls p) p.declarations) ⊎ IsListed f (processes_never_created (all_calls p) p.processes)) ⊎ IsListed f (never_normal p)
+    by_wait (inl k) = by_ports (listed_in f (port_findings rows ports p) _ k)
+    by_wait (inr k) = inr (by_waits (listed_in f _ (waits_in_init p) k))
+
+    by_unused : IsListed f (port_findings rows ports p ++ creation_findings p ++ wait_findings p) ⊎ IsListed f (unused_names p) → (IsListed f (objects_never_created (all_calls p) p.declarations) ⊎ IsListed f (processes_never_created (all_calls p) p.processes)) ⊎ IsListed f (never_normal p)
+    by_unused (inl k) = by_wait (listed_in f (port_findings rows ports p ++ creation_findings p) _ k)
+    by_unused (inr k) = absurd (plain_absent f _ w (unused_plain p) k)
+
+-- ---- what each of them says
+
+listed_flat : {A : Type 0} (f : Found) (g : A → List Found) (xs : List A) → IsListed f (flat_map g xs) → (x : A) × (i : ℕ) × (slice_get xs i ≡ Some x) × IsListed f (g x)
+listed_flat f g [] h = absurd h
+listed_flat {A = A} f g (x ∷ xs) h = by_part (listed_in f (g x) (flat_map g xs) h) (listed_flat f g xs)
+  where
+    by_part : IsListed f (g x) ⊎ IsListed f (flat_map g xs) → (IsListed f (flat_map g xs) → (y : A) × (i : ℕ) × (slice_get xs i ≡ Some y) × IsListed f (g y)) → (y : A) × (i : ℕ) × (slice_get (x ∷ xs) i ≡ Some y) × IsListed f (g y)
+    by_part (inl k) rest = (x, 0, refl, k)
+    by_part (inr k) rest = let r = rest k in (r.0, suc r.1, r.2, r.3)
+
+lacks : (wanted : Wanted) (calls : List Call) (x f : Found) → IsListed f (lacking wanted calls x) → (list_any (meets wanted) calls ≡ false) × (x ≡ f)
+lacks wanted calls x f h = by_test (list_any (meets wanted) calls) h
+  where
+    by_test : (b : Bool) → IsListed f (if b then [] else x ∷ []) → (b ≡ false) × (x ≡ f)
+    by_test true k = absurd k
+    by_test false (inl e) = (refl, e)
+    by_test false (inr k) = absurd k
+
+created_is : (calls : List Call) (o : Option ObjectKind) (name : List ℕ) (f : Found) → IsListed f (never_created calls o name) → found finding.NeverCreated name ≡ f
+created_is calls None name f h = absurd h
+created_is calls (Some k) name f h = let l = lacks (Creation k name) calls (found finding.NeverCreated name) f h in l.1
+
+abbrev kind_in : Found → FindingKind
+kind_in f = f.kind
+
+abbrev subject_in : Found → List ℕ
+subject_in f = f.subject
+
+pub normal_is_listed : (rows : List Partition) (ports : List PortRow) (p : written.Program) → IsListed (found finding.NeverNormal []) (findings rows ports p) → list_any (meets NormalMode) (calls_of p.init.body ++ calls_of_procedures p.declarations) ≡ false
+unfolding watched
+normal_is_listed rows ports p h = by_part (watched_part (found finding.NeverNormal []) rows ports p refl h)
+  where
+    other : (name : List ℕ) → found finding.NeverCreated name ≡ found finding.NeverNormal [] → ⊥
+    other name e = let k : finding.NeverCreated ≡ finding.NeverNormal = ap kind_in e in cc
+
+    by_part : (IsListed (found finding.NeverNormal []) (objects_never_created (all_calls p) p.declarations) ⊎ IsListed (found finding.NeverNormal []) (processes_never_created (all_calls p) p.processes)) ⊎ IsListed (found finding.NeverNormal []) (never_normal p)
+        → list_any (meets NormalMode) (calls_of p.init.body ++ calls_of_procedures p.declarations) ≡ false
+    by_part (inl (inl k)) = let r = listed_flat _ (λ d. never_created (all_calls p) (object_kind d.kind) d.name) p.declarations k in absurd (other r.0.name (created_is (all_calls p) (object_kind r.0.kind) r.0.name _ r.3))
+    by_part (inl (inr k)) = let r = listed_flat _ (λ q. never_created (all_calls p) (Some object.Process) q.name) p.processes k in absurd (other r.0.name (created_is (all_calls p) (Some object.Process) r.0.name _ r.3))
+    by_part (inr k) = let l = lacks NormalMode (calls_of p.init.body ++ calls_of_procedures p.declarations) (found finding.NeverNormal []) _ k in l.0
+
+-- if no declaration has the name of the process
+pub creation_is_listed : (rows : List Partition) (ports : List PortRow) (p : written.Program) (name : List ℕ) → ((i : ℕ) (d : written.Declaration) → slice_get p.declarations i ≡ Some d → d.name ≢ name)
+    → IsListed (found finding.NeverCreated name) (findings rows ports p) → list_any (meets (Creation object.Process name)) (all_calls p) ≡ false
+unfolding watched
+creation_is_listed rows ports p name apart h = by_part (watched_part (found finding.NeverCreated name) rows ports p refl h)
+  where
+    by_part : (IsListed (found finding.NeverCreated name) (objects_never_created (all_calls p) p.declarations) ⊎ IsListed (found finding.NeverCreated name) (processes_never_created (all_calls p) p.processes)) ⊎ IsListed (found finding.NeverCreated name) (never_normal p)
+        → list_any (meets (Creation object.Process name)) (all_calls p) ≡ false
+    by_part (inl (inl k)) =
+        let r = listed_flat _ (λ d. never_created (all_calls p) (object_kind d.kind) d.name) p.declarations k in
+        absurd (apart r.1 r.0 r.2 (ap subject_in (created_is (all_calls p) (object_kind r.0.kind) r.0.name _ r.3)))
+    by_part (inl (inr k)) =
+        let r = listed_flat _ (λ q. never_created (all_calls p) (Some object.Process) q.name) p.processes k in
+        let l = lacks (Creation object.Process r.0.name) (all_calls p) (found finding.NeverCreated r.0.name) _ r.3 in
+        subst (λ (n : List ℕ). list_any (meets (Creation object.Process n)) (all_calls p) ≡ false) (ap subject_in l.1) l.0
+    by_part (inr k) =
+        let l = lacks NormalMode (calls_of p.init.body ++ calls_of_procedures p.declarations) (found finding.NeverNormal []) _ k in
+        let e : finding.NeverNormal ≡ finding.NeverCreated = ap kind_in l.1 in
+        absurd (cc)
