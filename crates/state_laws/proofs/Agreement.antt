@@ -42,13 +42,13 @@ IsRunning p None = ⊥
 IsRunning p (Some r) = (r.state ≡ Running) × OfProcess p (IsPlain r)
 
 -- each record has a subject of its own, and INIT is the first
-pub record AreNamed (rows : List ProcessStatus) : Type 0 where
+pub record AreDistinct (rows : List ProcessStatus) : Type 0 where
   pub apart : (i j : ℕ) (r x : ProcessStatus) → slice_get rows i ≡ Some r → slice_get rows j ≡ Some x → r.who ≡ x.who → i ≡ j
   pub first : (r : ProcessStatus) → slice_get rows 0 ≡ Some r → r.who ≡ Init
 
 -- The state told of each runner is that of its record, and the runner told to be RUNNING is the current one.
 pub record AgreesOn (t : Told) (rows : List ProcessStatus) (current : Option Runner) : Type 0 where
-  pub named : AreNamed rows
+  pub named : AreDistinct rows
   pub states : (i : ℕ) (r : ProcessStatus) → slice_get rows i ≡ Some r → t.state r.who ≡ r.state
   pub running : t.running ≡ who_runs rows current
   pub runs : (p : Runner) → current ≡ Some p → IsRunning p (slice_get rows (place_of p))
@@ -76,11 +76,17 @@ runs_and_worked t = (t.running, t.worked)
 abbrev pub has_worked_last : Told → Option (ℕ × Subject)
 has_worked_last t = t.worked
 
-module _ {A : Type 0} (of : Told → A) (tick : ℕ) where
-  abbrev pub Goes : Told → Step Processes → Type 0
-  Goes t s = GoesTo of t (reads tick t s.lines) s.part.rows s.part.running
+-- so it is after a step, with its lines
+pub record Goes {A : Type 0} (of : Told → A) (tick : ℕ) (t : Told) (s : Step Processes) : Type 0 where
+  pub agrees : Agrees (reads tick t s.lines) s.part
+  pub mode : (reads tick t s.lines).mode ≡ t.mode
+  pub same : of (reads tick t s.lines) ≡ of t
 
-  pub in_turn : (t : Told) (s u : Step Processes) → Goes t s → Goes (reads tick t s.lines) u → Goes t (after s u)
+module _ {A : Type 0} (of : Told → A) (tick : ℕ) where
+  pub goes : (t : Told) (s : Step Processes) → GoesTo of t (reads tick t s.lines) s.part.rows s.part.running → Goes of tick t s
+  goes t s k = record { agrees = k.agrees; mode = k.mode; same = k.same }
+
+  pub in_turn : (t : Told) (s u : Step Processes) → Goes of tick t s → Goes of tick (reads tick t s.lines) u → Goes of tick t (after s u)
   in_turn t s u h k =
       let e = reads_both tick t s.lines u.lines in
       record {
@@ -89,11 +95,11 @@ module _ {A : Type 0} (of : Told → A) (tick : ℕ) where
         same = ap of e ∙ k.same ∙ h.same;
       }
 
-  pub passed : (t : Told) (b : Bool) (s u : Step Processes) → (b ≡ true → Goes t s) → (b ≡ false → Goes t u) → Goes t (if b then s else u)
+  pub passed : (t : Told) (b : Bool) (s u : Step Processes) → (b ≡ true → Goes of tick t s) → (b ≡ false → Goes of tick t u) → Goes of tick t (if b then s else u)
   passed t true s u h k = h refl
   passed t false s u h k = k refl
 
-  pub either : (t : Told) (b : Bool) (s u : Step Processes) → Goes t s → Goes t u → Goes t (if b then s else u)
+  pub either : (t : Told) (b : Bool) (s u : Step Processes) → Goes of tick t s → Goes of tick t u → Goes of tick t (if b then s else u)
   either t true s u h k = h
   either t false s u h k = k
 
@@ -133,7 +139,7 @@ module _ (rows : List ProcessStatus) (place : ℕ) (r x : ProcessStatus) (there 
     was_at : (i : ℕ) (y : ProcessStatus) → slice_get new i ≡ Some y → (z : ProcessStatus) × ((slice_get rows i ≡ Some z) × (z.who ≡ y.who))
     was_at = each (λ i y. (z : ProcessStatus) × ((slice_get rows i ≡ Some z) × (z.who ≡ y.who))) (r, (there, sym who)) (λ i y n e. (y, (e, refl)))
 
-    pub still_named : AreNamed rows → AreNamed new
+    pub still_named : AreDistinct rows → AreDistinct new
     still_named h = record {
       apart = λ i j y z e f same. let a = was_at i y e in let b = was_at j z f in let c = a.1 in let d = b.1 in h.apart i j a.0 b.0 c.0 d.0 (c.1 ∙ same ∙ sym d.1);
       first = λ y e. let a = was_at 0 y e in let c = a.1 in sym c.1 ∙ h.first a.0 c.0;

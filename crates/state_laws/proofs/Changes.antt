@@ -24,7 +24,7 @@ use Rattle.kernel_meaning.specs.Processes.{Processes, row_of, who_of, not_runnin
 use Rattle.kernel_meaning.specs.Processes as processes
 use Rattle.kernel_meaning.specs.Step.{Step, nothing, after}
 use Rattle.state_laws.specs.Told.{Told, is_same, is_it, preempted, has_worked, worker_or, moves_to, with_state, says, worker_by_lines, running_or, worked_in}
-use Rattle.state_laws.proofs.Agreement.{reads, who_runs, IsRunning, AreNamed, AgreesOn, Agrees, GoesTo, Goes, runs_and_worked, works, either, each, at_each, still_named, same_runs}
+use Rattle.state_laws.proofs.Agreement.{reads, who_runs, IsRunning, AreDistinct, AgreesOn, Agrees, GoesTo, Goes, goes, runs_and_worked, works, either, each, at_each, still_named, same_runs}
 use Rattle.state_laws.proofs.Subjects.{same_itself, not_same, runner_itself, same_runner, same_place}
 
 -- it is not the current runner
@@ -57,7 +57,7 @@ is_waiting : ProcessState → Bool
 is_waiting Waiting = true
 is_waiting _ = false
 
-is_not_waiting : Running ≢ Waiting
+pub is_not_waiting : Running ≢ Waiting
 unfolding is_waiting
 is_not_waiting e = false≢true (ap is_waiting e)
 
@@ -199,8 +199,8 @@ module _ (tick : ℕ) (t : Told) (s : Processes) (h : Agrees t s) where
 
   pub wakes_goes : (p : Runner) (r x : ProcessStatus) → row_of s p ≡ Some r → x.who ≡ r.who → x.state ≡ r.state → IsNotRunning s p → Goes runs_and_worked tick t (wakes s p x)
   wakes_goes p r x there who state n =
-      either runs_and_worked tick t x.suspended _ _ (stays_out p r (record x { wait = wait.Nothing; due = None }) there who state n)
-      (readies p r (record x { state = Ready; wait = wait.Nothing; due = None }) there who refl n)
+      either runs_and_worked tick t x.suspended _ _ (goes runs_and_worked tick t _ (stays_out p r (record x { wait = wait.Nothing; due = None }) there who state n))
+      (goes runs_and_worked tick t _ (readies p r (record x { state = Ready; wait = wait.Nothing; due = None }) there who refl n))
 
   pub waits_goes : (p : Runner) (r x : ProcessStatus) (reason : Wait) (due : Option Due) → row_of s p ≡ Some r → x.who ≡ r.who → x.state ≡ r.state → Goes (worker_by_lines tick) tick t (waits s p x reason due)
   waits_goes p r x reason due there who state = by_state x.state refl
@@ -209,15 +209,15 @@ module _ (tick : ℕ) (t : Told) (s : Processes) (h : Agrees t s) where
       y = record x { state = Waiting; wait = reason; due = due }
 
       by_state : (state : ProcessState) → x.state ≡ state → Goes (worker_by_lines tick) tick t (record { part = put_unready s p y; lines = waiting_lines x.who state; actions = [] })
-      by_state Dormant e = leaves p r y there who Waiting refl
-      by_state Ready e = leaves p r y there who Waiting refl
-      by_state Running e = leaves p r y there who Waiting refl
+      by_state Dormant e = goes (worker_by_lines tick) tick t _ (leaves p r y there who Waiting refl)
+      by_state Ready e = goes (worker_by_lines tick) tick t _ (leaves p r y there who Waiting refl)
+      by_state Running e = goes (worker_by_lines tick) tick t _ (leaves p r y there who Waiting refl)
       by_state Waiting e =
           let k = stays_out p r y there who (sym e ∙ state) (out_by_state p r there (λ i. is_not_waiting (sym i ∙ sym state ∙ e))) in
           works tick t (nothing (put_unready s p y)) (record { agrees = k.agrees; mode = k.mode; same = k.same })
 
   pub rests_goes : (p : Runner) (r : ProcessStatus) → row_of s p ≡ Some r → Goes (worker_by_lines tick) tick t (rests s p r)
-  rests_goes p r there = leaves p r (record r { state = Dormant; suspended = false; wait = wait.Nothing; due = None; deadline = None }) there refl Dormant refl
+  rests_goes p r there = goes (worker_by_lines tick) tick t _ (leaves p r (record r { state = Dormant; suspended = false; wait = wait.Nothing; due = None; deadline = None }) there refl Dormant refl)
 
   pub rests_found_goes : (p : Runner) → Goes (worker_by_lines tick) tick t (rests_found s p (row_of s p))
   rests_found_goes p = by_row (row_of s p) refl
@@ -232,17 +232,20 @@ module _ (tick : ℕ) (t : Told) (s : Processes) (h : Agrees t s) where
       → Goes runs_and_worked tick t (released_with s p x c outputs)
   released_with_goes p r x c outputs there who state n = by_wait x.wait
     where
-      woken : Goes runs_and_worked tick t (wakes (no_longer_waits s p) p x)
-      woken =
-          either runs_and_worked tick t x.suspended _ _ (stays_out p r (record x { wait = wait.Nothing; due = None }) there who state n)
-          (readies p r (record x { state = Ready; wait = wait.Nothing; due = None }) there who refl n)
+      u : Step Processes
+      u = wakes (no_longer_waits s p) p x
 
-      by_wait : (w : Wait) → Goes runs_and_worked tick t (after (answers_wait s p x c outputs w) (wakes (no_longer_waits s p) p x))
-      by_wait wait.Nothing = woken
-      by_wait (wait.NormalStart delay) = woken
-      by_wait wait.FirstRelease = woken
-      by_wait (wait.Service v) = woken
-      by_wait (wait.Object v array) = woken
+      woken : Goes runs_and_worked tick t u
+      woken =
+          either runs_and_worked tick t x.suspended _ _ (goes runs_and_worked tick t _ (stays_out p r (record x { wait = wait.Nothing; due = None }) there who state n))
+          (goes runs_and_worked tick t _ (readies p r (record x { state = Ready; wait = wait.Nothing; due = None }) there who refl n))
+
+      by_wait : (w : Wait) → Goes runs_and_worked tick t (after (answers_wait s p x c outputs w) u)
+      by_wait wait.Nothing = record { agrees = woken.agrees; mode = woken.mode; same = woken.same }
+      by_wait (wait.NormalStart delay) = record { agrees = woken.agrees; mode = woken.mode; same = woken.same }
+      by_wait wait.FirstRelease = record { agrees = woken.agrees; mode = woken.mode; same = woken.same }
+      by_wait (wait.Service v) = record { agrees = woken.agrees; mode = woken.mode; same = woken.same }
+      by_wait (wait.Object v array) = record { agrees = woken.agrees; mode = woken.mode; same = woken.same }
 
 -- ---- who stays out
 

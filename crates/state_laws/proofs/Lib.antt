@@ -1,3 +1,5 @@
 pub mod Subjects
 pub mod Agreement
 pub mod Changes
+pub mod Waiting
+pub mod Services
