@@ -3,3 +3,4 @@ pub mod Agreement
 pub mod Changes
 pub mod Waiting
 pub mod Services
+pub mod Objects
