@@ -4,3 +4,6 @@ pub mod Changes
 pub mod Waiting
 pub mod Services
 pub mod Objects
+pub mod Clears
+pub mod KernelSteps
+pub mod Due
