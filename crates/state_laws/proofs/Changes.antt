@@ -104,7 +104,7 @@ module _ (tick : ℕ) (t : Told) (s : Processes) (h : Agrees t s) where
     -- ---- another state
 
     -- what is told with the new state
-    states_set : (v : Subject → ProcessState) → ((w : Subject) → v w ≡ (if is_same w x.who then x.state else t.state w)) → (i : ℕ) (y : ProcessStatus) → slice_get rows i ≡ Some y → v y.who ≡ y.state
+    pub states_set : (v : Subject → ProcessState) → ((w : Subject) → v w ≡ (if is_same w x.who then x.state else t.state w)) → (i : ℕ) (y : ProcessStatus) → slice_get rows i ≡ Some y → v y.who ≡ y.state
     states_set v is =
         each s.rows (place_of p) r x there (λ i y. v y.who ≡ y.state) (is x.who ∙ ap (λ (b : Bool). if b then x.state else t.state x.who) (same_itself x.who))
         (λ i y n e. is y.who ∙ ap (λ (b : Bool). if b then x.state else t.state y.who) (not_same y.who x.who (λ k. n (sym (h.named.apart i (place_of p) y r e there (k ∙ who))))) ∙ h.states i y e)
@@ -122,7 +122,7 @@ module _ (tick : ℕ) (t : Told) (s : Processes) (h : Agrees t s) where
         by_runner (Some q) e = by_row q (λ is. n (e ∙ ap Some (sym (same_place p q is)))) (row_of s q) refl (h.runs q e)
 
     -- the one told to be RUNNING is this one
-    is_in : s.running ≡ Some p → t.running ≡ Some x.who
+    pub is_in : s.running ≡ Some p → t.running ≡ Some x.who
     is_in e = h.running ∙ ap (who_runs s.rows) e ∙ ap Some (ap who_of there ∙ sym who)
 
     -- it becomes READY

@@ -7,3 +7,4 @@ pub mod Objects
 pub mod Clears
 pub mod KernelSteps
 pub mod Due
+pub mod Choice
