@@ -17,6 +17,7 @@ use Rattle.kernel_meaning.specs.Kernel.{Kernel}
 use Rattle.kernel_meaning.specs.Processes.{Processes, who_of}
 use Rattle.kernel_meaning.specs.Step.{Step, after}
 use Rattle.state_laws.specs.Told.{Told, says, worker_by_lines, running_or, worked_in}
+use Rattle.state_laws.specs.States.{who_runs}
 use Rattle.state_laws.proofs.Subjects.{same_place}
 
 -- ---- lines of one partition in a tick
@@ -30,11 +31,6 @@ reads_both tick t [] b = refl
 reads_both tick t (k ∷ a) b = reads_both tick (says tick t k) a b
 
 -- ---- the agreement
-
--- the subject of the current runner
-abbrev pub who_runs : List ProcessStatus → Option Runner → Option Subject
-who_runs rows None = None
-who_runs rows (Some p) = Some (who_of (slice_get rows (place_of p)))
 
 -- a record that is RUNNING; if it is a process, it is not suspended, waits for nothing and has no due time
 abbrev pub IsRunning : Runner → Option ProcessStatus → Type 0

@@ -24,7 +24,8 @@ use Rattle.kernel_meaning.specs.Processes.{Processes, row_of, who_of, not_runnin
 use Rattle.kernel_meaning.specs.Processes as processes
 use Rattle.kernel_meaning.specs.Step.{Step, nothing, after}
 use Rattle.state_laws.specs.Told.{Told, is_same, is_it, preempted, has_worked, worker_or, moves_to, with_state, says, worker_by_lines, running_or, worked_in}
-use Rattle.state_laws.proofs.Agreement.{reads, who_runs, IsRunning, AreDistinct, AgreesOn, Agrees, GoesTo, Goes, goes, runs_and_worked, works, either, each, at_each, still_named, same_runs}
+use Rattle.state_laws.specs.States.{who_runs}
+use Rattle.state_laws.proofs.Agreement.{reads, IsRunning, AreDistinct, AgreesOn, Agrees, GoesTo, Goes, goes, runs_and_worked, works, either, each, at_each, still_named, same_runs}
 use Rattle.state_laws.proofs.Subjects.{same_itself, not_same, runner_itself, same_runner, same_place}
 
 -- it is not the current runner

@@ -26,7 +26,8 @@ use Rattle.kernel_meaning.specs.ProcessServices.{is_ready_state}
 use Rattle.kernel_meaning.specs.Sharing.{Sharing}
 use Rattle.kernel_meaning.specs.Step.{Step, nothing, after}
 use Rattle.state_laws.specs.Told.{Told, is_it, preempted, with_state}
-use Rattle.state_laws.proofs.Agreement.{reads, who_runs, IsRunning, AgreesOn, Agrees, KernelAgrees, Goes, GoesTo, goes, has_worked_last, idles, in_turn, either, passed, still_named}
+use Rattle.state_laws.specs.States.{who_runs}
+use Rattle.state_laws.proofs.Agreement.{reads, IsRunning, AgreesOn, Agrees, KernelAgrees, Goes, GoesTo, goes, has_worked_last, idles, in_turn, either, passed, still_named}
 use Rattle.state_laws.proofs.Changes.{here, states_set, is_in, out_by_state, wakes_goes}
 use Rattle.state_laws.proofs.KernelSteps.{KernelGoes, of_goes}
 use Rattle.state_laws.proofs.Subjects.{same_itself}

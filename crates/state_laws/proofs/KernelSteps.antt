@@ -39,7 +39,8 @@ use Rattle.apex_types.specs.declared.limits.TheConstants.{MOST_REPORT_WORDS}
 use Rattle.kernel_meaning.specs.Step.{Step, nothing, after, lifted}
 use Rattle.kernel_meaning.specs.Times.{mode_of_action, start_all_waiting}
 use Rattle.state_laws.specs.Told.{Told, responds, preempted, worker_by_lines, is_from_outside}
-use Rattle.state_laws.proofs.Agreement.{reads, reads_both, AgreesOn, Agrees, IsRunning, KernelAgrees, Goes, who_runs, either as either_goes}
+use Rattle.state_laws.specs.States.{who_runs}
+use Rattle.state_laws.proofs.Agreement.{reads, reads_both, AgreesOn, Agrees, IsRunning, KernelAgrees, Goes, either as either_goes}
 use Rattle.state_laws.proofs.Changes.{kept, rests_found_goes}
 use Rattle.state_laws.proofs.Clears.{HasCleared, clears_go, cleared_worker}
 use Rattle.state_laws.proofs.Objects.{objects_go, ports_go}

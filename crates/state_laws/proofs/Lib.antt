@@ -8,3 +8,4 @@ pub mod Clears
 pub mod KernelSteps
 pub mod Due
 pub mod Choice
+pub mod Moves
