@@ -9,3 +9,5 @@ pub mod KernelSteps
 pub mod Due
 pub mod Choice
 pub mod Moves
+pub mod Members
+pub mod Run

@@ -1,6 +1,7 @@
 -- The lines of each move of a partition agree with it. In a tick the chosen runner is the one that spends it by the lines.
-use Rattle.std.proofs.Common.{◌≡◌, ℕ, ℤ, Bool, true, false, List, [], ◌∷◌, ◌++◌, Option, Some, None, refl, sym, ap, ◌∙◌, subst, ◌<◌}
+use Rattle.std.proofs.Common.{◌≡◌, ℕ, ℤ, Bool, true, false, List, [], ◌∷◌, ◌++◌, Option, Some, None, refl, sym, ap, ◌∙◌, subst, arith, ◌<◌}
 use Rattle.std.specs.Prelude.{if◌then◌else◌, slice_set}
+use Rattle.std.proofs.lemmas.Bool.{ne_eqb}
 use Rattle.apex_types.specs.Runners.{Action, place_of}
 use Rattle.apex_types.specs.Runners as action
 use Rattle.apex_types.specs.declared.codes.Discipline.{Discipline}
@@ -26,17 +27,23 @@ use Rattle.apex_types.specs.declared.identity.Runner.{Runner}
 use Rattle.engine_meaning.specs.Engine.{Engine}
 use Rattle.kernel_laws.specs.Agreement.{RecordsAgree}
 use Rattle.kernel_laws.specs.Numbers.{Numbers}
-use Rattle.kernel_laws.specs.OrderLaw.{IsOrdered}
+use Rattle.kernel_laws.specs.OrderLaw.{IsOrdered, chosen_among}
 use Rattle.kernel_laws.specs.WhoWaits.{AreWaiting}
 use Rattle.kernel_laws.proofs.OfTick.{tick_goes}
+use Rattle.kernel_laws.proofs.RecordKernel.{handler_agrees}
 use Rattle.kernel_laws.proofs.RecordTick.{acts_same}
-use Rattle.kernel_meaning.specs.HealthServices.{breaks, then_clears, action_of}
-use Rattle.kernel_meaning.specs.Kernel.{Kernel, of_processes}
-use Rattle.kernel_meaning.specs.Objects.{Port, port_at}
+use Rattle.kernel_laws.proofs.WaitKernel.{KernelHolds, chooses_holds, due_from_holds, handler_holds, then_clears_hold}
+use Rattle.kernel_laws.proofs.WaitSteps.{Hold}
+use Rattle.arrayvec.specs.ArrayVec.{ArrayVec}
+use Rattle.kernel_meaning.specs.HealthServices.{breaks, tells_error, then_clears, action_of}
+use Rattle.kernel_meaning.specs.Kernel.{Kernel, of_ports, of_ports_alone, of_processes, with_errors, with_ports}
+use Rattle.kernel_meaning.specs.Objects.{Port, Ports, port_at}
 use Rattle.kernel_meaning.specs.Partition.{Moved, World, act, act_all, choice_phase, clearing_phase, control_at, due_phase, followed_by, given, moved, prepares, spending_phase, spends_chosen, tick, ticked, told, treating_phase, treats_asked, treats_due, chooses_with_handler}
 use Rattle.kernel_meaning.specs.PartitionServices.{clears}
 use Rattle.kernel_meaning.specs.Processes.{Processes, is_normal}
-use Rattle.kernel_meaning.specs.Step.{Step, nothing}
+use Rattle.kernel_meaning.specs.PortServices as ports
+use Rattle.kernel_meaning.specs.Sharing.{Sharing}
+use Rattle.kernel_meaning.specs.Step.{Step, nothing, after}
 use Rattle.kernel_meaning.specs.Times.{mode_of_action}
 use Rattle.state_laws.specs.States.{who_runs, runs_in}
 use Rattle.state_laws.specs.Told.{Told, is_it, has_worked, preempted, worker_or, moves_to, says, is_from_outside, is_ignored, responds, worker_by_lines, running_or, worked_in}
@@ -45,6 +52,7 @@ use Rattle.state_laws.proofs.Choice.{choice_goes}
 use Rattle.state_laws.proofs.Clears.{HasCleared, clears_go, cleared_worked}
 use Rattle.state_laws.proofs.Due.{ByClear, treats_due_goes}
 use Rattle.state_laws.proofs.KernelSteps.{KernelGoes, of_goes, asked_works}
+use Rattle.state_laws.proofs.Objects.{Brings, arrives_goes, admits_goes}
 
 -- ---- the lines of one partition
 
@@ -217,3 +225,93 @@ module _ {C : Type 0} (e : Engine C) (at : At) where
     pub agrees : KernelAgrees (reads_all t (tick e at w).lines) (tick e at w).world.kernel
     pub before : (n : ℕ) → now < n → IsBefore n t.worked → IsBefore n (reads_all t (tick e at w).lines).worked
     pub worker : IsBefore now t.worked → worker_by_lines now (reads_all t (tick e at w).lines) ≡ runs_in (prepares e at w).world.kernel
+
+  not_in_it : (o : Option (ℕ × Subject)) → IsBefore now o → worked_in now o ≡ None
+  not_in_it None h = refl
+  not_in_it (Some w) h = ap (λ (b : Bool). if b then Some w.1 else None) (ne_eqb w.0 now (λ e. omega (arith, e, h)))
+
+  alone : (o : Option Subject) → running_or o None ≡ o
+  alone None = refl
+  alone (Some who) = refl
+
+  -- ---- who waits
+
+  moved_holds : (s : Step Kernel) (w : World C) → Hold ⊥ s.part.processes → Hold ⊥ (moved at e s w).world.kernel.processes
+  moved_holds s w h = subst (λ (p : Processes). Hold ⊥ p) (sym (acts_same e s.actions (record w { kernel = s.part }))) h
+
+  kernel_holds : (k : Kernel) → Hold ⊥ k.processes → KernelHolds ⊥ k
+  kernel_holds k h = record { holds = h; objects = λ few. absurd few; ports = λ few. absurd few }
+
+  due_holds : (w : World C) → Hold ⊥ w.kernel.processes → Hold ⊥ (due_phase e at w).world.kernel.processes
+  due_holds w h =
+      let d = treats_due at w.kernel in
+      let m = treating_phase e at w in
+      let a : Hold ⊥ m.world.kernel.processes = moved_holds (of_processes w.kernel d.step) w (due_from_holds at (action_of w.kernel.fixed.health error.DeadlineMissed) _ 0 _ w.kernel.processes h) in
+      let c = then_clears_hold m.world.kernel d.clears (kernel_holds m.world.kernel a) in
+      moved_holds (then_clears m.world.kernel d.clears) m.world c.holds
+
+  prepared_holds : (w : World C) → Hold ⊥ w.kernel.processes → RecordsAgree (due_phase e at w).world.kernel.processes → Hold ⊥ (prepares e at w).world.kernel.processes
+  prepared_holds w h agree =
+      let m = due_phase e at w in
+      let k = m.world.kernel in
+      moved_holds (chooses_with_handler k) m.world (chooses_holds k.mode (chosen_among k) (handler_agrees k.mode (with_errors k) agree) (handler_holds k.mode (with_errors k) (due_holds w h)))
+
+  pub tick_tells : (d : ListKey → Discipline) (names : ℕ → List ℕ) (n : Numbers) (w : World C) (t : Told) → IsOrdered d names n w.kernel → Hold ⊥ w.kernel.processes → KernelAgrees t w.kernel → TickTells w t
+  tick_tells d names n w t ordered h agrees =
+      let g = tick_goes d names n e at w ordered in
+      let m = prepares e at w in
+      let p = prepares_goes w t agrees g.due.ordered.records in
+      let held = prepared_holds w h g.due.ordered.records in
+      let u = reads_all t m.lines in
+      let s = spends_goes m.world u m.world.kernel.processes.running refl p.agrees held.waiting in
+      let is = all_both t m.lines (spending_phase e at m.world).lines in
+      record {
+        agrees = subst (λ (v : Told). KernelAgrees v (tick e at w).world.kernel) (sym is) s.agrees;
+        before = λ i lt b. subst (λ (v : Told). IsBefore i v.worked) (sym is) (s.before i lt (p.before i lt b));
+        worker = λ b.
+            ap (worker_by_lines now) is
+            ∙ s.same
+            ∙ ap (λ (o : Option (ℕ × Subject)). running_or u.running (worked_in now o)) p.same
+            ∙ ap (λ (o : Option Subject). running_or u.running o) (not_in_it t.worked b)
+            ∙ alone u.running
+            ∙ p.agrees.processes.running;
+      }
+
+  -- ---- moves of messages, and a fault of the hardware
+
+  pub breaks_goes : (w : World C) (t : Told) → KernelAgrees t w.kernel → MovesTo has_worked_last now t (moved at e (breaks w.kernel) w)
+  breaks_goes w t h = moved_goes has_worked_last (breaks w.kernel) w t (by_action (action_of w.kernel.fixed.health error.HardwareFault))
+    where
+      clears_after : (m : Mode) → is_normal m ≡ false → KernelGoes has_worked_last now (preempted t) (clears w.kernel m condition.HmPartitionRestart)
+      clears_after m other =
+          let g = clears_go now (preempted t) w.kernel m condition.HmPartitionRestart h.processes.named other in
+          record { agrees = g.agrees; same = cleared_worked now (preempted t) (clears w.kernel m condition.HmPartitionRestart) g refl }
+
+      by_action : (a : PartitionAction) → KernelGoes has_worked_last now t (after (tells_error w.kernel error.HardwareFault None (level.Partition a)) (then_clears w.kernel (mode_of_action a)))
+      by_action response.Ignore = record { agrees = h; same = refl }
+      by_action response.Idle = let g = clears_after mode.Idle refl in record { agrees = g.agrees; same = g.same }
+      by_action response.WarmStart = let g = clears_after mode.WarmStart refl in record { agrees = g.agrees; same = g.same }
+      by_action response.ColdStart = let g = clears_after mode.ColdStart refl in record { agrees = g.agrees; same = g.same }
+
+  brought : (w : World C) (t : Told) (s : Step (Sharing Ports)) → KernelAgrees t w.kernel → Brings now t s → MovesTo has_worked_last now t (moved at e (of_ports w.kernel s) w)
+  brought w t s h g = moved_goes has_worked_last (of_ports w.kernel s) w t (record {
+    agrees = record { mode = g.mode ∙ h.mode; processes = g.agrees };
+    same = ap (λ (x : Option Subject × Option (ℕ × Subject)). x.1) g.same;
+  })
+
+  pub arrives_tells : (place : ℕ) (m : ArrayVec ℤ) (w : World C) (t : Told) → KernelAgrees t w.kernel → Hold ⊥ w.kernel.processes → MovesTo has_worked_last now t (moved at e (of_ports w.kernel (ports.arrives at (with_ports w.kernel) place m)) w)
+  arrives_tells place m w t h held = brought w t (ports.arrives at (with_ports w.kernel) place m) h (arrives_goes now t (with_ports w.kernel) h.processes held.waiting at place m)
+
+  pub admits_tells : (place : ℕ) (w : World C) (t : Told) → KernelAgrees t w.kernel → Hold ⊥ w.kernel.processes → MovesTo has_worked_last now t (moved at e (of_ports w.kernel (ports.admits (with_ports w.kernel) place)) w)
+  admits_tells place w t h held = brought w t (ports.admits (with_ports w.kernel) place) h (admits_goes now t (with_ports w.kernel) place h.processes held.waiting)
+
+  pub leaves_tells : (place : ℕ) (w : World C) (t : Told) → KernelAgrees t w.kernel → MovesTo has_worked_last now t (moved at e (of_ports_alone w.kernel (ports.leaves w.kernel.ports place)) w)
+  leaves_tells place w t h = by_port (port_at w.kernel.ports place)
+    where
+      by_first : (x : Port) (ms : List (ArrayVec ℤ)) → MovesTo has_worked_last now t (moved at e (of_ports_alone w.kernel (ports.leaves_first w.kernel.ports place x ms)) w)
+      by_first x [] = moved_goes has_worked_last (of_ports_alone w.kernel (ports.leaves_first w.kernel.ports place x [])) w t (record { agrees = h; same = refl })
+      by_first x (m ∷ rest) = moved_goes has_worked_last (of_ports_alone w.kernel (ports.leaves_first w.kernel.ports place x (m ∷ rest))) w t (record { agrees = record { mode = h.mode; processes = h.processes }; same = refl })
+
+      by_port : (o : Option Port) → MovesTo has_worked_last now t (moved at e (of_ports_alone w.kernel (ports.leaves_of w.kernel.ports place o)) w)
+      by_port None = moved_goes has_worked_last (of_ports_alone w.kernel (ports.leaves_of w.kernel.ports place None)) w t (record { agrees = h; same = refl })
+      by_port (Some x) = by_first x x.messages
