@@ -11,3 +11,4 @@ pub mod Choice
 pub mod Moves
 pub mod Members
 pub mod Run
+pub mod First

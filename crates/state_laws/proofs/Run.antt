@@ -43,6 +43,13 @@ later : (n : ℕ) (o : Option (ℕ × Subject)) → IsBefore n o → IsBefore (s
 later n None h = h
 later n (Some w) h = omega (arith, h)
 
+next : (n : ℕ) → n < suc n
+next n = omega arith
+
+next_now : (n : ℕ) (o : Option At) → IsNow n o → IsNow (suc n) (option_map next_tick o)
+next_now n None e = tt
+next_now n (Some at) e = omega (arith, e)
+
 module _ {C : Type 0} (d : ListKey → Discipline) (called : ℕ → List ℕ) (name : List ℕ) (place : ℕ) (names : List (List ℕ)) (apart : IsApart name place names) where
   abbrev Stay : Told → List (Member C) → Type 0
   Stay t ms = Stands d called name place names apart t ms
@@ -144,6 +151,14 @@ module _ {C : Type 0} (d : ListKey → Discipline) (called : ℕ → List ℕ) (
   ended_to channels at None t ms h = still_to t ms h
   ended_to channels at (Some p) t ms h = ports_to (length (ports_from ms p)) 1 channels at (record { 0 = p }) t ms h
 
+  -- the partition itself
+  mine : (ms : List (Member C)) → map name_of ms ≡ names → (x : Member C) × ((slice_get ms place ≡ Some x) × (name_of x ≡ name))
+  mine ms named = by_member (slice_get ms place) refl (sym (slice_get-map name_of ms place) ∙ ap (λ (ns : List (List ℕ)). slice_get ns place) named ∙ apart.here)
+    where
+      by_member : (o : Option (Member C)) → slice_get ms place ≡ o → option_map name_of o ≡ Some name → (x : Member C) × ((slice_get ms place ≡ Some x) × (name_of x ≡ name))
+      by_member None e f = absurd (none-some name f)
+      by_member (Some x) e f = (x, (e, same_Some (name_of x) name f))
+
   -- ---- all partitions start
 
   module _ (at : At) (c : StartCondition) where
@@ -173,14 +188,6 @@ module _ {C : Type 0} (d : ListKey → Discipline) (called : ℕ → List ℕ) (
     start_names (y ∷ ys) =
         let k = move_keeps (Starts at c) y in
         ap (λ (n : List ℕ). n ∷ map name_of (map (started_member at c) ys)) (ap (λ (f : Fixed). f.name) k.fixed) ∙ ap (λ (ns : List (List ℕ)). name_of y ∷ ns) (start_names ys)
-
-    -- the partition itself
-    mine : (ms : List (Member C)) → map name_of ms ≡ names → (x : Member C) × ((slice_get ms place ≡ Some x) × (name_of x ≡ name))
-    mine ms named = by_member (slice_get ms place) refl (sym (slice_get-map name_of ms place) ∙ ap (λ (ns : List (List ℕ)). slice_get ns place) named ∙ apart.here)
-      where
-        by_member : (o : Option (Member C)) → slice_get ms place ≡ o → option_map name_of o ≡ Some name → (x : Member C) × ((slice_get ms place ≡ Some x) × (name_of x ≡ name))
-        by_member None e f = absurd (none-some name f)
-        by_member (Some x) e f = (x, (e, same_Some (name_of x) name f))
 
     -- while nobody is told to run
     starts_to : (t u : Told) (ms : List (Member C)) → Stay t ms → u.running ≡ None → QuietTo u (starts_all at c ms)
@@ -218,14 +225,14 @@ module _ {C : Type 0} (d : ListKey → Discipline) (called : ℕ → List ℕ) (
 
   inputs_to : (plan : Plan) (ls : List DeviceLine) (at : At) (t : Told) (ms : List (Member C)) → Stay t ms → QuietTo t (advanced (inputs_all plan at ls ms))
   inputs_to plan [] at t ms h = still_to t ms h
-  inputs_to plan (l ∷ ls) at t ms h = by_at (inputs plan at l.input ms).at (input_to plan at l.input t ms h)
+  inputs_to plan (l ∷ ls) at t ms h = by_at (inputs plan at l.input ms).at (input_to plan at l.input t ms h) (λ a u g. inputs_to plan ls a u (inputs plan at l.input ms).members g)
     where
       i : Course C
       i = inputs plan at l.input ms
 
-      by_at : (o : Option At) → QuietTo t (advanced i) → QuietTo t (advanced (unless_down i (λ a ns. inputs_all plan a ls ns) o))
-      by_at None k = k
-      by_at (Some a) k = then_to t (advanced i) (λ ns. advanced (inputs_all plan a ls ns)) k (λ u g. inputs_to plan ls a u i.members g)
+      by_at : (o : Option At) → QuietTo t (advanced i) → ((a : At) (u : Told) → Stay u i.members → QuietTo u (advanced (inputs_all plan a ls i.members))) → QuietTo t (advanced (unless_down i (λ a ns. inputs_all plan a ls ns) o))
+      by_at None k rest = k
+      by_at (Some a) k rest = then_to t (advanced i) (λ ns. advanced (inputs_all plan a ls ns)) k (rest a)
 
   -- the tick stays
   fault_now : (n : ℕ) (at : At) (a : ModuleAction) (ms : List (Member C)) → at.now.0 ≡ n → IsNow n (breaks_module at a ms).at
@@ -240,11 +247,169 @@ module _ {C : Type 0} (d : ListKey → Discipline) (called : ℕ → List ℕ) (
 
   inputs_now : (n : ℕ) (plan : Plan) (ls : List DeviceLine) (at : At) (ms : List (Member C)) → at.now.0 ≡ n → IsNow n (inputs_all plan at ls ms).at
   inputs_now n plan [] at ms e = e
-  inputs_now n plan (l ∷ ls) at ms e = by_at (inputs plan at l.input ms).at (input_now n plan at l.input ms e)
+  inputs_now n plan (l ∷ ls) at ms e = by_at (inputs plan at l.input ms).at (input_now n plan at l.input ms e) (input_now n plan at l.input ms e) (λ a k. inputs_now n plan ls a (inputs plan at l.input ms).members k)
     where
       i : Course C
       i = inputs plan at l.input ms
 
-      by_at : (o : Option At) → IsNow n o → IsNow n (unless_down i (λ a ns. inputs_all plan a ls ns) o).at
-      by_at None k = tt
-      by_at (Some a) k = inputs_now n plan ls a i.members k
+      by_at : (o : Option At) → IsNow n o → IsNow n i.at → ((a : At) → a.now.0 ≡ n → IsNow n (inputs_all plan a ls i.members).at) → IsNow n (unless_down i (λ a ns. inputs_all plan a ls ns) o).at
+      by_at None k down rest = down
+      by_at (Some a) k down rest = rest a k
+
+  -- ---- the owner's tick
+
+  -- the partition stands, and nobody has worked later than in this tick
+  pub record TicksTo (n : ℕ) (t : Told) (a : Advanced C) : Type 0 where
+    pub stands : Stay (told_from name t a.lines) a.members
+    pub before : IsBefore (suc n) (told_from name t a.lines).worked
+
+  owner_to : (at : At) (o : Option ℕ) (t : Told) (ms : List (Member C)) → Stay t ms → IsBefore at.now.0 t.worked → TicksTo at.now.0 t (ticks_owner at ms o)
+  owner_to at None t ms h b = record { stands = h; before = later at.now.0 t.worked b }
+  owner_to at (Some zero) t ms h b = record { stands = h; before = later at.now.0 t.worked b }
+  owner_to at (Some (suc q)) t ms h b =
+      let s = steps_to d called name place names apart t (Advances at) ms q (slice_get ms q) refl h (λ x is here well. let k = tick_tells x.engine at d called well.numbers x.world t well.ordered well.holds well.agrees in k.agrees) in
+      record { stands = s.stands; before = by_lines s.lines }
+    where
+      u : Told
+      u = told_from name t (steps_member (makes (Advances at)) ms q (slice_get ms q)).lines
+
+      by_lines : (u ≡ t) ⊎ IsOwn d called name place names apart t (Advances at) ms q u → IsBefore (suc at.now.0) u.worked
+      by_lines (inl e) = subst (λ (v : Told). IsBefore (suc at.now.0) v.worked) (sym e) (later at.now.0 t.worked b)
+      by_lines (inr own) =
+          let x = own.1.0 in
+          let f = own.1.1 in
+          let well = h.own x f.0 in
+          let k = tick_tells x.engine at d called well.numbers x.world t well.ordered well.holds well.agrees in
+          subst (λ (v : Told). IsBefore (suc at.now.0) v.worked) (sym f.1) (k.before (suc at.now.0) (next at.now.0) (later at.now.0 t.worked b))
+
+  -- the owner's runner spends it
+  owner_worker : (at : At) (t : Told) (ms : List (Member C)) → Stay t ms → IsBefore at.now.0 t.worked → worker_by_lines at.now.0 (told_from name t (ticks_owner at ms (Some (suc place))).lines) ≡ worker_at at ms (Some (suc place))
+  owner_worker at t ms h b =
+      let own = mine ms h.named in
+      let x = own.0 in
+      let here = own.1 in
+      let s = steps_to d called name place names apart t (Advances at) ms place (slice_get ms place) refl h (λ y is there well. let k = tick_tells y.engine at d called well.numbers y.world t well.ordered well.holds well.agrees in k.agrees) in
+      let well = h.own x here.0 in
+      let k = tick_tells x.engine at d called well.numbers x.world t well.ordered well.holds well.agrees in
+      ap (worker_by_lines at.now.0) (s.read x refl here.0) ∙ k.worker b ∙ sym (ap (chosen_by at) here.0)
+
+  moves_and_ticks_to : (plan : Plan) (at : At) (t : Told) (ms : List (Member C)) → Stay t ms → IsBefore at.now.0 t.worked → TicksTo at.now.0 t (advanced (moves_and_ticks plan at ms))
+  moves_and_ticks_to plan at t ms h b =
+      let a = moves_ended plan.channels at ms (ended plan.schedule at) in
+      let k = ended_to plan.channels at (ended plan.schedule at) t ms h in
+      let o = owner_to at (owner plan.schedule at) (told_from name t a.lines) a.members k.stands (subst (IsBefore at.now.0) (sym k.same) b) in
+      let is = told_both name t a.lines (ticks_owner at a.members (owner plan.schedule at)).lines in
+      record {
+        stands = subst (λ (v : Told). Stay v (ticks_owner at a.members (owner plan.schedule at)).members) (sym is) o.stands;
+        before = subst (λ (v : Told). IsBefore (suc at.now.0) v.worked) (sym is) o.before;
+      }
+
+  -- ---- a tick of the module
+
+  module _ (plan : Plan) (devices : List DeviceLine) (at : At) (t : Told) (ms : List (Member C)) (h : Stay t ms) (b : IsBefore at.now.0 t.worked) where
+    abbrev brought : Course C
+    brought = inputs_all plan at (of_tick at.now.0 devices) ms
+
+    brought_to : QuietTo t (advanced brought)
+    brought_to = inputs_to plan (of_tick at.now.0 devices) at t ms h
+
+    still_before : IsBefore at.now.0 (told_from name t brought.lines).worked
+    still_before = subst (IsBefore at.now.0) (sym brought_to.same) b
+
+    after_devices : (o : Option At) → IsNow at.now.0 o → TicksTo at.now.0 t (advanced (unless_down brought (moves_and_ticks plan) o))
+    after_devices None e = record { stands = brought_to.stands; before = later at.now.0 _ still_before }
+    after_devices (Some a) e =
+        let u = told_from name t brought.lines in
+        let k = moves_and_ticks_to plan a u brought.members brought_to.stands (subst (λ (n : ℕ). IsBefore n u.worked) (sym e) still_before) in
+        let is = told_both name t brought.lines (moves_and_ticks plan a brought.members).lines in
+        record {
+          stands = subst (λ (v : Told). Stay v (moves_and_ticks plan a brought.members).members) (sym is) k.stands;
+          before = subst (λ (v : Told). IsBefore (suc at.now.0) v.worked) (sym is) (subst (λ (n : ℕ). IsBefore (suc n) (told_from name u (moves_and_ticks plan a brought.members).lines).worked) e k.before);
+        }
+
+    tick_to : TicksTo at.now.0 t (advanced (module_tick plan at devices ms))
+    tick_to = after_devices brought.at (inputs_now at.now.0 plan (of_tick at.now.0 devices) at ms refl)
+
+    now_after : (o : Option At) → IsNow at.now.0 o → IsNow at.now.0 brought.at → IsNow at.now.0 (unless_down brought (moves_and_ticks plan) o).at
+    now_after None e k = k
+    now_after (Some a) e k = e
+
+    tick_now : IsNow at.now.0 (module_tick plan at devices ms).at
+    tick_now = let e = inputs_now at.now.0 plan (of_tick at.now.0 devices) at ms refl in now_after brought.at e e
+
+    worker_after : (o : Option At) → brought.at ≡ o → IsNow at.now.0 o → owner_of plan (unless_down brought (λ a ns. goes_on a (moves_ended plan.channels a ns (ended plan.schedule a))) o).at ≡ Some (suc place)
+        → worker_by_lines at.now.0 (told_from name t (unless_down brought (moves_and_ticks plan) o).lines)
+        ≡ worker_of plan (unless_down brought (λ a ns. goes_on a (moves_ended plan.channels a ns (ended plan.schedule a))) o).at (unless_down brought (λ a ns. goes_on a (moves_ended plan.channels a ns (ended plan.schedule a))) o).members
+    worker_after None is e owns = absurd (none-some (suc place) (sym (ap (owner_of plan) is) ∙ owns))
+    worker_after (Some a) is e owns =
+        let u = told_from name t brought.lines in
+        let m = moves_ended plan.channels a brought.members (ended plan.schedule a) in
+        let k = ended_to plan.channels a (ended plan.schedule a) u brought.members brought_to.stands in
+        let v = told_from name u m.lines in
+        let c : IsBefore a.now.0 v.worked = subst (IsBefore a.now.0) (sym k.same) (subst (λ (n : ℕ). IsBefore n u.worked) (sym e) still_before) in
+        let w : worker_by_lines a.now.0 (told_from name v (ticks_owner a m.members (owner plan.schedule a)).lines) ≡ worker_at a m.members (owner plan.schedule a) =
+            subst (λ (o : Option ℕ). worker_by_lines a.now.0 (told_from name v (ticks_owner a m.members o).lines) ≡ worker_at a m.members o) (sym owns) (owner_worker a v m.members k.stands c) in
+        let last = (ticks_owner a m.members (owner plan.schedule a)).lines in
+        ap (worker_by_lines at.now.0) (told_both name t brought.lines (m.lines ++ last) ∙ told_both name u m.lines last)
+        ∙ ap (λ (n : ℕ). worker_by_lines n (told_from name v last)) (sym e)
+        ∙ w
+
+    tick_worker : owner_of plan (before_owner plan at devices ms).at ≡ Some (suc place)
+        → worker_by_lines at.now.0 (told_from name t (module_tick plan at devices ms).lines) ≡ worker_of plan (before_owner plan at devices ms).at (before_owner plan at devices ms).members
+    tick_worker owns = worker_after brought.at refl (inputs_now at.now.0 plan (of_tick at.now.0 devices) at ms refl) owns
+
+  -- ---- a run
+
+  run_to : (plan : Plan) (devices : List DeviceLine) (n now : ℕ) (o : Option At) → IsNow now o → (t : Told) (ms : List (Member C)) → Stay t ms → IsBefore now t.worked
+      → Stay (told_from name t (trace_from plan devices n o ms)) (members_from plan devices n o ms)
+  run_to plan devices zero now o e t ms h b = h
+  run_to plan devices (suc n) now None e t ms h b = h
+  run_to plan devices (suc n) now (Some at) e t ms h b =
+      let c = subst (λ (i : ℕ). IsBefore i t.worked) (sym e) b in
+      let r = module_tick plan at devices ms in
+      let k = tick_to plan devices at t ms h c in
+      let rest = run_to plan devices n (suc at.now.0) (option_map next_tick r.at) (next_now at.now.0 r.at (tick_now plan devices at t ms h c)) (told_from name t r.lines) r.members k.stands k.before in
+      subst (λ (v : Told). Stay v (members_from plan devices n (option_map next_tick r.at) r.members)) (sym (told_both name t r.lines (trace_from plan devices n (option_map next_tick r.at) r.members))) rest
+
+  pub run_stands : (m : Module C) (devices : List DeviceLine) (n : ℕ) → Stay first_told m.members → Stay (told name (trace m devices n)) (members_after m devices n)
+  run_stands m devices zero h = h
+  run_stands m devices (suc n) h =
+      let s = starts_all first_tick condition.NormalStart m.members in
+      let k = starts_to first_tick condition.NormalStart first_told first_told m.members h refl in
+      let u = told_from name first_told s.lines in
+      let rest = run_to m.plan devices (suc n) 0 (Some first_tick) refl u s.members k.stands (subst (IsBefore 0) (sym k.same) tt) in
+      subst (λ (v : Told). Stay v (members_from m.plan devices (suc n) (Some first_tick) s.members)) (sym (told_both name first_told s.lines (trace_from m.plan devices (suc n) (Some first_tick) s.members))) rest
+
+  worker_from : (plan : Plan) (devices : List DeviceLine) (n now : ℕ) (o : Option At) → IsNow now o → (t : Told) (ms : List (Member C)) → Stay t ms → IsBefore now t.worked
+      → owner_of plan (before_owner_from plan devices n o ms).at ≡ Some (suc place)
+      → worker_by_lines (now + n) (told_from name t (trace_from plan devices (suc n) o ms)) ≡ worker_of plan (before_owner_from plan devices n o ms).at (before_owner_from plan devices n o ms).members
+  worker_from plan devices zero now None e t ms h b owns = absurd (none-some (suc place) owns)
+  worker_from plan devices zero now (Some at) e t ms h b owns =
+      let c = subst (λ (i : ℕ). IsBefore i t.worked) (sym e) b in
+      let r = module_tick plan at devices ms in
+      let is : now + 0 ≡ at.now.0 = omega (arith, e) in
+      ap (λ (i : ℕ). worker_by_lines i (told_from name t (r.lines ++ []))) is
+      ∙ ap (worker_by_lines at.now.0) (told_both name t r.lines [])
+      ∙ tick_worker plan devices at t ms h c owns
+  worker_from plan devices (suc n) now None e t ms h b owns = absurd (none-some (suc place) owns)
+  worker_from plan devices (suc n) now (Some at) e t ms h b owns =
+      let c = subst (λ (i : ℕ). IsBefore i t.worked) (sym e) b in
+      let r = module_tick plan at devices ms in
+      let k = tick_to plan devices at t ms h c in
+      let later = trace_from plan devices (suc n) (option_map next_tick r.at) r.members in
+      let is : now + suc n ≡ suc at.now.0 + n = omega (arith, e) in
+      let rest = worker_from plan devices n (suc at.now.0) (option_map next_tick r.at) (next_now at.now.0 r.at (tick_now plan devices at t ms h c)) (told_from name t r.lines) r.members k.stands k.before owns in
+      ap (λ (i : ℕ). worker_by_lines i (told_from name t (r.lines ++ later))) is
+      ∙ ap (worker_by_lines (suc at.now.0 + n)) (told_both name t r.lines later)
+      ∙ rest
+
+  pub run_worker : (m : Module C) (devices : List DeviceLine) (n : ℕ) → Stay first_told m.members → owner_in m devices n ≡ Some (suc place) → worker_by_lines n (told name (trace m devices (suc n))) ≡ worker m devices n
+  run_worker m devices n h owns =
+      let s = starts_all first_tick condition.NormalStart m.members in
+      let k = starts_to first_tick condition.NormalStart first_told first_told m.members h refl in
+      let u = told_from name first_told s.lines in
+      let later = trace_from m.plan devices (suc n) (Some first_tick) s.members in
+      let is : n ≡ 0 + n = omega arith in
+      ap (λ (i : ℕ). worker_by_lines i (told_from name first_told (s.lines ++ later))) is
+      ∙ ap (worker_by_lines (0 + n)) (told_both name first_told s.lines later)
+      ∙ worker_from m.plan devices n 0 (Some first_tick) refl u s.members k.stands (subst (IsBefore 0) (sym k.same) tt) owns

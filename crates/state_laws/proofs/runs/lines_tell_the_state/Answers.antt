@@ -1,0 +1,5 @@
+use Rattle.state_laws.proofs.First.{source_tells}
+use Rattle.state_laws.proofs.runs.lines_tell_the_state.Goals as goal
+
+pub returns-clause-source : goal.returns-clause-source
+returns-clause-source c = λ t programs devices n p row program x judged here there own found. source_tells t programs devices n p row program x judged here there own found
