@@ -124,7 +124,7 @@ module _ {A : Type 0} (f : A → ProcessStatus) (name : A → List ℕ) (who : (
   }
 
 -- what is told of a kernel that it agrees with
-tells : (t : Told) (k : Kernel) → KernelAgrees t k → TellsState t k
+pub tells : (t : Told) (k : Kernel) → KernelAgrees t k → TellsState t k
 tells t k h = let p = h.processes in record { mode = h.mode; states = λ q r e. p.states (place_of q) r e; running = p.running }
 
 -- ---- the partition of a source

@@ -12,3 +12,4 @@ pub mod Moves
 pub mod Members
 pub mod Run
 pub mod First
+pub mod OfImages

@@ -4,6 +4,10 @@ ghost use Rattle.std.specs.Prelude.{◌≡◌, ℕ, suc, List, Some};
 ghost use Rattle.apex_types.specs.declared.device.DeviceLine.{DeviceLine};
 ghost use Rattle.kernel_laws.specs.History.{members_after};
 ghost use Rattle.kernel_meaning.specs.Partition.{Member};
+ghost use Rattle.machine_meaning.specs.Image.{Image, Item};
+ghost use Rattle.machine_meaning.specs.ImageLimits.{IsLawful};
+ghost use Rattle.machine_meaning.specs.MachineControl.{MachineControl};
+ghost use Rattle.machine_meaning.specs.MachineMeaning.{machine_module, machine_trace};
 ghost use Rattle.module_meaning.specs.Accepted.{IsJudged};
 ghost use Rattle.module_meaning.specs.SourceMeaning.{source_module, source_trace};
 ghost use Rattle.module_meaning.specs.Table.{Partition, Table, at_number};
@@ -14,9 +18,16 @@ ghost use Rattle.state_laws.specs.Spending.{owner_in, worker};
 ghost use Rattle.state_laws.specs.States.{TellsState};
 ghost use Rattle.state_laws.specs.Told.{told, worker_by_lines};
 
-/// After any number of ticks of any run, what the lines tell of a partition is its state: its mode,
-/// the state of INIT, of the error handler and of each process, and who is RUNNING.
+/// After any number of ticks of any run of a lawful image, what the lines tell of a partition is its
+/// state: its mode, the state of INIT, of the error handler and of each process, and who is RUNNING.
+/// So it is in any run of a judged table with programs whose processes have names of their own.
 pub fn lines_tell_the_state()
+    ensures machine { (image : Image) (devices : List DeviceLine) (n p : ℕ) (item : Item)
+        (x : Member MachineControl)
+        → IsLawful image
+        → at_number image.items p ≡ Some item
+        → at_number (members_after (machine_module image) devices n) p ≡ Some x
+        → TellsState (told item.partition.name (machine_trace image devices n)) x.world.kernel }
     ensures source { (t : Table) (programs : List Program) (devices : List DeviceLine) (n p : ℕ)
         (row : Partition) (program : Program) (x : Member SourceControl)
         → IsJudged t
@@ -27,8 +38,15 @@ pub fn lines_tell_the_state()
         → TellsState (told row.name (source_trace t programs devices n)) x.world.kernel }
 {}
 
-/// In each tick of any run, who spends it by the lines is the runner that its owner chooses.
+/// In each tick of any such run, who spends it by the lines is the runner that the owner of its
+/// window chooses, or nobody if the owner chooses nobody.
 pub fn lines_tell_who_works()
+    ensures machine { (image : Image) (devices : List DeviceLine) (n p : ℕ) (item : Item)
+        → IsLawful image
+        → at_number image.items p ≡ Some item
+        → owner_in (machine_module image) devices n ≡ Some p
+        → worker_by_lines n (told item.partition.name (machine_trace image devices (suc n)))
+        ≡ worker (machine_module image) devices n }
     ensures source { (t : Table) (programs : List Program) (devices : List DeviceLine) (n p : ℕ)
         (row : Partition) (program : Program)
         → IsJudged t
