@@ -2,7 +2,7 @@
 use Rattle.std.proofs.Common.{◌≡◌, ◌≢◌, ℕ, Bool, true, false, List, [], ◌∷◌, ◌++◌, nat_eq, Option, Some, None, refl, sym, ap, ◌∙◌, subst}
 use Rattle.std.specs.Prelude.{slice_get, slice_set, if◌then◌else◌}
 use Rattle.std.proofs.lemmas.Bool.{eqb-true, eqb-false}
-use Rattle.std.proofs.lemmas.Option.{none-some, same_Some}
+use Rattle.std.proofs.lemmas.Option.{same_Some}
 use Rattle.apex_types.specs.Runners.{place_of}
 use Rattle.apex_types.specs.declared.codes.ProcessState.TheVariants.{Running}
 use Rattle.apex_types.specs.declared.event.EventKind.{EventKind}
@@ -18,7 +18,6 @@ use Rattle.kernel_meaning.specs.Processes.{Processes, who_of}
 use Rattle.kernel_meaning.specs.Step.{Step, after}
 use Rattle.state_laws.specs.Told.{Told, says, worker_by_lines, running_or, worked_in}
 use Rattle.state_laws.specs.States.{who_runs}
-use Rattle.state_laws.proofs.Subjects.{same_place}
 
 -- ---- lines of one partition in a tick
 

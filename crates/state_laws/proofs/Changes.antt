@@ -1,15 +1,12 @@
 -- The lines of each change of one process agree with it.
-use Rattle.std.proofs.Common.{◌≡◌, ◌≢◌, ℕ, ℤ, pos, Bool, true, false, List, [], ◌∷◌, length, Option, Some, None, inl, inr, refl, sym, ap, ◌∙◌, subst}
-use Rattle.std.specs.Prelude.{◌⊎◌, ◌==◌, slice_get, slice_set, if◌then◌else◌}
+use Rattle.std.proofs.Common.{◌≡◌, ◌≢◌, ℕ, ℤ, Bool, true, false, List, [], ◌∷◌, Option, Some, None, inl, inr, refl, sym, ap, ◌∙◌, subst}
+use Rattle.std.specs.Prelude.{◌⊎◌, slice_get, slice_set, if◌then◌else◌}
 use Rattle.std.proofs.lemmas.Bool.{eq-eqb, false≢true}
 use Rattle.std.proofs.lemmas.Option.{none-some, same_Some}
-use Rattle.arrayvec.specs.ArrayVec.{ArrayVec}
 use Rattle.apex_types.specs.Runners.{Action, place_of}
 use Rattle.apex_types.specs.declared.codes.ProcessState.{ProcessState}
 use Rattle.apex_types.specs.declared.codes.ProcessState.TheVariants.{Dormant, Ready, Running, Waiting}
 use Rattle.apex_types.specs.declared.codes.ReturnCode.{ReturnCode}
-use Rattle.apex_types.specs.declared.codes.ReturnCode.TheVariants as code
-use Rattle.apex_types.specs.declared.event.EventKind.{EventKind}
 use Rattle.apex_types.specs.declared.event.EventKind.TheVariants as event
 use Rattle.apex_types.specs.declared.event.Subject.{Subject}
 use Rattle.apex_types.specs.declared.identity.Runner.{Runner}
@@ -17,15 +14,12 @@ use Rattle.apex_types.specs.declared.process.Due.{Due}
 use Rattle.apex_types.specs.declared.process.ProcessStatus.{ProcessStatus}
 use Rattle.apex_types.specs.declared.process.Wait.{Wait}
 use Rattle.apex_types.specs.declared.process.Wait.TheVariants as wait
-use Rattle.kernel_laws.specs.Agreement.{IsPlain}
-use Rattle.kernel_laws.proofs.Places.{get_set_same}
-use Rattle.kernel_laws.proofs.Records.{OfProcess}
 use Rattle.kernel_meaning.specs.Processes.{Processes, row_of, who_of, not_running, put_row, put_ready, put_unready, put_dormant, waiting_lines, wakes, waits, rests, rests_found, answers_wait, released_with, no_longer_waits, zeros_of_wait}
 use Rattle.kernel_meaning.specs.Processes as processes
 use Rattle.kernel_meaning.specs.Step.{Step, nothing, after}
-use Rattle.state_laws.specs.Told.{Told, is_same, is_it, preempted, has_worked, worker_or, moves_to, with_state, says, worker_by_lines, running_or, worked_in}
+use Rattle.state_laws.specs.Told.{Told, is_same, is_it, preempted, has_worked, worker_or, moves_to, with_state, worker_by_lines, running_or, worked_in}
 use Rattle.state_laws.specs.States.{who_runs}
-use Rattle.state_laws.proofs.Agreement.{reads, IsRunning, AreDistinct, AgreesOn, Agrees, GoesTo, Goes, goes, runs_and_worked, works, either, each, at_each, still_named, same_runs}
+use Rattle.state_laws.proofs.Agreement.{IsRunning, AgreesOn, Agrees, GoesTo, Goes, goes, runs_and_worked, works, either, each, at_each, still_named, same_runs}
 use Rattle.state_laws.proofs.Subjects.{same_itself, not_same, runner_itself, same_runner, same_place}
 
 -- it is not the current runner

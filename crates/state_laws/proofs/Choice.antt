@@ -1,18 +1,15 @@
 -- The lines of the choice agree with it, and nobody has worked by them.
-use Rattle.std.proofs.Common.{◌≡◌, ◌≢◌, ℕ, Bool, true, false, List, [], ◌∷◌, Option, Some, None, refl, sym, ap, ◌∙◌, subst}
+use Rattle.std.proofs.Common.{◌≡◌, ℕ, Bool, true, List, [], Option, Some, None, refl, sym, ap, ◌∙◌, subst}
 use Rattle.std.specs.Prelude.{◌&&◌, if◌then◌else◌, slice_get, slice_set}
 use Rattle.std.proofs.lemmas.Bool.{and_parts, false≢true}
 use Rattle.std.proofs.lemmas.Option.{none-some, same_Some}
 use Rattle.apex_types.specs.Runners.{place_of}
 use Rattle.apex_types.specs.declared.codes.Mode.{Mode}
 use Rattle.apex_types.specs.declared.codes.ProcessState.TheVariants.{Ready, Running}
-use Rattle.apex_types.specs.declared.event.Subject.{Subject}
-use Rattle.apex_types.specs.declared.identity.ProcessIndex.{ProcessIndex}
 use Rattle.apex_types.specs.declared.identity.Runner.{Runner}
 use Rattle.apex_types.specs.declared.identity.Runner.TheVariants as runner
 use Rattle.apex_types.specs.declared.process.ProcessStatus.{ProcessStatus}
 use Rattle.kernel_laws.specs.Agreement.{IsPlain, RecordsAgree}
-use Rattle.kernel_laws.specs.OrderLaw.{chosen_among}
 use Rattle.kernel_laws.proofs.Places.{get_set_same}
 use Rattle.kernel_laws.proofs.RecordChoice.{leaves_agrees, picked_after}
 use Rattle.kernel_laws.proofs.RecordKernel.{handler_agrees}
@@ -24,10 +21,9 @@ use Rattle.kernel_meaning.specs.Partition.{preempts, runs, leaves_processor, tak
 use Rattle.kernel_meaning.specs.Processes.{Processes, row_of, who_of, is_dormant, is_dormant_state, is_normal}
 use Rattle.kernel_meaning.specs.ProcessServices.{is_ready_state}
 use Rattle.kernel_meaning.specs.Sharing.{Sharing}
-use Rattle.kernel_meaning.specs.Step.{Step, nothing, after}
+use Rattle.kernel_meaning.specs.Step.{after}
 use Rattle.state_laws.specs.Told.{Told, is_it, preempted, with_state}
-use Rattle.state_laws.specs.States.{who_runs}
-use Rattle.state_laws.proofs.Agreement.{reads, IsRunning, AgreesOn, Agrees, KernelAgrees, Goes, GoesTo, goes, has_worked_last, idles, in_turn, either, passed, still_named}
+use Rattle.state_laws.proofs.Agreement.{reads, IsRunning, Agrees, KernelAgrees, Goes, GoesTo, goes, has_worked_last, idles, in_turn, either, passed, still_named}
 use Rattle.state_laws.proofs.Changes.{here, states_set, is_in, out_by_state, wakes_goes}
 use Rattle.state_laws.proofs.KernelSteps.{KernelGoes, of_goes}
 use Rattle.state_laws.proofs.Subjects.{same_itself}

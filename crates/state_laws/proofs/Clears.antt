@@ -1,24 +1,23 @@
 -- The lines of a Clear agree with it, whatever was told before.
-use Rattle.std.proofs.Common.{◌≡◌, ◌≢◌, ℕ, zero, suc, Bool, true, false, List, [], ◌∷◌, map, Option, Some, None, refl, sym, ap, ◌∙◌, subst}
-use Rattle.std.specs.Prelude.{slice_get, slice_set, if◌then◌else◌}
+use Rattle.std.proofs.Common.{◌≡◌, ℕ, zero, suc, Bool, false, List, [], ◌∷◌, map, Option, Some, None, refl, sym, ap, ◌∙◌}
+use Rattle.std.specs.Prelude.{slice_get, if◌then◌else◌}
 use Rattle.std.proofs.lemmas.Bool.{false≢true}
 use Rattle.std.proofs.lemmas.Option.{none-some, same_Some}
 use Rattle.apex_types.specs.declared.codes.Mode.{Mode}
 use Rattle.apex_types.specs.declared.codes.Mode.TheVariants as mode
-use Rattle.apex_types.specs.declared.codes.ProcessState.{ProcessState}
 use Rattle.apex_types.specs.declared.codes.ProcessState.TheVariants.{Dormant, Ready}
 use Rattle.apex_types.specs.declared.codes.StartCondition.{StartCondition}
 use Rattle.apex_types.specs.declared.event.Subject.{Subject}
 use Rattle.apex_types.specs.declared.event.Subject.TheVariants.{Init}
 use Rattle.apex_types.specs.declared.process.ProcessStatus.{ProcessStatus}
 use Rattle.kernel_meaning.specs.Kernel.{Kernel}
-use Rattle.kernel_meaning.specs.PartitionServices.{forgotten, ready_init, started_rows, clears}
+use Rattle.kernel_meaning.specs.PartitionServices.{forgotten, ready_init, clears}
 use Rattle.kernel_meaning.specs.Processes.{is_normal}
 use Rattle.kernel_meaning.specs.Step.{Step}
 use Rattle.state_laws.specs.Told.{Told, is_same, worker_or, worker_by_lines, running_or, worked_in}
 use Rattle.state_laws.proofs.Agreement.{reads, AreDistinct, AgreesOn, KernelAgrees, each, still_named}
 use Rattle.state_laws.proofs.Changes.{same_worker}
-use Rattle.state_laws.proofs.Subjects.{not_same, same_itself}
+use Rattle.state_laws.proofs.Subjects.{not_same}
 
 -- ---- records that are forgotten
 

@@ -1,13 +1,11 @@
 -- The lines of what is due agree with it, and nobody has worked by them.
-use Rattle.std.proofs.Common.{◌≡◌, ◌≢◌, ℕ, zero, suc, ℤ, Bool, true, false, List, [], ◌∷◌, ◌++◌, Option, Some, None, refl, sym, ap, ◌∙◌, subst}
-use Rattle.std.specs.Prelude.{◌+◌, ◌-◌, if◌then◌else◌, is_some, is_none, nat_le, slice_set}
-use Rattle.std.proofs.lemmas.Bool.{false≢true}
+use Rattle.std.proofs.Common.{◌≡◌, ℕ, zero, suc, Bool, true, false, [], Option, Some, None, refl, sym, ap, ◌∙◌}
+use Rattle.std.specs.Prelude.{◌+◌, if◌then◌else◌, nat_le, slice_set}
 use Rattle.std.proofs.lemmas.Option.{none-some}
 use Rattle.apex_types.specs.declared.codes.ErrorKind.TheVariants.{DeadlineMissed}
 use Rattle.apex_types.specs.declared.codes.Mode.{Mode}
 use Rattle.apex_types.specs.declared.codes.PartitionAction.{PartitionAction}
 use Rattle.apex_types.specs.declared.codes.PartitionAction.TheVariants as action
-use Rattle.apex_types.specs.declared.event.EventKind.{EventKind}
 use Rattle.apex_types.specs.declared.event.Subject.{Subject}
 use Rattle.apex_types.specs.declared.identity.At.{At}
 use Rattle.apex_types.specs.declared.identity.ProcessIndex.{ProcessIndex}
@@ -23,14 +21,13 @@ use Rattle.kernel_meaning.specs.HealthServices.{action_of, free_places}
 use Rattle.kernel_meaning.specs.Kernel.{Kernel, with_errors}
 use Rattle.kernel_meaning.specs.Partition.{treats_due}
 use Rattle.kernel_meaning.specs.Processes.{Processes, row_of, index, is_normal, zeros_of_wait}
-use Rattle.kernel_meaning.specs.Step.{Step, nothing, after}
+use Rattle.kernel_meaning.specs.Step.{Step, after}
 use Rattle.kernel_meaning.specs.Times as times
 use Rattle.kernel_meaning.specs.Times.{Treated, without_clear, treated_after, then_others, ends_wait, tick_of, timed_out, released_at, misses, is_past, treats_deadline, treats, due_from, mode_of_action}
 use Rattle.state_laws.specs.Told.{Told}
-use Rattle.state_laws.proofs.Agreement.{reads, reads_both, AreDistinct, AgreesOn, Agrees, Goes, runs_and_worked, in_turn, either, still_named}
+use Rattle.state_laws.proofs.Agreement.{reads, reads_both, AreDistinct, AgreesOn, Agrees, Goes, runs_and_worked, in_turn, either}
 use Rattle.state_laws.proofs.Changes.{IsNotRunning, here, kept, out_if, released_with_goes}
 use Rattle.state_laws.proofs.Services.{still_running, runs_without_due}
-use Rattle.kernel_laws.proofs.Places.{get_set_same}
 use Rattle.apex_types.specs.Runners.{place_of}
 
 -- A step before a Clear: nobody is told to run any more, and nobody has worked.

@@ -1,7 +1,6 @@
 -- Before its first start a partition is as it is told to be before the first line.
-use Rattle.std.proofs.Common.{◌≡◌, ◌≢◌, ℕ, zero, suc, Bool, true, false, List, [], ◌∷◌, ◌++◌, map, Option, Some, None, refl, sym, ap, ◌∙◌, subst, arith}
-use Rattle.std.specs.Prelude.{◌+◌, ◌||◌, slice_get, option_map, is_some}
-use Rattle.std.specs.List.{list_any}
+use Rattle.std.proofs.Common.{◌≡◌, ℕ, zero, suc, Bool, true, false, List, [], ◌∷◌, map, Some, refl, sym, ap, ◌∙◌, subst}
+use Rattle.std.specs.Prelude.{◌+◌, slice_get, option_map}
 use Rattle.std.proofs.lemmas.Bool.{false≢true}
 use Rattle.std.proofs.lemmas.Option.{none-some, same_Some}
 use Rattle.apex_types.specs.Runners.{place_of}
@@ -23,7 +22,6 @@ use Rattle.kernel_meaning.specs.Kernel.{Fixed, Kernel}
 use Rattle.kernel_meaning.specs.Objects.{Objects, Ports}
 use Rattle.kernel_meaning.specs.Partition.{Member}
 use Rattle.module_meaning.specs.Accepted.{IsJudged}
-use Rattle.module_meaning.specs.Module.{Module, trace}
 use Rattle.module_meaning.specs.SourceMeaning.{source_members, source_module, source_row, source_trace}
 use Rattle.module_meaning.specs.Table.{Partition, Table, at_number}
 use Rattle.pal_meaning.specs.Program as program
@@ -32,8 +30,8 @@ use Rattle.state_laws.specs.Names.{HasOwnNames}
 use Rattle.state_laws.specs.Spending.{owner_in, worker}
 use Rattle.state_laws.specs.States.{TellsState}
 use Rattle.state_laws.specs.Told.{Told, first_told, told, worker_by_lines}
-use Rattle.state_laws.proofs.Agreement.{AreDistinct, KernelAgrees}
-use Rattle.state_laws.proofs.Members.{IsWell, Stands}
+use Rattle.state_laws.proofs.Agreement.{KernelAgrees}
+use Rattle.state_laws.proofs.Members.{Stands}
 use Rattle.state_laws.proofs.Run.{run_stands, run_worker}
 
 -- ---- the rows of processes
@@ -110,7 +108,7 @@ unfolding name_or
 same_process a b e = ap (name_or a) e
 
 module _ {A : Type 0} (f : A → ProcessStatus) (name : A → List ℕ) (who : (x : A) → (f x).who ≡ Process (name x)) (rests : (x : A) → (f x).state ≡ Dormant) (xs : List A)
-  (apart : (i j : ℕ) (x y : A) → slice_get xs i ≡ Some x → slice_get xs j ≡ Some y → name x ≡ name y → i ≡ j) where
+    (apart : (i j : ℕ) (x y : A) → slice_get xs i ≡ Some x → slice_get xs j ≡ Some y → name x ≡ name y → i ≡ j) where
   pub are_processes : AreProcesses (map f xs)
   are_processes = record {
     named = λ i r e. let m = mapped f xs i r e in let c = m.1 in (name m.0, sym (ap (λ (y : ProcessStatus). y.who) c.1) ∙ who m.0);
@@ -130,7 +128,7 @@ tells t k h = let p = h.processes in record { mode = h.mode; states = λ q r e. 
 -- ---- the partition of a source
 
 module _ (t : Table) (sources : List program.Program) (judged : IsJudged t) (place : ℕ) (row : Partition) (p : program.Program) (e : at_number t.partitions (suc place) ≡ Some row) (f : at_number sources (suc place) ≡ Some p)
-  (own : HasOwnNames p) where
+    (own : HasOwnNames p) where
   abbrev members : List (Member SourceControl)
   members = source_members t.costs t.schedule 1 t.partitions sources
 
@@ -168,7 +166,7 @@ source_tells t sources devices n zero row q x judged e f own g = absurd (none-so
 source_tells t sources devices n (suc place) row q x judged e f own g =
     let members = source_members t.costs t.schedule 1 t.partitions sources in
     let s = run_stands (disciplines_of members (suc place)) (names_of members (suc place)) row.name place (map name_of members) (source_apart t sources judged place row q e f own) (source_module t sources) devices n
-        (source_stands t sources judged place row q e f own) in
+    (source_stands t sources judged place row q e f own) in
     let w = s.own x g in
     tells (told row.name (source_trace t sources devices n)) x.world.kernel w.agrees
 

@@ -1,5 +1,5 @@
 -- The lines of what a runner asks for agree with it, and it spends the tick.
-use Rattle.std.proofs.Common.{◌≡◌, ℕ, zero, suc, ℤ, pos, negsuc, Bool, true, false, not, List, [], ◌∷◌, Option, Some, None, refl, sym, ap, ◌∙◌, subst}
+use Rattle.std.proofs.Common.{◌≡◌, ℕ, ℤ, pos, Bool, true, false, not, List, [], ◌∷◌, Option, Some, None, refl, sym, ap, ◌∙◌, subst}
 use Rattle.std.specs.Prelude.{◌&&◌, if◌then◌else◌, is_some}
 use Rattle.std.specs.Ordering.{int_eq}
 use Rattle.apex_types.specs.declared.codes.ErrorKind.{ErrorKind}
@@ -26,25 +26,25 @@ use Rattle.apex_types.specs.declared.service.Call.TheVariants as call
 use Rattle.apex_types.specs.declared.service.Service.TheVariants as service
 use Rattle.engine_meaning.specs.Engine.{Asks, Nothing, Calls, Faults, Ends}
 use Rattle.kernel_laws.specs.WhoWaits.{AreWaiting}
-use Rattle.kernel_meaning.specs.HealthServices.{report, is_message_length, create_error_handler, creates_found, is_handler_created, get_error_status, takes_error, raises, waits_or_leaves, queues, response_of, raise_application_error, ignores, is_fault, enters_mode, acts_on_error, then_acts, handles, faults}
+use Rattle.kernel_meaning.specs.HealthServices.{report, is_message_length, create_error_handler, creates_found, is_handler_created, get_error_status, takes_error, raises, waits_or_leaves, response_of, raise_application_error, ignores, is_fault, acts_on_error, then_acts, handles, faults}
 use Rattle.kernel_meaning.specs.Kernel.{Errors, Kernel, of_processes, with_errors, with_objects, with_ports}
 use Rattle.kernel_meaning.specs.Partition.{serves, treats_asked}
 use Rattle.kernel_meaning.specs.PartitionServices.{clears, next_release_of, starts_normally, mode_of, wants, is_warm, is_cold, set_partition_mode, ends_body, enters_normal}
 use Rattle.kernel_meaning.specs.PartitionServices as services
-use Rattle.kernel_meaning.specs.Processes.{Processes, row_of, is_normal, is_same, rests_found, not_running, answers, refuses, who_of}
+use Rattle.kernel_meaning.specs.Processes.{Processes, row_of, is_normal, is_same, rests_found, not_running, answers}
 use Rattle.kernel_meaning.specs.ProcessServices.{number_of}
 use Rattle.kernel_meaning.specs.Sharing as sharing
 use Rattle.kernel_meaning.specs.Sharing.{Sharing, is_large_enough}
 use Rattle.apex_types.specs.declared.limits.TheConstants.{MOST_REPORT_WORDS}
-use Rattle.kernel_meaning.specs.Step.{Step, nothing, after, lifted}
-use Rattle.kernel_meaning.specs.Times.{mode_of_action, start_all_waiting}
+use Rattle.kernel_meaning.specs.Step.{Step, after, lifted}
+use Rattle.kernel_meaning.specs.Times.{start_all_waiting}
 use Rattle.state_laws.specs.Told.{Told, responds, preempted, worker_by_lines, is_from_outside}
 use Rattle.state_laws.specs.States.{who_runs}
-use Rattle.state_laws.proofs.Agreement.{reads, reads_both, AgreesOn, Agrees, IsRunning, KernelAgrees, Goes, either as either_goes}
+use Rattle.state_laws.proofs.Agreement.{reads, reads_both, IsRunning, KernelAgrees, Goes, either as either_goes}
 use Rattle.state_laws.proofs.Changes.{kept, rests_found_goes}
-use Rattle.state_laws.proofs.Clears.{HasCleared, clears_go, cleared_worker}
+use Rattle.state_laws.proofs.Clears.{clears_go, cleared_worker}
 use Rattle.state_laws.proofs.Objects.{objects_go, ports_go}
-use Rattle.state_laws.proofs.Services.{still_running, told, all_start_go, stop_self_goes, get_process_id_goes, get_process_status_goes, create_process_goes, set_priority_goes, suspend_self_goes, suspend_goes, resume_goes, stop_goes, start_goes, delayed_start_goes, lock_preemption_goes, unlock_preemption_goes, get_my_id_goes, timed_wait_goes, periodic_wait_goes, replenish_goes}
+use Rattle.state_laws.proofs.Services.{still_running, all_start_go, stop_self_goes, get_process_id_goes, get_process_status_goes, create_process_goes, set_priority_goes, suspend_self_goes, suspend_goes, resume_goes, stop_goes, start_goes, delayed_start_goes, lock_preemption_goes, unlock_preemption_goes, get_my_id_goes, timed_wait_goes, periodic_wait_goes, replenish_goes}
 use Rattle.state_laws.proofs.Subjects.{runner_itself}
 
 -- After a step of the kernel: with its lines what is told agrees, and in some respect the same is told.
@@ -131,7 +131,7 @@ module _ (tick : ℕ) (t : Told) where
     then_acts_works p e s same =
         let a = acts_works p e s.part in
         let is : reads tick t (then_acts k p e s).lines ≡ reads tick t (acts_on_error k p e s.part).lines =
-            reads_both tick t s.lines (acts_on_error k p e s.part).lines ∙ ap (λ (v : Told). reads tick v (acts_on_error k p e s.part).lines) same in
+        reads_both tick t s.lines (acts_on_error k p e s.part).lines ∙ ap (λ (v : Told). reads tick v (acts_on_error k p e s.part).lines) same in
         record { agrees = subst (λ (v : Told). KernelAgrees v (then_acts k p e s).part) (sym is) a.agrees; same = ap (worker_by_lines tick) is ∙ a.same }
 
     raises_reads : (p : Runner) (e : ErrorKind) (words : List ℤ) → ((r : Response) → responds t e r ≡ t) → reads tick t (raises k.fixed.health k.mode (with_errors k) p e words).lines ≡ t

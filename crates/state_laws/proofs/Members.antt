@@ -1,5 +1,5 @@
 -- The lines of a partition among those of the others, and each move of it.
-use Rattle.std.proofs.Common.{◌≡◌, ◌≢◌, ◌⊎◌, inl, inr, ℕ, suc, Bool, true, false, List, [], ◌∷◌, ◌++◌, cond, map, nat_eq, Option, Some, None, refl, sym, ap, ◌∙◌, subst}
+use Rattle.std.proofs.Common.{◌≡◌, ◌≢◌, ◌⊎◌, inl, inr, ℕ, Bool, true, false, List, [], ◌∷◌, ◌++◌, cond, map, nat_eq, Option, Some, None, refl, sym, ap, ◌∙◌, subst}
 use Rattle.std.specs.Prelude.{if◌then◌else◌, option_map, slice_get, slice_set}
 use Rattle.std.proofs.lemmas.Bool.{eqb-true, eqb-false, false≢true}
 use Rattle.std.proofs.lemmas.Option.{none-some, same_Some}
@@ -21,7 +21,7 @@ use Rattle.kernel_laws.proofs.Through.{move_goes}
 use Rattle.kernel_laws.proofs.WaitSteps.{Hold}
 use Rattle.kernel_laws.proofs.WaitTick.{makes_hold}
 use Rattle.kernel_meaning.specs.Kernel.{Fixed}
-use Rattle.kernel_meaning.specs.Partition.{Member, Moved, with_world}
+use Rattle.kernel_meaning.specs.Partition.{Member, with_world}
 use Rattle.module_meaning.specs.Module.{steps_member}
 use Rattle.state_laws.specs.Told.{Told, says, said_by, with_line, told_from}
 use Rattle.state_laws.proofs.Agreement.{KernelAgrees}
@@ -59,7 +59,7 @@ pub told_own : (name : List ℕ) (t : Told) (ls : List Event) → AllOf name ls 
 told_own name t [] h = refl
 told_own name t (l ∷ ls) h =
     let is : with_line name t l ≡ says l.tick.0 t l.kind =
-        ap (λ (o : Option (List ℕ)). said_by name t o l.tick.0 l.kind) h.0 ∙ ap (λ (b : Bool). if b then says l.tick.0 t l.kind else t) (name_itself name) in
+    ap (λ (o : Option (List ℕ)). said_by name t o l.tick.0 l.kind) h.0 ∙ ap (λ (b : Bool). if b then says l.tick.0 t l.kind else t) (name_itself name) in
     ap (λ (u : Told). told_from name u ls) is ∙ told_own name (says l.tick.0 t l.kind) ls h.1
 
 -- those of another are not

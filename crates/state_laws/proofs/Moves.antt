@@ -45,11 +45,11 @@ use Rattle.kernel_meaning.specs.PortServices as ports
 use Rattle.kernel_meaning.specs.Sharing.{Sharing}
 use Rattle.kernel_meaning.specs.Step.{Step, nothing, after}
 use Rattle.kernel_meaning.specs.Times.{mode_of_action}
-use Rattle.state_laws.specs.States.{who_runs, runs_in}
+use Rattle.state_laws.specs.States.{runs_in}
 use Rattle.state_laws.specs.Told.{Told, is_it, has_worked, preempted, worker_or, moves_to, says, is_from_outside, is_ignored, responds, worker_by_lines, running_or, worked_in}
 use Rattle.state_laws.proofs.Agreement.{reads, AreDistinct, Agrees, KernelAgrees, has_worked_last, idles}
 use Rattle.state_laws.proofs.Choice.{choice_goes}
-use Rattle.state_laws.proofs.Clears.{HasCleared, clears_go, cleared_worked}
+use Rattle.state_laws.proofs.Clears.{clears_go, cleared_worked}
 use Rattle.state_laws.proofs.Due.{ByClear, treats_due_goes}
 use Rattle.state_laws.proofs.KernelSteps.{KernelGoes, of_goes, asked_works}
 use Rattle.state_laws.proofs.Objects.{Brings, arrives_goes, admits_goes}

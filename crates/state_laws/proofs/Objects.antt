@@ -1,5 +1,5 @@
 -- The lines of the services on objects and on ports, and of messages, agree with them.
-use Rattle.std.proofs.Common.{◌≡◌, ℕ, ℤ, pos, Bool, true, false, List, [], ◌∷◌, Option, Some, None, refl}
+use Rattle.std.proofs.Common.{◌≡◌, ℕ, ℤ, Bool, true, false, List, [], ◌∷◌, Option, Some, None, refl}
 use Rattle.std.specs.Prelude.{if◌then◌else◌}
 use Rattle.arrayvec.specs.ArrayVec.{ArrayVec}
 use Rattle.apex_types.specs.declared.codes.Mode.{Mode}

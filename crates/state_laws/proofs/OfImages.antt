@@ -1,7 +1,6 @@
 -- In every run of a lawful image the lines tell of a partition what it is.
-use Rattle.std.proofs.Common.{◌≡◌, ℕ, zero, suc, Bool, true, false, List, [], ◌∷◌, ◌++◌, length, map, Option, Some, None, refl, sym, ap, ◌∙◌, subst}
+use Rattle.std.proofs.Common.{◌≡◌, ℕ, zero, suc, Bool, true, false, List, [], ◌∷◌, ◌++◌, length, map, Some, refl, sym, ap, ◌∙◌, subst}
 use Rattle.std.specs.Prelude.{◌+◌, ◌||◌, bytes_eq, slice_get}
-use Rattle.std.specs.List.{list_any}
 use Rattle.std.proofs.lemmas.Bool.{false≢true}
 use Rattle.std.proofs.lemmas.Option.{none-some, same_Some}
 use Rattle.std.proofs.lemmas.Slice.Eq.{bytes_eq-Decides}
@@ -10,7 +9,6 @@ use Rattle.apex_types.specs.declared.device.DeviceLine.{DeviceLine}
 use Rattle.apex_types.specs.declared.row.ProcessRow.{ProcessRow}
 use Rattle.isolation.proofs.Law.{record_of, members_at, members_named}
 use Rattle.isolation.proofs.OfImage.{name_in, image_apart}
-use Rattle.isolation.proofs.Steps.{name_of}
 use Rattle.kernel_laws.specs.History.{members_after}
 use Rattle.kernel_laws.specs.Numbers.{first_numbers}
 use Rattle.kernel_laws.specs.RunLaw.{disciplines_of, names_of}
@@ -18,7 +16,7 @@ use Rattle.kernel_laws.proofs.Fresh.{machine_ordered}
 use Rattle.kernel_laws.proofs.WaitRuns.{machine_holds}
 use Rattle.kernel_meaning.specs.Partition.{Member}
 use Rattle.machine_meaning.specs.Image.{Image, Item}
-use Rattle.machine_meaning.specs.ImageLimits.{EachBeside, IsItem, IsLawful, IsProcess}
+use Rattle.machine_meaning.specs.ImageLimits.{EachBeside, IsLawful, IsProcess}
 use Rattle.machine_meaning.specs.ImageReading.{is_process}
 use Rattle.machine_meaning.specs.MachineControl.{MachineControl}
 use Rattle.machine_meaning.specs.MachineMeaning.{machine_members, machine_module, machine_row, machine_trace}
@@ -115,7 +113,7 @@ image_tells image devices n zero item x lawful e g = absurd (none-some item e)
 image_tells image devices n (suc place) item x lawful e g =
     let members = machine_members (costs_of image.version) image.schedule 1 image.items in
     let s = run_stands (disciplines_of members (suc place)) (names_of members (suc place)) (name_in item) place (map name_in image.items) (image_apart image lawful place item e) (machine_module image) devices n
-        (image_stands image lawful place item e) in
+    (image_stands image lawful place item e) in
     let w = s.own x g in
     tells (told item.partition.name (machine_trace image devices n)) x.world.kernel w.agrees
 

@@ -1,8 +1,7 @@
 -- In every run what the lines tell of a partition agrees with it, and who spends its ticks by the lines is the chosen runner.
-use Rattle.std.proofs.Common.{◌≡◌, ◌≢◌, ◌⊎◌, inl, inr, ℕ, zero, suc, Bool, true, false, List, [], ◌∷◌, ◌++◌, length, map, Option, Some, None, refl, sym, ap, ◌∙◌, subst, arith, ◌<◌}
-use Rattle.std.specs.Prelude.{◌+◌, if◌then◌else◌, option_map, slice_get}
+use Rattle.std.proofs.Common.{◌≡◌, ◌≢◌, ◌⊎◌, inl, inr, ℕ, zero, suc, false, List, [], ◌∷◌, ◌++◌, length, map, Option, Some, None, refl, sym, ap, ◌∙◌, subst, arith, ◌<◌}
+use Rattle.std.specs.Prelude.{◌+◌, option_map, slice_get}
 use Rattle.std.specs.List.{flat_map}
-use Rattle.std.proofs.lemmas.Bool.{false≢true}
 use Rattle.std.proofs.lemmas.Option.{none-some, same_Some}
 use Rattle.arrayvec.specs.ArrayVec.{ArrayVec}
 use Rattle.apex_types.specs.declared.codes.Discipline.{Discipline}
@@ -14,7 +13,6 @@ use Rattle.apex_types.specs.declared.codes.StartCondition.TheVariants as conditi
 use Rattle.apex_types.specs.declared.device.DeviceInput.{DeviceInput}
 use Rattle.apex_types.specs.declared.device.DeviceInput.TheVariants as device
 use Rattle.apex_types.specs.declared.device.DeviceLine.{DeviceLine}
-use Rattle.apex_types.specs.declared.event.Event.{Event}
 use Rattle.apex_types.specs.declared.event.Subject.{Subject}
 use Rattle.apex_types.specs.declared.identity.At.{At}
 use Rattle.apex_types.specs.declared.identity.ListKey.{ListKey}
@@ -27,17 +25,16 @@ use Rattle.isolation.proofs.Prelude.{slice_get-map}
 use Rattle.isolation.proofs.Steps.{IsApart, name_of}
 use Rattle.kernel_laws.specs.History.{Move, Starts, BreaksDown, Arrives, Leaves, Admits, GoesOut, Advances, makes, members_after, members_from}
 use Rattle.kernel_meaning.specs.Kernel.{Fixed}
-use Rattle.kernel_meaning.specs.Partition.{Member, cold_start, leaving, messages_to_move, place_of_port, prepares, with_world}
+use Rattle.kernel_meaning.specs.Partition.{Member, cold_start, leaving, messages_to_move, place_of_port}
 use Rattle.kernel_meaning.specs.Windows.{ended, owner}
-use Rattle.module_meaning.specs.Module.{Advanced, Course, Module, Plan, as_origin, breaks_module, channel_from, delivers, delivers_all, first_tick, goes_by, goes_on, inputs, inputs_all, module_tick, moves_and_ticks, moves_ended, moves_found, moves_message, moves_messages, moves_port, moves_ports, moves_so_many, next_tick, of_member, of_tick, ports_from, start_lines, started_member, starts, starts_all, steps, steps_member, still, tells_fault, then_goes, then_runs, ticks_owner, trace, trace_from, unless_down}
+use Rattle.module_meaning.specs.Module.{Advanced, Course, Module, Plan, as_origin, breaks_module, channel_from, delivers, delivers_all, first_tick, goes_by, goes_on, inputs, inputs_all, module_tick, moves_and_ticks, moves_ended, moves_found, moves_message, moves_messages, moves_port, moves_ports, moves_so_many, next_tick, of_member, of_tick, ports_from, start_lines, started_member, starts_all, steps, steps_member, still, then_goes, ticks_owner, trace, trace_from, unless_down}
 use Rattle.module_meaning.specs.Standing.{IsNow}
 use Rattle.module_meaning.specs.Table.{Channel, at_number}
-use Rattle.state_laws.specs.Spending.{before_owner, before_owner_from, before_owner_in, chosen_by, owner_in, owner_of, shut_down, worker, worker_at, worker_of}
-use Rattle.state_laws.specs.States.{runs_in}
+use Rattle.state_laws.specs.Spending.{before_owner, before_owner_from, chosen_by, owner_in, owner_of, worker, worker_at, worker_of}
 use Rattle.state_laws.specs.Told.{Told, first_told, preempted, told, told_from, worker_by_lines}
 use Rattle.state_laws.proofs.Agreement.{KernelAgrees, has_worked_last}
-use Rattle.state_laws.proofs.Members.{IsWell, Stands, StepsTo, IsOwn, steps_to, well_after, told_both, told_own, told_other, AllOf, all_own, move_keeps}
-use Rattle.state_laws.proofs.Moves.{IsBefore, MovesTo, TickTells, reads_all, tick_tells, cleared_goes, breaks_goes, arrives_tells, admits_tells, leaves_tells}
+use Rattle.state_laws.proofs.Members.{IsWell, Stands, IsOwn, steps_to, well_after, told_both, told_own, told_other, AllOf, all_own, move_keeps}
+use Rattle.state_laws.proofs.Moves.{IsBefore, MovesTo, reads_all, tick_tells, cleared_goes, breaks_goes, arrives_tells, admits_tells, leaves_tells}
 
 later : (n : ℕ) (o : Option (ℕ × Subject)) → IsBefore n o → IsBefore (suc n) o
 later n None h = h
@@ -198,7 +195,7 @@ module _ {C : Type 0} (d : ListKey → Discipline) (called : ℕ → List ℕ) (
         let well = h.own x here.0 in
         let m = cleared_goes x.engine at x.world u mode.ColdStart c well.agrees.processes.named refl none in
         let others : (q : ℕ) (y : Member C) → q ≢ place → slice_get ms q ≡ Some y → same name (name_of y) ≡ false =
-            λ q y n e. apart.others q (name_of y) n (subst (λ (ns : List (List ℕ)). slice_get ns q ≡ Some (name_of y)) h.named (slice_get-map name_of ms q ∙ ap (option_map name_of) e)) in
+        λ q y n e. apart.others q (name_of y) n (subst (λ (ns : List (List ℕ)). slice_get ns q ≡ Some (name_of y)) h.named (slice_get-map name_of ms q ∙ ap (option_map name_of) e)) in
         let read = own_start ms place x here.0 here.1 others u in
         let agrees = subst (λ (v : Told). KernelAgrees v (cold_start at c x).world.kernel) (sym read) m.agrees in
         let after = well_after d called t (told_from name u (flat_map (start_lines at c) ms)) (Starts at c) x well agrees in
@@ -348,7 +345,7 @@ module _ {C : Type 0} (d : ListKey → Discipline) (called : ℕ → List ℕ) (
         let v = told_from name u m.lines in
         let c : IsBefore a.now.0 v.worked = subst (IsBefore a.now.0) (sym k.same) (subst (λ (n : ℕ). IsBefore n u.worked) (sym e) still_before) in
         let w : worker_by_lines a.now.0 (told_from name v (ticks_owner a m.members (owner plan.schedule a)).lines) ≡ worker_at a m.members (owner plan.schedule a) =
-            subst (λ (o : Option ℕ). worker_by_lines a.now.0 (told_from name v (ticks_owner a m.members o).lines) ≡ worker_at a m.members o) (sym owns) (owner_worker a v m.members k.stands c) in
+        subst (λ (o : Option ℕ). worker_by_lines a.now.0 (told_from name v (ticks_owner a m.members o).lines) ≡ worker_at a m.members o) (sym owns) (owner_worker a v m.members k.stands c) in
         let last = (ticks_owner a m.members (owner plan.schedule a)).lines in
         ap (worker_by_lines at.now.0) (told_both name t brought.lines (m.lines ++ last) ∙ told_both name u m.lines last)
         ∙ ap (λ (n : ℕ). worker_by_lines n (told_from name v last)) (sym e)

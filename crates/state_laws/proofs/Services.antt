@@ -1,10 +1,9 @@
 -- The lines of the services on processes and on time, and of the starts, agree with them.
-use Rattle.std.proofs.Common.{◌≡◌, ◌≢◌, ℕ, zero, suc, ℤ, pos, negsuc, Bool, true, false, not, List, [], ◌∷◌, length, Option, Some, None, refl, sym, ap, ◌∙◌, subst}
+use Rattle.std.proofs.Common.{◌≡◌, ℕ, zero, suc, ℤ, pos, negsuc, Bool, true, false, not, List, [], length, Option, Some, None, refl, sym, ap, ◌∙◌, subst}
 use Rattle.std.specs.Prelude.{◌+◌, ◌-◌, ◌==◌, ◌||◌, if◌then◌else◌, is_some, nat_le}
 use Rattle.std.proofs.lemmas.Bool.{false≢true}
 use Rattle.std.proofs.lemmas.Option.{none-some, same_Some}
 use Rattle.apex_types.specs.declared.codes.Mode.{Mode}
-use Rattle.apex_types.specs.declared.codes.ProcessState.TheVariants.{Running}
 use Rattle.apex_types.specs.declared.codes.ReturnCode.{ReturnCode}
 use Rattle.apex_types.specs.declared.codes.ReturnCode.TheVariants as code
 use Rattle.apex_types.specs.declared.identity.At.{At}
@@ -23,12 +22,12 @@ use Rattle.apex_types.specs.declared.service.Service.TheVariants as service
 use Rattle.engine_meaning.specs.Operators.{is_zero}
 use Rattle.kernel_laws.proofs.Records.{at_found}
 use Rattle.kernel_laws.proofs.RecordRows.{was_true}
-use Rattle.kernel_meaning.specs.Processes.{Processes, row_of, index, numbered, process_at, has, on, answers, refuses, wakes, waits, rests, released, zeros_of_wait, put_ready, put_row, is_created, is_dormant, is_dormant_state, is_suspended, is_periodic, is_unknown, is_own, is_no_other, is_busy, is_held, is_normal}
+use Rattle.kernel_meaning.specs.Processes.{Processes, row_of, index, numbered, process_at, has, on, answers, rests, zeros_of_wait, put_ready, put_row, is_created, is_dormant, is_dormant_state, is_suspended, is_periodic, is_unknown, is_no_other, is_busy, is_held, is_normal}
 use Rattle.kernel_meaning.specs.ProcessServices.{get_process_id, get_process_status, tells_status, create_process, creates, set_priority, takes_priority, priority_of, is_priority, is_ready_state, suspend_self, suspends_self, of_row, suspend, suspends, is_holder, resume, resumes, resumes_from, stop, stop_self, start, delayed_start, is_beyond, lock_preemption, unlock_preemption, with_lock, level_of, may_not_lock, get_my_id, timed_wait, delays, yields, waits_until, periodic_wait, waits_periodically, waits_for_period, replenish, replenishes, has_no_deadline, reaches_past}
 use Rattle.kernel_meaning.specs.Step.{Step, nothing, after}
-use Rattle.kernel_meaning.specs.Times.{begins, is_delay, is_duration, amount, released_at, ticks, start_all_waiting, start_from, starts, starts_if_waiting, starts_in_normal, starts_waiting}
+use Rattle.kernel_meaning.specs.Times.{is_delay, is_duration, amount, released_at, ticks, start_all_waiting, start_from, starts, starts_if_waiting, starts_in_normal, starts_waiting}
 use Rattle.state_laws.specs.Told.{Told, worker_by_lines}
-use Rattle.state_laws.proofs.Agreement.{reads, IsRunning, Agrees, GoesTo, Goes, works, in_turn}
+use Rattle.state_laws.proofs.Agreement.{reads, IsRunning, Agrees, Goes, works, in_turn}
 use Rattle.state_laws.proofs.Changes.{IsNotRunning, here, kept, kept_out, out_if, out_by_state, wakes_goes, waits_goes, rests_goes, rests_found_goes, released_with_goes}
 
 -- a record that stays as plain

@@ -1,10 +1,9 @@
 -- The lines of waits agree with them: who waits in a list does not run.
-use Rattle.std.proofs.Common.{◌≡◌, ◌≢◌, ℕ, ℤ, pos, Bool, true, false, List, [], ◌∷◌, length, nat_eq, Option, Some, None, refl, sym, ap, ◌∙◌, subst, arith, ◌<◌}
+use Rattle.std.proofs.Common.{◌≡◌, ℕ, ℤ, pos, Bool, true, false, List, [], ◌∷◌, length, Option, Some, None, refl, sym, ◌∙◌, subst, arith, ◌<◌}
 use Rattle.std.specs.Prelude.{◌+◌, if◌then◌else◌}
 use Rattle.std.proofs.lemmas.Bool.{eq-eqb, false≢true}
 use Rattle.std.proofs.lemmas.Option.{none-some, same_Some}
 use Rattle.arrayvec.specs.ArrayVec.{ArrayVec}
-use Rattle.apex_types.specs.declared.codes.ProcessState.TheVariants.{Running, Waiting}
 use Rattle.apex_types.specs.declared.codes.ReturnCode.{ReturnCode}
 use Rattle.apex_types.specs.declared.codes.ReturnCode.TheVariants as code
 use Rattle.apex_types.specs.declared.identity.At.{At}
@@ -22,10 +21,9 @@ use Rattle.kernel_laws.specs.WhoWaits.{AreWaiting, WaitsIn}
 use Rattle.kernel_laws.proofs.Records.{numbered_found}
 use Rattle.kernel_meaning.specs.Processes.{Processes, row_of, numbered, released_with, no_longer_waits, zeros_of_wait, is_busy}
 use Rattle.kernel_meaning.specs.Queues.{is_entry_of, list_at}
-use Rattle.kernel_meaning.specs.Sharing.{blocks, enters, waits_at, found_first, first_waiting, waiting, gives, gives_found, gives_all, releases_found, releases_all}
-use Rattle.kernel_meaning.specs.Step.{Step, after}
+use Rattle.kernel_meaning.specs.Sharing.{blocks, enters, waits_at, found_first, waiting, gives, gives_found, gives_all, releases_found, releases_all}
 use Rattle.state_laws.specs.Told.{Told, worker_by_lines}
-use Rattle.state_laws.proofs.Agreement.{reads, Agrees, GoesTo, Goes, runs_and_worked, in_turn, either}
+use Rattle.state_laws.proofs.Agreement.{reads, Agrees, Goes, runs_and_worked, in_turn, either}
 use Rattle.state_laws.proofs.Changes.{IsNotRunning, StaysOut, here, out_by_state, waits_goes, released_with_goes, wakes_out, is_not_waiting}
 
 -- ---- what is found

@@ -1,5 +1,5 @@
 -- Programs whose processes have names of their own.
-use Rattle.std.specs.Prelude.{◌≡◌, ℕ, List, Some, slice_get}
+use Rattle.std.specs.Prelude.{◌≡◌, ℕ, Some, slice_get}
 use Rattle.pal_meaning.specs.Program.{Process, Program}
 
 -- no two processes have the same name
