@@ -13,3 +13,5 @@ pub mod Members
 pub mod Run
 pub mod First
 pub mod OfImages
+pub mod Sourced
+pub mod OfModules

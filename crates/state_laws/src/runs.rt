@@ -8,7 +8,7 @@ ghost use Rattle.machine_meaning.specs.Image.{Image, Item};
 ghost use Rattle.machine_meaning.specs.ImageLimits.{IsLawful};
 ghost use Rattle.machine_meaning.specs.MachineControl.{MachineControl};
 ghost use Rattle.machine_meaning.specs.MachineMeaning.{machine_module, machine_trace};
-ghost use Rattle.module_meaning.specs.Accepted.{IsJudged};
+ghost use Rattle.module_meaning.specs.Accepted.{IsJudged, IsModule};
 ghost use Rattle.module_meaning.specs.SourceMeaning.{source_module, source_trace};
 ghost use Rattle.module_meaning.specs.Table.{Partition, Table, at_number};
 ghost use Rattle.pal_meaning.specs.Program.{Program};
@@ -20,7 +20,8 @@ ghost use Rattle.state_laws.specs.Told.{told, worker_by_lines};
 
 /// After any number of ticks of any run of a lawful image, what the lines tell of a partition is its
 /// state: its mode, the state of INIT, of the error handler and of each process, and who is RUNNING.
-/// So it is in any run of a judged table with programs whose processes have names of their own.
+/// So it is in any run of an accepted module, and of a judged table with programs whose processes
+/// have names of their own.
 pub fn lines_tell_the_state()
     ensures machine { (image : Image) (devices : List DeviceLine) (n p : ℕ) (item : Item)
         (x : Member MachineControl)
@@ -34,6 +35,13 @@ pub fn lines_tell_the_state()
         → at_number t.partitions p ≡ Some row
         → at_number programs p ≡ Some program
         → HasOwnNames program
+        → at_number (members_after (source_module t programs) devices n) p ≡ Some x
+        → TellsState (told row.name (source_trace t programs devices n)) x.world.kernel }
+    ensures accepted { (table : List ℕ) (sources : List (List ℕ)) (t : Table)
+        (programs : List Program) (devices : List DeviceLine) (n p : ℕ) (row : Partition)
+        (x : Member SourceControl)
+        → IsModule table sources t programs
+        → at_number t.partitions p ≡ Some row
         → at_number (members_after (source_module t programs) devices n) p ≡ Some x
         → TellsState (told row.name (source_trace t programs devices n)) x.world.kernel }
 {}
@@ -53,6 +61,13 @@ pub fn lines_tell_who_works()
         → at_number t.partitions p ≡ Some row
         → at_number programs p ≡ Some program
         → HasOwnNames program
+        → owner_in (source_module t programs) devices n ≡ Some p
+        → worker_by_lines n (told row.name (source_trace t programs devices (suc n)))
+        ≡ worker (source_module t programs) devices n }
+    ensures accepted { (table : List ℕ) (sources : List (List ℕ)) (t : Table)
+        (programs : List Program) (devices : List DeviceLine) (n p : ℕ) (row : Partition)
+        → IsModule table sources t programs
+        → at_number t.partitions p ≡ Some row
         → owner_in (source_module t programs) devices n ≡ Some p
         → worker_by_lines n (told row.name (source_trace t programs devices (suc n)))
         ≡ worker (source_module t programs) devices n }

@@ -1,4 +1,5 @@
 use Rattle.state_laws.proofs.First.{source_tells}
+use Rattle.state_laws.proofs.OfModules.{module_tells}
 use Rattle.state_laws.proofs.OfImages.{image_tells}
 use Rattle.state_laws.proofs.runs.lines_tell_the_state.Goals as goal
 
@@ -7,3 +8,6 @@ returns-clause-machine c = λ image devices n p item x lawful here found. image_
 
 pub returns-clause-source : goal.returns-clause-source
 returns-clause-source c = λ t programs devices n p row program x judged here there own found. source_tells t programs devices n p row program x judged here there own found
+
+pub returns-clause-accepted : goal.returns-clause-accepted
+returns-clause-accepted c = λ table sources t programs devices n p row x accepted here found. module_tells table sources t programs devices n accepted p row x here found
