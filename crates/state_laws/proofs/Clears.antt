@@ -1,8 +1,8 @@
 -- The lines of a Clear agree with it, whatever was told before.
-use Rattle.std.proofs.Common.{◌≡◌, ℕ, zero, suc, Bool, false, List, [], ◌∷◌, map, Option, Some, None, refl, sym, ap, ◌∙◌}
+use Rattle.std.proofs.Common.{◌≡◌, ℕ, Bool, false, List, [], ◌∷◌, map, Option, Some, None, refl, sym, ap, ◌∙◌}
 use Rattle.std.specs.Prelude.{slice_get, if◌then◌else◌}
 use Rattle.std.proofs.lemmas.Bool.{false≢true}
-use Rattle.std.proofs.lemmas.Option.{none-some, same_Some}
+use Rattle.std.proofs.lemmas.Option.{none-some}
 use Rattle.apex_types.specs.declared.codes.Mode.{Mode}
 use Rattle.apex_types.specs.declared.codes.Mode.TheVariants as mode
 use Rattle.apex_types.specs.declared.codes.ProcessState.TheVariants.{Dormant, Ready}
@@ -17,29 +17,25 @@ use Rattle.kernel_meaning.specs.Step.{Step}
 use Rattle.state_laws.specs.Told.{Told, is_same, worker_or, worker_by_lines, running_or, worked_in}
 use Rattle.state_laws.proofs.Agreement.{reads, AreDistinct, AgreesOn, KernelAgrees, each, still_named}
 use Rattle.state_laws.proofs.Changes.{same_worker}
+use Rattle.state_laws.proofs.Lists.{mapped}
 use Rattle.state_laws.proofs.Subjects.{not_same}
 
 -- ---- records that are forgotten
-
-forgotten_from : (rows : List ProcessStatus) (i : ℕ) (y : ProcessStatus) → slice_get (map forgotten rows) i ≡ Some y → (z : ProcessStatus) × ((slice_get rows i ≡ Some z) × (forgotten z ≡ y))
-forgotten_from [] i y e = absurd (none-some y e)
-forgotten_from (x ∷ xs) zero y e = (x, (refl, same_Some (forgotten x) y e))
-forgotten_from (x ∷ xs) (suc i) y e = forgotten_from xs i y e
 
 module _ (rows : List ProcessStatus) (h : AreDistinct rows) where
   forgotten_distinct : AreDistinct (map forgotten rows)
   forgotten_distinct = record {
     apart = λ i j y z e f same.
-        let a = forgotten_from rows i y e in
-        let b = forgotten_from rows j z f in
+        let a = mapped forgotten rows i y e in
+        let b = mapped forgotten rows j z f in
         let c = a.1 in
         let d = b.1 in
         h.apart i j a.0 b.0 c.0 d.0 (ap (λ (w : ProcessStatus). w.who) c.1 ∙ same ∙ sym (ap (λ (w : ProcessStatus). w.who) d.1));
-    first = λ y e. let a = forgotten_from rows 0 y e in let c = a.1 in sym (ap (λ (w : ProcessStatus). w.who) c.1) ∙ h.first a.0 c.0;
+    first = λ y e. let a = mapped forgotten rows 0 y e in let c = a.1 in sym (ap (λ (w : ProcessStatus). w.who) c.1) ∙ h.first a.0 c.0;
   }
 
   forgotten_dormant : (i : ℕ) (y : ProcessStatus) → slice_get (map forgotten rows) i ≡ Some y → Dormant ≡ y.state
-  forgotten_dormant i y e = let a = forgotten_from rows i y e in let c = a.1 in ap (λ (w : ProcessStatus). w.state) c.1
+  forgotten_dormant i y e = let a = mapped forgotten rows i y e in let c = a.1 in ap (λ (w : ProcessStatus). w.state) c.1
 
   pub idle_agrees : (v : Told) → ((w : Subject) → v.state w ≡ Dormant) → v.running ≡ None → AgreesOn v (map forgotten rows) None
   idle_agrees v state none = record {

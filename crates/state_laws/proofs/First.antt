@@ -1,5 +1,5 @@
 -- Before its first start a partition is as it is told to be before the first line.
-use Rattle.std.proofs.Common.{◌≡◌, ℕ, zero, suc, Bool, true, false, List, [], ◌∷◌, map, Some, refl, sym, ap, ◌∙◌, subst}
+use Rattle.std.proofs.Common.{◌≡◌, ℕ, zero, suc, Bool, true, false, List, ◌∷◌, map, Some, refl, sym, ap, ◌∙◌, subst}
 use Rattle.std.specs.Prelude.{◌+◌, slice_get, option_map}
 use Rattle.std.proofs.lemmas.Bool.{false≢true}
 use Rattle.std.proofs.lemmas.Option.{none-some, same_Some}
@@ -31,6 +31,7 @@ use Rattle.state_laws.specs.Spending.{owner_in, worker}
 use Rattle.state_laws.specs.States.{TellsState}
 use Rattle.state_laws.specs.Told.{Told, first_told, told, worker_by_lines}
 use Rattle.state_laws.proofs.Agreement.{KernelAgrees}
+use Rattle.state_laws.proofs.Lists.{mapped}
 use Rattle.state_laws.proofs.Members.{Stands}
 use Rattle.state_laws.proofs.Run.{run_stands, run_worker}
 
@@ -92,12 +93,6 @@ module _ (rows : List ProcessStatus) (h : AreProcesses rows) where
       runs = λ p e. absurd (none-some p e);
     };
   }
-
--- the item that a mapped one comes from
-mapped : {A : Type 0} (f : A → ProcessStatus) (xs : List A) (i : ℕ) (r : ProcessStatus) → slice_get (map f xs) i ≡ Some r → (x : A) × ((slice_get xs i ≡ Some x) × (f x ≡ r))
-mapped f [] i r e = absurd (none-some r e)
-mapped f (x ∷ xs) zero r e = (x, (refl, same_Some (f x) r e))
-mapped f (x ∷ xs) (suc i) r e = mapped f xs i r e
 
 name_or : List ℕ → Subject → List ℕ
 name_or other (Process name) = name

@@ -151,10 +151,10 @@ module _ (tick : ℕ) (t : Told) where
       record { agrees = record { mode = refl; processes = record { named = p.named; states = p.states; running = p.running; runs = p.runs } }; same = refl }
 
 module _ (tick : ℕ) (t : Told) (k : Kernel) (h : KernelAgrees t k) where
-  abbrev Works' : Step Kernel → Type 0
-  Works' s = KernelGoes (worker_by_lines tick) tick t s
+  abbrev Kept : Step Kernel → Type 0
+  Kept s = KernelGoes (worker_by_lines tick) tick t s
 
-  pub normally_works : (at : At) → Works' (starts_normally at k)
+  pub normally_works : (at : At) → Kept (starts_normally at k)
   normally_works at =
       let i = of_processes k (rests_found k.processes runner.Init (row_of k.processes runner.Init)) in
       let a = of_works tick t k h _ (rests_found_goes tick t k.processes h.processes runner.Init) in
@@ -166,24 +166,24 @@ module _ (tick : ℕ) (t : Told) (k : Kernel) (h : KernelAgrees t k) where
       let c = of_works tick v n.part b.agrees s (all_start_go tick at (next_release_of at k) v n.part.processes b.agrees.processes) in
       kernel_in_turn (worker_by_lines tick) tick t i (after n (of_processes n.part s)) a (kernel_in_turn (worker_by_lines tick) tick u n (of_processes n.part s) b c)
 
-  told_then : (s u : Step Kernel) → reads tick t (after s u).lines ≡ reads tick t u.lines → Works' u → Works' (after s u)
+  told_then : (s u : Step Kernel) → reads tick t (after s u).lines ≡ reads tick t u.lines → Kept u → Kept (after s u)
   told_then s u same g = record { agrees = subst (λ (v : Told). KernelAgrees v u.part) (sym same) g.agrees; same = ap (worker_by_lines tick) same ∙ g.same }
 
-  set_mode_works : (at : At) (p : Runner) (m : ℤ) → Works' (set_partition_mode at k p m)
+  set_mode_works : (at : At) (p : Runner) (m : ℤ) → Kept (set_partition_mode at k p m)
   set_mode_works at p m =
       either tick t (not (is_some (mode_of m))) _ _ (record { agrees = h; same = refl })
       (either tick t (wants is_normal (mode_of m) && is_normal k.mode) _ _ (record { agrees = h; same = refl })
       (either tick t (wants is_warm (mode_of m) && is_cold k.mode) _ _ (record { agrees = h; same = refl })
       (told_then (of_processes k (answers k.processes p service.SetPartitionMode code.NoError [])) (services.enters_mode at k (mode_of m)) refl (enters (mode_of m)))))
     where
-      enters : (o : Option Mode) → Works' (services.enters_mode at k o)
+      enters : (o : Option Mode) → Kept (services.enters_mode at k o)
       enters None = stays tick t k h []
       enters (Some mode.Normal) = normally_works at
       enters (Some mode.Idle) = clears_works tick t k h mode.Idle condition.PartitionRestart refl
       enters (Some mode.ColdStart) = clears_works tick t k h mode.ColdStart condition.PartitionRestart refl
       enters (Some mode.WarmStart) = clears_works tick t k h mode.WarmStart condition.PartitionRestart refl
 
-  pub ends_body_works : (p : Runner) → Works' (ends_body k p)
+  pub ends_body_works : (p : Runner) → Kept (ends_body k p)
   ends_body_works runner.Init = clears_works tick t k h mode.Idle condition.PartitionRestart refl
   ends_body_works runner.Handler = of_works tick t k h _ (stop_self_goes tick t k.processes h.processes runner.Handler)
   ends_body_works (runner.Process p) = of_works tick t k h _ (stop_self_goes tick t k.processes h.processes (runner.Process p))
@@ -191,7 +191,7 @@ module _ (tick : ℕ) (t : Told) (k : Kernel) (h : KernelAgrees t k) where
   -- ---- a fault of the current runner
 
   -- it rests first, and then nobody runs
-  pub faults_works : (p : Runner) (e : ErrorKind) → k.processes.running ≡ Some p → Works' (faults k p e)
+  pub faults_works : (p : Runner) (e : ErrorKind) → k.processes.running ≡ Some p → Kept (faults k p e)
   faults_works p e current =
       let s = of_processes k (rests_found k.processes p (row_of k.processes p)) in
       let a = of_works tick t k h _ (rests_found_goes tick t k.processes h.processes p) in
@@ -250,7 +250,7 @@ module _ (tick : ℕ) (t : Told) (k : Kernel) (h : KernelAgrees t k) where
     -- ---- what the current runner asks for
 
     module _ (current : k.processes.running ≡ Some p) (w : AreWaiting k.processes.rows k.processes.queues) where
-      serves_works : (at : At) (c : Call) (words : List ℤ) → Works' (serves at k p c words)
+      serves_works : (at : At) (c : Call) (words : List ℤ) → Kept (serves at k p c words)
       serves_works at call.GetPartitionStatus words = record { agrees = h; same = refl }
       serves_works at (call.SetPartitionMode m) words = set_mode_works at p m
       serves_works at call.StopSelf words = ends_body_works p
@@ -278,7 +278,7 @@ module _ (tick : ℕ) (t : Told) (k : Kernel) (h : KernelAgrees t k) where
       serves_works at (call.Object c) words = let g = objects_go tick t (with_objects k) h.processes w p k.mode at c words in record { agrees = record { mode = g.mode ∙ h.mode; processes = g.agrees }; same = g.same }
       serves_works at (call.Port c) words = let g = ports_go tick t (with_ports k) h.processes p k.mode at c words in record { agrees = record { mode = g.mode ∙ h.mode; processes = g.agrees }; same = g.same }
 
-      pub asked_works : (at : At) (a : Asks) (words : List ℤ) → Works' (treats_asked at k p a words)
+      pub asked_works : (at : At) (a : Asks) (words : List ℤ) → Kept (treats_asked at k p a words)
       asked_works at Nothing words = stays tick t k h []
       asked_works at (Calls c) words = serves_works at c words
       asked_works at (Faults e) words = faults_works p e current

@@ -1,3 +1,4 @@
+pub mod Lists
 pub mod Subjects
 pub mod Agreement
 pub mod Changes

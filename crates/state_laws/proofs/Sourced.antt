@@ -1,6 +1,6 @@
 -- The processes of an accepted source have names of their own.
-use Rattle.std.proofs.Common.{◌≡◌, ℕ, zero, suc, Bool, true, false, List, [], ◌∷◌, ◌++◌, map, Option, Some, None, Result, Ok, Err, refl, sym, ap, ◌∙◌, subst}
-use Rattle.std.specs.Prelude.{◌&&◌, bytes_eq, if◌then◌else◌, is_some, not, slice_get, unwrap_or}
+use Rattle.std.proofs.Common.{◌≡◌, ℕ, zero, suc, Bool, true, false, List, [], ◌∷◌, ◌++◌, Some, None, Result, Ok, Err, refl, sym, ap, ◌∙◌, subst}
+use Rattle.std.specs.Prelude.{bytes_eq, if◌then◌else◌, is_some, not, slice_get, unwrap_or}
 use Rattle.std.proofs.lemmas.Bool.{and_parts, false≢true}
 use Rattle.std.proofs.lemmas.Option.{none-some, same_Some}
 use Rattle.std.proofs.lemmas.Slice.Eq.{bytes_eq-Decides}
@@ -8,13 +8,14 @@ use Rattle.apex_types.specs.declared.denotation.Denotation.TheVariants as denota
 use Rattle.apex_types.specs.declared.denotation.ObjectKind.TheVariants as object
 use Rattle.apex_types.specs.declared.limits.TheConstants.{MOST_PROCESSES}
 use Rattle.apex_types.specs.declared.row.PortRow.{PortRow}
-use Rattle.module_meaning.specs.Accepted.{IsAccepted, AreAccepted}
+use Rattle.module_meaning.specs.Accepted.{AreAccepted}
 use Rattle.module_meaning.specs.Table.{Partition}
 use Rattle.pal_meaning.specs.Program.{Process, Program}
 use Rattle.pal_meaning.specs.Resolve.{Entry, counted, declaration_entries, declared_entries, find, next, no_counts, process_entries, resolve, resolve_process}
 use Rattle.pal_meaning.specs.Syntax as written
 use Rattle.pal_meaning.specs.WellFormed.{Refused, are_new, verdict, names_hold, kinds_hold, limits_hold, periods_hold}
 use Rattle.state_laws.specs.Names.{HasOwnNames}
+use Rattle.state_laws.proofs.Lists.{mapped}
 
 -- ---- entries
 
@@ -81,11 +82,6 @@ own_names before count (z ∷ zs) h (suc i) zero p q e f same =
 own_names before count (z ∷ zs) h (suc i) (suc j) p q e f same =
     let r = new_rest before (entry_of count z) (process_entries (more count) zs) h in
     ap suc (own_names (before ++ entry_of count z ∷ []) (more count) zs r.1 i j p q e f same)
-
-mapped : {A B : Type 0} (f : A → B) (xs : List A) (i : ℕ) (y : B) → slice_get (map f xs) i ≡ Some y → (x : A) × ((slice_get xs i ≡ Some x) × (f x ≡ y))
-mapped f [] i y e = absurd (none-some y e)
-mapped f (x ∷ xs) zero y e = (x, (refl, same_Some (f x) y e))
-mapped f (x ∷ xs) (suc i) y e = mapped f xs i y e
 
 resolved_names : (ports : List PortRow) (tree : written.Program) → names_hold ports tree ≡ true → HasOwnNames (resolve ports tree)
 resolved_names ports tree h i j p q e f same =
