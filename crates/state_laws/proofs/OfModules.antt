@@ -1,0 +1,33 @@
+-- In every run of an accepted module the lines tell of a partition what it is.
+use Rattle.std.proofs.Common.{◌≡◌, ℕ, zero, suc, List, Some}
+use Rattle.std.proofs.lemmas.Option.{none-some}
+use Rattle.apex_types.specs.declared.device.DeviceLine.{DeviceLine}
+use Rattle.kernel_laws.specs.History.{members_after}
+use Rattle.kernel_meaning.specs.Partition.{Member}
+use Rattle.module_meaning.specs.Accepted.{IsModule}
+use Rattle.module_meaning.specs.SourceMeaning.{source_module, source_trace}
+use Rattle.module_meaning.specs.Table.{Partition, Table, at_number}
+use Rattle.pal_meaning.specs.Program.{Program}
+use Rattle.pal_meaning.specs.SourceControl.{SourceControl}
+use Rattle.state_laws.specs.Spending.{owner_in, worker}
+use Rattle.state_laws.specs.States.{TellsState}
+use Rattle.state_laws.specs.Told.{told, worker_by_lines}
+use Rattle.state_laws.proofs.First.{source_tells, source_worker}
+use Rattle.state_laws.proofs.Sourced.{accepted_names}
+
+module _ (table : List ℕ) (sources : List (List ℕ)) (t : Table) (programs : List Program) (devices : List DeviceLine) (n : ℕ) (accepted : IsModule table sources t programs) where
+  pub module_tells : (p : ℕ) (row : Partition) (x : Member SourceControl) → at_number t.partitions p ≡ Some row → at_number (members_after (source_module t programs) devices n) p ≡ Some x
+      → TellsState (told row.name (source_trace t programs devices n)) x.world.kernel
+  module_tells zero row x e g = absurd (none-some row e)
+  module_tells (suc place) row x e g =
+      let a = accepted_names t.partitions sources programs place row accepted.accepted e in
+      let c = a.1 in
+      source_tells t programs devices n (suc place) row a.0 x (accepted.rows.0, accepted.rows.2) e c.0 c.1 g
+
+  pub module_worker : (p : ℕ) (row : Partition) → at_number t.partitions p ≡ Some row → owner_in (source_module t programs) devices n ≡ Some p
+      → worker_by_lines n (told row.name (source_trace t programs devices (suc n))) ≡ worker (source_module t programs) devices n
+  module_worker zero row e g = absurd (none-some row e)
+  module_worker (suc place) row e g =
+      let a = accepted_names t.partitions sources programs place row accepted.accepted e in
+      let c = a.1 in
+      source_worker t programs devices n (suc place) row a.0 (accepted.rows.0, accepted.rows.2) e c.0 c.1 g

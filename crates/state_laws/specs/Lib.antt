@@ -1,0 +1,4 @@
+pub mod Told
+pub mod States
+pub mod Spending
+pub mod Names
