@@ -1,3 +1,4 @@
+pub mod Limits
 pub mod CodeWords
 pub mod Costs
 pub mod Line

@@ -85,9 +85,9 @@ shape service.CreateErrorHandler = creation 55 (codes "CREATE_ERROR_HANDLER") []
 shape service.GetErrorStatus = row 56 (codes "GET_ERROR_STATUS") (argument.Array ∷ []) 3
 shape service.RaiseApplicationError = row 57 (codes "RAISE_APPLICATION_ERROR") (argument.Word ∷ argument.Array ∷ argument.Word ∷ []) 0
 
--- the shape has this name, these arguments and this many outputs, and creates or does not
-abbrev pub Has : declared.Shape → List ℕ → List ArgumentKind → ℕ → Bool → Type 0
-Has s word arguments outputs creates = (s.word.now ≡ word) × (s.arguments.now ≡ arguments) × (s.outputs ≡ outputs) × (s.creates ≡ creates)
+-- the row that the code has for a service
+abbrev pub seen : declared.Shape → Shape
+seen s = record { number = s.number; word = s.word.now; arguments = s.arguments.now; outputs = s.outputs; creates = s.creates }
 
 abbrev pub number_of : Service → ℕ
 number_of s = (shape s).number

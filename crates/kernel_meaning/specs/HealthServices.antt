@@ -16,7 +16,7 @@ use Rattle.apex_types.specs.declared.event.EventKind.TheVariants as event
 use Rattle.apex_types.specs.declared.event.Subject.{Subject}
 use Rattle.apex_types.specs.declared.identity.Runner.{Runner}
 use Rattle.apex_types.specs.declared.identity.Runner.TheVariants as runner
-use Rattle.apex_types.specs.declared.limits.TheConstants.{MOST_ERRORS, MOST_REPORT_WORDS}
+use Rattle.apex_types.specs.Limits.{MOST_ERRORS, MOST_REPORT_WORDS}
 use Rattle.apex_types.specs.Runners as asks
 use Rattle.apex_types.specs.declared.process.ProcessStatus.{ProcessStatus}
 use Rattle.apex_types.specs.declared.process.WaitingError.{WaitingError}

@@ -1,7 +1,7 @@
 -- The state of a partition other than its controls and its data, in parts with an owner each; the
 -- errors that wait for its error handler.
 use Rattle.std.specs.Prelude.{Bool, List, [], ◌∷◌, ◌++◌, length, nat_lt, if◌then◌else◌, ℕ}
-use Rattle.apex_types.specs.declared.limits.TheConstants.{MOST_ERRORS}
+use Rattle.apex_types.specs.Limits.{MOST_ERRORS}
 use Rattle.apex_types.specs.declared.process.WaitingError.{WaitingError}
 use Rattle.apex_types.specs.declared.codes.Mode.{Mode}
 use Rattle.apex_types.specs.declared.codes.StartCondition.{StartCondition}

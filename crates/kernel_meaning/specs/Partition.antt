@@ -2,7 +2,7 @@
 -- the runner spends.
 use Rattle.std.specs.Prelude.{ℕ, ◌-◌, min, ℤ, pos, negsuc, Bool, true, false, List, [], ◌∷◌, ◌++◌, length, take, drop, Option, Some, None, slice_get, slice_set, map, if◌then◌else◌}
 use Rattle.arrayvec.specs.ArrayVec.{ArrayVec}
-use Rattle.apex_types.specs.declared.limits.TheConstants.{MOST_WORDS}
+use Rattle.apex_types.specs.Limits.{MOST_WORDS}
 use Rattle.apex_types.specs.Runners.{place_of, Action}
 use Rattle.apex_types.specs.declared.codes.ErrorKind.TheVariants.{DeadlineMissed}
 use Rattle.apex_types.specs.declared.codes.Mode.{Mode}

@@ -1,7 +1,7 @@
 -- The meaning of the sources of a module: the trace. Kernel, windows and trace are those of an
 -- image too; here the processes run on their sources.
 use Rattle.std.specs.Prelude.{ℕ, ◌+◌, List, [], ◌∷◌, map, is_some, ◌≡◌, ◌^◌, ◌≤◌, Ok}
-use Rattle.apex_types.specs.declared.limits.TheConstants.{MOST_TICKS}
+use Rattle.apex_types.specs.Limits.{MOST_TICKS}
 use Rattle.apex_types.specs.declared.device.DeviceLine.{DeviceLine}
 use Rattle.apex_types.specs.declared.event.Event.{Event}
 use Rattle.apex_types.specs.declared.event.Subject.TheVariants.{Process}

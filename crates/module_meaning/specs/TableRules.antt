@@ -7,7 +7,7 @@ use Rattle.toml.specs.Data.{Items, no_items, item, Members, no_members, member, 
 use Rattle.apex_types.specs.Costs.{cost_of_ticks, from_order, ticks, written_costs}
 use Rattle.apex_types.specs.declared.cost.TickCost.{TickCost}
 use Rattle.apex_types.specs.declared.cost.Costs.{Costs}
-use Rattle.apex_types.specs.declared.limits.TheConstants.{MOST_CHANNELS, MOST_COST, MOST_DEPTH, MOST_DESTINATIONS, MOST_FRAME_TICKS, MOST_PARTITIONS, MOST_PORTS, MOST_TICKS, MOST_WINDOWS, MOST_WORDS}
+use Rattle.apex_types.specs.Limits.{MOST_CHANNELS, MOST_COST, MOST_DEPTH, MOST_DESTINATIONS, MOST_FRAME_TICKS, MOST_PARTITIONS, MOST_PORTS, MOST_TICKS, MOST_WINDOWS, MOST_WORDS}
 use Rattle.apex_types.specs.declared.codes.Discipline.{Discipline}
 use Rattle.apex_types.specs.declared.codes.Discipline.TheVariants as orders
 use Rattle.apex_types.specs.declared.codes.ModuleAction.{ModuleAction}

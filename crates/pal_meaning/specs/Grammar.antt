@@ -2,7 +2,7 @@
 -- word is the longest that begins at its place. Each line of the grammar is one way to write a thing; rest are the words that follow it.
 use Rattle.std.specs.Prelude.{ℕ, zero, suc, ◌^◌, ◌==◌, ◌&&◌, ◌||◌, nat_eq, nat_lt, nat_le, Bool, true, false, if◌then◌else◌, List, [], ◌∷◌, length, drop, Option, Some, None, codes, find, ◌≡◌, ◌≤◌, ◌-◌}
 use Rattle.std.specs.List.{prefix_len, starts_with}
-use Rattle.apex_types.specs.declared.limits.TheConstants.{MOST_LEVELS, MOST_SOURCE_BYTES}
+use Rattle.apex_types.specs.Limits.{MOST_LEVELS, MOST_SOURCE_BYTES}
 use Rattle.apex_types.specs.declared.service.Service.{Service}
 use Rattle.apex_types.specs.ServiceShape.{service_word, services}
 use Rattle.engine_meaning.specs.Digits.{decimal_value, front, is_digit, same}

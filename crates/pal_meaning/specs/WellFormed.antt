@@ -2,7 +2,7 @@
 -- whole program. The verdict is the first that does not hold, or the program with its names resolved.
 use Rattle.std.specs.Prelude.{ℕ, ◌+◌, ◌%◌, ◌^◌, Bool, true, false, not, ◌&&◌, nat_eq, nat_le, nat_lt, is_some, List, [], ◌∷◌, ◌++◌, length, Option, Some, None, Result, Ok, Err, if◌then◌else◌}
 use Rattle.std.specs.List.{list_all}
-use Rattle.apex_types.specs.declared.limits.TheConstants.{GREATEST_PRIORITY, LEAST_STACK_WORDS, MOST_DEPTH, MOST_LOCALS, MOST_PARAMETERS, MOST_PROCESSES, MOST_SEMAPHORE_VALUE, MOST_STACK_WORDS, MOST_TICKS, MOST_WORDS, MOST_WORK_TICKS}
+use Rattle.apex_types.specs.Limits.{GREATEST_PRIORITY, LEAST_STACK_WORDS, MOST_DEPTH, MOST_LOCALS, MOST_PARAMETERS, MOST_PROCESSES, MOST_SEMAPHORE_VALUE, MOST_STACK_WORDS, MOST_TICKS, MOST_WORDS, MOST_WORK_TICKS}
 use Rattle.apex_types.specs.NameText.{is_name}
 use Rattle.apex_types.specs.declared.denotation.Denotation.{Denotation}
 use Rattle.apex_types.specs.declared.denotation.Denotation.TheVariants as denotation
