@@ -2,7 +2,7 @@
 use Rattle.std.specs.Prelude.{ℕ}
 use Rattle.apex_types.specs.Costs.{written_costs}
 use Rattle.apex_types.specs.declared.cost.Costs.{Costs}
-use Rattle.apex_types.specs.declared.limits.Limits.{Limits}
+use Rattle.apex_types.specs.declared.version.Limits.{Limits}
 use Rattle.apex_types.specs.Limits.{FIRST_MOST_PARTITIONS, FIRST_MOST_PROCESSES, FIRST_MOST_WORDS, MOST_PARTITIONS, MOST_PROCESSES, MOST_WORDS}
 use Rattle.apex_types.specs.declared.version.TheConstants.{FIRST_VERSION, SECOND_VERSION, THIRD_VERSION}
 use Rattle.apex_types.specs.declared.version.ImageVersion.{ImageVersion}

@@ -6,17 +6,6 @@
 ghost use Rattle.std.specs.Prelude.{◌≡◌};
 ghost use Rattle.apex_types.specs.Limits as defined;
 
-/// The limits that are not the same in every version of an image.
-#[derive(Clone, Copy)]
-pub struct Limits {
-    /// The most partitions of a module.
-    pub partitions: u8,
-    /// The most processes of a partition.
-    pub processes: u8,
-    /// The most words of a message.
-    pub words: u8,
-}
-
 /// The most partitions of a module with an image of version 1 or 2.
 pub const FIRST_MOST_PARTITIONS: u8 = 16;
 
