@@ -11,6 +11,7 @@ pub mod Room
 pub mod Runners
 pub mod ServiceCalls
 pub mod ServiceShape
+pub mod ShapeView
 pub mod Stamps
 pub mod StepBytes
 pub mod Sink

@@ -1,25 +1,9 @@
 -- The limits of a module, of its programs and of a run. All definitions take them from here.
-use Rattle.std.specs.Prelude.{ℕ, ◌+◌, ◌*◌, ◌^◌}
-
--- the most partitions of a module with an image of version 1 or 2
-abbrev pub FIRST_MOST_PARTITIONS : ℕ
-FIRST_MOST_PARTITIONS = 16
-
--- the most processes of a partition in an image of version 1 or 2
-abbrev pub FIRST_MOST_PROCESSES : ℕ
-FIRST_MOST_PROCESSES = 31
-
--- the most words of a message in a module with an image of version 1 or 2
-abbrev pub FIRST_MOST_WORDS : ℕ
-FIRST_MOST_WORDS = 16
+use Rattle.std.specs.Prelude.{ℕ, ◌+◌, ◌^◌}
 
 -- the most ticks of a run. No tick, duration, period, time capacity, delay, time-out or refresh period is greater.
 abbrev pub MOST_TICKS : ℕ
 MOST_TICKS = 2 ^ 40
-
--- the latest tick of a release point, which is at most a major frame after a tick of the run
-abbrev pub LATEST_RELEASE_POINT : ℕ
-LATEST_RELEASE_POINT = 2 * MOST_TICKS
 
 -- the most ticks of a major frame
 abbrev pub MOST_FRAME_TICKS : ℕ
@@ -52,10 +36,6 @@ MOST_PORTS = 16
 -- the most processes of a partition, without INIT and the error handler
 abbrev pub MOST_PROCESSES : ℕ
 MOST_PROCESSES = 63
-
--- the most runners of a partition: INIT, the error handler and the processes
-abbrev pub MOST_RUNNERS : ℕ
-MOST_RUNNERS = MOST_PROCESSES + 2
 
 -- the most objects of a kind in a partition
 abbrev pub MOST_OBJECTS : ℕ

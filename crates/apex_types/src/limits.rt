@@ -154,11 +154,7 @@ pub const MOST_STEP_BYTES: usize = MOST_EVENTS * MOST_LINE_BYTES;
 
 /// Law: each limit of the code is the number that the definitions have for it.
 pub fn limits_are_as_defined()
-    ensures first_most_partitions { FIRST_MOST_PARTITIONS ≡ defined.FIRST_MOST_PARTITIONS }
-    ensures first_most_processes { FIRST_MOST_PROCESSES ≡ defined.FIRST_MOST_PROCESSES }
-    ensures first_most_words { FIRST_MOST_WORDS ≡ defined.FIRST_MOST_WORDS }
     ensures most_ticks { MOST_TICKS ≡ defined.MOST_TICKS }
-    ensures latest_release_point { LATEST_RELEASE_POINT ≡ defined.LATEST_RELEASE_POINT }
     ensures most_frame_ticks { MOST_FRAME_TICKS ≡ defined.MOST_FRAME_TICKS }
     ensures most_name_bytes { MOST_NAME_BYTES ≡ defined.MOST_NAME_BYTES }
     ensures most_partitions { MOST_PARTITIONS ≡ defined.MOST_PARTITIONS }
@@ -167,7 +163,6 @@ pub fn limits_are_as_defined()
     ensures most_destinations { MOST_DESTINATIONS ≡ defined.MOST_DESTINATIONS }
     ensures most_ports { MOST_PORTS ≡ defined.MOST_PORTS }
     ensures most_processes { MOST_PROCESSES ≡ defined.MOST_PROCESSES }
-    ensures most_runners { MOST_RUNNERS ≡ defined.MOST_RUNNERS }
     ensures most_objects { MOST_OBJECTS ≡ defined.MOST_OBJECTS }
     ensures greatest_priority { GREATEST_PRIORITY ≡ defined.GREATEST_PRIORITY }
     ensures most_lock_level { MOST_LOCK_LEVEL ≡ defined.MOST_LOCK_LEVEL }

@@ -2,7 +2,7 @@
 
 ghost use Rattle.std.specs.Prelude.{◌≡◌, ◌≤◌, length};
 ghost use Rattle.apex_types.specs.ServiceShape as rows;
-ghost use Rattle.apex_types.specs.ServiceShape.{seen};
+ghost use Rattle.apex_types.specs.ShapeView.{seen};
 
 use crate::cost::Costs;
 use crate::denotation::ObjectKind;

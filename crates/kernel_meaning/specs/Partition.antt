@@ -82,9 +82,8 @@ takes_processor s (Some p) = runs s p (row_of s p)
 
 abbrev pub are_same : Option Runner → Option Runner → Bool
 are_same None None = true
-are_same None (Some q) = false
-are_same (Some p) None = false
 are_same (Some p) (Some q) = is_same p q
+are_same _ _ = false
 
 -- if the choice changes: the old runner becomes READY, the new one RUNNING
 abbrev pub chooses : Mode → Processes → Step Processes

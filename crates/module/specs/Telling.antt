@@ -1,5 +1,5 @@
 -- The promises of writing the inputs of a partition.
-use Rattle.std.specs.Prelude.{◌≡◌, ◌<◌, ◌≤◌, ◌^◌, ℕ, List, length, Option, Some, Result, Ok, Err}
+use Rattle.std.specs.Prelude.{◌≡◌, ◌<◌, ◌≤◌, ℕ, List, length, Option, Some, Result, Ok, Err}
 use Rattle.std.specs.Io.KnownBytes.{Appends}
 use Rattle.apex_types.specs.Limits.{MOST_DEVICE_LINES, MOST_TICKS}
 use Rattle.apex_types.specs.Line.{TakesBeginning}

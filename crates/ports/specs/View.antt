@@ -1,5 +1,5 @@
 -- The view of the fields of ports, and their invariants.
-use Rattle.std.specs.Prelude.{◌≤◌, ◌^◌, length}
+use Rattle.std.specs.Prelude.{◌≤◌, length}
 use Rattle.apex_types.specs.Limits.{MOST_OBJECTS, MOST_TICKS}
 use Rattle.kernel_meaning.specs.Objects as meaning
 use Rattle.ports.specs.declared.port.Port.TheInside as port

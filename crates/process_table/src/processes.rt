@@ -3,7 +3,7 @@
 ghost use Rattle.std.specs.Prelude.{◌≡◌, ◌<◌, ◌≤◌, ◌+◌, ◌^◌, length, IfSome};
 ghost use Rattle.apex_types.specs.Room.{HasRoom, Grows};
 ghost use Rattle.apex_types.specs.Runners.{place_of};
-ghost use Rattle.apex_types.specs.Limits.{LATEST_RELEASE_POINT};
+ghost use Rattle.apex_types.specs.declared.limits.TheConstants.{LATEST_RELEASE_POINT};
 ghost use Rattle.kernel_meaning.specs.Times.{amount};
 ghost use Rattle.kernel_meaning.specs.ProcessServices as meaning;
 ghost use Rattle.kernel_meaning.specs.Made.{IsMade, IsTold};

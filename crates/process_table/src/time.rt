@@ -1,7 +1,7 @@
 //! The services on time.
 
 ghost use Rattle.std.specs.Prelude.{◌≡◌, ◌<◌, ◌≤ℤ◌, ◌+◌, ◌^◌, pos, length, true, Some};
-ghost use Rattle.apex_types.specs.Limits.{LATEST_RELEASE_POINT};
+ghost use Rattle.apex_types.specs.declared.limits.TheConstants.{LATEST_RELEASE_POINT};
 ghost use Rattle.apex_types.specs.Room.{HasRoom, Grows};
 ghost use Rattle.kernel_meaning.specs.Made.{IsMade, IsTold};
 ghost use Rattle.kernel_meaning.specs.Times.{is_delay, is_duration};

@@ -1,6 +1,6 @@
 -- The view of the records, and their invariants.
 use Rattle.std.specs.Prelude.{◌≤◌, List, length}
-use Rattle.apex_types.specs.Limits.{MOST_RUNNERS}
+use Rattle.apex_types.specs.declared.limits.TheConstants.{MOST_RUNNERS}
 use Rattle.apex_types.specs.declared.process.ProcessStatus.{ProcessStatus}
 use Rattle.process_table_base.specs.Bounds.{AreAllBounded}
 use Rattle.process_table_base.specs.Timed.{AreTimed}

@@ -2,7 +2,7 @@
 
 ghost use Rattle.std.specs.Prelude.{◌<◌};
 ghost use Rattle.apex_types.specs.Runners.{place_of};
-ghost use Rattle.apex_types.specs.Limits.{MOST_RUNNERS};
+ghost use Rattle.apex_types.specs.declared.limits.TheConstants.{MOST_RUNNERS};
 ghost use Rattle.process_table_base.specs.Bounds.{IsBounded};
 ghost use Rattle.process_table_base.specs.BoundedFact.{bounded_prop};
 

@@ -1,7 +1,7 @@
 //! Changes of one process by services: of its priority, its suspension, its deadline.
 
 ghost use Rattle.std.specs.Prelude.{◌≡◌, ◌<◌, ◌≤◌, ◌+◌, ◌^◌, length, true, Some};
-ghost use Rattle.apex_types.specs.Limits.{LATEST_RELEASE_POINT};
+ghost use Rattle.apex_types.specs.declared.limits.TheConstants.{LATEST_RELEASE_POINT};
 ghost use Rattle.apex_types.specs.Room.{HasRoom, Grows};
 ghost use Rattle.kernel_meaning.specs.Times.{is_duration};
 ghost use Rattle.kernel_meaning.specs.Processes.{put_row};

@@ -90,7 +90,7 @@ fn own_windows(
 
 impl Schedule {
     ghost use Rattle.std.specs.Prelude.{◌≡◌, ◌≤◌, ◌<◌, ◌+◌, ℕ, None, option_map, IsTrue, IfOk};
-    ghost use Rattle.apex_types.specs.Limits.{LATEST_RELEASE_POINT};
+    ghost use Rattle.apex_types.specs.declared.limits.TheConstants.{LATEST_RELEASE_POINT};
     ghost use Rattle.kernel_meaning.specs.Windows.{at_tick, schedule_of_partition, owner, ended, has_release, until_start, until_one_of, next_release};
     ghost use Rattle.kernel_meaning.specs.WindowFacts.{IsNextRelease};
     ghost use Rattle.window_table.specs.Schedules.{schedule_of};
