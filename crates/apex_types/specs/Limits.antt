@@ -1,4 +1,4 @@
--- The limits of a module, of its programs and of a run. All definitions take them from here.
+-- The limits of a module, of its programs and of a run. All definitions take them from here; those of older images are in `Versions`.
 use Rattle.std.specs.Prelude.{ℕ, ◌+◌, ◌^◌}
 
 -- the most ticks of a run. No tick, duration, period, time capacity, delay, time-out or refresh period is greater.
