@@ -928,11 +928,11 @@ module _ (mid : Lanes) (among : Option ℕ) (next : Next) (t : ℕ) (n : List �
 -- a partition is at a place if it has its name
 named_at : (ps : List PartitionLane) (name : List ℕ) (p : ℕ) → partition_at name ps ≡ Some p → (n : List ℕ) (q : ℕ) → partition_at n ps ≡ Some q → is_among (Some p) q ≡ same name n
 named_at ps name p at n q e = elim (same_or_not q p) [
-    | inl here ↦
-        let named : name ≡ n = one_partition ps name n p at (e ∙ ap Some here) in
-        eq-eqb q p here ∙ sym (ap (λ (v : List ℕ). same name v) (sym named) ∙ same_text name)
-    | inr apart ↦ apart_eqb q p apart ∙ sym (not_named apart (same name n) refl)
-  ]
+  | inl here ↦
+      let named : name ≡ n = one_partition ps name n p at (e ∙ ap Some here) in
+      eq-eqb q p here ∙ sym (ap (λ (v : List ℕ). same name v) (sym named) ∙ same_text name)
+  | inr apart ↦ apart_eqb q p apart ∙ sym (not_named apart (same name n) refl)
+]
   where
     not_named : (q ≡ p → ⊥) → (b : Bool) → same name n ≡ b → same name n ≡ false
     not_named apart true f =

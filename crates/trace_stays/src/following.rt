@@ -13,9 +13,7 @@ use crate::lanes::{Ended, Lanes, PartitionLane, ProcessLane};
 use crate::next::Next;
 use crate::same::is_same_subject;
 use crate::stay::{ModeStay, ModeWatch, StateWatch, Stay};
-use apex_types::{
-    ErrorKind, Event, EventKind, Mode, Name, ProcessState, Response, Subject, Ticks,
-};
+use apex_types::{ErrorKind, Event, EventKind, Mode, Name, ProcessState, Response, Subject, Ticks};
 
 impl Lanes {
     /// The place of the partition with this name, which gets one if it has none.

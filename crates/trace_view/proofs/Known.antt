@@ -21,7 +21,7 @@ use Rattle.trace_stays.specs.declared.span.Span.{Span}
 use Rattle.trace_stays.specs.declared.stay.Held.{Held}
 use Rattle.trace_stays.proofs.Followed.{same_is}
 use Rattle.trace_view.specs.Percentiles.{AreTimes, with_end, with_running}
-use Rattle.trace_view.specs.Processes.{AllRead, AreKept, HasRead, HasAdded, HasMade, HaveRead, IsRowOf, IsShown, Process, counted_for, has_names, is_there, is_word, maker, makes_row, no_process, process_behind, row_at, turn_of, turned_if, with_one, with_turn}
+use Rattle.trace_view.specs.Processes.{AllRead, AreKept, HasRead, HasAdded, HasMade, HaveRead, IsRowOf, IsShown, Process, counted, counted_for, counts, has_names, is_there, is_word, maker, makes_row, no_process, process_behind, row_at, turn_of, turned_if, with_one, with_turn}
 use Rattle.trace_view.specs.Tallies.{has_tick, measured, turned}
 use Rattle.trace_view.specs.Turns.{and_measured, end_times, running_times}
 use Rattle.trace_view.specs.declared.processes.ProcessRow.{ProcessRow}
@@ -98,6 +98,23 @@ has_counted false kind old new is = record {
   who = ap (λ (r : ProcessRow). r.who) is;
   numbers = λ p row. subst (IsRowOf p) (sym is) row;
 }
+
+-- it reads a line
+pub has_read : (window : Span) (e : Event) (old mid new : ProcessRow) (b : Bool) (next : Option Next) → b ≡ counts window e old.partition (subject_text old.who)
+    → mid ≡ (if b then record old { tally = with_one e.kind old.tally } else old) → next ≡ next_by e.partition e.kind mid.partition (subject_text mid.who)
+    → HasRead (turned_if window next e.tick) mid new → HasRead (process_behind window e old.partition (subject_text old.who)) old new
+has_read window e old mid new b next counts_so is goes turn =
+    both_read (counted window e old.partition (subject_text old.who)) (turned_if window (next_by e.partition e.kind old.partition (subject_text old.who)) e.tick) old mid new
+    (subst (λ (x : Bool). HasRead (λ p. if x then record p { tally = with_one e.kind p.tally } else p) old mid) counts_so one)
+    (subst (λ (n : Option Next). HasRead (turned_if window n e.tick) mid new) there turn)
+  where
+    one : HasRead (λ p. if b then record p { tally = with_one e.kind p.tally } else p) old mid
+    one = has_counted b e.kind old mid is
+
+    there : next ≡ next_by e.partition e.kind old.partition (subject_text old.who)
+    there =
+        goes
+        ∙ (ap (λ (n : List ℕ). next_by e.partition e.kind n (subject_text mid.who)) one.partition ∙ ap (λ (w : Subject). next_by e.partition e.kind old.partition (subject_text w)) one.who)
 
 -- ---- a row more
 

@@ -35,7 +35,11 @@ impl ProcessRow {
             self.old self.new) }
     {
         self.count_if(self.counts(event, window), &event.kind);
-        self.turn_if(next_by(event, &self.partition, &self.who), event.tick, window)
+        self.turn_if(
+            next_by(event, &self.partition, &self.who),
+            event.tick,
+            window,
+        )
     }
 
     /// Returns true if a line of its partition counts for the process.
@@ -69,12 +73,7 @@ impl ProcessRow {
     }
 
     /// The process enters a state or is gone, if a line says so.
-    fn turn_if(
-        &mut self,
-        next: Option<Next>,
-        tick: Ticks,
-        window: Span,
-    ) -> Result<(), MemoryFull>
+    fn turn_if(&mut self, next: Option<Next>, tick: Ticks, window: Span) -> Result<(), MemoryFull>
         ensures { OnOk result (HasRead (turned_if window next tick) self.old self.new) }
     {
         match next {
@@ -88,7 +87,11 @@ impl ProcessRow {
         ensures { OnOk result (HasRead (with_turn window next tick) self.old self.new) }
     {
         let ended = self.watch.turn(next, tick);
-        let turn = Turn { tick, ended, next: next.state() };
+        let turn = Turn {
+            tick,
+            ended,
+            next: next.state(),
+        };
         match self.tally.turn(turn, window) {
             Some(measured) => self.responses.take(measured),
             None => Ok(()),

@@ -1,6 +1,6 @@
-use Rattle.std.proofs.Common.{◌≡◌, ◌+◌, List, [], ◌++◌, Bool, true, false, Option, Vec, Global, ap, sym, ◌∙◌, refl, drop, append-nil}
+use Rattle.std.proofs.Common.{◌+◌, [], ◌++◌, Bool, Option, Vec, Global, ap, sym, ◌∙◌, refl, drop, append-nil}
 use Rattle.std.specs.Prelude.{if◌then◌else◌}
-use Rattle.trace_stays.specs.Following.{is_among, over_with, state_over}
+use Rattle.trace_stays.specs.Following.{over_with, state_over}
 use Rattle.trace_stays.specs.Stays.{stay_ended}
 use Rattle.trace_stays.specs.declared.lanes.Ended.{Ended}
 use Rattle.trace_stays.specs.declared.stay.Stay.{Stay}
