@@ -3,7 +3,7 @@
 ghost use Rattle.std.specs.Prelude.{◌≡◌, ◌&&◌, if◌then◌else◌, ◌++◌, [], ℕ, List, true, IfOk, OnOk};
 ghost use Rattle.apex_types.specs.Line.{subject_text};
 ghost use Rattle.engine_meaning.specs.Digits.{same};
-ghost use Rattle.trace_stays.specs.Following.{is_of};
+ghost use Rattle.trace_stays.specs.Following.{is_of, next_by};
 ghost use Rattle.trace_stays.specs.Stays.{stay_left};
 ghost use Rattle.trace_view.specs.Processes.{AllRead, AreKept, HasAdded, HasMade, HasRead, HaveRead, counted_for, counts, is_there, is_word, maker, process_behind, totals_at, totals_from, turned_if, with_one, with_turn};
 ghost use Rattle.trace_view.specs.Tallies.{has_tick, with_ended};
@@ -35,11 +35,16 @@ impl ProcessRow {
             self.old self.new) }
     {
         self.count_if(self.counts(event, window), &event.kind);
-        self.turn_if(
-            next_by(event, &self.partition, &self.who),
-            event.tick,
-            window,
-        )
+        self.turn_if(self.next_in(event), event.tick, window)
+    }
+
+    /// Where a line says that the process goes.
+    fn next_in(&self, event: &Event) -> Option<Next>
+        ensures { result
+            ≡ next_by event.now.partition event.now.kind self.now.partition
+            (subject_text self.now.who) }
+    {
+        next_by(event, &self.partition, &self.who)
     }
 
     /// Returns true if a line of its partition counts for the process.
