@@ -104,7 +104,7 @@ has_moved at k place n ms x y next told same h =
 
 -- ---- still partitions
 
-apart : (a b : ℕ) → (a < b) ⊎ (b ≤ a)
+pub apart : (a b : ℕ) → (a < b) ⊎ (b ≤ a)
 apart a zero = inr (omega arith)
 apart zero (suc b) = inl (omega arith)
 apart (suc a) (suc b) = elim (apart a b) [ inl h ↦ inl (omega (arith, h)) | inr h ↦ inr (omega (arith, h)) ]
