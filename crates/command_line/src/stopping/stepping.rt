@@ -6,7 +6,7 @@ ghost use Rattle.apex_types.specs.Line.{TakesBeginning};
 ghost use Rattle.apex_types.specs.declared.limits.TheConstants.{MOST_TICKS};
 ghost use Rattle.module.specs.Machines.{machine_of};
 ghost use Rattle.module.specs.Written.{AreFrom};
-ghost use Rattle.command_line.specs.StopSteps.{IsHeld};
+ghost use Rattle.command_line.specs.StopSteps.{IsHeld, IsReported};
 
 use apex_types::{DeviceLine, Sink, WriterSink, put_all};
 use module::{Machine, RunFault, Watch, split_tick};
@@ -106,6 +106,9 @@ pub fn tell<S: Sink, W: Watch>(
     ensures quiet { OnOk result (S.failures sink.new ≡ S.failures sink.old) }
     ensures failed { OnErr result (S.failures sink.new ≡ S.failures sink.old + 1) }
     ensures write { IfErr result (λ fault. fault ≡ RunFault.Write) }
+    ensures told { IfOk result
+        (λ last. IsReported told made ticks last (W.told watch.old) (W.told watch.new)) }
+    ensures untold { OnErr result (W.told watch.new ≡ W.told watch.old) }
 {
     if made.saturating_sub(told) < MOST_UNTOLD {
         return Ok(told);
