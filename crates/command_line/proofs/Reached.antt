@@ -231,4 +231,4 @@ pub followed_beginning : {image : Image} {devices : List DeviceLine} {n last mad
 followed_beginning new bytes part i = record { within = i.within; kept = takes_beginning new bytes i.kept part; followed = i.followed }
 
 pub followed_made : {image : Image} {devices : List DeviceLine} {n last made : ℕ} {old new : Option (List ℕ)} {before after : Told} → made ≤ n → IsFollowedBy image devices n last made old new before after → IsToldMade image devices n old new before after
-followed_made {last = last} few i = (last, omega (arith, few, i.within), i.kept, i.followed)
+followed_made {last = last} few i = record { made = last; within = omega (arith, few, i.within); taken = i.kept; followed = i.followed }

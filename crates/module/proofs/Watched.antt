@@ -72,35 +72,43 @@ heard_next {n = n} {last = last} {before = before} {mid = mid} now after above n
 -- ---- the text of the ticks that were made
 
 pub takes_all : {old new : Option (List ℕ)} {text : List ℕ} → Appends old new text → TakesAtLeast old new text
-takes_all {old = old} {new = new} {text = text} h = ([], subst (Appends old new) (sym (append-nil text)) h)
+takes_all {old = old} {new = new} {text = text} h = record { more = []; taken = subst (Appends old new) (sym (append-nil text)) h }
 
 pub takes_more : {old mid : Option (List ℕ)} {text : List ℕ} (new : Option (List ℕ)) (bytes : List ℕ) → TakesAtLeast old mid text → Appends mid new bytes → TakesAtLeast old new text
-takes_more {old = old} {mid = mid} {text = text} new bytes (more, h) k = (more ++ bytes, subst (Appends old new) (append_assoc text more bytes) (Appends-trans old mid new (text ++ more) bytes h k))
+takes_more {old = old} {mid = mid} {text = text} new bytes i k = record {
+  more = i.more ++ bytes;
+  taken = subst (Appends old new) (append_assoc text i.more bytes) (Appends-trans old mid new (text ++ i.more) bytes i.taken k);
+}
 
 pub takes_beginning : {old mid : Option (List ℕ)} {text : List ℕ} (new : Option (List ℕ)) (bytes : List ℕ) → TakesAtLeast old mid text → TakesBeginning mid new bytes → TakesAtLeast old new text
 takes_beginning new bytes i (k, within, h) = takes_more new (take k bytes) i h
 
 pub takes_kept : {old mid : Option (List ℕ)} {text : List ℕ} (new : Option (List ℕ)) → TakesAtLeast old mid text → Keeps mid new → TakesAtLeast old new text
-takes_kept {old = old} {mid = mid} new (more, h) kept = (more, Appends-kept old mid new _ h kept)
+takes_kept {old = old} {mid = mid} new i kept = record { more = i.more; taken = Appends-kept old mid new _ i.taken kept }
 
 -- ---- the end
 
 -- the ticks that were reported last are made
 pub told_made : {image : Image} {lines : List DeviceLine} {n now : ℕ} {old new : Option (List ℕ)} {before after : Told} → n ≤ MOST_TICKS → now ≤ n → TakesAtLeast old new (text_to image lines now) → IsHeard n now before after → IsToldMade image lines n old new before after
-told_made {now = now} few within taken i = (now, within, taken, inr (few, i.reports, i.rising, i.heard))
+told_made {now = now} few within taken i = record { made = now; within = within; taken = taken; followed = inr (few, i.reports, i.rising, i.heard) }
 
 -- they are all
-pub told_all : {image : Image} {devices lines : List DeviceLine} {n left : ℕ} {old new : Option (List ℕ)} {before after : Told} {s : Standing MachineControl} → s.now + left ≡ n → left ≡ 0 → IsGoing image devices lines old new s → IsHeard n s.now before after
+pub told_all : {image : Image} {devices lines : List DeviceLine} {old new : Option (List ℕ)} {before after : Told} {s : Standing MachineControl} (n left : ℕ) → s.now + left ≡ n → left ≡ 0 → IsGoing image devices lines old new s → IsHeard n s.now before after
     → IsToldAll image devices n before after
-told_all {image = image} {devices = devices} {n = n} {s = s} count none going i =
+told_all {image = image} {devices = devices} {s = s} n left count none going i =
     let all : s.now ≡ n = omega (arith, count, none) in
-    (s.now, i.reports, ap (text_to image devices) all, i.steps, i.heard)
+    record { made = s.now; reports = i.reports; all = ap (text_to image devices) all; steps = i.steps; heard = i.heard }
 
 -- the module is shut down
-pub told_down : {image : Image} {devices lines : List DeviceLine} {n left : ℕ} {old new : Option (List ℕ)} {before after : Told} {s : Standing MachineControl} → s.now + left ≡ n → is_none s.origin ≡ true → IsGoing image devices lines old new s
+pub told_down : {image : Image} {devices lines : List DeviceLine} {old new : Option (List ℕ)} {before after : Told} {s : Standing MachineControl} (n left : ℕ) → s.now + left ≡ n → is_none s.origin ≡ true → IsGoing image devices lines old new s
     → IsHeard n s.now before after → IsToldAll image devices n before after
-told_down {image = image} {devices = devices} {lines = lines} {left = left} {s = s} count down going i =
-    (s.now, i.reports, sym (ap (text_to image devices) (sym count) ∙ down_same image devices lines left s down going.ahead), i.steps, i.heard)
+told_down {image = image} {devices = devices} {lines = lines} {s = s} n left count down going i = record {
+  made = s.now;
+  reports = i.reports;
+  all = sym (ap (text_to image devices) (sym count) ∙ down_same image devices lines left s down going.ahead);
+  steps = i.steps;
+  heard = i.heard;
+}
 
 -- ---- a run with a device text
 
@@ -111,15 +119,15 @@ pub begun : {old new : Option (List ℕ)} {before after : Told} (read : Result I
     → read ≡ Ok image → verdict_for image text ≡ Ok lines → n ≤ MOST_TICKS → IsToldMade image lines n old new before after → IsToldRun read text n old new before after
 begun read image text lines n loaded taken few h = inr (image, lines, record { loaded = loaded; taken = taken; few = few }, h)
 
-pub whole_if_ok : {before after : Told} (read : Result Image Fault) (image : Image) (text : List ℕ) (lines : List DeviceLine) (n : ℕ) (answer : Result (Unit {0}) RunFault)
+pub whole_if_ok : (read : Result Image Fault) (image : Image) (text : List ℕ) (lines : List DeviceLine) (n : ℕ) (before after : Told) (answer : Result (Unit {0}) RunFault)
     → read ≡ Ok image → verdict_for image text ≡ Ok lines → n ≤ MOST_TICKS → OnOk answer (IsToldAll image lines n before after) → OnOk answer (IsToldWhole read text n before after)
-whole_if_ok read image text lines n (Ok done) loaded taken few h = (image, lines, record { loaded = loaded; taken = taken; few = few }, h)
-whole_if_ok read image text lines n (Err f) loaded taken few h = tt
+whole_if_ok read image text lines n before after (Ok done) loaded taken few h = (image, lines, record { loaded = loaded; taken = taken; few = few }, h)
+whole_if_ok read image text lines n before after (Err f) loaded taken few h = tt
 
 -- whatever it was, no more than all ticks were told
 pub all_followed : (read : Result Image Fault) (text : List ℕ) (n : ℕ) (old new : Option (List ℕ)) (before after : Told) → IsToldRun read text n old new before after → IsFollowed n n before after
 all_followed read text n old new before after (inl same) = subst (IsFollowed n n before) (sym same) (not_followed n n before)
-all_followed read text n old new before after (inr (image, lines, run, made, within, taken, followed)) = followed_within n within followed
+all_followed read text n old new before after (inr (image, lines, run, h)) = followed_within n h.within h.followed
 
 -- ---- the inputs of a partition
 

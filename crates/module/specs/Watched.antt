@@ -38,13 +38,16 @@ abbrev pub text_to : Image → List DeviceLine → ℕ → List ℕ
 text_to image lines n = text_of (machine_trace image lines n)
 
 -- the text was taken, and maybe more
-abbrev pub TakesAtLeast : Option (List ℕ) → Option (List ℕ) → List ℕ → Type 0
-TakesAtLeast old new text = (more : List ℕ) × Appends old new (text ++ more)
+pub record TakesAtLeast (old new : Option (List ℕ)) (text : List ℕ) : Type 0 where
+  pub more : List ℕ
+  pub taken : Appends old new (text ++ more)
 
 -- A watcher was told, in rising order, only of ticks that were made: a sink has taken their text.
-abbrev pub IsToldMade : Image → List DeviceLine → ℕ → Option (List ℕ) → Option (List ℕ) → Told → Told → Type 0
-IsToldMade image lines n old new before after =
-    (made : ℕ) × (made ≤ n) × TakesAtLeast old new (text_to image lines made) × IsFollowed n made before after
+pub record IsToldMade (image : Image) (lines : List DeviceLine) (n : ℕ) (old new : Option (List ℕ)) (before after : Told) : Type 0 where
+  pub made : ℕ
+  pub within : made ≤ n
+  pub taken : TakesAtLeast old new (text_to image lines made)
+  pub followed : IsFollowed n made before after
 
 -- the same of a run with a device text; of a run that is not begun a watcher is told nothing
 abbrev pub IsToldRun : Result Image Fault → List ℕ → ℕ → Option (List ℕ) → Option (List ℕ) → Told → Told → Type 0
@@ -52,9 +55,12 @@ IsToldRun read devices n old new before after =
     (after ≡ before) ⊎ ((image : Image) × (lines : List DeviceLine) × IsRun read devices n image lines × IsToldMade image lines n old new before after)
 
 -- A watcher was told at least once in 2^20 ticks, up to the end: of as many ticks as have all that the run writes.
-abbrev pub IsToldAll : Image → List DeviceLine → ℕ → Told → Told → Type 0
-IsToldAll image lines n before after =
-    (made : ℕ) × (reports : List (ℕ × ℕ)) × (text_to image lines made ≡ text_to image lines n) × AreSteps 0 made reports × Hears before after reports
+pub record IsToldAll (image : Image) (lines : List DeviceLine) (n : ℕ) (before after : Told) : Type 0 where
+  pub made : ℕ
+  pub reports : List (ℕ × ℕ)
+  pub all : text_to image lines made ≡ text_to image lines n
+  pub steps : AreSteps 0 made reports
+  pub heard : Hears before after reports
 
 -- the same of a run with a device text
 abbrev pub IsToldWhole : Result Image Fault → List ℕ → ℕ → Told → Told → Type 0

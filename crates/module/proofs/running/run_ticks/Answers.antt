@@ -155,7 +155,7 @@ loop-left-preserved g c =
     let last = (machine_of c.loop-left.machine).standing.now in
     let now = (machine_of c.loop-left-2.machine).standing.now in
     let above : last < now = elim c.loop-left-2-test.branch [
-      | goal.then-loop-left-2-test+else-not-is_shut_down w ↦ omega (arith, i.some (search rules), i.count, c.loop-left.invariant.count)
+      | goal.then-loop-left-2-test+else-not-is_shut_down-2 w ↦ omega (arith, i.some (search rules), i.count, c.loop-left.invariant.count)
       | goal.else-loop-left-2-test w ↦ omega (arith, w.loop-left-2-test.false, c.loop-left-test.true, c.saturating_sub-stop.ensures, i.count, c.loop-left.invariant.count)
     ] in
     let near : now ≤ last + 2 ^ 20 = omega (arith, i.above, c.saturating_sub-stop.ensures, i.count, c.loop-left.invariant.count) in
@@ -167,27 +167,35 @@ loop-left-preserved g c =
       going = going_kept (g.S.Sink.taken c.offer_nothing.new.sink) i.going c.in_ok-offer_nothing.ensures.kept;
       quiet = search rules;
       heard = heard_next now (g.W.Watch.told c.reached.new.self) above near c.loop-left.invariant.heard
-          (subst (λ t. Hears (g.W.Watch.told c.loop-left.watch) (g.W.Watch.told c.reached.new.self) ((t, c.args.ticks) ∷ [])) c.now-2.ensures c.reached.ensures);
+          (subst (λ t. Hears (g.W.Watch.told c.loop-left.watch) (g.W.Watch.told c.reached.new.self) ((t, c.args.ticks) ∷ [])) c.now-in-loop-left.ensures c.reached.ensures);
     }
 
-pub returns-clause-trace : goal.returns-clause-trace
-returns-clause-trace g c =
-    let i = c.loop-left.invariant in
-    elim c.loop-left-test.branch [
-      | goal.then-loop-left-test+else-not-is_shut_down w ↦ taken_down c.args.ticks c.loop-left.left i.count (search rules) i.going
-      | goal.else-loop-left-test w ↦ all_taken c.args.ticks c.loop-left.left i.count (omega (arith, w.loop-left-test.false)) i.going
-    ]
+pub returns-else-not-is_shut_down-clause-trace : goal.returns-else-not-is_shut_down-clause-trace
+returns-else-not-is_shut_down-clause-trace g c = taken_down c.args.ticks c.loop-left.left c.loop-left.invariant.count (search rules) c.loop-left.invariant.going
 
-pub returns-clause-followed : goal.returns-clause-followed
-returns-clause-followed g c =
+pub returns-else-not-is_shut_down-clause-followed : goal.returns-else-not-is_shut_down-clause-followed
+returns-else-not-is_shut_down-clause-followed g c =
     let i = c.loop-left.invariant in
     let within : (machine_of c.loop-left.machine).standing.now ≤ c.args.ticks = omega (arith, i.count) in
     told_made c.requires.ticks within (takes_all i.going.taken) i.heard
 
-pub returns-clause-whole : goal.returns-clause-whole
-returns-clause-whole g c =
+pub returns-else-not-is_shut_down-clause-whole : goal.returns-else-not-is_shut_down-clause-whole
+returns-else-not-is_shut_down-clause-whole g c =
     let i = c.loop-left.invariant in
-    elim c.loop-left-test.branch [
-      | goal.then-loop-left-test+else-not-is_shut_down w ↦ told_down i.count (search rules) i.going i.heard
-      | goal.else-loop-left-test w ↦ told_all i.count (omega (arith, w.loop-left-test.false)) i.going i.heard
-    ]
+    told_down c.args.ticks c.loop-left.left i.count (search rules) i.going i.heard
+
+pub returns-after-loop-left-clause-trace : goal.returns-after-loop-left-clause-trace
+returns-after-loop-left-clause-trace g c =
+    let i = c.loop-left.invariant in
+    all_taken c.args.ticks c.loop-left.left i.count (omega (arith, c.loop-left-test.false)) i.going
+
+pub returns-after-loop-left-clause-followed : goal.returns-after-loop-left-clause-followed
+returns-after-loop-left-clause-followed g c =
+    let i = c.loop-left.invariant in
+    let within : (machine_of c.loop-left.machine).standing.now ≤ c.args.ticks = omega (arith, i.count) in
+    told_made c.requires.ticks within (takes_all i.going.taken) i.heard
+
+pub returns-after-loop-left-clause-whole : goal.returns-after-loop-left-clause-whole
+returns-after-loop-left-clause-whole g c =
+    let i = c.loop-left.invariant in
+    told_all c.args.ticks c.loop-left.left i.count (omega (arith, c.loop-left-test.false)) i.going i.heard

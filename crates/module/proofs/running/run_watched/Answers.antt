@@ -38,4 +38,4 @@ returns-clause-whole g c =
     let few : c.args.ticks ≤ MOST_TICKS = search rules in
     let loaded : (machine_of c.in_ok-machine.machine).image ≡ image_of c.in_ok-load_image.field-0 = ap (λ (m : Machine). m.image) c.in_ok-machine.ensures in
     let taken = subst (λ (ls : List DeviceLine). verdict_for (machine_of c.in_ok-machine.machine).image c.args.devices.now ≡ Ok ls) (sym c.deref.ensures.value) c.in_ok-lines.ensures.taken in
-    whole_if_ok (image_at c.args.image.now) (machine_of c.in_ok-machine.machine).image c.args.devices.now lines c.args.ticks c.run_ticks.result (c.in_ok-load_image.ensures ∙ ap (λ (i : Image). Ok i) (sym loaded)) taken few c.run_ticks.ensures.whole
+    whole_if_ok (image_at c.args.image.now) (machine_of c.in_ok-machine.machine).image c.args.devices.now lines c.args.ticks _ _ c.run_ticks.result (c.in_ok-load_image.ensures ∙ ap (λ (i : Image). Ok i) (sym loaded)) taken few c.run_ticks.ensures.whole
