@@ -211,10 +211,10 @@ followed_first image devices n made old told = record { within = omega arith; ke
 
 pub followed_told : {image : Image} {devices : List DeviceLine} {n told made : ℕ} {old mid : Option (List ℕ)} {before between : Told} (last : ℕ) (new : Option (List ℕ)) (after : Told) → n ≤ MOST_TICKS → Keeps mid new → Appends old mid (text_to image devices made)
     → IsFollowedBy image devices n told made old mid before between → IsReported told made n last between after → IsFollowedBy image devices n last made old new before after
-followed_told {image = image} {devices = devices} {n = n} {made = made} {old = old} {before = before} last new after few kept taken i (inl (same, quiet)) = record {
+followed_told {image = image} {devices = devices} {n = n} {told = told} {old = old} {before = before} last new after few kept taken i (inl (same, quiet)) = record {
   within = omega (arith, same, i.within);
   kept = subst (λ t. TakesAtLeast old new (text_to image devices t)) (sym same) (takes_kept new i.kept kept);
-  followed = subst (λ t. IsFollowed n t before after) (sym same) (subst (IsFollowed n _ before) (sym quiet) i.followed);
+  followed = subst (λ t. IsFollowed n t before after) (sym same) (subst (IsFollowed n told before) (sym quiet) i.followed);
 }
 followed_told {image = image} {devices = devices} {n = n} {made = made} {old = old} {mid = mid} {before = before} last new after few kept taken i (inr (same, above, heard)) = record {
   within = omega (arith, same);

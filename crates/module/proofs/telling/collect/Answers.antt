@@ -61,7 +61,7 @@ loop-left-preserved g c =
       image = ticked.image ∙ c.skip_still-count.ensures.image ∙ i.image;
       order = subst (λ u. AreFrom u later) (sym after_it) own.later;
       count = omega (arith, after_it, here, none, i.count, c.loop-left-test.true);
-      heard = counted_told next.now.0 c.one_more.result (g.W.Watch.told c.one_more.new.watch) c.requires.ticks (omega (arith, i.count, c.loop-left-test.true)) (omega (arith, after_it, here)) i.heard c.one_more.ensures.quiet c.one_more.ensures.told;
+      heard = counted_told next.now.0 c.one_more-steps.result (g.W.Watch.told c.one_more-steps.new.watch) c.requires.ticks (omega (arith, i.count, c.loop-left-test.true)) (omega (arith, after_it, here)) i.heard c.one_more-steps.ensures.quiet c.one_more-steps.ensures.told;
       so_far = comes_further _ so_far more _ rest way split ∙ ap (λ (ls : List InputLine). ls ++ rest) (sym came);
     }
 
@@ -89,7 +89,7 @@ loop-left-preserved-then-count-gt0 g c =
       image = c.skip_still-count.ensures.image ∙ i.image;
       order = order;
       count = omega (arith, i.count, here, same);
-      heard = counted_told m.now.0 c.one_more.result (g.W.Watch.told c.one_more.new.watch) c.requires.ticks (omega (arith, i.count, c.loop-left-test.true)) (omega (arith, here, c.if-count-gt0.true)) i.heard c.one_more.ensures.quiet c.one_more.ensures.told;
+      heard = counted_told m.now.0 c.one_more-steps.result (g.W.Watch.told c.one_more-steps.new.watch) c.requires.ticks (omega (arith, i.count, c.loop-left-test.true)) (omega (arith, here, c.if-count-gt0.true)) i.heard c.one_more-steps.ensures.quiet c.one_more-steps.ensures.told;
       so_far = brought_after plan watched lines _ so_far left n rest (standing_of machine m0) s same i.so_far quiet;
     }
 
@@ -143,7 +143,7 @@ returns-in_err-tick_watched-clause-followed g c =
     let i = c.loop-left.invariant in
     let now = c.loop-left.running.now.0 in
     let next : now < now + 1 = omega arith in
-    counted_all (counted_told (now + 1) c.one_more.result (g.W.Watch.told c.one_more.new.watch) c.requires.ticks (omega (arith, i.count, c.loop-left-test.true)) next i.heard c.one_more.ensures.quiet c.one_more.ensures.told)
+    counted_all (counted_told (now + 1) c.one_more-steps.result (g.W.Watch.told c.one_more-steps.new.watch) c.requires.ticks (omega (arith, i.count, c.loop-left-test.true)) next i.heard c.one_more-steps.ensures.quiet c.one_more-steps.ensures.told)
 
 pub overflow_sub-left : goal.overflow_sub-left
 overflow_sub-left g c =

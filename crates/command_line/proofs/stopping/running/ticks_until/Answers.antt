@@ -31,13 +31,13 @@ loop-left-preserved-then-count-gt0 g c =
     let skipped = skipped_before _ (machine_of c.skip-count.new.self) c.until_line-quiet.result c.skip-count.result _ c.skip-count.ensures c.until_line-quiet.ensures.from in
     let few : c.skip-count.result ≤ c.until_line-quiet.result = skipped.1.2.0 in
     let count : c.loop-left.left ≡ c.skip-count.result + rest = omega (arith, few, c.until_line-quiet.ensures.within, c.at_once.ensures, c.from-left.ensures) in
-    let told = subst (λ made. IsReported c.loop-left.told made c.args.wait.ticks c.in_ok-told.field-0 (g.W.Watch.told c.loop-left.watch) (g.W.Watch.told c.tell.new.watch)) c.now.ensures c.in_ok-told.ensures.told in
-    let followed = followed_told c.in_ok-told.field-0 (g.S.Sink.taken c.tell.new.sink) (g.W.Watch.told c.tell.new.watch) c.requires.ticks c.in_ok-told.ensures.kept c.loop-left.invariant.reached.taken c.loop-left.invariant.followed told in
+    let told = subst (λ made. IsReported c.loop-left.told made c.args.wait.ticks c.in_ok-told.told (g.W.Watch.told c.loop-left.watch) (g.W.Watch.told c.tell.new.watch)) c.now.ensures c.in_ok-told.ensures.told in
+    let followed = followed_told c.in_ok-told.told (g.S.Sink.taken c.tell.new.sink) (g.W.Watch.told c.tell.new.watch) c.requires.ticks c.in_ok-told.ensures.kept c.loop-left.invariant.reached.taken c.loop-left.invariant.followed told in
     let further : (machine_of c.loop-left.machine).standing.now ≤ (machine_of c.skip-count.new.self).standing.now = omega (arith, skipped.1.2.1) in
     record {
       reached = reached_skipped (machine_of c.skip-count.new.self) c.until_line-quiet.result c.skip-count.result rest way skipped.1 skipped.0 count;
-      followed = followed_further (machine_of c.skip-count.new.self).standing.now (g.S.Sink.taken c.tell.new.sink) [] further (Appends-nil (g.S.Sink.taken c.tell.new.sink)) followed;
       quiet = search rules;
+      followed = followed_further (machine_of c.skip-count.new.self).standing.now (g.S.Sink.taken c.tell.new.sink) [] further (Appends-nil (g.S.Sink.taken c.tell.new.sink)) followed;
       empty = i.empty;
       fresh = i.fresh;
     }
@@ -100,14 +100,14 @@ loop-left-preserved g c =
     let skipped = skipped_before _ (machine_of c.skip-count.new.self) c.until_line-quiet.result c.skip-count.result _ c.skip-count.ensures c.until_line-quiet.ensures.from in
     let way = reached_still (machine_of c.skip-count.new.self) c.until_line-quiet.result c.skip-count.result (reached_kept mid c.loop-left.invariant.reached c.in_ok-told.ensures.kept) skipped.1 skipped.0 (omega (arith, c.if-count-gt0.false)) in
     let more = subst (Appends mid new) c.as_slice.ensures.value c.in_ok-hand_on.ensures.taken in
-    let told = subst (λ made. IsReported c.loop-left.told made c.args.wait.ticks c.in_ok-told.field-0 (g.W.Watch.told c.loop-left.watch) (g.W.Watch.told c.tell.new.watch)) c.now.ensures c.in_ok-told.ensures.told in
-    let followed = followed_told c.in_ok-told.field-0 (g.S.Sink.taken c.tell.new.sink) (g.W.Watch.told c.tell.new.watch) c.requires.ticks c.in_ok-told.ensures.kept c.loop-left.invariant.reached.taken c.loop-left.invariant.followed told in
+    let told = subst (λ made. IsReported c.loop-left.told made c.args.wait.ticks c.in_ok-told.told (g.W.Watch.told c.loop-left.watch) (g.W.Watch.told c.tell.new.watch)) c.now.ensures c.in_ok-told.ensures.told in
+    let followed = followed_told c.in_ok-told.told (g.S.Sink.taken c.tell.new.sink) (g.W.Watch.told c.tell.new.watch) c.requires.ticks c.in_ok-told.ensures.kept c.loop-left.invariant.reached.taken c.loop-left.invariant.followed told in
     let further : (machine_of c.loop-left.machine).standing.now ≤ (machine_of c.tick_held.new.machine).standing.now = omega (arith, skipped.1.2.1, now_ticked c.in_ok-lines.ensures.held) in
     let without : has_line (map (λ a. a.now) c.args.wait.words.now) bytes ≡ false = subst (λ text. has_line (map (λ a. a.now) c.args.wait.words.now) text ≡ false) c.as_slice-in-loop-left.ensures.value (search rules) in
     record {
-      followed = followed_further (machine_of c.tick_held.new.machine).standing.now new bytes further more followed;
       reached = reached_ticked new (machine_of c.tick_held.new.machine) c.in_ok-lines.lines.now bytes (left - 1) way c.in_ok-lines.ensures.held (omega (arith, c.loop-left-test.true)) more without;
       quiet = search rules;
+      followed = followed_further (machine_of c.tick_held.new.machine).standing.now new bytes further more followed;
       empty = search rules;
       fresh = c.in_ok-lines.ensures.fresh;
     }
@@ -129,15 +129,15 @@ returns-in_err-told-clause-followed g c =
 pub returns-in_err-lines-clause-followed : goal.returns-in_err-lines-clause-followed
 returns-in_err-lines-clause-followed g c =
     let few : (machine_of c.loop-left.machine).standing.now ≤ c.args.wait.ticks = omega (arith, c.loop-left.invariant.reached.count) in
-    let told = subst (λ made. IsReported c.loop-left.told made c.args.wait.ticks c.in_ok-told.field-0 (g.W.Watch.told c.loop-left.watch) (g.W.Watch.told c.tell.new.watch)) c.now.ensures c.in_ok-told.ensures.told in
-    let followed = followed_told c.in_ok-told.field-0 (g.S.Sink.taken c.tell.new.sink) (g.W.Watch.told c.tell.new.watch) c.requires.ticks c.in_ok-told.ensures.kept c.loop-left.invariant.reached.taken c.loop-left.invariant.followed told in
+    let told = subst (λ made. IsReported c.loop-left.told made c.args.wait.ticks c.in_ok-told.told (g.W.Watch.told c.loop-left.watch) (g.W.Watch.told c.tell.new.watch)) c.now.ensures c.in_ok-told.ensures.told in
+    let followed = followed_told c.in_ok-told.told (g.S.Sink.taken c.tell.new.sink) (g.W.Watch.told c.tell.new.watch) c.requires.ticks c.in_ok-told.ensures.kept c.loop-left.invariant.reached.taken c.loop-left.invariant.followed told in
     followed_made few followed
 
 pub returns-in_err-hand_on-clause-followed : goal.returns-in_err-hand_on-clause-followed
 returns-in_err-hand_on-clause-followed g c =
     let few : (machine_of c.loop-left.machine).standing.now ≤ c.args.wait.ticks = omega (arith, c.loop-left.invariant.reached.count) in
-    let told = subst (λ made. IsReported c.loop-left.told made c.args.wait.ticks c.in_ok-told.field-0 (g.W.Watch.told c.loop-left.watch) (g.W.Watch.told c.tell.new.watch)) c.now.ensures c.in_ok-told.ensures.told in
-    let followed = followed_told c.in_ok-told.field-0 (g.S.Sink.taken c.tell.new.sink) (g.W.Watch.told c.tell.new.watch) c.requires.ticks c.in_ok-told.ensures.kept c.loop-left.invariant.reached.taken c.loop-left.invariant.followed told in
+    let told = subst (λ made. IsReported c.loop-left.told made c.args.wait.ticks c.in_ok-told.told (g.W.Watch.told c.loop-left.watch) (g.W.Watch.told c.tell.new.watch)) c.now.ensures c.in_ok-told.ensures.told in
+    let followed = followed_told c.in_ok-told.told (g.S.Sink.taken c.tell.new.sink) (g.W.Watch.told c.tell.new.watch) c.requires.ticks c.in_ok-told.ensures.kept c.loop-left.invariant.reached.taken c.loop-left.invariant.followed told in
     followed_made few (followed_beginning (g.S.Sink.taken c.hand_on.new.sink) _ c.in_err-hand_on.ensures.beginning followed)
 
 pub returns-then-has_line-clause-followed : goal.returns-then-has_line-clause-followed
@@ -145,8 +145,8 @@ returns-then-has_line-clause-followed g c =
     let now = (machine_of c.loop-left.machine).standing.now in
     let few : now ≤ c.args.wait.ticks = omega (arith, c.loop-left.invariant.reached.count) in
     let same : now ≤ now = omega arith in
-    let told = subst (λ made. IsReported c.loop-left.told made c.args.wait.ticks c.in_ok-told.field-0 (g.W.Watch.told c.loop-left.watch) (g.W.Watch.told c.tell.new.watch)) c.now.ensures c.in_ok-told.ensures.told in
-    let followed = followed_told c.in_ok-told.field-0 (g.S.Sink.taken c.tell.new.sink) (g.W.Watch.told c.tell.new.watch) c.requires.ticks c.in_ok-told.ensures.kept c.loop-left.invariant.reached.taken c.loop-left.invariant.followed told in
+    let told = subst (λ made. IsReported c.loop-left.told made c.args.wait.ticks c.in_ok-told.told (g.W.Watch.told c.loop-left.watch) (g.W.Watch.told c.tell.new.watch)) c.now.ensures c.in_ok-told.ensures.told in
+    let followed = followed_told c.in_ok-told.told (g.S.Sink.taken c.tell.new.sink) (g.W.Watch.told c.tell.new.watch) c.requires.ticks c.in_ok-told.ensures.kept c.loop-left.invariant.reached.taken c.loop-left.invariant.followed told in
     followed_made few (followed_further now (g.S.Sink.taken c.hand_on.new.sink) _ same c.in_ok-hand_on.ensures.taken followed)
 
 pub returns-clause-followed : goal.returns-clause-followed
