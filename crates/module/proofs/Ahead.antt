@@ -1,6 +1,6 @@
 -- The text that is still ahead of a run.
 use Rattle.module.proofs.Prelude.{◌≡◌, ◌<◌, ◌+◌, ℕ, suc, true, List, ◌++◌, Option, Some, None, refl, sym, ap, ◌∙◌, append-nil, append_assoc, arith, Appends, Appends-nil, is_none, text_of, DeviceLine, Event, IsUnderWay, Image, MachineControl, machine_module, Machine, fresh_machine, Elapsed, Standing, after, lines_of, of_tick, ticks, HasRun}
-use Rattle.std.proofs.Common.{[], subst}
+use Rattle.std.proofs.Common.{subst}
 use Rattle.std.proofs.KnownBytes.{Appends-trans, Appends-kept}
 use Rattle.std.specs.Io.KnownBytes.{Keeps}
 use Rattle.module.specs.Machines.{HasGoneOn}

@@ -1,5 +1,5 @@
 -- What a watcher of a run is told.
-use Rattle.module.proofs.Prelude.{◌≡◌, ◌≤◌, ◌<◌, ◌+◌, ◌-◌, ◌^◌, ◌∷◌, ◌++◌, inl, inr, ℕ, true, List, Option, Some, None, Result, Ok, Err, OnOk, refl, sym, ap, ◌∙◌, append-nil, append_assoc, arith, take, Appends, MOST_TICKS, TakesBeginning, DeviceLine, Image, Fault, RunFault, verdict_for, IsUnderWay, MachineControl, Standing, is_none}
+use Rattle.module.proofs.Prelude.{◌≡◌, ◌≤◌, ◌<◌, ◌+◌, ◌-◌, ◌^◌, ◌∷◌, ◌++◌, inl, inr, ℕ, true, List, Option, Some, None, Result, Ok, Err, OnOk, refl, sym, ap, ◌∙◌, append-nil, append_assoc, arith, take, Appends, MOST_TICKS, TakesBeginning, DeviceLine, Image, Fault, RunFault, verdict_for, MachineControl, Standing, is_none}
 use Rattle.std.proofs.Common.{[], subst}
 use Rattle.std.proofs.KnownBytes.{Appends-kept, Appends-trans}
 use Rattle.std.specs.Io.KnownBytes.{Keeps}

@@ -1,4 +1,4 @@
-use Rattle.module.proofs.Prelude.{rules, ◌≡◌, ◌≤◌, ◌<◌, ◌+◌, ◌-◌, ◌^◌, ◌∷◌, suc, refl, sym, ap, ◌∙◌, arith, MOST_TICKS, of_tick, Machine, machine_of, AreFrom}
+use Rattle.module.proofs.Prelude.{rules, ◌≡◌, ◌≤◌, ◌<◌, ◌+◌, ◌-◌, ◌^◌, ◌∷◌, suc, refl, sym, ap, ◌∙◌, arith, of_tick, Machine, machine_of, AreFrom}
 use Rattle.std.proofs.Common.{[], subst}
 use Rattle.module.specs.Watched.{Hears}
 use Rattle.module.proofs.Ahead.{all_taken, going_first, going_kept, going_on, going_ticked, taken_down, under_way}

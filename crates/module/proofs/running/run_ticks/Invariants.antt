@@ -1,4 +1,4 @@
-use Rattle.module.proofs.Prelude.{◌≡◌, ◌≤◌, ◌<◌, ◌+◌, ◌-◌, ◌^◌, ℕ, Bool, true, false, is_none, machine_of, AreFrom}
+use Rattle.module.proofs.Prelude.{◌≡◌, ◌≤◌, ◌<◌, ◌+◌, ◌-◌, true, false, is_none, machine_of, AreFrom}
 use Rattle.std.specs.Prelude.{if◌then◌else◌}
 use Rattle.module.specs.Watched.{TakesAtLeast, text_to}
 use Rattle.module.proofs.Ahead.{IsGoing}
