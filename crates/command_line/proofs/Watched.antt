@@ -2,6 +2,7 @@
 use Rattle.std.proofs.Common.{◌≡◌, ◌≤◌, ◌-◌, ◌^◌, inl, inr, ℕ, refl, sym, subst, arith, min}
 use Rattle.module.specs.Watched.{IsFollowed, Told}
 use Rattle.command_line.specs.Orders.{Order, First, Check, Build, Run, Replay, Inputs, Cost, Dis, Upgrade, Load, Lint, Dashed}
+use Rattle.command_line.specs.StopSteps.{IsReported}
 use Rattle.command_line.specs.Watched.{IsWatched}
 use Rattle.command_line.proofs.Ran.{few_same}
 
@@ -18,6 +19,10 @@ not_watched (Upgrade old new) told = refl
 not_watched (Load form table sources) told = refl
 not_watched (Lint table sources) told = refl
 not_watched Dashed told = refl
+
+-- nothing is reported
+pub not_reported : (told made n : ℕ) (heard : Told) → IsReported told made n told heard heard
+not_reported told made n heard = inl (refl, refl)
 
 -- the number in a word is the word's value, if the run was begun
 pub followed_by : {before after : Told} (n v : ℕ) → n ≡ min v (2 ^ 64 - 1) → IsFollowed n n before after → IsFollowed v v before after

@@ -94,6 +94,7 @@ pub const MOST_UNTOLD: u64 = 1 << 20;
 /// # Errors
 ///
 /// [`RunFault::Write`] if the sink fails.
+#[tactic(auto, using(crate::proofs::Watched::not_reported))]
 pub fn tell<S: Sink, W: Watch>(
     told: u64,
     made: u64,
