@@ -30,5 +30,5 @@ followed_by n v is (inl same) = inl same
 followed_by {before = before} {after = after} n v is (inr h) = subst (λ k. IsFollowed k k before after) (few_same n v is h.0) (inr h)
 
 -- it was asked for reports before
-pub watched_since : {before after : Told} (order : Order) (begun : Told) → begun ≡ before → IsWatched order begun after → IsWatched order before after
-watched_since {after = after} order begun same h = subst (λ t. IsWatched order t after) same h
+pub watched_since : {before : Told} (order : Order) (begun after : Told) → begun ≡ before → IsWatched order begun after → IsWatched order before after
+watched_since order begun after same h = subst (λ t. IsWatched order t after) same h
