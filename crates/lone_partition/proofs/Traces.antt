@@ -1,5 +1,5 @@
 -- A lone partition tick by tick, and the lines of its trace.
-use Rattle.lone_partition.proofs.Prelude.{◌≡◌, ◌≢◌, ℕ, zero, suc, ◌+◌, ◌<◌, ◌≤◌, List, [], ◌∷◌, ◌++◌, Option, Some, None, refl, sym, ap, subst, ◌∙◌, arith, option_map, text_of, ModuleAction, Event, At, first_tick, next_tick, Member, IsIn, Alone, Path, Surroundings, goes, inputs_in, unless_over, takes, takes_all, sends_and_ticks, tick_alone, alone_from, trace_alone, Input, InputLine, inputs_of, lines_in, tick_of_input, Sent, HasSent, IsMade, IsPathMade}
+use Rattle.lone_partition.proofs.Prelude.{◌≡◌, ◌≢◌, ℕ, zero, suc, ◌+◌, ◌<◌, ◌≤◌, List, [], ◌∷◌, ◌++◌, Option, Some, None, refl, sym, ap, subst, ◌∙◌, arith, option_map, text_of, ModuleAction, Event, At, first_tick, next_tick, Member, IsIn, Alone, Course, Surroundings, goes, inputs_in, unless_down, takes, takes_all, sends_and_ticks, tick_alone, alone_from, trace_alone, Input, InputLine, inputs_of, lines_in, tick_of_input, Sent, HasSent, IsMade, IsCourse}
 use Rattle.std.proofs.Common.{le_refl}
 use Rattle.apex_types.specs.declared.codes.ModuleAction.TheVariants as reaction
 use Rattle.apex_types.specs.declared.codes.StartCondition.TheVariants as condition
@@ -23,8 +23,8 @@ module _ {C : Type 0} where
   takes_in fault at ModuleFault x = meets_in at fault x
   takes_in fault at PartitionFault x = refl
 
-  runs_in : (t : ℕ) (c : Path (Member C)) (rest : At → Member C → Path (Member C)) (o : Option At) → IsIn t c.at → IsIn t o
-      → ((a : At) (y : Member C) → a.now.0 ≡ t → IsIn t (rest a y).at) → IsIn t (unless_over c rest o).at
+  runs_in : (t : ℕ) (c : Course (Member C)) (rest : At → Member C → Course (Member C)) (o : Option At) → IsIn t c.at → IsIn t o
+      → ((a : At) (y : Member C) → a.now.0 ≡ t → IsIn t (rest a y).at) → IsIn t (unless_down c rest o).at
   runs_in t c rest None h k more = h
   runs_in t c rest (Some a) h k more = more a c.state k
 
@@ -82,7 +82,7 @@ module _ {C : Type 0} where
   -- one more tick, followed by this, or by nothing
   ticks_on : (whole : List Event) (s : Surroundings) (lines own later : List InputLine) (n k : ℕ) (at : At) (answer : Option At) (x y : Member C) (old mid new : Sent) → n ≡ suc k
       → own ≡ lines_in tick_of_input at.now.0 lines → ((t : ℕ) → at.now.0 < t → lines_in tick_of_input t later ≡ lines_in tick_of_input t lines)
-      → CompletesLines whole (alone_from s lines n (Some at) x) old mid → IsPathMade (tick_alone s at (inputs_of own) x) answer y mid new
+      → CompletesLines whole (alone_from s lines n (Some at) x) old mid → IsCourse (tick_alone s at (inputs_of own) x) answer y mid new
       → CompletesLines whole (alone_from s later k (option_map next_tick answer) y) old new
   ticks_on whole s lines own later n k at answer x y old mid new count is_own of_later way h =
       let r = tick_alone s at (inputs_of own) x in
@@ -92,14 +92,14 @@ module _ {C : Type 0} where
 
   pub goes_on : (whole : List Event) (s : Surroundings) (lines own later : List InputLine) (n k : ℕ) (at last : At) (x y : Member C) (old mid new : Sent) → n ≡ suc k
       → own ≡ lines_in tick_of_input at.now.0 lines → ((t : ℕ) → at.now.0 < t → lines_in tick_of_input t later ≡ lines_in tick_of_input t lines)
-      → CompletesLines whole (alone_from s lines n (Some at) x) old mid → IsPathMade (tick_alone s at (inputs_of own) x) (Some last) y mid new
+      → CompletesLines whole (alone_from s lines n (Some at) x) old mid → IsCourse (tick_alone s at (inputs_of own) x) (Some last) y mid new
       → CompletesLines whole (alone_from s later k (Some (next_tick last)) y) old new
   goes_on whole s lines own later n k at last x y old mid new count is_own of_later way h = ticks_on whole s lines own later n k at (Some last) x y old mid new count is_own of_later way h
 
   -- the last tick, since the module is shut down in it
   pub ends_down : (whole : List Event) (s : Surroundings) (lines own later : List InputLine) (n k : ℕ) (at : At) (x y : Member C) (old mid new : Sent) → n ≡ suc k
       → own ≡ lines_in tick_of_input at.now.0 lines → ((t : ℕ) → at.now.0 < t → lines_in tick_of_input t later ≡ lines_in tick_of_input t lines)
-      → CompletesLines whole (alone_from s lines n (Some at) x) old mid → IsPathMade (tick_alone s at (inputs_of own) x) None y mid new
+      → CompletesLines whole (alone_from s lines n (Some at) x) old mid → IsCourse (tick_alone s at (inputs_of own) x) None y mid new
       → HasSent old new (text_of whole)
   ends_down whole s lines own later n k at x y old mid new count is_own of_later way h =
       lines_are_over whole (alone_from s later k None y) old new (none_left s later k y) (ticks_on whole s lines own later n k at None x y old mid new count is_own of_later way h)

@@ -95,9 +95,9 @@ of_tick_again t (l ∷ ls) =
 
 -- ---- what counts as the tick after a step
 
-stays_now : {C : Type 0} (t : ℕ) (c : Course C) (rest : At → List (Member C) → Course C) (o : Option At) → IsNow t c.at → IsNow t o → ((at : At) (ms : List (Member C)) → IsNow at.now.0 (rest at ms).at) → IsNow t (unless_down c rest o).at
+stays_now : {C : Type 0} (t : ℕ) (c : Course (List (Member C))) (rest : At → List (Member C) → Course (List (Member C))) (o : Option At) → IsNow t c.at → IsNow t o → ((at : At) (ms : List (Member C)) → IsNow at.now.0 (rest at ms).at) → IsNow t (unless_down c rest o).at
 stays_now t c rest None h k more = h
-stays_now t c rest (Some at) h k more = subst (λ n. IsNow n (rest at c.members).at) k (more at c.members)
+stays_now t c rest (Some at) h k more = subst (λ n. IsNow n (rest at c.state).at) k (more at c.state)
 
 fault_now : {C : Type 0} (at : At) (action : ModuleAction) (ms : List (Member C)) → IsNow at.now.0 (breaks_module at action ms).at
 fault_now at reaction.Ignore ms = refl

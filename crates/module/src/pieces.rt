@@ -12,7 +12,8 @@ ghost use Rattle.module.specs.Collecting.{BringsNothing};
 ghost use Rattle.module.specs.Pieces.{EndsQuietly, HasMovedWritten, HasNoSource, HasPassedSome, HasPassedSomeBehind, HasSkippedSome};
 ghost use Rattle.module.specs.Standing.{ticks_in};
 ghost use Rattle.module.specs.Views.{members_in, plan_of, standing_of};
-ghost use Rattle.module.specs.Written.{AreFrom, IsMade};
+ghost use Rattle.lone_partition.specs.Written.{IsMade};
+ghost use Rattle.module.specs.Written.{AreFrom};
 
 use crate::member::{Members, Module};
 use crate::step::number_at;

@@ -9,7 +9,7 @@ ghost use Rattle.lone_partition.specs.Outputs.{sent_of};
 ghost use Rattle.lone_partition.specs.Steps.{step_of};
 ghost use Rattle.module.specs.Views.{members_in};
 ghost use Rattle.regions.specs.Parts.{place_of};
-ghost use Rattle.module.specs.Written.{IsMade};
+ghost use Rattle.lone_partition.specs.Written.{IsMade};
 
 use crate::member::Members;
 use apex_types::{Moment, PartitionId, PortId, Sink, Words};

@@ -7,7 +7,8 @@ ghost use Rattle.lone_partition.specs.Outputs.{next_at, sent_of};
 ghost use Rattle.module_meaning.specs.Standing.{IsNow, origin_of, ticks};
 ghost use Rattle.module.specs.Standing.{moment_of};
 ghost use Rattle.module.specs.Views.{members_in, plan_of, standing_of};
-ghost use Rattle.module.specs.Written.{AreFrom, HasGoneOn, IsCourse};
+ghost use Rattle.lone_partition.specs.Written.{IsCourse};
+ghost use Rattle.module.specs.Written.{AreFrom, HasGoneOn};
 
 use crate::member::Module;
 use apex_types::{At, DeviceLine, Moment, Sink, Ticks};

@@ -21,4 +21,4 @@ returns-clause-inputs g c =
     let is : last ≡ course.at = c.in-Some.ensures.at in
     let same_tick : c.in-Some.last.at.now.0 ≡ at.now.0 = subst (IsNow at.now.0) (sym is) (inputs_now plan lines at ms) in
     let moved = subst (λ (t : ℕ). AreCollected t (brought_moved plan p mid last) came new (Ok c.in_ok-move_and_tick_watched.field-0)) same_tick c.in_ok-move_and_tick_watched.ensures.inputs in
-    tick_collected at.now.0 (brought_in_all plan p lines) (brought_tick plan p at lines ms) old came new plan p course mid last (Ok c.in_ok-move_and_tick_watched.field-0) (brought_all plan p at lines ms c.requires) is c.in-Some.ensures.made.members c.in_ok-bring_in_all.ensures moved
+    tick_collected at.now.0 (brought_in_all plan p lines) (brought_tick plan p at lines ms) old came new plan p course mid last (Ok c.in_ok-move_and_tick_watched.field-0) (brought_all plan p at lines ms c.requires) is c.in-Some.ensures.made.state c.in_ok-bring_in_all.ensures moved
