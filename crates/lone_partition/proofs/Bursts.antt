@@ -144,10 +144,6 @@ module _ {C : Type 0} (s : Surroundings) where
 
 -- ---- the lines of the inputs
 
-pub from_lower : (t u : ℕ) (ls : List InputLine) → t ≤ u → AreFrom tick_of_input u ls → AreFrom tick_of_input t ls
-from_lower t u [] h order = tt
-from_lower t u (l ∷ ls) h order = let there : u ≤ l.tick.0 = order.0 in (omega (arith, h, there), order.1)
-
 none_comes : (t u : ℕ) (ls : List InputLine) → t < u → AreFrom tick_of_input u ls → inputs_in t ls ≡ []
 none_comes t u ls below order = inputs_are t ls ∙ ap inputs_of (none_before tick_of_input t u ls below order)
 

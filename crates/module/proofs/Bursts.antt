@@ -10,7 +10,9 @@ use Rattle.partition.specs.declared.rooms.TheConstants.{LINES_FOR_TICK}
 use Rattle.partition.proofs.Gathering.{some_ticks}
 use Rattle.module_meaning.specs.Module.{goes_on}
 use Rattle.kernel_laws.proofs.Quiet.{still_tick}
+use Rattle.lone_partition.proofs.LinesOfTicks as of_any
 use Rattle.module.proofs.DeviceLines.{none_before, of_tick_again}
+use Rattle.module.specs.Written.{tick_of_line}
 use Rattle.module.proofs.Standing.{begins_later, skipped_leads}
 use Rattle.module.proofs.Texts.{text_append}
 
@@ -20,8 +22,7 @@ standing_at ms now origin = record { members = ms; now = now; origin = Some orig
 -- ---- the device lines
 
 pub from_lower : (t u : ℕ) (ls : List DeviceLine) → t ≤ u → AreFrom u ls → AreFrom t ls
-from_lower t u [] h order = tt
-from_lower t u (l ∷ ls) h order = let there : u ≤ l.tick.0 = order.0 in (omega (arith, h, there), order.1)
+from_lower t u ls h order = of_any.from_lower tick_of_line t u ls h order
 
 pub no_lines : (t u : ℕ) (ls : List DeviceLine) → AreFrom u ls → HaveNoLines t u ls
 no_lines t u ls order = λ v from below. none_before v u ls below order

@@ -5,7 +5,8 @@ use Rattle.module_meaning.specs.Module.{trace}
 use Rattle.kernel_laws.specs.Quiet.{HaveNoLines}
 use Rattle.module.specs.Pieces.{LeadsTo}
 use Rattle.module_meaning.specs.Standing.{begins_and_ticks}
-use Rattle.module.proofs.DeviceLines.{not_true, of_tick_again, same_tick, tick_now}
+use Rattle.lone_partition.proofs.LinesOfTicks.{not_true}
+use Rattle.module.proofs.DeviceLines.{of_tick_again, same_tick, tick_now}
 use Rattle.module.proofs.Texts.{text_append}
 
 -- the begin, and then the tick
