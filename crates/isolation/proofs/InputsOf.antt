@@ -6,7 +6,7 @@ use Rattle.apex_types.specs.declared.codes.ModuleAction.TheVariants as reaction
 use Rattle.apex_types.specs.declared.codes.StartCondition.TheVariants as condition
 use Rattle.isolation.proofs.Arrivals.{all_brought}
 use Rattle.isolation.proofs.Holding.{IsDelivered, AreDelivered, IsKept, all_append}
-use Rattle.isolation.proofs.Isolated.{tick_in, next_in}
+use Rattle.isolation.proofs.Now.{next_in, tick_in}
 use Rattle.isolation.proofs.Lines.{AreFromDevice, of_tick_from, lines_same}
 use Rattle.isolation.proofs.Steps.{AreApart, SamePath, name_of, same_some}
 use Rattle.isolation.proofs.Tick.{tick_same}

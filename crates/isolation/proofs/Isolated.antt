@@ -1,52 +1,14 @@
 -- The part of a module's trace that belongs to a partition is the trace it has on its own, with the
 -- inputs that the run brings it.
-use Rattle.isolation.proofs.Prelude.{◌≡◌, ◌≢◌, ℕ, zero, suc, ◌+◌, ◌<◌, ◌≤◌, Bool, true, false, List, ◌∷◌, ◌++◌, map, Option, Some, None, sym, ◌∙◌, arith, le_refl, append-nil, if◌then◌else◌, option_map, eq-eqb, ne_eqb, ModuleAction, DeviceInput, DeviceLine, At, PortRow, Plan, Course, unless_down, breaks_module, inputs, inputs_all, of_tick, moves_and_ticks, module_tick, first_tick, next_tick, starts, Member, cold_start, Input, InputLine, goes, tick_alone, part, brought_tick, line_in, inputs_from, inputs_of, surroundings_of}
+use Rattle.isolation.proofs.Prelude.{◌≡◌, ◌≢◌, ℕ, zero, suc, ◌+◌, ◌<◌, ◌≤◌, Bool, true, false, List, ◌∷◌, ◌++◌, map, Option, Some, None, sym, ◌∙◌, arith, le_refl, append-nil, if◌then◌else◌, option_map, eq-eqb, ne_eqb, DeviceLine, At, PortRow, Plan, Course, module_tick, first_tick, next_tick, starts, Member, cold_start, Input, InputLine, goes, tick_alone, part, brought_tick, line_in, inputs_from, inputs_of, surroundings_of}
 use Rattle.std.proofs.Common.{[], refl, ap, subst}
-use Rattle.apex_types.specs.declared.codes.ModuleAction.TheVariants as reaction
 use Rattle.apex_types.specs.declared.codes.StartCondition.TheVariants as condition
-use Rattle.apex_types.specs.declared.device.DeviceInput.TheVariants as device
 use Rattle.module_meaning.specs.Module.{trace_from, trace}
 use Rattle.isolation.specs.Alone.{is_in_tick, inputs_in, alone_from, trace_alone}
 use Rattle.isolation.proofs.Lines.{AreFromDevice}
-use Rattle.isolation.proofs.Steps.{IsApart, AreApart, Holds, SamePath, same_some, joined, starts_same}
+use Rattle.isolation.proofs.Now.{next_in, tick_in}
+use Rattle.isolation.proofs.Steps.{IsApart, AreApart, Holds, SamePath, joined, starts_same}
 use Rattle.isolation.proofs.Tick.{IsIsolating, tick_same}
-
--- ---- a tick stays a tick
-abbrev pub IsIn : ℕ → Option At → Type 0
-IsIn t None = Unit {0}
-IsIn t (Some at) = at.now.0 ≡ t
-
-module _ {C : Type 0} where
-  breaks_in : (at : At) (fault : ModuleAction) (ms : List (Member C)) → IsIn at.now.0 (breaks_module at fault ms).at
-  breaks_in at reaction.Ignore ms = refl
-  breaks_in at reaction.Shutdown ms = tt
-  breaks_in at reaction.Reset ms = refl
-
-  input_in : (plan : Plan) (at : At) (i : DeviceInput) (ms : List (Member C)) → IsIn at.now.0 (inputs plan at i ms).at
-  input_in plan at (device.Message channel m) ms = refl
-  input_in plan at (device.PartitionFault q) ms = refl
-  input_in plan at device.ModuleFault ms = breaks_in at plan.fault ms
-
-  runs_in : (t : ℕ) (c : Course (List (Member C))) (p : At → List (Member C) → Course (List (Member C))) (o : Option At) → IsIn t c.at → IsIn t o
-      → ((a : At) (ms : List (Member C)) → a.now.0 ≡ t → IsIn t (p a ms).at) → IsIn t (unless_down c p o).at
-  runs_in t c p None h k rest = h
-  runs_in t c p (Some a) h k rest = rest a c.state k
-
-  inputs_in_tick : (plan : Plan) (t : ℕ) (ls : List DeviceLine) (at : At) (ms : List (Member C)) → at.now.0 ≡ t → IsIn t (inputs_all plan at ls ms).at
-  inputs_in_tick plan t [] at ms e = e
-  inputs_in_tick plan t (l ∷ ls) at ms e =
-      let h = subst (λ (n : ℕ). IsIn n (inputs plan at l.input ms).at) e (input_in plan at l.input ms) in
-      runs_in t (inputs plan at l.input ms) (λ a ns. inputs_all plan a ls ns) (inputs plan at l.input ms).at h h (λ a ns k. inputs_in_tick plan t ls a ns k)
-
-  pub tick_in : (plan : Plan) (devices : List DeviceLine) (at : At) (ms : List (Member C)) → IsIn at.now.0 (module_tick plan at devices ms).at
-  tick_in plan devices at ms =
-      let c = inputs_all plan at (of_tick at.now.0 devices) ms in
-      let h = inputs_in_tick plan at.now.0 (of_tick at.now.0 devices) at ms refl in
-      runs_in at.now.0 c (moves_and_ticks plan) c.at h h (λ a ns k. k)
-
-pub next_in : (t : ℕ) (o : Option At) (a : At) → IsIn t o → option_map next_tick o ≡ Some a → a.now.0 ≡ t + 1
-next_in t None a h e = absurd (cc)
-next_in t (Some b) a h e = let same : next_tick b ≡ a = same_some (next_tick b) a e in ap (λ (c : At). c.now.0) (sym same) ∙ ap (λ (n : ℕ). n + 1) h
 
 -- ---- the lines of the inputs
 in_append : (t : ℕ) (ls ks : List InputLine) → inputs_in t (ls ++ ks) ≡ inputs_in t ls ++ inputs_in t ks

@@ -1,5 +1,5 @@
 -- Many ticks of a lone partition together.
-use Rattle.lone_partition.proofs.Prelude.{◌≡◌, ℕ, zero, suc, ◌+◌, ◌-◌, ◌<◌, ◌≤◌, Bool, true, false, List, [], ◌∷◌, ◌++◌, length, Option, Some, None, refl, sym, ap, subst, ◌∙◌, append_assoc, arith, option_map, is_some, Event, At, PortId, next_tick, ports_of, Member, moved, at_tick, owner, ended, Stepped, Course, Surroundings, then_goes, alone_from, goes, inputs_in, goes_on, sends_ended, sends_ports, sends_so_many, still, tick_alone, ticks_own, InputLine, IsStill, AreFrom, inputs_of, tick_of_input, IsWithin, LeadsTo, HasRun, HasAdvancedWritten, Sent}
+use Rattle.lone_partition.proofs.Prelude.{◌≡◌, ℕ, zero, suc, ◌+◌, ◌-◌, ◌<◌, ◌≤◌, Bool, true, false, List, [], ◌++◌, length, Option, Some, None, refl, sym, ap, subst, ◌∙◌, append_assoc, arith, option_map, is_some, Event, At, PortId, next_tick, ports_of, Member, moved, at_tick, owner, ended, Stepped, Course, Surroundings, then_goes, alone_from, goes, inputs_in, goes_on, sends_ended, sends_ports, sends_so_many, still, tick_alone, ticks_own, InputLine, IsStill, AreFrom, inputs_of, tick_of_input, IsWithin, LeadsTo, HasRun, HasAdvancedWritten, Sent}
 use Rattle.std.proofs.Common.{inl, inr, cond, nat_le}
 use Rattle.apex_types.specs.declared.limits.TheConstants.{MOST_EVENTS}
 use Rattle.kernel_meaning.specs.Kernel.{of_ports}

@@ -4,7 +4,8 @@ use Rattle.std.proofs.Common.{[], option_map, is_some, subst}
 use Rattle.isolation.specs.Brought.{inputs_of}
 use Rattle.module.specs.Collecting.{brought_from}
 use Rattle.module.proofs.Collecting.{no_room_for_more}
-use Rattle.module.proofs.DeviceLines.{of_tick_again, same_tick, tick_now}
+use Rattle.isolation.proofs.Now.{tick_in}
+use Rattle.module.proofs.DeviceLines.{of_tick_again, same_tick}
 use Rattle.module.proofs.Standing.{begins_later, same_next, same_ticks}
 
 -- the inputs that a tick brings by these lines, which are all of it
@@ -73,7 +74,7 @@ later_is plan p lines (suc n) now ms (Some origin) h =
     ∙ ap (λ (is : List Input). map (line_in now) is ++ brought_of plan p lines n (record { members = (module_tick plan at its ms).state; now = now + 1; origin = option_map origin_of (module_tick plan at its ms).at })) (same_brought_tick plan p at its lines ms (of_tick_again now lines))
     ∙ ap (λ (c : Course _). map (line_in now) (brought_tick plan p at lines ms) ++ brought_of plan p lines n (record { members = c.state; now = now + 1; origin = option_map origin_of c.at })) (same_tick plan at its lines ms (of_tick_again now lines))
     ∙ ap (λ (is : List InputLine). map (line_in now) (brought_tick plan p at lines ms) ++ is)
-    (later_is plan p lines n (now + 1) own.state (option_map origin_of own.at) (omega arith) ∙ ap (λ (x : Option At). inputs_from plan p lines n x own.state) (same_next now own.at (tick_now plan at lines ms)))
+    (later_is plan p lines n (now + 1) own.state (option_map origin_of own.at) (omega arith) ∙ ap (λ (x : Option At). inputs_from plan p lines n x own.state) (same_next now own.at (tick_in plan lines at ms)))
 
 -- n ticks of a module, one after another, bring the inputs that a run brings
 pub is_brought : {C : Type 0} (plan : Plan) (p : ℕ) (devices : List DeviceLine) (n : ℕ) (ms : List (Member C)) → inputs_of (record { plan = plan; members = ms }) p devices n ≡ brought_of plan p devices n (at_first ms)
@@ -85,7 +86,7 @@ is_brought plan p devices (suc n) ms =
     sym (ap (λ (is : List Input). map (line_in 0) is ++ brought_of plan p devices n (record { members = (module_tick plan first_tick its s.state).state; now = 0 + 1; origin = option_map origin_of (module_tick plan first_tick its s.state).at })) (same_brought_tick plan p first_tick its devices s.state (of_tick_again 0 devices))
     ∙ ap (λ (c : Course _). map (line_in 0) (brought_tick plan p first_tick devices s.state) ++ brought_of plan p devices n (record { members = c.state; now = 0 + 1; origin = option_map origin_of c.at })) (same_tick plan first_tick its devices s.state (of_tick_again 0 devices))
     ∙ ap (λ (is : List InputLine). map (line_in 0) (brought_tick plan p first_tick devices s.state) ++ is)
-    (later_is plan p devices n (0 + 1) own.state (option_map origin_of own.at) (omega arith) ∙ ap (λ (x : Option At). inputs_from plan p devices n x own.state) (same_next 0 own.at (tick_now plan first_tick devices s.state))))
+    (later_is plan p devices n (0 + 1) own.state (option_map origin_of own.at) (omega arith) ∙ ap (λ (x : Option At). inputs_from plan p devices n x own.state) (same_next 0 own.at (tick_in plan devices first_tick s.state))))
 
 -- ---- the inputs so far
 

@@ -6,7 +6,8 @@ use Rattle.kernel_laws.specs.Quiet.{HaveNoLines}
 use Rattle.module.specs.Pieces.{LeadsTo}
 use Rattle.module_meaning.specs.Standing.{begins_and_ticks}
 use Rattle.lone_partition.proofs.LinesOfTicks.{not_true}
-use Rattle.module.proofs.DeviceLines.{of_tick_again, same_tick, tick_now}
+use Rattle.isolation.proofs.Now.{tick_in}
+use Rattle.module.proofs.DeviceLines.{of_tick_again, same_tick}
 use Rattle.module.proofs.Texts.{text_append}
 
 -- the begin, and then the tick
@@ -104,7 +105,7 @@ later_is plan lines (suc n) now ms (Some origin) h =
     ap (λ (b : Stepped _). (b.lines ++ (module_tick plan at its b.state).lines) ++ lines_of plan lines n (record { members = (module_tick plan at its b.state).state; now = now + 1; origin = option_map origin_of (module_tick plan at its b.state).at })) (begins_later now ms h)
     ∙ ap (λ (c : Course _). c.lines ++ lines_of plan lines n (record { members = c.state; now = now + 1; origin = option_map origin_of c.at })) (same_tick plan at its lines ms (of_tick_again now lines))
     ∙ ap (λ (es : List Event). own.lines ++ es)
-    (later_is plan lines n (now + 1) own.state (option_map origin_of own.at) (omega arith) ∙ ap (λ (x : Option At). trace_from plan lines n x own.state) (same_next now own.at (tick_now plan at lines ms)))
+    (later_is plan lines n (now + 1) own.state (option_map origin_of own.at) (omega arith) ∙ ap (λ (x : Option At). trace_from plan lines n x own.state) (same_next now own.at (tick_in plan lines at ms)))
 
 -- n ticks of a module, one after another, make its trace
 pub is_traced : {C : Type 0} (plan : Plan) (devices : List DeviceLine) (n : ℕ) (ms : List (Member C)) → trace (record { plan = plan; members = ms }) devices n ≡ lines_of plan devices n (at_first ms)
@@ -117,7 +118,7 @@ is_traced plan devices (suc n) ms =
     sym (ap (λ (c : Course _). (s.lines ++ c.lines) ++ lines_of plan devices n (record { members = c.state; now = 0 + 1; origin = option_map origin_of c.at })) first
     ∙ append_assoc s.lines own.lines next
     ∙ ap (λ (es : List Event). s.lines ++ (own.lines ++ es))
-    (later_is plan devices n (0 + 1) own.state (option_map origin_of own.at) (omega arith) ∙ ap (λ (x : Option At). trace_from plan devices n x own.state) (same_next 0 own.at (tick_now plan first_tick devices s.state))))
+    (later_is plan devices n (0 + 1) own.state (option_map origin_of own.at) (omega arith) ∙ ap (λ (x : Option At). trace_from plan devices n x own.state) (same_next 0 own.at (tick_in plan devices first_tick s.state))))
 
 -- ---- the next tick
 
@@ -127,7 +128,7 @@ ticks_now plan lines s answer is = subst (IsNow s.now) (sym is) (from s.origin)
   where
     from : (o : Option ℕ) → IsNow s.now (ticks_from plan lines s.now s.members o).at
     from None = tt
-    from (Some origin) = tick_now plan (tick_from origin s.now) lines (begins s.now s.members).state
+    from (Some origin) = tick_in plan lines (tick_from origin s.now) (begins s.now s.members).state
 
 -- its number
 pub moment_now : (now : Ticks) (o : Option Ticks) (at : At) → Some at ≡ moment_of now o → at.now ≡ now
