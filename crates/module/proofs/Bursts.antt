@@ -14,7 +14,7 @@ use Rattle.lone_partition.proofs.LinesOfTicks as of_any
 use Rattle.module.proofs.DeviceLines.{none_before, of_tick_again}
 use Rattle.module.specs.Written.{tick_of_line}
 use Rattle.module.proofs.Standing.{begins_later, skipped_leads}
-use Rattle.module.proofs.Texts.{text_append}
+use Rattle.lone_partition.proofs.Texts.{text_append}
 
 abbrev pub standing_at : {C : Type 0} → List (Member C) → (now origin : ℕ) → Standing C
 standing_at ms now origin = record { members = ms; now = now; origin = Some origin }

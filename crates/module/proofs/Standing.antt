@@ -8,7 +8,7 @@ use Rattle.module_meaning.specs.Standing.{begins_and_ticks}
 use Rattle.lone_partition.proofs.LinesOfTicks.{not_true}
 use Rattle.isolation.proofs.Now.{tick_in}
 use Rattle.module.proofs.DeviceLines.{of_tick_again, same_tick}
-use Rattle.module.proofs.Texts.{text_append}
+use Rattle.lone_partition.proofs.Texts.{text_append}
 
 -- the begin, and then the tick
 abbrev behind : {C : Type 0} → Stepped (List (Member C)) → Course (List (Member C)) → Course (List (Member C))
