@@ -1,7 +1,7 @@
 -- The costs in ticks of the constructs of a program and of the instructions of the processor, and
 -- the effect of an operator with two operands.
 use Rattle.std.specs.Prelude.{ℕ, Bool, true, false, ◌&&◌, nat_le, ◌≡◌, refl, List, [], ◌∷◌, Option, Some, None}
-use Rattle.apex_types.specs.declared.limits.TheConstants.{MOST_COST}
+use Rattle.apex_types.specs.Limits.{MOST_COST}
 use Rattle.apex_types.specs.declared.cost.TickCost.{TickCost}
 use Rattle.apex_types.specs.declared.cost.Costs.{Costs}
 use Rattle.apex_types.specs.declared.instruction.BinaryOperator.{BinaryOperator}

@@ -2,7 +2,7 @@
 //! construct becomes costs the same.
 
 ghost use Rattle.std.specs.Prelude.{◌≡◌, ◌&&◌, nat_le, true};
-ghost use Rattle.apex_types.specs.declared.limits.TheConstants.{MOST_COST};
+ghost use Rattle.apex_types.specs.Limits.{MOST_COST};
 
 use crate::limits::MOST_COST;
 

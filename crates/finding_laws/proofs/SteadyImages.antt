@@ -6,7 +6,7 @@ use Rattle.std.specs.Int.{w16, w64}
 use Rattle.apex_types.specs.Costs.{cost_of_ticks}
 use Rattle.apex_types.specs.Versions.{limits_of}
 use Rattle.apex_types.specs.declared.cost.TheConstants.{COST_KEYS}
-use Rattle.apex_types.specs.declared.limits.Limits.{Limits}
+use Rattle.apex_types.specs.declared.version.Limits.{Limits}
 use Rattle.apex_types.specs.declared.limits.TheConstants.{INSTRUCTION_BYTES, MOST_NAME_BYTES, MOST_SLOTS}
 use Rattle.apex_types.specs.declared.row.ProcessRow.{ProcessRow}
 use Rattle.apex_types.specs.declared.version.TheConstants.{FIRST_VERSION, SECOND_VERSION, THIRD_VERSION}

@@ -8,7 +8,7 @@ use Rattle.std.specs.Prelude.{replicate}
 use Rattle.apex_types.specs.Versions.{costs_of, limits_of}
 use Rattle.apex_types.specs.declared.cost.Costs.{Costs}
 use Rattle.apex_types.specs.declared.identity.ListKey.TheVariants as key
-use Rattle.apex_types.specs.declared.limits.Limits.{Limits}
+use Rattle.apex_types.specs.declared.version.Limits.{Limits}
 use Rattle.apex_types.specs.declared.limits.TheConstants.{MOST_OBJECTS}
 use Rattle.kernel_meaning.specs.Fresh.{fresh_kernel, fresh_queues}
 use Rattle.kernel_meaning.specs.Kernel.{Fixed}

@@ -1,6 +1,7 @@
 //! The due list: processes with a due tick.
 
 ghost use Rattle.std.specs.Prelude.{◌≡◌, ◌<◌, [], slice_get, IfSome};
+ghost use Rattle.apex_types.specs.Limits.{MOST_PROCESSES};
 ghost use Rattle.links.specs.DueOrder.{AreFrom, behind_earlier, due_at, without};
 ghost use Rattle.links.specs.Timers.{HasThoseDue};
 

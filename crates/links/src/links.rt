@@ -1,6 +1,7 @@
 //! Lists of processes, with the list of each process.
 
 ghost use Rattle.std.specs.Prelude.{◌≡◌, ℕ, ◌<◌, ◌≤◌, [], drop, length, replicate, slice_get, IfOk, IfSome};
+ghost use Rattle.apex_types.specs.Limits.{MOST_PROCESSES};
 ghost use Rattle.apex_types.specs.declared.codes.Discipline.TheVariants as discipline;
 ghost use Rattle.kernel_meaning.specs.Queues.{list_in};
 ghost use Rattle.links.specs.Lists.{emptied_each, joins_in, put_in, without_in_each};

@@ -1,6 +1,7 @@
 //! The ready processes.
 
 ghost use Rattle.std.specs.Prelude.{◌≡◌, ◌<◌, ◌≤◌, [], slice_get, IfOk, IfSome};
+ghost use Rattle.apex_types.specs.Limits.{MOST_PROCESSES};
 ghost use Rattle.kernel_meaning.specs.Queues.{behind_equals, without};
 
 use crate::links::Links;

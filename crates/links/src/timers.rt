@@ -1,6 +1,7 @@
 //! A timer list, kept exact.
 
 ghost use Rattle.std.specs.Prelude.{◌≡◌, ◌<◌, ℕ, Option};
+ghost use Rattle.apex_types.specs.Limits.{MOST_PROCESSES};
 ghost use Rattle.links.specs.Timers.{IsDueMask, IsExact, IsLeastTick, IsNextDue, number_of, earlier as earlier_of, set_timer as timer_set, ticks_with};
 
 use crate::due_list::DueList;

@@ -1,7 +1,7 @@
 //! The waiting lists of a partition, each by its key.
 
 ghost use Rattle.std.specs.Prelude.{◌*◌, ◌≡◌, ◌<◌, ◌≤◌, length, slice_get, IfOk, IfSome};
-ghost use Rattle.apex_types.specs.declared.limits.TheConstants.{MOST_OBJECTS, MOST_PROCESSES};
+ghost use Rattle.apex_types.specs.Limits.{MOST_OBJECTS, MOST_PROCESSES};
 ghost use Rattle.kernel_meaning.specs.Queues.{emptied, joins, list_at, without_in_all};
 ghost use Rattle.kernel_meaning.specs.Fresh.{fresh_queues};
 ghost use Rattle.links.specs.ByKind as by_kind;

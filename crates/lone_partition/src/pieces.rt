@@ -1,7 +1,7 @@
 //! Many ticks of one partition together: pieces of its windows, and ticks in which nothing happens.
 
 ghost use Rattle.std.specs.Prelude.{◌≡◌, ◌≤◌, ◌<◌, ◌+◌, ◌^◌, ℕ, List, Some};
-ghost use Rattle.apex_types.specs.declared.limits.TheConstants.{MOST_TICKS};
+ghost use Rattle.apex_types.specs.Limits.{MOST_TICKS};
 ghost use Rattle.isolation.specs.Alone.{Surroundings as Around};
 ghost use Rattle.isolation.specs.declared.input.InputLine.{InputLine};
 ghost use Rattle.partition.specs.Members.{member_of};

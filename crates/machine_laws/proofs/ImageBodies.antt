@@ -4,7 +4,7 @@ use Rattle.std.specs.Prelude.{◌&&◌, FitsSigned}
 use Rattle.std.specs.List.{flat_map}
 use Rattle.std.specs.Int.{w16, w32, w64}
 use Rattle.std.proofs.lemmas.Bool.{leb-true, le-leb, eqb-true}
-use Rattle.apex_types.specs.declared.limits.Limits.{Limits}
+use Rattle.apex_types.specs.declared.version.Limits.{Limits}
 use Rattle.machine_laws.proofs.VersionLimits.{AreBytes}
 use Rattle.apex_types.specs.declared.limits.TheConstants.{GREATEST_PRIORITY, INSTRUCTION_BYTES, LEAST_STACK_WORDS, MOST_INSTRUCTIONS, MOST_PARAMETERS, MOST_PROCEDURES, MOST_SLOTS, MOST_STACK_WORDS, MOST_TICKS}
 use Rattle.apex_types.specs.declared.row.RoutineRow.{RoutineRow}

@@ -1,7 +1,7 @@
 //! Many ticks of a module together: pieces of windows, and ticks in which nothing happens.
 
 ghost use Rattle.std.specs.Prelude.{◌≡◌, ◌≢◌, ◌≤◌, ◌<◌, ◌+◌, ◌^◌, ℕ, suc, true, false, List, Some, None, length, option_map, slice_get};
-ghost use Rattle.apex_types.specs.declared.limits.TheConstants.{MOST_TICKS};
+ghost use Rattle.apex_types.specs.Limits.{MOST_TICKS};
 ghost use Rattle.apex_types.specs.declared.device.DeviceLine.{DeviceLine};
 ghost use Rattle.apex_types.specs.declared.identity.At.{At};
 ghost use Rattle.module_meaning.specs.Module as meaning;

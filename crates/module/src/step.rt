@@ -1,7 +1,7 @@
 //! A step of one partition; the others are unchanged.
 
 ghost use Rattle.std.specs.Prelude.{◌≡◌, ◌≢◌, ◌<◌, ◌+◌, ℕ, None, length, slice_get};
-ghost use Rattle.apex_types.specs.declared.limits.TheConstants.{MOST_PARTITIONS};
+ghost use Rattle.apex_types.specs.Limits.{MOST_PARTITIONS};
 ghost use Rattle.module_meaning.specs.Table.{at_number};
 ghost use Rattle.module_meaning.specs.Module as meaning;
 ghost use Rattle.kernel_meaning.specs.Partition.{leaves, leaving};

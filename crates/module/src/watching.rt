@@ -1,7 +1,7 @@
 //! Ticks of a module without output, and the inputs that they bring one partition.
 
 ghost use Rattle.std.specs.Prelude.{◌≡◌, ◌<◌, ◌+◌, ◌^◌, ℕ, None, Some, IfOk, OnOk};
-ghost use Rattle.apex_types.specs.declared.limits.TheConstants.{MOST_TICKS};
+ghost use Rattle.apex_types.specs.Limits.{MOST_TICKS};
 ghost use Rattle.module_meaning.specs.Module as meaning;
 ghost use Rattle.isolation.specs.Brought.{brought_moved, brought_tick};
 ghost use Rattle.lone_partition.specs.Outputs.{next_at};

@@ -1,7 +1,7 @@
 //! The processor as the kernel sees it: what runs the runners, over a partition's memory.
 
 ghost use Rattle.std.specs.Prelude.{true, ◌≡◌, ◌≤◌, ℕ, ℤ, List, Option, Some, None, map, slice_set};
-ghost use Rattle.apex_types.specs.declared.limits.TheConstants.{MOST_WORDS};
+ghost use Rattle.apex_types.specs.Limits.{MOST_WORDS};
 ghost use Rattle.apex_types.specs.Runners.{place_of};
 ghost use Rattle.engine_meaning.specs.Engine.{Engine, Ticked};
 ghost use Rattle.kernel_meaning.specs.Partition.{control_at, no_control, replied, ticked, message_from, written};

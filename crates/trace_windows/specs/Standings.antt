@@ -12,7 +12,7 @@ use Rattle.apex_types.specs.declared.event.Event.{Event}
 use Rattle.apex_types.specs.declared.event.EventKind.{EventKind}
 use Rattle.apex_types.specs.declared.event.EventKind.TheVariants as event
 use Rattle.apex_types.specs.declared.event.Subject.{Subject}
-use Rattle.apex_types.specs.declared.limits.TheConstants.{MOST_TICKS}
+use Rattle.apex_types.specs.Limits.{MOST_TICKS}
 use Rattle.engine_meaning.specs.Digits.{same}
 use Rattle.trace_windows.specs.declared.owner.Owner.{Owner}
 use Rattle.trace_windows.specs.declared.owner.Stop.{Stop}

@@ -1,7 +1,7 @@
 //! A run that waits for a line.
 
 ghost use Rattle.std.specs.Prelude.{◌≡◌, ◌≢◌, ◌≤◌, ◌<◌, ◌+◌, ◌-◌, ◌^◌, map, IfErr, OnOk, IsErrOf};
-ghost use Rattle.apex_types.specs.declared.limits.TheConstants.{MOST_TICKS};
+ghost use Rattle.apex_types.specs.Limits.{MOST_TICKS};
 ghost use Rattle.machine_meaning.specs.ImageReading.{image_at};
 ghost use Rattle.module.specs.Machines.{fresh_machine, machine_of};
 ghost use Rattle.module.specs.Written.{AreFrom};

@@ -7,8 +7,7 @@ ghost use Rattle.image.specs.Views.{Gives};
 use crate::fault::ImageFault;
 use crate::reading::numbers::u16_at;
 use crate::reading::rows::{Row, rows_at};
-use apex_types::limits::Limits;
-use apex_types::{COST_KEYS, Costs, FIRST_VERSION, ImageVersion, SECOND_VERSION, TickCost};
+use apex_types::{COST_KEYS, Costs, FIRST_VERSION, ImageVersion, Limits, SECOND_VERSION, TickCost};
 use std::alloc::Global;
 
 impl Row for TickCost {
