@@ -19,7 +19,6 @@ pub mod Named
 pub mod SameTraces
 pub mod Starting
 pub mod Told
-pub mod Texts
 pub mod Refused
 pub mod Replayed
 pub mod Runs

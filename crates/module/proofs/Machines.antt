@@ -1,5 +1,5 @@
 -- A tick of a machine within a run.
-use Rattle.module.proofs.Prelude.{◌≡◌, ◌<◌, ◌≤◌, ◌+◌, ◌-◌, ◌^◌, ℕ, zero, suc, true, false, List, Option, Some, None, Result, Ok, Err, inl, inr, refl, sym, ap, ◌∙◌, append-nil, arith, Appends-nil, Appends, is_none, MOST_TICKS, text_of, TakesBeginning, DeviceLine, Event, IsUnderWay, under_way_more, under_way_fails, Image, of_tick, MachineControl, Member, machine_module, machine_trace, Machine, HaveTicked, fresh_machine, Elapsed, Standing, after, elapse, lines_of, ticks, RunFault}
+use Rattle.module.proofs.Prelude.{◌≡◌, ◌<◌, ◌≤◌, ◌+◌, ◌-◌, ◌^◌, ℕ, zero, suc, true, false, List, Option, Some, None, Result, Ok, Err, inl, inr, refl, sym, ap, ◌∙◌, append-nil, arith, Appends-nil, Appends, is_none, MOST_TICKS, text_of, TakesBeginning, DeviceLine, Event, IsUnderWay, under_way_more, under_way_fails, Image, of_tick, still, MachineControl, Member, machine_module, machine_trace, Machine, HaveTicked, fresh_machine, Elapsed, Standing, after, elapse, lines_of, ticks, RunFault}
 use Rattle.std.proofs.Common.{[], subst}
 use Rattle.std.proofs.KnownBytes.{Appends-kept}
 use Rattle.std.specs.Io.KnownBytes.{Keeps}
@@ -123,7 +123,7 @@ calls_run image lines (suc calls) n m last old new before now answer same sound 
     let plan = (machine_module image).plan in
     let count : n ≡ k + (n - k) = omega (arith, within) in
     let later : next.standing.now ≡ m.standing.now + k = skipped.2.1 in
-    let is : elapse plan [] k m.standing ≡ record { lines = []; standing = next.standing } = ap (λ (i : Image). elapse (machine_module i).plan [] k m.standing) (sym same) ∙ skipped.2.2 in
+    let is : elapse plan [] k m.standing ≡ still next.standing = ap (λ (i : Image). elapse (machine_module i).plan [] k m.standing) (sym same) ∙ skipped.2.2 in
     let leads : LeadsTo plan lines k m.standing [] next.standing = skipped_leads plan lines k m.standing next.standing none is in
     let lines_left : lines_of plan lines n m.standing ≡ lines_of plan lines (n - k) next.standing =
     ap (λ (e : Elapsed _). e.lines) (ap (λ i. elapse plan lines i m.standing) count ∙ leads (n - k)) in

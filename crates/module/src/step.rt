@@ -9,7 +9,7 @@ ghost use Rattle.lone_partition.specs.Outputs.{sent_of};
 ghost use Rattle.lone_partition.specs.Steps.{step_of};
 ghost use Rattle.module.specs.Views.{members_in};
 ghost use Rattle.regions.specs.Parts.{place_of};
-ghost use Rattle.module.specs.Written.{IsMade};
+ghost use Rattle.lone_partition.specs.Written.{IsMade};
 
 use crate::member::Members;
 use apex_types::{Moment, PartitionId, PortId, Sink, Words};
@@ -56,7 +56,7 @@ impl<E: Executor<Mem = PartitionMem>> Members<E> {
 
     /// Executes a step of the partition with this number, if there is such a partition, and writes
     /// its lines.
-    #[tactic(auto, using(crate::proofs::Written::still_made))]
+    #[tactic(auto, using(lone_partition::proofs::Written::still_made))]
     pub fn step<S: Sink>(
         &mut self,
         number: PartitionId,
@@ -106,7 +106,7 @@ impl<E: Executor<Mem = PartitionMem>> Members<E> {
 
     /// Takes the first message of a port out of the partition with this number, if there is such a
     /// partition and its port holds a message. Returns the message.
-    #[tactic(auto, using(crate::proofs::Written::still_made))]
+    #[tactic(auto, using(lone_partition::proofs::Written::still_made))]
     pub fn leave<S: Sink>(
         &mut self,
         number: PartitionId,

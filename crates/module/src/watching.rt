@@ -47,7 +47,7 @@ impl<E: Executor<Mem = PartitionMem>> Members<E> {
         ensures members { OnOk result
             (members_in E.Executor self.new
             ≡ (meaning.moves_and_ticks (plan_of plan.now) moment.at
-            (members_in E.Executor self.old)).members) }
+            (members_in E.Executor self.old)).state) }
         ensures inputs { AreCollected moment.at.now.0
             (brought_moved (plan_of plan.now) watched.0 (members_in E.Executor self.old)
             (Some moment.at))
@@ -109,7 +109,7 @@ impl<E: Executor<Mem = PartitionMem>> Members<E> {
             (next_at last) (members_in E.Executor self.new)) }
         ensures inputs { AreCollected moment.at.now.0
             (brought_tick (plan_of plan.now) watched.0 moment.at lines.now
-            (begins moment.at.now.0 (members_in E.Executor self.old)).members)
+            (begins moment.at.now.0 (members_in E.Executor self.old)).state)
             inputs.old.lines.items inputs.new.lines.items result }
     {
         self.begin(moment, output);
