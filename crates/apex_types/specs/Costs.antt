@@ -47,10 +47,10 @@ written_costs = record {
   end = ticks 4 refl;
 }
 
--- the costs that these are in the order of a table's keys, which are as many
-abbrev pub from_order : List TickCost → Costs
-from_order (literal ∷ scalar ∷ array ∷ add ∷ mul ∷ div ∷ logic ∷ branch ∷ jump ∷ call ∷ ret ∷ create ∷ message ∷ service ∷ end ∷ []) = record { literal = literal; scalar = scalar; array = array; add = add; mul = mul; div = div; logic = logic; branch = branch; jump = jump; call = call; ret = ret; create = create; message = message; service = service; end = end }
-from_order _ = written_costs
+-- the costs that these are in the order of a table's keys, if they are as many
+abbrev pub from_order : List TickCost → Option Costs
+from_order (literal ∷ scalar ∷ array ∷ add ∷ mul ∷ div ∷ logic ∷ branch ∷ jump ∷ call ∷ ret ∷ create ∷ message ∷ service ∷ end ∷ []) = Some (record { literal = literal; scalar = scalar; array = array; add = add; mul = mul; div = div; logic = logic; branch = branch; jump = jump; call = call; ret = ret; create = create; message = message; service = service; end = end })
+from_order _ = None
 
 abbrev pub cost_of_binary : Costs → BinaryOperator → ℕ
 cost_of_binary costs Add = costs.add.ticks

@@ -14,9 +14,9 @@ pub fn set_timer(dues: &mut DueList, process: ProcessIndex, tick: Option<Ticks>)
     ensures exact { (ticks : ℕ → Option ℕ) → IsExact ticks dues.old
         → IsExact (ticks_with process.0 (number_of tick) ticks) dues.new }
 {
-    match tick {
-        Some(tick) => dues.insert_by_due(process, tick),
-        None => dues.remove(process),
+    dues.remove(process);
+    if let Some(tick) = tick {
+        dues.insert_by_due(process, tick);
     }
 }
 

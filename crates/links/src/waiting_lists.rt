@@ -102,12 +102,13 @@ impl WaitingLists {
         self.lists.remove(process);
     }
 
-    /// Moves a process from its list to `list`, where its place follows the discipline.
-    pub fn join(&mut self, list: ListKey, discipline: Discipline, entry: Entry)
+    /// Moves a process from its list, if it is in one, to `list`, where its place follows the
+    /// discipline.
+    pub fn move_to(&mut self, list: ListKey, discipline: Discipline, entry: Entry)
         requires { entry.process.0 < MOST_PROCESSES }
         ensures { self.new ≡ joins list discipline entry self.old }
     {
-        self.lists.join(number_of(list), discipline, entry);
+        self.lists.move_to(number_of(list), discipline, entry);
     }
 
     /// Empties all lists.

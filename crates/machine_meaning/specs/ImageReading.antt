@@ -394,7 +394,7 @@ cost_at bytes = do
 unfoldable pub costs_at : List ℕ → Read Costs
 costs_at bytes = do
   costs ← items_at (λ _. cost_at) COST_KEYS [] bytes
-  Ok (from_order costs.0, costs.1)
+  chosen costs.1 (from_order costs.0)
 
 -- what an image has as one of the version with this number
 unfoldable pub own_fields_at : ℕ → List ℕ → Read ImageVersion

@@ -407,8 +407,7 @@ cost_row z = unwrap_or (cost_of_ticks (nat_abs z)) (ticks 1 refl)
 
 -- A table that writes no costs has those that are written of Pal.
 abbrev pub costs_or_written : Option (List ℤ) → Costs
-costs_or_written None = written_costs
-costs_or_written (Some numbers) = from_order (map cost_row numbers)
+costs_or_written numbers = unwrap_or (numbers >>= λ all. from_order (map cost_row all)) written_costs
 
 unfoldable pub numbered : TableText → Table
 numbered t = record { schedule = record { frame = nat_abs t.frame; windows = map (window_row t.partitions) t.windows }; fault = unwrap_or t.fault module_action.Ignore; costs = costs_or_written t.costs; partitions = map partition_row t.partitions; channels = map (channel_row t.partitions) t.channels }

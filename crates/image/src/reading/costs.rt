@@ -36,7 +36,8 @@ fn costs_at(alloc: Global, bytes: &[u8]) -> Result<(Costs, &[u8]), ImageFault>
         COST_KEYS as u32,
         bytes,
     )?;
-    Ok((Costs::from_order(&costs), rest))
+    let costs = Costs::from_order(&costs).ok_or(ImageFault::Limit)?;
+    Ok((costs, rest))
 }
 
 /// The fields of images of the version with this number: the first has none, the others their costs.
