@@ -1,5 +1,5 @@
 -- Many ticks of the module together, between two standings.
-use Rattle.module.proofs.Prelude.{◌≡◌, ◌⊎◌, inl, inr, ℕ, zero, suc, ◌+◌, ◌-◌, ◌<◌, ◌≤◌, Bool, true, false, cond, List, ◌∷◌, ◌++◌, length, Option, Some, None, refl, sym, ap, ◌∙◌, arith, slice_get, slice_set, option_map, none-some, same_Some, text_of, TakesBeginning, IsUnderWay, under_way_more, under_way_fails, DeviceLine, Event, At, Kernel, Plan, Member, Moved, World, tick, with_world, Schedule, tick_from, owner, ended, Engine, IsStill, AreStill, HaveNoLines, nothing_sent, Sent, LeadsTo, HasPassedSome, HasSkippedSome, HasRun, IsBrokenOff, HasMoved, ticks_by, Standing, lines_of, AreFrom, Elapsed, elapse, preceded_by, Course, Stepped, of_tick, origin_of, still, then_runs, module_tick}
+use Rattle.module.proofs.Prelude.{◌≡◌, ◌⊎◌, inl, inr, ℕ, zero, suc, ◌+◌, ◌-◌, ◌<◌, ◌≤◌, Bool, true, false, cond, List, ◌∷◌, ◌++◌, length, Option, Some, None, refl, sym, ap, ◌∙◌, arith, slice_get, slice_set, option_map, none-some, same_Some, text_of, TakesBeginning, IsUnderWay, under_way_fails, DeviceLine, Event, At, Kernel, Plan, Member, Moved, World, tick, with_world, Schedule, tick_from, owner, ended, Engine, IsStill, AreStill, HaveNoLines, nothing_sent, Sent, LeadsTo, HasPassedSome, HasSkippedSome, IsBrokenOff, HasMoved, ticks_by, Standing, lines_of, AreFrom, Elapsed, elapse, preceded_by, Course, Stepped, of_tick, origin_of, then_runs, module_tick}
 use Rattle.std.proofs.Common.{[], subst, nat_le}
 use Rattle.apex_types.specs.declared.limits.TheConstants.{MOST_EVENTS}
 use Rattle.kernel_meaning.specs.Windows.{at_tick}
@@ -105,7 +105,7 @@ has_moved at k place n ms x y next told same h =
 
 -- ---- still partitions
 
-apart : (a b : ℕ) → (a < b) ⊎ (b ≤ a)
+pub apart : (a b : ℕ) → (a < b) ⊎ (b ≤ a)
 apart a zero = inr (omega arith)
 apart zero (suc b) = inl (omega arith)
 apart (suc a) (suc b) = elim (apart a b) [ inl h ↦ inl (omega (arith, h)) | inr h ↦ inr (omega (arith, h)) ]
@@ -142,14 +142,6 @@ all_still origin now n place ms h before q x e = elim (apart q place) [
 ]
 
 -- ---- the text of a run
-
-pub runs_on : {C : Type 0} {old mid new : Option (List ℕ)} {text : List ℕ} {before between : ℕ} (plan : Plan) (lines : List DeviceLine) (s next : Standing C) (left n k : ℕ) → left ≡ n + k
-    → IsUnderWay old mid text (text_of (lines_of plan lines left s)) → HasRun plan lines n s next mid new before between
-    → IsUnderWay old new text (text_of (lines_of plan lines k next))
-runs_on {old = old} {mid = mid} {new = new} {text = text} plan lines s next left n k count way h =
-    let split : text_of (lines_of plan lines left s) ≡ text_of h.told ++ text_of (lines_of plan lines k next) =
-    ap (λ (e : Elapsed _). text_of e.lines) (ap (λ j. elapse plan lines j s) count ∙ h.leads k) ∙ text_append h.told (lines_of plan lines k next) in
-    under_way_more old mid new text (text_of h.told) _ (rw split at way) h.written
 
 pub breaks_off : {C : Type 0} {old mid new : Option (List ℕ)} {text : List ℕ} {before between : ℕ} (plan : Plan) (lines : List DeviceLine) (s : Standing C) (left k : ℕ) → k ≤ left
     → IsUnderWay old mid text (text_of (lines_of plan lines left s)) → IsBrokenOff plan lines k s mid new before between

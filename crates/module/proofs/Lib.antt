@@ -1,4 +1,5 @@
 pub mod Prelude
+pub mod Ahead
 pub mod Brought
 pub mod Built
 pub mod Bursts
@@ -26,5 +27,6 @@ pub mod Shutdown
 pub mod Standing
 pub mod Unbrought
 pub mod Unseen
+pub mod Watched
 pub mod Written
 pub mod Passed
