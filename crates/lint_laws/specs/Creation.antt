@@ -12,7 +12,7 @@ use Rattle.pal_meaning.specs.Program.{Body, Process, Program}
 use Rattle.lint_laws.specs.Lines.{NoLine}
 use Rattle.lint_laws.specs.Numbers.{BlockFits}
 
--- the line tells a state of this process of the partition with this name
+-- the line says a state of this process of the partition with this name
 abbrev pub SaysState : List ℕ → List ℕ → Event → Type 0
 SaysState name process line = (line.partition ≡ Some name) × ((state : ProcessState) × (line.kind ≡ event.State (subject.Process process) state))
 

@@ -33,7 +33,7 @@ pub fn partition_never_enters_normal()
 {}
 
 /// Where it is found in an accepted source that nothing creates a process, this process never has a
-/// state, not even DORMANT: no line of any run tells one, whatever the devices send.
+/// state, not even DORMANT: no line of any run says one, whatever the devices send.
 pub fn process_never_has_a_state()
     ensures { (table : List ℕ) (sources : List (List ℕ)) (t : Table) (programs : List Program)
         (devices : List DeviceLine) (n p number : ℕ) (row : Partition) (source : List ℕ)

@@ -22,7 +22,7 @@ pub fn normal_is_asked_for()
 {}
 
 /// If no call in a program creates one of its processes, this process never has a state: no line of
-/// any run tells one, whatever the devices send.
+/// any run says one, whatever the devices send.
 pub fn states_are_of_created_processes()
     ensures { (t : Table) (programs : List Program) (devices : List DeviceLine) (n p number : ℕ)
         (row : Partition) (program : Program) (name : List ℕ)

@@ -1,4 +1,4 @@
--- What the kernel's state is, for what lines tell: its mode, the states of its records, and who runs.
+-- What the kernel's state is, for what lines say: its mode, the states of its records, and who runs.
 use Rattle.std.specs.Prelude.{◌≡◌, List, Option, Some, None, slice_get}
 use Rattle.apex_types.specs.Runners.{place_of}
 use Rattle.apex_types.specs.declared.event.Subject.{Subject}

@@ -1,4 +1,4 @@
--- What the lines of a trace tell of the states of one partition, read in their order.
+-- What the lines of a trace say of the states of one partition, read in their order.
 use Rattle.std.specs.Prelude.{ℕ, ◌==◌, Bool, true, false, List, [], ◌∷◌, Option, Some, None, if◌then◌else◌}
 use Rattle.apex_types.specs.declared.codes.ErrorKind.{ErrorKind}
 use Rattle.apex_types.specs.declared.codes.ErrorKind.TheVariants as error
@@ -114,7 +114,7 @@ said_by name t (Some other) tick kind = if same name other then says tick t kind
 abbrev pub with_line : List ℕ → Told → Event → Told
 with_line name t l = said_by name t l.partition l.tick.0 l.kind
 
--- what these lines tell of the partition with a name, after what was told before
+-- what these lines say of the partition with a name, after what was said before
 abbrev pub told_from : List ℕ → Told → List Event → Told
 told_from name t [] = t
 told_from name t (l ∷ ls) = told_from name (with_line name t l) ls

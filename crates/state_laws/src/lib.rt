@@ -1,4 +1,4 @@
-//! Laws of what the lines of a trace tell of states: what they tell is what the kernel's state is.
+//! Laws of what the lines of a trace say of states: what they say is what the kernel's state is.
 //! The functions do nothing, and promise a law each.
 #![tactic(auto)]
 

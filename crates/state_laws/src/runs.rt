@@ -1,4 +1,4 @@
-//! What the lines of every run tell of the states of a partition, and of who spends its ticks.
+//! What the lines of every run say of the states of a partition, and of who spends its ticks.
 
 ghost use Rattle.std.specs.Prelude.{◌≡◌, ℕ, suc, List, Some};
 ghost use Rattle.apex_types.specs.declared.device.DeviceLine.{DeviceLine};
@@ -18,7 +18,7 @@ ghost use Rattle.state_laws.specs.Spending.{owner_in, worker};
 ghost use Rattle.state_laws.specs.States.{TellsState};
 ghost use Rattle.state_laws.specs.Told.{told, worker_by_lines};
 
-/// After any number of ticks of any run of a lawful image, what the lines tell of a partition is its
+/// After any number of ticks of any run of a lawful image, what the lines say of a partition is its
 /// state: its mode, the state of INIT, of the error handler and of each process, and who is RUNNING.
 /// So it is in any run of an accepted module, and of a judged table with programs whose processes
 /// have names of their own.
