@@ -1,7 +1,7 @@
 -- A number of ticks within the limits is a cost in one way.
-use Rattle.std.proofs.Common.{◌≡◌, ◌<◌, ◌≤◌, ℕ, Bool, true, false, List, [], ◌∷◌, length, Option, Some, None, refl, sym, ap, ◌∙◌, arith}
+use Rattle.std.proofs.Common.{◌≡◌, ◌<◌, ◌≤◌, ℕ, Bool, true, false, List, [], ◌∷◌, length, Some, None, refl, ap, arith}
 use Rattle.std.proofs.Math.Bool.{Bool-set}
-use Rattle.apex_types.specs.Costs.{is_cost, ticks, cost_if, cost_of_ticks, from_order, written_costs}
+use Rattle.apex_types.specs.Costs.{is_cost, ticks, cost_if, cost_of_ticks, from_order}
 use Rattle.apex_types.specs.declared.cost.TickCost.{TickCost}
 
 within_if : (n : ℕ) (is : Bool) (e : is_cost n ≡ is) (within : is_cost n ≡ true) → Some (ticks n within) ≡ cost_if n is e
@@ -23,7 +23,7 @@ unfolding cost_of_ticks
 is_no_cost n outside = none_if n (is_cost n) refl outside
 
 -- fewer costs than keys
-pub too_few : (xs : List TickCost) → length xs < 15 → from_order xs ≡ written_costs
+pub too_few : (xs : List TickCost) → length xs < 15 → None ≡ from_order xs
 too_few [] bound = refl
 too_few (a ∷ []) bound = refl
 too_few (a ∷ b ∷ []) bound = refl
@@ -42,7 +42,7 @@ too_few (a ∷ b ∷ c ∷ d ∷ e ∷ f ∷ g ∷ h ∷ i ∷ j ∷ k ∷ l ∷
 too_few (a ∷ b ∷ c ∷ d ∷ e ∷ f ∷ g ∷ h ∷ i ∷ j ∷ k ∷ l ∷ m ∷ n ∷ o ∷ rest) bound = absurd (omega (arith, bound))
 
 -- more costs than keys
-pub too_many : (xs : List TickCost) → 16 ≤ length xs → from_order xs ≡ written_costs
+pub too_many : (xs : List TickCost) → 16 ≤ length xs → None ≡ from_order xs
 too_many [] bound = absurd (omega (arith, bound))
 too_many (a ∷ []) bound = absurd (omega (arith, bound))
 too_many (a ∷ b ∷ []) bound = absurd (omega (arith, bound))

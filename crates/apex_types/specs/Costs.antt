@@ -1,7 +1,7 @@
 -- The costs in ticks of the constructs of a program and of the instructions of the processor, and
 -- the effect of an operator with two operands.
 use Rattle.std.specs.Prelude.{ℕ, Bool, true, false, ◌&&◌, nat_le, ◌≡◌, refl, List, [], ◌∷◌, Option, Some, None}
-use Rattle.apex_types.specs.declared.limits.TheConstants.{MOST_COST}
+use Rattle.apex_types.specs.Limits.{MOST_COST}
 use Rattle.apex_types.specs.declared.cost.TickCost.{TickCost}
 use Rattle.apex_types.specs.declared.cost.Costs.{Costs}
 use Rattle.apex_types.specs.declared.instruction.BinaryOperator.{BinaryOperator}
@@ -47,10 +47,10 @@ written_costs = record {
   end = ticks 4 refl;
 }
 
--- the costs that these are in the order of a table's keys, which are as many
-abbrev pub from_order : List TickCost → Costs
-from_order (literal ∷ scalar ∷ array ∷ add ∷ mul ∷ div ∷ logic ∷ branch ∷ jump ∷ call ∷ ret ∷ create ∷ message ∷ service ∷ end ∷ []) = record { literal = literal; scalar = scalar; array = array; add = add; mul = mul; div = div; logic = logic; branch = branch; jump = jump; call = call; ret = ret; create = create; message = message; service = service; end = end }
-from_order _ = written_costs
+-- the costs that these are in the order of a table's keys, if they are as many
+abbrev pub from_order : List TickCost → Option Costs
+from_order (literal ∷ scalar ∷ array ∷ add ∷ mul ∷ div ∷ logic ∷ branch ∷ jump ∷ call ∷ ret ∷ create ∷ message ∷ service ∷ end ∷ []) = Some (record { literal = literal; scalar = scalar; array = array; add = add; mul = mul; div = div; logic = logic; branch = branch; jump = jump; call = call; ret = ret; create = create; message = message; service = service; end = end })
+from_order _ = None
 
 abbrev pub cost_of_binary : Costs → BinaryOperator → ℕ
 cost_of_binary costs Add = costs.add.ticks

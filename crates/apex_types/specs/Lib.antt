@@ -1,3 +1,4 @@
+pub mod Limits
 pub mod CodeWords
 pub mod Costs
 pub mod Line
@@ -10,6 +11,7 @@ pub mod Room
 pub mod Runners
 pub mod ServiceCalls
 pub mod ServiceShape
+pub mod ShapeView
 pub mod Stamps
 pub mod StepBytes
 pub mod Sink

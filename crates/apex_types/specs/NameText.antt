@@ -1,7 +1,7 @@
 -- The form of a name.
 use Rattle.std.specs.Prelude.{ℕ, List, [], ◌∷◌, length, ◌+◌, Bool, false, ◌&&◌, ◌||◌, ◌==◌, nat_le}
 use Rattle.std.specs.List.{list_all}
-use Rattle.apex_types.specs.declared.limits.TheConstants.{MOST_NAME_BYTES}
+use Rattle.apex_types.specs.Limits.{MOST_NAME_BYTES}
 
 abbrev pub is_lower_case : ℕ → Bool
 is_lower_case c = nat_le 97 c && nat_le c 122

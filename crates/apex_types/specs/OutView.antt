@@ -1,7 +1,8 @@
 -- How an output is kept: the words of all its lines and actions follow one another in one list.
 use Rattle.std.specs.Prelude.{ℕ, ℤ, ◌+◌, ◌*◌, ◌≤◌, List, length, map, take, drop, vec_capacity}
 use Rattle.std.specs.List.{AllByRecursion}
-use Rattle.apex_types.specs.declared.limits.TheConstants.{MOST_ACTIONS, MOST_EVENTS, MOST_OUT_WORDS, MOST_WORDS}
+use Rattle.apex_types.specs.Limits.{MOST_WORDS}
+use Rattle.apex_types.specs.declared.limits.TheConstants.{MOST_ACTIONS, MOST_EVENTS, MOST_OUT_WORDS}
 use Rattle.apex_types.specs.Runners.{Action}
 use Rattle.apex_types.specs.Output.{Output, action_of, event_of}
 use Rattle.apex_types.specs.declared.event.EventKind.{EventKind}

@@ -1,7 +1,7 @@
 -- The shape of each service, one row per service: its number in this profile, its name in the
 -- standard, the kinds of its arguments, the number of its outputs besides its code, and whether it
 -- creates. What a service takes, returns and costs follows from its row.
-use Rattle.std.specs.Prelude.{◌≡◌, ℕ, ◌+◌, Bool, true, false, List, [], ◌∷◌, codes, if◌then◌else◌, ◌-◌, nat_eq, Option, None, slice_get}
+use Rattle.std.specs.Prelude.{ℕ, ◌+◌, Bool, true, false, List, [], ◌∷◌, codes, if◌then◌else◌, ◌-◌, nat_eq, Option, None, slice_get}
 use Rattle.std.specs.List.{sum_by, list_any}
 use Rattle.apex_types.specs.declared.cost.Costs.{Costs}
 use Rattle.apex_types.specs.declared.denotation.ObjectKind.TheVariants as object
@@ -9,7 +9,6 @@ use Rattle.apex_types.specs.declared.shape.ArgumentKind.{ArgumentKind}
 use Rattle.apex_types.specs.declared.shape.ArgumentKind.TheVariants as argument
 use Rattle.apex_types.specs.declared.service.Service.{Service}
 use Rattle.apex_types.specs.declared.service.Service.TheVariants as service
-use Rattle.apex_types.specs.declared.shape.Shape as declared
 use Rattle.apex_types.specs.declared.shape.ServiceClass.{ServiceClass}
 use Rattle.apex_types.specs.declared.shape.ServiceClass.TheVariants.{Creation, WithArray, Other}
 
@@ -84,10 +83,6 @@ shape service.ReportApplicationMessage = row 54 (codes "REPORT_APPLICATION_MESSA
 shape service.CreateErrorHandler = creation 55 (codes "CREATE_ERROR_HANDLER") [] 0
 shape service.GetErrorStatus = row 56 (codes "GET_ERROR_STATUS") (argument.Array ∷ []) 3
 shape service.RaiseApplicationError = row 57 (codes "RAISE_APPLICATION_ERROR") (argument.Word ∷ argument.Array ∷ argument.Word ∷ []) 0
-
--- the shape has this name, these arguments and this many outputs, and creates or does not
-abbrev pub Has : declared.Shape → List ℕ → List ArgumentKind → ℕ → Bool → Type 0
-Has s word arguments outputs creates = (s.word.now ≡ word) × (s.arguments.now ≡ arguments) × (s.outputs ≡ outputs) × (s.creates ≡ creates)
 
 abbrev pub number_of : Service → ℕ
 number_of s = (shape s).number

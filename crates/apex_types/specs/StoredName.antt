@@ -1,6 +1,6 @@
 -- How a name lies in its bytes.
 use Rattle.std.specs.Prelude.{◌≡◌, ℕ, ◌-◌, List, ◌++◌, length, take, IsTrue, replicate}
-use Rattle.apex_types.specs.declared.limits.TheConstants.{MOST_NAME_BYTES}
+use Rattle.apex_types.specs.Limits.{MOST_NAME_BYTES}
 use Rattle.apex_types.specs.NameText.{is_name}
 
 -- the bytes of a text: after its end they are 0

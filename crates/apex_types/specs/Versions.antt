@@ -2,8 +2,8 @@
 use Rattle.std.specs.Prelude.{ℕ}
 use Rattle.apex_types.specs.Costs.{written_costs}
 use Rattle.apex_types.specs.declared.cost.Costs.{Costs}
-use Rattle.apex_types.specs.declared.limits.Limits.{Limits}
-use Rattle.apex_types.specs.declared.limits.TheConstants.{FIRST_MOST_PARTITIONS, FIRST_MOST_PROCESSES, FIRST_MOST_WORDS, MOST_PARTITIONS, MOST_PROCESSES, MOST_WORDS}
+use Rattle.apex_types.specs.declared.version.Limits.{Limits}
+use Rattle.apex_types.specs.Limits.{MOST_PARTITIONS, MOST_PROCESSES, MOST_WORDS}
 use Rattle.apex_types.specs.declared.version.TheConstants.{FIRST_VERSION, SECOND_VERSION, THIRD_VERSION}
 use Rattle.apex_types.specs.declared.version.ImageVersion.{ImageVersion}
 use Rattle.apex_types.specs.declared.version.ImageVersion.TheVariants.{First, Second, Third}
@@ -21,7 +21,7 @@ costs_of (Third costs) = costs
 
 -- the limits of the first and of the second version
 abbrev pub first_limits : Limits
-first_limits = record { partitions = FIRST_MOST_PARTITIONS; processes = FIRST_MOST_PROCESSES; words = FIRST_MOST_WORDS }
+first_limits = record { partitions = 16; processes = 31; words = 16 }
 
 -- the limits of the third version, which are those of a table and of its sources
 abbrev pub third_limits : Limits

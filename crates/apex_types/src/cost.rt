@@ -2,7 +2,7 @@
 //! construct becomes costs the same.
 
 ghost use Rattle.std.specs.Prelude.{◌≡◌, ◌&&◌, nat_le, true};
-ghost use Rattle.apex_types.specs.declared.limits.TheConstants.{MOST_COST};
+ghost use Rattle.apex_types.specs.Limits.{MOST_COST};
 
 use crate::limits::MOST_COST;
 
@@ -141,8 +141,8 @@ impl Costs {
         ]
     }
 
-    /// The costs in the order of the keys of a module table.
-    pub fn from_order(costs: &[TickCost]) -> Self
+    /// The costs that these are in the order of the keys of a module table, if they are as many.
+    pub fn from_order(costs: &[TickCost]) -> Option<Self>
         ensures { result ≡ from_order costs.now }
     {
         match costs {
@@ -162,7 +162,7 @@ impl Costs {
                 message,
                 service,
                 end,
-            ] => Costs {
+            ] => Some(Costs {
                 literal: *literal,
                 scalar: *scalar,
                 array: *array,
@@ -178,8 +178,8 @@ impl Costs {
                 message: *message,
                 service: *service,
                 end: *end,
-            },
-            _ => Costs::written(),
+            }),
+            _ => None,
         }
     }
 }

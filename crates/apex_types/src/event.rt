@@ -2,7 +2,7 @@
 
 ghost use Rattle.std.specs.Prelude.{◌≡◌, ◌≤◌, length};
 ghost use Rattle.apex_types.specs.Output.{event_of, words_of};
-ghost use Rattle.apex_types.specs.declared.limits.TheConstants.{MOST_WORDS};
+ghost use Rattle.apex_types.specs.Limits.{MOST_WORDS};
 
 use crate::codes::{ErrorKind, Mode, ProcessState, Response, ReturnCode};
 use crate::identity::Ticks;

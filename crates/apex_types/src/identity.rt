@@ -1,7 +1,7 @@
 //! Numbers, each with a meaning.
 
 ghost use Rattle.std.specs.Prelude.{◌≡◌, ◌≤◌};
-ghost use Rattle.apex_types.specs.declared.limits.TheConstants.{MOST_TICKS};
+ghost use Rattle.apex_types.specs.Limits.{MOST_TICKS};
 ghost use Rattle.apex_types.specs.Places.{place_of_number};
 
 /// A count of processor ticks, or the tick of that number.

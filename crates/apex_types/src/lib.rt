@@ -51,4 +51,4 @@ pub use service::{ArrayPlace, Call, ObjectCall, PortCall, SERVICES, Service};
 pub use shape::{ArgumentKind, ServiceClass, Shape};
 pub use sink::{Sink, SinkFault, WriterSink, put_all};
 pub use text::{TraceBuffer, write_event};
-pub use version::{FIRST_VERSION, ImageVersion, MAGIC, SECOND_VERSION, THIRD_VERSION};
+pub use version::{FIRST_VERSION, ImageVersion, Limits, MAGIC, SECOND_VERSION, THIRD_VERSION};

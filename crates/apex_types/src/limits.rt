@@ -1,17 +1,10 @@
 //! The limits of a module, of its programs and of a run, and what follows from them.
 //!
-//! Each limit is defined only here. Code, definitions and proofs use it from here.
+//! Code uses each limit from here. The definitions have their own numbers (`specs/Limits`), and the
+//! law [`limits_are_as_defined`] says that they are the same.
 
-/// The limits that are not the same in every version of an image.
-#[derive(Clone, Copy)]
-pub struct Limits {
-    /// The most partitions of a module.
-    pub partitions: u8,
-    /// The most processes of a partition.
-    pub processes: u8,
-    /// The most words of a message.
-    pub words: u8,
-}
+ghost use Rattle.std.specs.Prelude.{◌≡◌};
+ghost use Rattle.apex_types.specs.Limits as defined;
 
 /// The most partitions of a module with an image of version 1 or 2.
 pub const FIRST_MOST_PARTITIONS: u8 = 16;
@@ -158,3 +151,38 @@ pub const MOST_LINE_BYTES: usize = MOST_HEAD_BYTES + MOST_WORD_BYTES * MOST_WORD
 
 /// The most bytes of the lines of a step.
 pub const MOST_STEP_BYTES: usize = MOST_EVENTS * MOST_LINE_BYTES;
+
+/// Law: each limit of the code is the number that the definitions have for it.
+pub fn limits_are_as_defined()
+    ensures most_ticks { MOST_TICKS ≡ defined.MOST_TICKS }
+    ensures most_frame_ticks { MOST_FRAME_TICKS ≡ defined.MOST_FRAME_TICKS }
+    ensures most_name_bytes { MOST_NAME_BYTES ≡ defined.MOST_NAME_BYTES }
+    ensures most_partitions { MOST_PARTITIONS ≡ defined.MOST_PARTITIONS }
+    ensures most_windows { MOST_WINDOWS ≡ defined.MOST_WINDOWS }
+    ensures most_channels { MOST_CHANNELS ≡ defined.MOST_CHANNELS }
+    ensures most_destinations { MOST_DESTINATIONS ≡ defined.MOST_DESTINATIONS }
+    ensures most_ports { MOST_PORTS ≡ defined.MOST_PORTS }
+    ensures most_processes { MOST_PROCESSES ≡ defined.MOST_PROCESSES }
+    ensures most_objects { MOST_OBJECTS ≡ defined.MOST_OBJECTS }
+    ensures greatest_priority { GREATEST_PRIORITY ≡ defined.GREATEST_PRIORITY }
+    ensures most_lock_level { MOST_LOCK_LEVEL ≡ defined.MOST_LOCK_LEVEL }
+    ensures most_errors { MOST_ERRORS ≡ defined.MOST_ERRORS }
+    ensures most_words { MOST_WORDS ≡ defined.MOST_WORDS }
+    ensures most_depth { MOST_DEPTH ≡ defined.MOST_DEPTH }
+    ensures most_semaphore_value { MOST_SEMAPHORE_VALUE ≡ defined.MOST_SEMAPHORE_VALUE }
+    ensures least_stack_words { LEAST_STACK_WORDS ≡ defined.LEAST_STACK_WORDS }
+    ensures most_stack_words { MOST_STACK_WORDS ≡ defined.MOST_STACK_WORDS }
+    ensures most_parameters { MOST_PARAMETERS ≡ defined.MOST_PARAMETERS }
+    ensures most_locals { MOST_LOCALS ≡ defined.MOST_LOCALS }
+    ensures most_slots { MOST_SLOTS ≡ defined.MOST_SLOTS }
+    ensures most_procedures { MOST_PROCEDURES ≡ defined.MOST_PROCEDURES }
+    ensures most_instructions { MOST_INSTRUCTIONS ≡ defined.MOST_INSTRUCTIONS }
+    ensures most_data_words { MOST_DATA_WORDS ≡ defined.MOST_DATA_WORDS }
+    ensures most_work_ticks { MOST_WORK_TICKS ≡ defined.MOST_WORK_TICKS }
+    ensures most_cost { MOST_COST ≡ defined.MOST_COST }
+    ensures most_source_bytes { MOST_SOURCE_BYTES ≡ defined.MOST_SOURCE_BYTES }
+    ensures most_levels { MOST_LEVELS ≡ defined.MOST_LEVELS }
+    ensures most_device_lines { MOST_DEVICE_LINES ≡ defined.MOST_DEVICE_LINES }
+    ensures most_report_words { MOST_REPORT_WORDS ≡ defined.MOST_REPORT_WORDS }
+    ensures instruction_bytes { INSTRUCTION_BYTES ≡ defined.INSTRUCTION_BYTES }
+{}

@@ -13,7 +13,8 @@ use crate::name::Name;
 pub trait EventLog {
     ghost use Rattle.apex_types.specs.Output.{event_of};
     ghost use Rattle.apex_types.specs.declared.event.Event.{Event};
-    ghost use Rattle.apex_types.specs.declared.limits.TheConstants.{MOST_EVENTS, MOST_WORDS};
+    ghost use Rattle.apex_types.specs.Limits.{MOST_WORDS};
+    ghost use Rattle.apex_types.specs.declared.limits.TheConstants.{MOST_EVENTS};
 
     ghost Piece: { Type 0 };
 

@@ -1,6 +1,6 @@
 //! Names of partitions, processes, ports and channels.
 
-ghost use Rattle.apex_types.specs.declared.limits.TheConstants.{MOST_NAME_BYTES};
+ghost use Rattle.apex_types.specs.Limits.{MOST_NAME_BYTES};
 ghost use Rattle.apex_types.specs.NameText.{is_lower_case, is_name, is_name_byte};
 ghost use Rattle.std.specs.List.{list_all};
 ghost use Rattle.std.specs.Prelude.{◌≡◌, ◌≤◌, ◌↔◌, length, take, IfSome, IsSome, IsTrue};

@@ -4,7 +4,8 @@ ghost use Rattle.std.specs.Prelude.{◌≡◌, ◌≤◌, ◌<◌, ◌+◌, ◌+
 ghost use Rattle.apex_types.specs.OutView.{part_of};
 ghost use Rattle.apex_types.specs.Output.{action_of, event_of};
 ghost use Rattle.apex_types.specs.Room.{HasRoom, IsEmpty};
-ghost use Rattle.apex_types.specs.declared.limits.TheConstants.{MOST_OUT_WORDS, MOST_WORDS};
+ghost use Rattle.apex_types.specs.Limits.{MOST_WORDS};
+ghost use Rattle.apex_types.specs.declared.limits.TheConstants.{MOST_OUT_WORDS};
 
 use crate::event::LineKind;
 use crate::identity::Runner;

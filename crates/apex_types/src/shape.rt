@@ -1,7 +1,8 @@
 //! The shape of each service: its name, its arguments, its outputs, and its cost.
 
-ghost use Rattle.std.specs.Prelude.{◌≡◌, ◌≤◌, length, true, false};
-ghost use Rattle.apex_types.specs.ServiceShape.{Has};
+ghost use Rattle.std.specs.Prelude.{◌≡◌, ◌≤◌, length};
+ghost use Rattle.apex_types.specs.ServiceShape as rows;
+ghost use Rattle.apex_types.specs.ShapeView.{seen};
 
 use crate::cost::Costs;
 use crate::denotation::ObjectKind;
@@ -58,9 +59,11 @@ impl ArgumentKind {
     }
 }
 
-/// The name of a service, its arguments, and its outputs.
+/// The row of a service: its number, its name, its arguments, and its outputs.
 #[derive(Clone, Copy)]
 pub struct Shape {
+    /// Its number in this profile, from 1 on.
+    pub number: u8,
     /// Its name in the standard, as traces and source texts have it.
     pub word: &'static str,
     /// The kinds of its arguments, in order.
@@ -89,10 +92,11 @@ const PORT: ArgumentKind = ArgumentKind::Object(ObjectKind::Port);
 
 /// The row of a service that creates nothing.
 #[inline(always)]
-fn row(word: &'static str, arguments: &'static [ArgumentKind], outputs: u8) -> Shape
-    ensures { Has result word.now arguments.now outputs false }
+fn row(number: u8, word: &'static str, arguments: &'static [ArgumentKind], outputs: u8) -> Shape
+    ensures { seen result ≡ rows.row number word.now arguments.now outputs }
 {
     Shape {
+        number,
         word,
         arguments,
         outputs,
@@ -102,12 +106,20 @@ fn row(word: &'static str, arguments: &'static [ArgumentKind], outputs: u8) -> S
 
 /// The row of a service that creates an object, a port, a process or the handler.
 #[inline(always)]
-fn creation(word: &'static str, arguments: &'static [ArgumentKind], outputs: u8) -> Shape
-    ensures { Has result word.now arguments.now outputs true }
+fn creation(
+    number: u8,
+    word: &'static str,
+    arguments: &'static [ArgumentKind],
+    outputs: u8,
+) -> Shape
+    ensures { seen result ≡ rows.creation number word.now arguments.now outputs }
 {
     Shape {
+        number,
+        word,
+        arguments,
+        outputs,
         creates: true,
-        ..row(word, arguments, outputs)
     }
 }
 
@@ -118,66 +130,91 @@ impl Service {
     /// The row of this service.
     #[inline(always)]
     pub fn shape(self) -> Shape
-        ensures { Has result (shape self).word (shape self).arguments (shape self).outputs (shape self).creates }
+        ensures { seen result ≡ shape self }
     {
         match self {
-            Self::GetPartitionStatus => row("GET_PARTITION_STATUS", &[], 6),
-            Self::SetPartitionMode => row("SET_PARTITION_MODE", &[WORD], 0),
-            Self::GetProcessId => row("GET_PROCESS_ID", &[PROCESS], 1),
-            Self::GetProcessStatus => row("GET_PROCESS_STATUS", &[WORD], 3),
-            Self::CreateProcess => creation("CREATE_PROCESS", &[PROCESS], 1),
-            Self::SetPriority => row("SET_PRIORITY", &[WORD, WORD], 0),
-            Self::SuspendSelf => row("SUSPEND_SELF", &[WORD], 0),
-            Self::Suspend => row("SUSPEND", &[WORD], 0),
-            Self::Resume => row("RESUME", &[WORD], 0),
-            Self::StopSelf => row("STOP_SELF", &[], 0),
-            Self::Stop => row("STOP", &[WORD], 0),
-            Self::Start => row("START", &[WORD], 0),
-            Self::DelayedStart => row("DELAYED_START", &[WORD, WORD], 0),
-            Self::LockPreemption => row("LOCK_PREEMPTION", &[], 1),
-            Self::UnlockPreemption => row("UNLOCK_PREEMPTION", &[], 1),
-            Self::GetMyId => row("GET_MY_ID", &[], 1),
-            Self::TimedWait => row("TIMED_WAIT", &[WORD], 0),
-            Self::PeriodicWait => row("PERIODIC_WAIT", &[], 0),
-            Self::GetTime => row("GET_TIME", &[], 1),
-            Self::Replenish => row("REPLENISH", &[WORD], 0),
-            Self::CreateBuffer => creation("CREATE_BUFFER", &[BUFFER], 1),
-            Self::SendBuffer => row("SEND_BUFFER", &[WORD, ARRAY, WORD, WORD], 0),
-            Self::ReceiveBuffer => row("RECEIVE_BUFFER", &[WORD, ARRAY, WORD], 1),
-            Self::GetBufferId => row("GET_BUFFER_ID", &[BUFFER], 1),
-            Self::GetBufferStatus => row("GET_BUFFER_STATUS", &[WORD], 4),
-            Self::CreateBlackboard => creation("CREATE_BLACKBOARD", &[BLACKBOARD], 1),
-            Self::DisplayBlackboard => row("DISPLAY_BLACKBOARD", &[WORD, ARRAY, WORD], 0),
-            Self::ReadBlackboard => row("READ_BLACKBOARD", &[WORD, ARRAY, WORD], 1),
-            Self::ClearBlackboard => row("CLEAR_BLACKBOARD", &[WORD], 0),
-            Self::GetBlackboardId => row("GET_BLACKBOARD_ID", &[BLACKBOARD], 1),
-            Self::GetBlackboardStatus => row("GET_BLACKBOARD_STATUS", &[WORD], 3),
-            Self::CreateSemaphore => creation("CREATE_SEMAPHORE", &[SEMAPHORE], 1),
-            Self::WaitSemaphore => row("WAIT_SEMAPHORE", &[WORD, WORD], 0),
-            Self::SignalSemaphore => row("SIGNAL_SEMAPHORE", &[WORD], 0),
-            Self::GetSemaphoreId => row("GET_SEMAPHORE_ID", &[SEMAPHORE], 1),
-            Self::GetSemaphoreStatus => row("GET_SEMAPHORE_STATUS", &[WORD], 3),
-            Self::CreateEvent => creation("CREATE_EVENT", &[EVENT], 1),
-            Self::SetEvent => row("SET_EVENT", &[WORD], 0),
-            Self::ResetEvent => row("RESET_EVENT", &[WORD], 0),
-            Self::WaitEvent => row("WAIT_EVENT", &[WORD, WORD], 0),
-            Self::GetEventId => row("GET_EVENT_ID", &[EVENT], 1),
-            Self::GetEventStatus => row("GET_EVENT_STATUS", &[WORD], 2),
-            Self::CreateSamplingPort => creation("CREATE_SAMPLING_PORT", &[PORT], 1),
-            Self::WriteSamplingMessage => row("WRITE_SAMPLING_MESSAGE", &[WORD, ARRAY, WORD], 0),
-            Self::ReadSamplingMessage => row("READ_SAMPLING_MESSAGE", &[WORD, ARRAY], 2),
-            Self::GetSamplingPortId => row("GET_SAMPLING_PORT_ID", &[PORT], 1),
-            Self::GetSamplingPortStatus => row("GET_SAMPLING_PORT_STATUS", &[WORD], 4),
-            Self::CreateQueuingPort => creation("CREATE_QUEUING_PORT", &[PORT], 1),
-            Self::SendQueuingMessage => row("SEND_QUEUING_MESSAGE", &[WORD, ARRAY, WORD, WORD], 0),
-            Self::ReceiveQueuingMessage => row("RECEIVE_QUEUING_MESSAGE", &[WORD, ARRAY, WORD], 1),
-            Self::GetQueuingPortId => row("GET_QUEUING_PORT_ID", &[PORT], 1),
-            Self::GetQueuingPortStatus => row("GET_QUEUING_PORT_STATUS", &[WORD], 5),
-            Self::ClearQueuingPort => row("CLEAR_QUEUING_PORT", &[WORD], 0),
-            Self::ReportApplicationMessage => row("REPORT_APPLICATION_MESSAGE", &[ARRAY, WORD], 0),
-            Self::CreateErrorHandler => creation("CREATE_ERROR_HANDLER", &[], 0),
-            Self::GetErrorStatus => row("GET_ERROR_STATUS", &[ARRAY], 3),
-            Self::RaiseApplicationError => row("RAISE_APPLICATION_ERROR", &[WORD, ARRAY, WORD], 0),
+            Self::GetPartitionStatus => row(1, "GET_PARTITION_STATUS", &[], 6),
+            Self::SetPartitionMode => row(2, "SET_PARTITION_MODE", &[WORD], 0),
+            Self::GetProcessId => row(3, "GET_PROCESS_ID", &[PROCESS], 1),
+            Self::GetProcessStatus => row(4, "GET_PROCESS_STATUS", &[WORD], 3),
+            Self::CreateProcess => creation(5, "CREATE_PROCESS", &[PROCESS], 1),
+            Self::SetPriority => row(6, "SET_PRIORITY", &[WORD, WORD], 0),
+            Self::SuspendSelf => row(7, "SUSPEND_SELF", &[WORD], 0),
+            Self::Suspend => row(8, "SUSPEND", &[WORD], 0),
+            Self::Resume => row(9, "RESUME", &[WORD], 0),
+            Self::StopSelf => row(10, "STOP_SELF", &[], 0),
+            Self::Stop => row(11, "STOP", &[WORD], 0),
+            Self::Start => row(12, "START", &[WORD], 0),
+            Self::DelayedStart => row(13, "DELAYED_START", &[WORD, WORD], 0),
+            Self::LockPreemption => row(14, "LOCK_PREEMPTION", &[], 1),
+            Self::UnlockPreemption => row(15, "UNLOCK_PREEMPTION", &[], 1),
+            Self::GetMyId => row(16, "GET_MY_ID", &[], 1),
+            Self::TimedWait => row(17, "TIMED_WAIT", &[WORD], 0),
+            Self::PeriodicWait => row(18, "PERIODIC_WAIT", &[], 0),
+            Self::GetTime => row(19, "GET_TIME", &[], 1),
+            Self::Replenish => row(20, "REPLENISH", &[WORD], 0),
+            Self::CreateBuffer => creation(21, "CREATE_BUFFER", &[BUFFER], 1),
+            Self::SendBuffer => row(22, "SEND_BUFFER", &[WORD, ARRAY, WORD, WORD], 0),
+            Self::ReceiveBuffer => row(23, "RECEIVE_BUFFER", &[WORD, ARRAY, WORD], 1),
+            Self::GetBufferId => row(24, "GET_BUFFER_ID", &[BUFFER], 1),
+            Self::GetBufferStatus => row(25, "GET_BUFFER_STATUS", &[WORD], 4),
+            Self::CreateBlackboard => creation(26, "CREATE_BLACKBOARD", &[BLACKBOARD], 1),
+            Self::DisplayBlackboard => row(27, "DISPLAY_BLACKBOARD", &[WORD, ARRAY, WORD], 0),
+            Self::ReadBlackboard => row(28, "READ_BLACKBOARD", &[WORD, ARRAY, WORD], 1),
+            Self::ClearBlackboard => row(29, "CLEAR_BLACKBOARD", &[WORD], 0),
+            Self::GetBlackboardId => row(30, "GET_BLACKBOARD_ID", &[BLACKBOARD], 1),
+            Self::GetBlackboardStatus => row(31, "GET_BLACKBOARD_STATUS", &[WORD], 3),
+            Self::CreateSemaphore => creation(32, "CREATE_SEMAPHORE", &[SEMAPHORE], 1),
+            Self::WaitSemaphore => row(33, "WAIT_SEMAPHORE", &[WORD, WORD], 0),
+            Self::SignalSemaphore => row(34, "SIGNAL_SEMAPHORE", &[WORD], 0),
+            Self::GetSemaphoreId => row(35, "GET_SEMAPHORE_ID", &[SEMAPHORE], 1),
+            Self::GetSemaphoreStatus => row(36, "GET_SEMAPHORE_STATUS", &[WORD], 3),
+            Self::CreateEvent => creation(37, "CREATE_EVENT", &[EVENT], 1),
+            Self::SetEvent => row(38, "SET_EVENT", &[WORD], 0),
+            Self::ResetEvent => row(39, "RESET_EVENT", &[WORD], 0),
+            Self::WaitEvent => row(40, "WAIT_EVENT", &[WORD, WORD], 0),
+            Self::GetEventId => row(41, "GET_EVENT_ID", &[EVENT], 1),
+            Self::GetEventStatus => row(42, "GET_EVENT_STATUS", &[WORD], 2),
+            Self::CreateSamplingPort => creation(43, "CREATE_SAMPLING_PORT", &[PORT], 1),
+            Self::WriteSamplingMessage => row(
+                44,
+                "WRITE_SAMPLING_MESSAGE",
+                &[WORD, ARRAY, WORD],
+                0,
+            ),
+            Self::ReadSamplingMessage => row(45, "READ_SAMPLING_MESSAGE", &[WORD, ARRAY], 2),
+            Self::GetSamplingPortId => row(46, "GET_SAMPLING_PORT_ID", &[PORT], 1),
+            Self::GetSamplingPortStatus => row(47, "GET_SAMPLING_PORT_STATUS", &[WORD], 4),
+            Self::CreateQueuingPort => creation(48, "CREATE_QUEUING_PORT", &[PORT], 1),
+            Self::SendQueuingMessage => row(
+                49,
+                "SEND_QUEUING_MESSAGE",
+                &[WORD, ARRAY, WORD, WORD],
+                0,
+            ),
+            Self::ReceiveQueuingMessage => row(
+                50,
+                "RECEIVE_QUEUING_MESSAGE",
+                &[WORD, ARRAY, WORD],
+                1,
+            ),
+            Self::GetQueuingPortId => row(51, "GET_QUEUING_PORT_ID", &[PORT], 1),
+            Self::GetQueuingPortStatus => row(52, "GET_QUEUING_PORT_STATUS", &[WORD], 5),
+            Self::ClearQueuingPort => row(53, "CLEAR_QUEUING_PORT", &[WORD], 0),
+            Self::ReportApplicationMessage => row(
+                54,
+                "REPORT_APPLICATION_MESSAGE",
+                &[ARRAY, WORD],
+                0,
+            ),
+            Self::CreateErrorHandler => creation(55, "CREATE_ERROR_HANDLER", &[], 0),
+            Self::GetErrorStatus => row(56, "GET_ERROR_STATUS", &[ARRAY], 3),
+            Self::RaiseApplicationError => row(
+                57,
+                "RAISE_APPLICATION_ERROR",
+                &[WORD, ARRAY, WORD],
+                0,
+            ),
         }
     }
 
@@ -208,7 +245,8 @@ impl Service {
     /// The number of words that this service returns: the code and the outputs; STOP_SELF returns
     /// none.
     pub fn answer_words(self) -> u8
-        ensures { result ≡ answer_words self }
+        ensures words { result ≡ answer_words self }
+        ensures few { result ≤ 7 }
     {
         match self {
             Service::StopSelf => 0,

@@ -11,7 +11,8 @@ ghost use Rattle.apex_types.specs.Written.{IsWritten, line_text};
 ghost use Rattle.apex_types.specs.Line.{TakesBeginning};
 ghost use Rattle.apex_types.specs.Output.{event_of};
 ghost use Rattle.apex_types.specs.declared.event.EventKind.TheVariants as event;
-ghost use Rattle.apex_types.specs.declared.limits.TheConstants.{MOST_KIND_BYTES, MOST_LINE_BYTES, MOST_NAME_BYTES, MOST_STEP_BYTES, MOST_WORDS, MOST_WORD_BYTES};
+ghost use Rattle.apex_types.specs.Limits.{MOST_NAME_BYTES, MOST_WORDS};
+ghost use Rattle.apex_types.specs.declared.limits.TheConstants.{MOST_KIND_BYTES, MOST_LINE_BYTES, MOST_STEP_BYTES, MOST_WORD_BYTES};
 
 use crate::codes::{ErrorKind, ProcessState, Response, ReturnCode};
 use crate::event::{Event, LineKind, Subject};

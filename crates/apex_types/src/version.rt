@@ -2,8 +2,8 @@
 
 use crate::cost::Costs;
 use crate::limits::{
-    FIRST_MOST_PARTITIONS, FIRST_MOST_PROCESSES, FIRST_MOST_WORDS, Limits, MOST_PARTITIONS,
-    MOST_PROCESSES, MOST_WORDS,
+    FIRST_MOST_PARTITIONS, FIRST_MOST_PROCESSES, FIRST_MOST_WORDS, MOST_PARTITIONS, MOST_PROCESSES,
+    MOST_WORDS,
 };
 
 /// The bytes that every image begins with.
@@ -26,6 +26,17 @@ pub enum ImageVersion {
     First,
     Second { costs: Costs },
     Third { costs: Costs },
+}
+
+/// The limits that are not the same in every version of an image.
+#[derive(Clone, Copy)]
+pub struct Limits {
+    /// The most partitions of a module.
+    pub partitions: u8,
+    /// The most processes of a partition.
+    pub processes: u8,
+    /// The most words of a message.
+    pub words: u8,
 }
 
 impl ImageVersion {

@@ -1,6 +1,6 @@
 -- The text that is still ahead of a run, and the line that it waits for.
-use Rattle.std.proofs.Common.{◌≡◌, ◌≤◌, ◌<◌, ◌⊎◌, inl, inr, ◌+◌, ◌-◌, ℕ, zero, suc, true, false, List, [], ◌∷◌, ◌++◌, Option, Some, None, refl, sym, ap, subst, ◌∙◌, append-nil, append_assoc, arith}
-use Rattle.std.specs.Prelude.{is_none, ◌||◌}
+use Rattle.std.proofs.Common.{◌≡◌, ◌≤◌, ◌<◌, ◌⊎◌, inl, inr, ◌+◌, ◌-◌, ℕ, zero, suc, true, false, List, [], ◌∷◌, ◌++◌, refl, sym, ap, ◌∙◌, append-nil, arith}
+use Rattle.std.specs.Prelude.{◌||◌}
 use Rattle.apex_types.specs.Line.{text_of}
 use Rattle.apex_types.specs.declared.device.DeviceLine.{DeviceLine}
 use Rattle.apex_types.specs.declared.event.Event.{Event}
@@ -8,35 +8,22 @@ use Rattle.machine_meaning.specs.Image.{Image}
 use Rattle.machine_meaning.specs.MachineControl.{MachineControl}
 use Rattle.machine_meaning.specs.MachineMeaning.{machine_module, machine_trace}
 use Rattle.module_meaning.specs.Module.{Plan, of_tick}
-use Rattle.module.specs.Machines.{Machine, course_of, fresh_machine}
+use Rattle.module.specs.Machines.{Machine, course_of}
 use Rattle.module.specs.Pieces.{LeadsTo}
 use Rattle.module_meaning.specs.Standing.{Elapsed, Standing, after, elapse, lines_of, ticks}
+use Rattle.module.specs.Watched.{text_to}
+use Rattle.module.proofs.Ahead.{IsAhead, ahead_further, text_on}
 use Rattle.module.proofs.DeviceLines.{of_tick_again}
-use Rattle.module.proofs.Machines.{ticks_are_the_trace}
-use Rattle.module.proofs.Standing.{none_down, tick_text}
-use Rattle.command_line.specs.Stops.{text_to}
+use Rattle.module.proofs.Standing.{tick_text}
 use Rattle.command_line.specs.StopSteps.{IsHeld}
 use Rattle.command_line.specs.Awaited.{has_line}
 use Rattle.command_line.proofs.WholeLines.{line_behind, line_of_nothing}
-
--- the text of k more ticks
-abbrev pub text_on : Image → List DeviceLine → ℕ → Standing MachineControl → List ℕ
-text_on image lines k s = text_of (lines_of (machine_module image).plan lines k s)
-
--- Up to this `Standing` the text is that of its ticks, and further ticks append theirs.
-abbrev pub IsAhead : Image → List DeviceLine → List DeviceLine → Standing MachineControl → Type 0
-IsAhead image devices lines s = (k : ℕ) → text_to image devices (s.now + k) ≡ text_to image devices s.now ++ text_on image lines k s
 
 -- no line came in this many ticks, nor in fewer
 abbrev pub NoneCame : List (List ℕ) → Image → List DeviceLine → ℕ → Type 0
 NoneCame asked image devices n = (k : ℕ) → k ≤ n → has_line asked (text_to image devices k) ≡ false
 
 -- ---- before the first tick
-
-pub ahead_first : (image : Image) (m : Machine) (devices : List DeviceLine) → m ≡ fresh_machine image → IsAhead image devices devices m.standing
-ahead_first image m devices is =
-    subst (λ (x : Machine). IsAhead image devices devices x.standing) (sym is)
-    (λ k. let all : 0 + k ≡ k = omega arith in ap (text_to image devices) all ∙ ap text_of (sym (ticks_are_the_trace image devices k)))
 
 none_at_first : (asked : List (List ℕ)) (image : Image) (devices : List DeviceLine) → has_line asked (text_to image devices 0) ≡ false
 none_at_first asked image devices = line_of_nothing asked
@@ -74,14 +61,8 @@ text_skipped image devices lines n k s next ahead leads few =
 
 pub ahead_skipped : (image : Image) (devices lines : List DeviceLine) (n : ℕ) (s next : Standing MachineControl) → next.now ≡ s.now + n → IsAhead image devices lines s → LeadsTo (machine_module image).plan lines n s [] next
     → IsAhead image devices lines next
-ahead_skipped image devices lines n s next now ahead leads k =
-    let all : n ≤ n = omega arith in
-    let there : next.now + k ≡ s.now + (n + k) = omega (arith, now) in
-    ap (text_to image devices) there
-    ∙ ahead (n + k)
-    ∙ ap (λ (e : Elapsed _). text_to image devices s.now ++ text_of e.lines) (leads k)
-    ∙ ap (λ (text : List ℕ). text ++ text_on image lines k next) (sym (text_skipped image devices lines n n s next ahead leads all))
-    ∙ ap (λ j. text_to image devices j ++ text_on image lines k next) (sym now)
+ahead_skipped image devices lines n s next now ahead leads =
+    ahead_further image devices lines lines n [] s next now (λ k. ap (λ (e : Elapsed _). text_of e.lines) (leads k)) ahead
 
 apart : (a b : ℕ) → (a ≤ b) ⊎ (b < a)
 apart zero b = inl (omega arith)
@@ -123,15 +104,10 @@ now_ticked held = ap (λ s. s.now) held.standing
 
 pub ahead_ticked : (image : Image) (m next : Machine) (devices lines later : List DeviceLine) (bytes : List ℕ) → m.image ≡ image → IsHeld lines later m next bytes
     → IsAhead image devices lines m.standing → IsAhead image devices later next.standing
-ahead_ticked image m next devices lines later bytes same held ahead k =
-    let after = now_ticked held in
-    let there : next.standing.now + k ≡ m.standing.now + suc k = omega (arith, after) in
-    ap (text_to image devices) there
-    ∙ ahead (suc k)
-    ∙ ap (λ (text : List ℕ). text_to image devices m.standing.now ++ text) (tick_on image m next lines later bytes k same held)
-    ∙ sym (append_assoc (text_to image devices m.standing.now) bytes (text_on image later k next.standing))
-    ∙ ap (λ (text : List ℕ). text ++ text_on image later k next.standing) (sym (text_ticked image m next devices lines later bytes same held ahead))
-    ∙ ap (λ j. text_to image devices j ++ text_on image later k next.standing) (sym after)
+ahead_ticked image m next devices lines later bytes same held ahead =
+    ahead_further image devices lines later 1 bytes m.standing next.standing (now_ticked held)
+    (λ k. let one : 1 + k ≡ suc k = omega arith in ap (λ j. text_on image lines j m.standing) one ∙ tick_on image m next lines later bytes k same held)
+    ahead
 
 -- a line came by one more tick if one came before it or in it
 pub line_ticked : (asked : List (List ℕ)) (image : Image) (devices : List DeviceLine) (t u : ℕ) (bytes : List ℕ) → u ≡ t + 1 → text_to image devices (t + 1) ≡ text_to image devices t ++ bytes → NoneCame asked image devices t
@@ -151,16 +127,3 @@ none_ticked asked image devices t u after none last k few = elim (apart k t) [
       let is : k ≡ u = omega (arith, later, few, after) in
       ap (λ j. has_line asked (text_to image devices j)) is ∙ last
 ]
-
--- ---- a shutdown
-
--- a module that is shut down leads nowhere
-pub down_same : (image : Image) (devices lines : List DeviceLine) (k : ℕ) (s : Standing MachineControl) → is_none s.origin ≡ true → IsAhead image devices lines s → text_to image devices (s.now + k) ≡ text_to image devices s.now
-down_same image devices lines k s down ahead =
-    ahead k
-    ∙ ap (λ (es : List Event). text_to image devices s.now ++ text_of es) (none_down (machine_module image).plan lines k s.now s.members s.origin (is s.origin down))
-    ∙ append-nil (text_to image devices s.now)
-  where
-    is : (o : Option ℕ) → is_none o ≡ true → o ≡ None
-    is None h = refl
-    is (Some t) h = absurd cc

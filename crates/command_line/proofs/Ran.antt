@@ -10,11 +10,12 @@ use Rattle.module_meaning.specs.SourceMeaning.{source_trace}
 use Rattle.machine_meaning.specs.MachineMeaning.{machine_trace}
 use Rattle.module.specs.Promises.{Means}
 use Rattle.module.specs.Runs.{Runs}
+use Rattle.module.specs.Watched.{text_to}
 use Rattle.module.specs.declared.fault.RunFault.{RunFault}
 use Rattle.module.specs.declared.fault.RunFault.TheVariants.{Ticks, Image as NoImage, Partition, Device, Memory, Write, Failed}
 use Rattle.std.specs.Prelude.{IsErr, IsErrAnd, IsErrOf, IfErr, not}
 use Rattle.std.specs.Str.Parse.{IsNumeral, digits_value}
-use Rattle.command_line.specs.Stops.{IsBegun, RunsUntil, text_to}
+use Rattle.command_line.specs.Stops.{IsBegun, RunsUntil}
 use Rattle.machine_meaning.specs.ImageReading.{image_at}
 use Rattle.command_line.specs.Done.{IsDoneWith, IsRunDone, IsFirstRun, IsTraced, is_ok}
 use Rattle.command_line.specs.Ends.{Ends}

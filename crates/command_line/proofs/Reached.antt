@@ -4,21 +4,25 @@ use Rattle.std.specs.Prelude.{is_none}
 use Rattle.std.specs.Io.KnownBytes.{Appends, Keeps}
 use Rattle.std.proofs.KnownBytes.{Appends-kept, Appends-nil, Appends-trans}
 use Rattle.apex_types.specs.Line.{TakesBeginning}
+use Rattle.apex_types.specs.declared.limits.TheConstants.{MOST_TICKS}
 use Rattle.apex_types.specs.declared.device.DeviceLine.{DeviceLine}
 use Rattle.apex_types.proofs.Writing.{under_way_fails}
 use Rattle.machine_meaning.specs.Image.{Image}
 use Rattle.machine_meaning.specs.MachineMeaning.{machine_module}
 use Rattle.module.specs.Machines.{Machine, HasSkipped, fresh_machine}
 use Rattle.module.specs.Pieces.{LeadsTo}
+use Rattle.module.specs.Watched.{IsFollowed, IsToldMade, TakesAtLeast, Told, text_to}
 use Rattle.module.specs.Written.{AreFrom}
 use Rattle.module.specs.declared.fault.RunFault.{RunFault}
 use Rattle.module.specs.declared.fault.RunFault.TheVariants as fault
+use Rattle.module.proofs.Ahead.{IsAhead, ahead_first, down_same}
 use Rattle.module.proofs.Bursts.{from_lower, skipped_ahead}
+use Rattle.module.proofs.Watched.{followed_more, not_followed, takes_all, takes_beginning, takes_kept, takes_more}
 use Rattle.module_meaning.specs.Standing.{elapse}
-use Rattle.command_line.specs.Stops.{BreaksOff, EndsImage, MayRun, text_to}
-use Rattle.command_line.specs.StopSteps.{IsHeld}
+use Rattle.command_line.specs.Stops.{BreaksOff, EndsImage, MayRun}
+use Rattle.command_line.specs.StopSteps.{IsHeld, IsReported}
 use Rattle.command_line.specs.Awaited.{has_line}
-use Rattle.command_line.proofs.Ahead.{IsAhead, NoneCame, ahead_first, ahead_skipped, ahead_ticked, down_same, line_ticked, none_first, none_later, none_ticked, now_ticked, text_skipped, text_ticked}
+use Rattle.command_line.proofs.Ahead.{NoneCame, ahead_skipped, ahead_ticked, line_ticked, none_first, none_later, none_ticked, now_ticked, text_skipped, text_ticked}
 
 -- Of n ticks, all but `left` are made. No line came so far, and the sink has taken their text.
 pub record IsReached (asked : List (List ℕ)) (image : Image) (devices lines : List DeviceLine) (n left : ℕ) (old now : Option (List ℕ)) (m : Machine) : Type 0 where
@@ -193,3 +197,38 @@ ends_down {asked = asked} {image = image} {devices = devices} {lines = lines} {n
     let s = m.standing in
     let same : text_to image devices n ≡ text_to image devices s.now = ap (text_to image devices) (sym i.count) ∙ down_same image devices lines left s down i.ahead in
     without asked image devices n old now (none_later asked image devices s.now left n (sym i.count) (λ k few. down_same image devices lines k s down i.ahead) i.none) (subst (Appends old now) (sym same) i.taken)
+
+-- ---- what a watcher is told of it
+
+-- It was told of `last` ticks last, whose text was taken then.
+pub record IsFollowedBy (image : Image) (devices : List DeviceLine) (n last made : ℕ) (old new : Option (List ℕ)) (before after : Told) : Type 0 where
+  pub within : last ≤ made
+  pub kept : TakesAtLeast old new (text_to image devices last)
+  pub followed : IsFollowed n last before after
+
+pub followed_first : (image : Image) (devices : List DeviceLine) (n made : ℕ) (old : Option (List ℕ)) (told : Told) → IsFollowedBy image devices n 0 made old old told told
+followed_first image devices n made old told = record { within = omega arith; kept = takes_all (Appends-nil old); followed = not_followed n 0 told }
+
+pub followed_told : {image : Image} {devices : List DeviceLine} {n told made : ℕ} {old mid : Option (List ℕ)} {before between : Told} (last : ℕ) (new : Option (List ℕ)) (after : Told) → n ≤ MOST_TICKS → Keeps mid new → Appends old mid (text_to image devices made)
+    → IsFollowedBy image devices n told made old mid before between → IsReported told made n last between after → IsFollowedBy image devices n last made old new before after
+followed_told {image = image} {devices = devices} {n = n} {told = told} {old = old} {before = before} last new after few kept taken i (inl (same, quiet)) = record {
+  within = omega (arith, same, i.within);
+  kept = subst (λ t. TakesAtLeast old new (text_to image devices t)) (sym same) (takes_kept new i.kept kept);
+  followed = subst (λ t. IsFollowed n t before after) (sym same) (subst (IsFollowed n told before) (sym quiet) i.followed);
+}
+followed_told {image = image} {devices = devices} {n = n} {made = made} {old = old} {mid = mid} {before = before} last new after few kept taken i (inr (same, above, heard)) = record {
+  within = omega (arith, same);
+  kept = subst (λ t. TakesAtLeast old new (text_to image devices t)) (sym same) (takes_kept new (takes_all taken) kept);
+  followed = subst (λ t. IsFollowed n t before after) (sym same) (followed_more made after few above i.followed heard);
+}
+
+pub followed_further : {image : Image} {devices : List DeviceLine} {n last made : ℕ} {old mid : Option (List ℕ)} {before after : Told} (next : ℕ) (new : Option (List ℕ)) (bytes : List ℕ) → made ≤ next → Appends mid new bytes
+    → IsFollowedBy image devices n last made old mid before after → IsFollowedBy image devices n last next old new before after
+followed_further next new bytes further more i = record { within = omega (arith, further, i.within); kept = takes_more new bytes i.kept more; followed = i.followed }
+
+pub followed_beginning : {image : Image} {devices : List DeviceLine} {n last made : ℕ} {old mid : Option (List ℕ)} {before after : Told} (new : Option (List ℕ)) (bytes : List ℕ) → TakesBeginning mid new bytes
+    → IsFollowedBy image devices n last made old mid before after → IsFollowedBy image devices n last made old new before after
+followed_beginning new bytes part i = record { within = i.within; kept = takes_beginning new bytes i.kept part; followed = i.followed }
+
+pub followed_made : {image : Image} {devices : List DeviceLine} {n last made : ℕ} {old new : Option (List ℕ)} {before after : Told} → made ≤ n → IsFollowedBy image devices n last made old new before after → IsToldMade image devices n old new before after
+followed_made {last = last} few i = record { made = last; within = omega (arith, few, i.within); taken = i.kept; followed = i.followed }

@@ -15,6 +15,7 @@ pub mod Refusals
 pub mod Spelled
 pub mod States
 pub mod Told
+pub mod Watched
 pub mod Words
 pub mod Awaited
 pub mod Stops

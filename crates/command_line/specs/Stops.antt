@@ -1,19 +1,15 @@
 -- Where a run ends that waits for a line.
 use Rattle.std.specs.Prelude.{◌≡◌, ◌≤◌, ◌<◌, ◌⊎◌, ℕ, Bool, false, List, Option, Result, Ok, Err}
 use Rattle.std.specs.Io.KnownBytes.{Appends}
-use Rattle.apex_types.specs.Line.{text_of, TakesBeginning}
+use Rattle.apex_types.specs.Line.{TakesBeginning}
 use Rattle.apex_types.specs.declared.device.DeviceLine.{DeviceLine}
 use Rattle.machine_meaning.specs.Image.{Image}
 use Rattle.machine_meaning.specs.ImageReading.{Fault}
-use Rattle.machine_meaning.specs.MachineMeaning.{machine_trace}
 use Rattle.module.specs.Runs.{IsRun, Runs}
+use Rattle.module.specs.Watched.{text_to}
 use Rattle.module.specs.declared.fault.RunFault.{RunFault}
 use Rattle.module.specs.declared.fault.RunFault.TheVariants.{Memory, Write}
 use Rattle.command_line.specs.Awaited.{has_line}
-
--- the text of the trace of n ticks
-abbrev pub text_to : Image → List DeviceLine → ℕ → List ℕ
-text_to image lines n = text_of (machine_trace image lines n)
 
 -- Of n ticks, m may be run: no line that is asked for came before the last of them.
 pub record MayRun (asked : List (List ℕ)) (image : Image) (lines : List DeviceLine) (n m : ℕ) : Type 0 where

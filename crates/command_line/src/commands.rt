@@ -9,6 +9,7 @@ ghost use Rattle.command_line.specs.Meant.{meant};
 ghost use Rattle.command_line.specs.Orders.{Build, Check, Upgrade, asks, is_asked, order_of, style_of};
 ghost use Rattle.command_line.specs.Spelled.{spelled};
 ghost use Rattle.command_line.specs.States.{state};
+ghost use Rattle.command_line.specs.Watched.{IsWatched};
 ghost use Rattle.command_line.specs.Words.{mb_app};
 ghost use Rattle.command_line.specs.Ends.{Answers, AnswersWords, Ends, NotesAsked, as_answer};
 
@@ -35,6 +36,7 @@ use streams::{Files, Stream, write_line};
 /// Does what the words say, and notes whether they ask for an explanation of a refusal; then the
 /// explanation of a refused file is noted, too. If the words ask for reports, a run reports to
 /// `watch`.
+#[tactic(auto, using(crate::proofs::Watched::not_watched))]
 pub fn perform<S: AsStr, F: Files, O: Stream, W: Watch>(
     alloc: Global,
     words: &[S],
@@ -52,6 +54,8 @@ pub fn perform<S: AsStr, F: Files, O: Stream, W: Watch>(
         (state F.contents F.failed F.reads O.taken O.failures O.is_flushed files.old out.old)
         (state F.contents F.failed F.reads O.taken O.failures O.is_flushed files.new out.new)
         result }
+    ensures watched { IsWatched (order_of (subcommand_of mb_app (spelled (map S.text words.now))))
+        (W.told watch.old) (W.told watch.new) }
 {
     match spelled(alloc, words) {
         Ok(words) => obey_words(alloc, words.as_slice(), files, out, watch, noted),
@@ -60,6 +64,7 @@ pub fn perform<S: AsStr, F: Files, O: Stream, W: Watch>(
 }
 
 /// The same of words as the library of command lines takes them.
+#[tactic(auto, using(crate::proofs::Watched::not_watched))]
 fn obey_words<F: Files, O: Stream, W: Watch>(
     alloc: Global,
     words: &[&str],
@@ -77,6 +82,8 @@ fn obey_words<F: Files, O: Stream, W: Watch>(
         (state F.contents F.failed F.reads O.taken O.failures O.is_flushed files.old out.old)
         (state F.contents F.failed F.reads O.taken O.failures O.is_flushed files.new out.new)
         result }
+    ensures watched { IsWatched (order_of (subcommand_of mb_app (map (λ s. s.now) words.now)))
+        (W.told watch.old) (W.told watch.new) }
 {
     let matches = grammar(alloc)?.try_get_matches_from(words)?;
     noted.asked = asks(&matches);
@@ -112,6 +119,7 @@ fn style_of(matches: &ArgMatches<'_>) -> Style
 }
 
 /// Does the command that was found in the words, if no word is `-`.
+#[tactic(auto, using(crate::proofs::Watched::not_watched))]
 fn obey<F: Files, O: Stream, W: Watch>(
     alloc: Global,
     matches: &ArgMatches<'_>,
@@ -121,10 +129,12 @@ fn obey<F: Files, O: Stream, W: Watch>(
     note: &mut Note,
 ) -> Result<Outcome, Failure<Refusal>>
     requires { O.failures out.old < 2 ^ 64 - 1 }
-    ensures { Answers (order_of (subcommand_rows_of matches.now))
+    ensures ended { Answers (order_of (subcommand_rows_of matches.now))
         (state F.contents F.failed F.reads O.taken O.failures O.is_flushed files.old out.old)
         (state F.contents F.failed F.reads O.taken O.failures O.is_flushed files.new out.new)
         result }
+    ensures watched { IsWatched (order_of (subcommand_rows_of matches.now)) (W.told watch.old)
+        (W.told watch.new) }
 {
     if let Some(name) = dashed_command(matches) {
         return Err(Failure::Usage(lone_dash(alloc, name)?));
@@ -142,26 +152,23 @@ fn obey_order<F: Files, O: Stream, W: Watch>(
     note: &mut Note,
 ) -> Result<Outcome, Failure<Refusal>>
     requires { O.failures out.old < 2 ^ 64 - 1 }
-    ensures { Answers (meant order.entry)
+    ensures ended { Answers (meant order.entry)
         (state F.contents F.failed F.reads O.taken O.failures O.is_flushed files.old out.old)
         (state F.contents F.failed F.reads O.taken O.failures O.is_flushed files.new out.new)
         result }
+    ensures watched { IsWatched (meant order.entry) (W.told watch.old) (W.told watch.new) }
 {
     match order {
         Order::First => ended(run_stored(alloc, out)),
         Order::Check { names } => ended(check(alloc, names, files, out, note)),
         Order::Build { names, image } => ended(build(alloc, names, image, files, out, note)),
         Order::Run { words, is_watched } => {
-            if is_watched {
-                watch.begin();
-            }
+            begin_if(is_watched, watch);
             run(alloc, words, files, out, watch, note)
         }
         Order::Replay { words } => replay(alloc, words, files, out, note),
         Order::Inputs { words, is_watched } => {
-            if is_watched {
-                watch.begin();
-            }
+            begin_if(is_watched, watch);
             inputs(alloc, words, files, out, watch, note)
         }
         Order::Cost { names } => ended(cost(alloc, names, files, out, note)),
@@ -169,6 +176,15 @@ fn obey_order<F: Files, O: Stream, W: Watch>(
         Order::Upgrade { old, new } => ended(upgrade(alloc, old, new, files, out, note)),
         Order::Load { form, names } => ended(load(alloc, form, names, files, out, note)),
         Order::Lint { names } => ended(lint(alloc, names, files, out, note)),
+    }
+}
+
+/// Asks for reports, if they are wanted.
+fn begin_if<W: Watch>(is_wanted: bool, watch: &mut W)
+    ensures { W.told watch.new ≡ W.told watch.old }
+{
+    if is_wanted {
+        watch.begin();
     }
 }
 

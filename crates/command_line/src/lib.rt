@@ -13,6 +13,7 @@ ghost use Rattle.command_line.specs.Orders.{asks, order_of};
 ghost use Rattle.command_line.specs.Spelled.{spelled};
 ghost use Rattle.command_line.specs.States.{state};
 ghost use Rattle.streams.specs.States.{seen};
+ghost use Rattle.command_line.specs.Watched.{IsWatched};
 ghost use Rattle.command_line.specs.Words.{mb_app};
 
 mod commands;
@@ -56,7 +57,9 @@ use telling::tell;
 ///
 /// Faults are met in this order: the words, the files read in the order of the words, the build,
 /// the run or what is listed, the file written, the lines printed. An image is written only if it
-/// was built. If the words ask for reports, a run reports to `watch`.
+/// was built. If the words ask for reports, a run reports to `watch`: in rising order, and no more
+/// than its ticks.
+#[tactic(auto, using(crate::proofs::Watched::not_watched))]
 pub fn command<S: AsStr, F: Files, O: Stream, E: Stream, W: Watch>(
     alloc: Global,
     words: &[S],
@@ -67,7 +70,7 @@ pub fn command<S: AsStr, F: Files, O: Stream, E: Stream, W: Watch>(
 ) -> u8
     requires out { O.failures out.old < 2 ^ 64 - 1 }
     requires err { E.failures err.old < 2 ^ 64 - 1 }
-    ensures { IsAnswerTo (page_of (map S.text words.now))
+    ensures answer { IsAnswerTo (page_of (map S.text words.now))
         (fault_of mb_app (spelled (map S.text words.now)))
         (order_of (subcommand_of mb_app (spelled (map S.text words.now))))
         (asks (subcommand_of mb_app (spelled (map S.text words.now))))
@@ -75,6 +78,8 @@ pub fn command<S: AsStr, F: Files, O: Stream, E: Stream, W: Watch>(
         (state F.contents F.failed F.reads O.taken O.failures O.is_flushed files.new out.new)
         (seen E.taken E.failures E.is_flushed err.old)
         (seen E.taken E.failures E.is_flushed err.new) result }
+    ensures watched { IsWatched (order_of (subcommand_of mb_app (spelled (map S.text words.now))))
+        (W.told watch.old) (W.told watch.new) }
 {
     match page_of(words) {
         Some(page) => tell_page(alloc, page, out, err),
@@ -93,13 +98,15 @@ fn answer<S: AsStr, F: Files, O: Stream, E: Stream, W: Watch>(
 ) -> u8
     requires out { O.failures out.old < 2 ^ 64 - 1 }
     requires err { E.failures err.old < 2 ^ 64 - 1 }
-    ensures { IsAnswer (fault_of mb_app (spelled (map S.text words.now)))
+    ensures answer { IsAnswer (fault_of mb_app (spelled (map S.text words.now)))
         (order_of (subcommand_of mb_app (spelled (map S.text words.now))))
         (asks (subcommand_of mb_app (spelled (map S.text words.now))))
         (state F.contents F.failed F.reads O.taken O.failures O.is_flushed files.old out.old)
         (state F.contents F.failed F.reads O.taken O.failures O.is_flushed files.new out.new)
         (seen E.taken E.failures E.is_flushed err.old)
         (seen E.taken E.failures E.is_flushed err.new) result }
+    ensures watched { IsWatched (order_of (subcommand_of mb_app (spelled (map S.text words.now))))
+        (W.told watch.old) (W.told watch.new) }
 {
     let mut noted = Noted {
         asked: false,

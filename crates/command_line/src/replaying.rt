@@ -1,8 +1,10 @@
 //! One partition of an image: its replay, and the inputs that a run brings it.
 
 ghost use Rattle.std.specs.Prelude.{◌-◌, ◌^◌, ◌<◌};
+ghost use Rattle.module.specs.Watched.{IsFollowed};
 ghost use Rattle.command_line.specs.Meant.{inputs_meant, replay_meant};
 ghost use Rattle.command_line.specs.States.{state};
+ghost use Rattle.command_line.specs.Watched.{IsWatched};
 ghost use Rattle.command_line.specs.Ends.{Answers, EndsInputs, EndsReplay};
 
 use crate::explaining::{Note, RunFiles};
@@ -73,6 +75,7 @@ fn replay_named<F: Files, O: Stream>(
 
 /// Writes the inputs that a run of an image brings a partition in the ticks of a word, and reports
 /// to a watcher how far the run is.
+#[tactic(auto, using(module::proofs::Watched::not_followed))]
 pub fn inputs<F: Files, O: Stream, W: Watch>(
     alloc: Global,
     words: InputsWords<'_>,
@@ -82,10 +85,11 @@ pub fn inputs<F: Files, O: Stream, W: Watch>(
     note: &mut Note,
 ) -> Result<Outcome, Failure<Refusal>>
     requires { O.failures out.old < 2 ^ 64 - 1 }
-    ensures { Answers (inputs_meant words.entry)
+    ensures ended { Answers (inputs_meant words.entry)
         (state F.contents F.failed F.reads O.taken O.failures O.is_flushed files.old out.old)
         (state F.contents F.failed F.reads O.taken O.failures O.is_flushed files.new out.new)
         result }
+    ensures watched { IsWatched (inputs_meant words.entry) (W.told watch.old) (W.told watch.new) }
 {
     let Some(ticks) = number_of(words.ticks) else {
         return Err(Failure::Usage(bad_ticks(alloc, "inputs", words.ticks)?));
@@ -95,6 +99,7 @@ pub fn inputs<F: Files, O: Stream, W: Watch>(
 
 /// Writes the inputs that so many ticks of an image bring a partition. A refusal of the image or of
 /// the device text is explained in `note`.
+#[tactic(auto, using(module::proofs::Watched::not_followed))]
 fn inputs_named<F: Files, O: Stream, W: Watch>(
     alloc: Global,
     wanted: Timed<InputsWords<'_>>,
@@ -104,11 +109,13 @@ fn inputs_named<F: Files, O: Stream, W: Watch>(
     note: &mut Note,
 ) -> Result<Outcome, Refusal>
     requires { O.failures out.old < 2 ^ 64 - 1 }
-    ensures { EndsInputs wanted.entry.words.image.now wanted.entry.words.partition.now
+    ensures ended { EndsInputs wanted.entry.words.image.now wanted.entry.words.partition.now
         wanted.entry.words.devices.now wanted.entry.ticks
         (state F.contents F.failed F.reads O.taken O.failures O.is_flushed files.old out.old)
         (state F.contents F.failed F.reads O.taken O.failures O.is_flushed files.new out.new)
         result }
+    ensures followed { IsFollowed wanted.entry.ticks wanted.entry.ticks (W.told watch.old)
+        (W.told watch.new) }
 {
     let words = wanted.words;
     let image = read_as(alloc, TextKind::Image, words.image, files)?;

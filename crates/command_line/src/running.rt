@@ -2,12 +2,14 @@
 
 ghost use Rattle.std.specs.Prelude.{◌≡◌, ◌-◌, ◌^◌, ◌<◌, ℕ, List, Option, map, IfErr, OnOk};
 ghost use Rattle.machine_meaning.specs.ImageReading.{image_at};
+ghost use Rattle.module.specs.Watched.{IsFollowed};
 ghost use Rattle.command_line.specs.Done.{IsFirstRun, IsTraced};
 ghost use Rattle.command_line.specs.Ends.{Answers, Ends, EndsRun};
 ghost use Rattle.command_line.specs.Meant.{run_meant};
 ghost use Rattle.command_line.specs.Orders.{First};
 ghost use Rattle.command_line.specs.Refusals.{HasFailedBy, HasFailedByBoth};
 ghost use Rattle.command_line.specs.States.{state, state_of};
+ghost use Rattle.command_line.specs.Watched.{IsWatched};
 ghost use Rattle.streams.specs.Contents.{Contents};
 ghost use Rattle.streams.specs.Reads.{Reads};
 ghost use Rattle.streams.specs.States.{seen};
@@ -29,6 +31,7 @@ use text_beginnings::TextKind;
 /// Runs an image for the ticks of a word, and reports to a watcher how far it is. With words in
 /// `until` the run ends with the first tick that has a line with them; it is remarkable if none
 /// comes.
+#[tactic(auto, using(module::proofs::Watched::not_followed))]
 pub fn run<F: Files, O: Stream, W: Watch>(
     alloc: Global,
     words: RunWords<'_>,
@@ -38,10 +41,11 @@ pub fn run<F: Files, O: Stream, W: Watch>(
     note: &mut Note,
 ) -> Result<Outcome, Failure<Refusal>>
     requires { O.failures out.old < 2 ^ 64 - 1 }
-    ensures { Answers (run_meant words.entry)
+    ensures ended { Answers (run_meant words.entry)
         (state F.contents F.failed F.reads O.taken O.failures O.is_flushed files.old out.old)
         (state F.contents F.failed F.reads O.taken O.failures O.is_flushed files.new out.new)
         result }
+    ensures watched { IsWatched (run_meant words.entry) (W.told watch.old) (W.told watch.new) }
 {
     let Some(ticks) = number_of(words.ticks) else {
         return Err(Failure::Usage(bad_ticks(alloc, "run", words.ticks)?));
@@ -52,6 +56,7 @@ pub fn run<F: Files, O: Stream, W: Watch>(
 
 /// Runs an image for so many ticks, or to a line. A refusal of the image or of the device text is
 /// explained in `note`.
+#[tactic(auto, using(module::proofs::Watched::not_followed))]
 fn run_named<F: Files, O: Stream, W: Watch>(
     alloc: Global,
     wanted: Timed<RunWords<'_>>,
@@ -61,11 +66,13 @@ fn run_named<F: Files, O: Stream, W: Watch>(
     note: &mut Note,
 ) -> Result<Outcome, Refusal>
     requires { O.failures out.old < 2 ^ 64 - 1 }
-    ensures { EndsRun wanted.entry.words.image.now wanted.entry.words.devices.now
+    ensures ended { EndsRun wanted.entry.words.image.now wanted.entry.words.devices.now
         (map (λ w. w.now) wanted.entry.words.until.now) wanted.entry.ticks
         (state F.contents F.failed F.reads O.taken O.failures O.is_flushed files.old out.old)
         (state F.contents F.failed F.reads O.taken O.failures O.is_flushed files.new out.new)
         result }
+    ensures followed { IsFollowed wanted.entry.ticks wanted.entry.ticks (W.told watch.old)
+        (W.told watch.new) }
 {
     let words = wanted.words;
     let image = read_as(alloc, TextKind::Image, words.image, files)?;
@@ -103,6 +110,7 @@ fn trace<O: Stream, W: Watch>(
     ensures failed { IfErr result
         (λ f. HasFailedBy f (seen O.taken O.failures O.is_flushed out.old)
         (seen O.taken O.failures O.is_flushed out.new)) }
+    ensures followed { IsFollowed ticks ticks (W.told watch.old) (W.told watch.new) }
 {
     if until.is_empty() {
         return match module::run_watched(alloc, files.image, files.text, ticks, out, watch) {

@@ -2,7 +2,7 @@
 
 ghost use Rattle.std.specs.Prelude.{◌≡◌, ◌+◌, ◌≤◌, [], ◌∷◌, ◌++◌, length, map, option_map, OnOk, IfOk};
 ghost use Rattle.std.specs.List.{sum_by};
-ghost use Rattle.apex_types.specs.declared.limits.TheConstants.{MOST_INSTRUCTIONS};
+ghost use Rattle.apex_types.specs.Limits.{MOST_INSTRUCTIONS};
 ghost use Rattle.pal_meaning.specs.Program as cost;
 ghost use Rattle.compiling_laws.specs.CompiledCode as code_of;
 ghost use Rattle.pal_base.specs.ProgramView.{body_of, procedure_of, process_of};

@@ -1,7 +1,7 @@
 //! The instructions of expressions and statements, one for each construct.
 
 ghost use Rattle.std.specs.Prelude.{◌≡◌, ◌+◌, ◌≤◌, [], ◌∷◌, ◌++◌, length, map, OnOk, IfOk};
-ghost use Rattle.apex_types.specs.declared.limits.TheConstants.{MOST_INSTRUCTIONS};
+ghost use Rattle.apex_types.specs.Limits.{MOST_INSTRUCTIONS};
 ghost use Rattle.pal_meaning.specs.Program.{size_of_expr, size_of_stmt, size_of_block};
 ghost use Rattle.apex_types.specs.ServiceShape.{number_of};
 ghost use Rattle.compiling_laws.specs.CompiledCode as code_of;

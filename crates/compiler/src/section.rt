@@ -2,7 +2,7 @@
 
 ghost use Rattle.std.specs.Prelude.{◌≡◌, ◌≤◌, ◌<◌, ◌↔◌, ◌++◌, length, map, All, FitsSigned, IfOk, Err, Some};
 ghost use Rattle.std.specs.Int.{w64};
-ghost use Rattle.apex_types.specs.declared.limits.TheConstants.{MOST_INSTRUCTIONS};
+ghost use Rattle.apex_types.specs.Limits.{MOST_INSTRUCTIONS};
 ghost use Rattle.pal_meaning.specs.Program as cost;
 ghost use Rattle.compiling_laws.specs.CompiledCode as code_of;
 ghost use Rattle.machine_meaning.specs.Instructions.{bytes_of, reading};

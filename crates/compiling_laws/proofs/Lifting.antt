@@ -31,8 +31,8 @@ use Rattle.kernel_meaning.specs.PartitionServices.{clears}
 use Rattle.kernel_meaning.specs.Partition.{World, Member, Moved, control_at, replied, no_control, written, with_error, act, act_all, moved, followed_by, ticked, chooses_with_handler, spends, spends_chosen, spending_phase, given, treats_asked, treats_due, treating_phase, clearing_phase, due_phase, choice_phase, prepares, tick, cold_start, breaks_down, advances, arrives, leaves, leaving, admits, goes_out, place_of_port, messages_to_move}
 use Rattle.kernel_meaning.specs.Step.{Step}
 use Rattle.kernel_meaning.specs.Windows.{owner, ended}
-use Rattle.module_meaning.specs.Module.{Plan, Advanced, Course, goes_on, unless_down, then_runs, still, then_goes, steps, steps_member, of_member, ports_of, ports_from, delivers, delivers_all, goes_by, inputs, inputs_all, of_tick, channel_from, moves_found, moves_message, moves_messages, moves_so_many, moves_port, moves_ports, moves_ended, first_tick, next_tick, start_lines, starts_all, starts, tells_fault, as_origin, breaks_module, ticks_owner, moves_and_ticks, module_tick, trace_from, trace}
-use Rattle.compiling_laws.specs.Lifting.{SameControl, SameControls, SameWorld, SameMoved, SameMember, SameMembers, SameAdvanced, SameCourse}
+use Rattle.module_meaning.specs.Module.{Plan, Stepped, Course, goes_on, unless_down, then_runs, still, then_goes, steps, steps_member, of_member, ports_of, ports_from, delivers, delivers_all, goes_by, inputs, inputs_all, of_tick, channel_from, moves_found, moves_message, moves_messages, moves_so_many, moves_port, moves_ports, moves_ended, first_tick, next_tick, start_lines, starts_all, starts, tells_fault, as_origin, breaks_module, ticks_owner, moves_and_ticks, module_tick, trace_from, trace}
+use Rattle.compiling_laws.specs.Lifting.{SameControl, SameControls, SameWorld, SameMoved, SameMember, SameMembers, SameStepped, SameCourse}
 
 abbrev world : {C : Type 0} → Kernel → List (Option C) → List ℤ → List ℤ → World C
 world k controls words initial = record { kernel = k; controls = controls; words = words; initial = initial }
@@ -168,13 +168,13 @@ module _ {I C D : Type 0} (R : I → C → D → Type 0) where
   started_same at c i x y h =
       shared (R i) (λ v w. SameMoved (R i) (moved at x.engine (clears v.kernel mode.ColdStart c) v) (moved at y.engine (clears w.kernel mode.ColdStart c) w)) x.world y.world (same_start (R i) x.engine y.engine h.engine at c) h.world
 
-  starts_same : (at : At) (c : StartCondition) (is : List I) (xs : List (Member C)) (ys : List (Member D)) → SameMembers R is xs ys → SameAdvanced R is (starts_all at c xs) (starts_all at c ys)
-  starts_same at c [] [] [] h = record { members = tt; lines = refl }
+  starts_same : (at : At) (c : StartCondition) (is : List I) (xs : List (Member C)) (ys : List (Member D)) → SameMembers R is xs ys → SameStepped R is (starts_all at c xs) (starts_all at c ys)
+  starts_same at c [] [] [] h = record { state = tt; lines = refl }
   starts_same at c (i ∷ is) (x ∷ xs) (y ∷ ys) h =
       let one = started_same at c i x y h.0 in
       let rest = starts_same at c is xs ys h.1 in
       record {
-        members = (record { engine = h.0.engine; world = one.world }, rest.members);
+        state = (record { engine = h.0.engine; world = one.world }, rest.state);
         lines = ap (λ (es : List Event). es ++ flat_map (start_lines at c) xs) one.lines ∙ ap (λ (es : List Event). start_lines at c y ++ es) rest.lines;
       }
   starts_same at c [] [] (y ∷ ys) h = absurd h
@@ -187,40 +187,40 @@ module _ {I C D : Type 0} (R : I → C → D → Type 0) where
   SameSteps f g = (i : I) (x : Member C) (y : Member D) → SameMember (R i) x y → SameMoved (R i) (f x) (g y)
 
   -- a step of a member after the first
-  behind_first : {E : Type 0} (f : Member E → Moved E) (p : ℕ) (x : Member E) (xs : List (Member E)) (o : Option (Member E)) → steps_member f (x ∷ xs) (suc p) o ≡ record { members = x ∷ (steps_member f xs p o).members; lines = (steps_member f xs p o).lines }
+  behind_first : {E : Type 0} (f : Member E → Moved E) (p : ℕ) (x : Member E) (xs : List (Member E)) (o : Option (Member E)) → steps_member f (x ∷ xs) (suc p) o ≡ record { state = x ∷ (steps_member f xs p o).state; lines = (steps_member f xs p o).lines }
   behind_first f p x xs None = refl
   behind_first f p x xs (Some y) = refl
 
-  member_same : (f : Member C → Moved C) (g : Member D → Moved D) → SameSteps f g → (is : List I) (xs : List (Member C)) (ys : List (Member D)) (p : ℕ) → SameMembers R is xs ys → SameAdvanced R is (steps_member f xs p (slice_get xs p)) (steps_member g ys p (slice_get ys p))
-  member_same f g same [] [] [] p h = record { members = tt; lines = refl }
+  member_same : (f : Member C → Moved C) (g : Member D → Moved D) → SameSteps f g → (is : List I) (xs : List (Member C)) (ys : List (Member D)) (p : ℕ) → SameMembers R is xs ys → SameStepped R is (steps_member f xs p (slice_get xs p)) (steps_member g ys p (slice_get ys p))
+  member_same f g same [] [] [] p h = record { state = tt; lines = refl }
   member_same f g same (i ∷ is) (x ∷ xs) (y ∷ ys) zero h =
       let one = same i x y h.0 in
-      record { members = (record { engine = h.0.engine; world = one.world }, h.1); lines = one.lines }
+      record { state = (record { engine = h.0.engine; world = one.world }, h.1); lines = one.lines }
   member_same f g same (i ∷ is) (x ∷ xs) (y ∷ ys) (suc p) h =
       let rest = member_same f g same is xs ys p h.1 in
-      let step : SameAdvanced R (i ∷ is) (record { members = x ∷ (steps_member f xs p (slice_get xs p)).members; lines = (steps_member f xs p (slice_get xs p)).lines }) (record { members = y ∷ (steps_member g ys p (slice_get ys p)).members; lines = (steps_member g ys p (slice_get ys p)).lines }) =
-      record { members = (h.0, rest.members); lines = rest.lines } in
-      subst (λ (a : Advanced C). SameAdvanced R (i ∷ is) a (steps_member g (y ∷ ys) (suc p) (slice_get ys p))) (sym (behind_first f p x xs (slice_get xs p)))
-      (subst (λ (b : Advanced D). SameAdvanced R (i ∷ is) (record { members = x ∷ (steps_member f xs p (slice_get xs p)).members; lines = (steps_member f xs p (slice_get xs p)).lines }) b) (sym (behind_first g p y ys (slice_get ys p))) step)
+      let step : SameStepped R (i ∷ is) (record { state = x ∷ (steps_member f xs p (slice_get xs p)).state; lines = (steps_member f xs p (slice_get xs p)).lines }) (record { state = y ∷ (steps_member g ys p (slice_get ys p)).state; lines = (steps_member g ys p (slice_get ys p)).lines }) =
+      record { state = (h.0, rest.state); lines = rest.lines } in
+      subst (λ (a : Stepped (List (Member C))). SameStepped R (i ∷ is) a (steps_member g (y ∷ ys) (suc p) (slice_get ys p))) (sym (behind_first f p x xs (slice_get xs p)))
+      (subst (λ (b : Stepped (List (Member D))). SameStepped R (i ∷ is) (record { state = x ∷ (steps_member f xs p (slice_get xs p)).state; lines = (steps_member f xs p (slice_get xs p)).lines }) b) (sym (behind_first g p y ys (slice_get ys p))) step)
   member_same f g same [] [] (y ∷ ys) p h = absurd h
   member_same f g same [] (x ∷ xs) ys p h = absurd h
   member_same f g same (i ∷ is) [] ys p h = absurd h
   member_same f g same (i ∷ is) (x ∷ xs) [] p h = absurd h
 
-  steps_same : (f : Member C → Moved C) (g : Member D → Moved D) → SameSteps f g → (is : List I) (xs : List (Member C)) (ys : List (Member D)) (p : ℕ) → SameMembers R is xs ys → SameAdvanced R is (steps f xs p) (steps g ys p)
-  steps_same f g same is xs ys zero h = record { members = h; lines = refl }
+  steps_same : (f : Member C → Moved C) (g : Member D → Moved D) → SameSteps f g → (is : List I) (xs : List (Member C)) (ys : List (Member D)) (p : ℕ) → SameMembers R is xs ys → SameStepped R is (steps f xs p) (steps g ys p)
+  steps_same f g same is xs ys zero h = record { state = h; lines = refl }
   steps_same f g same is xs ys (suc p) h = member_same f g same is xs ys p h
 
-  still_same : (is : List I) (xs : List (Member C)) (ys : List (Member D)) → SameMembers R is xs ys → SameAdvanced R is (still xs) (still ys)
-  still_same is xs ys h = record { members = h; lines = refl }
+  still_same : (is : List I) (xs : List (Member C)) (ys : List (Member D)) → SameMembers R is xs ys → SameStepped R is (still xs) (still ys)
+  still_same is xs ys h = record { state = h; lines = refl }
 
-  then_same : (is : List I) (a : Advanced C) (b : Advanced D) (p : List (Member C) → Advanced C) (q : List (Member D) → Advanced D)
-      → SameAdvanced R is a b
-      → ((xs : List (Member C)) (ys : List (Member D)) → SameMembers R is xs ys → SameAdvanced R is (p xs) (q ys))
-      → SameAdvanced R is (then_goes a p) (then_goes b q)
+  then_same : (is : List I) (a : Stepped (List (Member C))) (b : Stepped (List (Member D))) (p : List (Member C) → Stepped (List (Member C))) (q : List (Member D) → Stepped (List (Member D)))
+      → SameStepped R is a b
+      → ((xs : List (Member C)) (ys : List (Member D)) → SameMembers R is xs ys → SameStepped R is (p xs) (q ys))
+      → SameStepped R is (then_goes a p) (then_goes b q)
   then_same is a b p q h rest =
-      let more = rest a.members b.members h.members in
-      record { members = more.members; lines = ap (λ (es : List Event). es ++ (p a.members).lines) h.lines ∙ ap (λ (es : List Event). b.lines ++ es) more.lines }
+      let more = rest a.state b.state h.state in
+      record { state = more.state; lines = ap (λ (es : List Event). es ++ (p a.state).lines) h.lines ∙ ap (λ (es : List Event). b.lines ++ es) more.lines }
 
   -- ---- the steps of one partition
 
@@ -281,47 +281,47 @@ module _ {I C D : Type 0} (R : I → C → D → Type 0) where
 
   -- ---- messages
 
-  delivers_same : (at : At) (c : Channel) (m : ArrayVec ℤ) (source e : ChannelEnd) (is : List I) (xs : List (Member C)) (ys : List (Member D)) → SameMembers R is xs ys → SameAdvanced R is (delivers at c m source e xs) (delivers at c m source e ys)
+  delivers_same : (at : At) (c : Channel) (m : ArrayVec ℤ) (source e : ChannelEnd) (is : List I) (xs : List (Member C)) (ys : List (Member D)) → SameMembers R is xs ys → SameStepped R is (delivers at c m source e xs) (delivers at c m source e ys)
   delivers_same at c m (ends.Port p other) (ends.Port q port) is xs ys h = steps_same _ _ (arrives_same at port m) is xs ys q.0 h
   delivers_same at c m ends.Device (ends.Port q port) is xs ys h = steps_same _ _ (arrives_same at port m) is xs ys q.0 h
   delivers_same at c m (ends.Port p port) ends.Device is xs ys h = steps_same _ _ (goes_out_same at c.name m) is xs ys p.0 h
   delivers_same at c m ends.Device ends.Device is xs ys h = still_same is xs ys h
 
-  delivers_all_same : (at : At) (c : Channel) (m : ArrayVec ℤ) (es : List ChannelEnd) (is : List I) (xs : List (Member C)) (ys : List (Member D)) → SameMembers R is xs ys → SameAdvanced R is (delivers_all at c m es xs) (delivers_all at c m es ys)
+  delivers_all_same : (at : At) (c : Channel) (m : ArrayVec ℤ) (es : List ChannelEnd) (is : List I) (xs : List (Member C)) (ys : List (Member D)) → SameMembers R is xs ys → SameStepped R is (delivers_all at c m es xs) (delivers_all at c m es ys)
   delivers_all_same at c m [] is xs ys h = still_same is xs ys h
   delivers_all_same at c m (e ∷ es) is xs ys h = then_same is _ _ (delivers_all at c m es) (delivers_all at c m es) (delivers_same at c m c.source e is xs ys h) (delivers_all_same at c m es is)
 
-  goes_by_same : (at : At) (m : ArrayVec ℤ) (c : Option Channel) (is : List I) (xs : List (Member C)) (ys : List (Member D)) → SameMembers R is xs ys → SameAdvanced R is (goes_by at m c xs) (goes_by at m c ys)
+  goes_by_same : (at : At) (m : ArrayVec ℤ) (c : Option Channel) (is : List I) (xs : List (Member C)) (ys : List (Member D)) → SameMembers R is xs ys → SameStepped R is (goes_by at m c xs) (goes_by at m c ys)
   goes_by_same at m None is xs ys h = still_same is xs ys h
   goes_by_same at m (Some c) is xs ys h = delivers_all_same at c m c.destinations is xs ys h
 
   -- ---- steps that may start the module again, or shut it down
 
-  goes_on_same : (at : At) (is : List I) (a : Advanced C) (b : Advanced D) → SameAdvanced R is a b → SameCourse R is (goes_on at a) (goes_on at b)
-  goes_on_same at is a b h = record { at = refl; members = h.members; lines = h.lines }
+  goes_on_same : (at : At) (is : List I) (a : Stepped (List (Member C))) (b : Stepped (List (Member D))) → SameStepped R is a b → SameCourse R is (goes_on at a) (goes_on at b)
+  goes_on_same at is a b h = record { at = refl; state = h.state; lines = h.lines }
 
-  unless_down_same : (is : List I) (c : Course C) (d : Course D) (p : At → List (Member C) → Course C) (q : At → List (Member D) → Course D) (o : Option At)
+  unless_down_same : (is : List I) (c : Course (List (Member C))) (d : Course (List (Member D))) (p : At → List (Member C) → Course (List (Member C))) (q : At → List (Member D) → Course (List (Member D))) (o : Option At)
       → SameCourse R is c d
       → ((at : At) (xs : List (Member C)) (ys : List (Member D)) → SameMembers R is xs ys → SameCourse R is (p at xs) (q at ys))
       → SameCourse R is (unless_down c p o) (unless_down d q o)
   unless_down_same is c d p q None h rest = h
   unless_down_same is c d p q (Some at) h rest =
-      let more = rest at c.members d.members h.members in
-      record { at = more.at; members = more.members; lines = ap (λ (es : List Event). es ++ (p at c.members).lines) h.lines ∙ ap (λ (es : List Event). d.lines ++ es) more.lines }
+      let more = rest at c.state d.state h.state in
+      record { at = more.at; state = more.state; lines = ap (λ (es : List Event). es ++ (p at c.state).lines) h.lines ∙ ap (λ (es : List Event). d.lines ++ es) more.lines }
 
-  then_runs_same : (is : List I) (c : Course C) (d : Course D) (p : At → List (Member C) → Course C) (q : At → List (Member D) → Course D)
+  then_runs_same : (is : List I) (c : Course (List (Member C))) (d : Course (List (Member D))) (p : At → List (Member C) → Course (List (Member C))) (q : At → List (Member D) → Course (List (Member D)))
       → SameCourse R is c d
       → ((at : At) (xs : List (Member C)) (ys : List (Member D)) → SameMembers R is xs ys → SameCourse R is (p at xs) (q at ys))
       → SameCourse R is (then_runs c p) (then_runs d q)
   then_runs_same is c d p q h rest =
       subst (λ (o : Option At). SameCourse R is (then_runs c p) (unless_down d q o)) h.at (unless_down_same is c d p q c.at h rest)
 
-  tells_same : (at : At) (a : ModuleAction) (is : List I) (xs : List (Member C)) (ys : List (Member D)) → SameMembers R is xs ys → SameAdvanced R is (tells_fault at a xs) (tells_fault at a ys)
-  tells_same at a is xs ys h = record { members = h; lines = refl }
+  tells_same : (at : At) (a : ModuleAction) (is : List I) (xs : List (Member C)) (ys : List (Member D)) → SameMembers R is xs ys → SameStepped R is (tells_fault at a xs) (tells_fault at a ys)
+  tells_same at a is xs ys h = record { state = h; lines = refl }
 
   module_fault_same : (at : At) (a : ModuleAction) (is : List I) (xs : List (Member C)) (ys : List (Member D)) → SameMembers R is xs ys → SameCourse R is (breaks_module at a xs) (breaks_module at a ys)
   module_fault_same at reaction.Ignore is xs ys h = goes_on_same at is _ _ (tells_same at reaction.Ignore is xs ys h)
-  module_fault_same at reaction.Shutdown is xs ys h = record { at = refl; members = h; lines = refl }
+  module_fault_same at reaction.Shutdown is xs ys h = record { at = refl; state = h; lines = refl }
   module_fault_same at reaction.Reset is xs ys h =
       goes_on_same (as_origin at) is _ _ (then_same is _ _ (starts_all (as_origin at) condition.HmModuleRestart) (starts_all (as_origin at) condition.HmModuleRestart) (tells_same at reaction.Reset is xs ys h) (starts_same (as_origin at) condition.HmModuleRestart is))
 
@@ -339,43 +339,43 @@ module _ {I C D : Type 0} (R : I → C → D → Type 0) where
   -- ---- moves
 
   module _ (channels : List Channel) (at : At) (p : PartitionId) where
-    found_both : (port : PortId) (m : Option (ArrayVec ℤ)) (is : List I) (xs : List (Member C)) (ys : List (Member D)) → SameMembers R is xs ys → SameAdvanced R is (moves_found channels at p port xs m) (moves_found channels at p port ys m)
+    found_both : (port : PortId) (m : Option (ArrayVec ℤ)) (is : List I) (xs : List (Member C)) (ys : List (Member D)) → SameMembers R is xs ys → SameStepped R is (moves_found channels at p port xs m) (moves_found channels at p port ys m)
     found_both port None is xs ys h = still_same is xs ys h
     found_both port (Some m) is xs ys h = then_same is _ _ (goes_by at m (channel_from channels p port)) (goes_by at m (channel_from channels p port)) (steps_same _ _ (leaves_same at port) is xs ys p.0 h) (goes_by_same at m (channel_from channels p port) is)
 
-    found_same : (port : PortId) (m n : Option (ArrayVec ℤ)) → m ≡ n → (is : List I) (xs : List (Member C)) (ys : List (Member D)) → SameMembers R is xs ys → SameAdvanced R is (moves_found channels at p port xs m) (moves_found channels at p port ys n)
+    found_same : (port : PortId) (m n : Option (ArrayVec ℤ)) → m ≡ n → (is : List I) (xs : List (Member C)) (ys : List (Member D)) → SameMembers R is xs ys → SameStepped R is (moves_found channels at p port xs m) (moves_found channels at p port ys n)
     found_same port m n same is xs ys h =
-        subst (λ (o : Option (ArrayVec ℤ)). SameAdvanced R is (moves_found channels at p port xs m) (moves_found channels at p port ys o)) same (found_both port m is xs ys h)
+        subst (λ (o : Option (ArrayVec ℤ)). SameStepped R is (moves_found channels at p port xs m) (moves_found channels at p port ys o)) same (found_both port m is xs ys h)
 
-    message_same : (port : PortId) (is : List I) (xs : List (Member C)) (ys : List (Member D)) → SameMembers R is xs ys → SameAdvanced R is (moves_message channels at p port xs) (moves_message channels at p port ys)
+    message_same : (port : PortId) (is : List I) (xs : List (Member C)) (ys : List (Member D)) → SameMembers R is xs ys → SameStepped R is (moves_message channels at p port xs) (moves_message channels at p port ys)
     message_same port is xs ys h = found_same port _ _ (number_same None (leaving port) (leaving port) (leaving_same port) is xs ys p.0 h) is xs ys h
 
-    messages_same : (n : ℕ) (port : PortId) (is : List I) (xs : List (Member C)) (ys : List (Member D)) → SameMembers R is xs ys → SameAdvanced R is (moves_messages n channels at p port xs) (moves_messages n channels at p port ys)
+    messages_same : (n : ℕ) (port : PortId) (is : List I) (xs : List (Member C)) (ys : List (Member D)) → SameMembers R is xs ys → SameStepped R is (moves_messages n channels at p port xs) (moves_messages n channels at p port ys)
     messages_same zero port is xs ys h = still_same is xs ys h
     messages_same (suc n) port is xs ys h = then_same is _ _ (moves_messages n channels at p port) (moves_messages n channels at p port) (message_same port is xs ys h) (messages_same n port is)
 
-    port_both : (port : PortId) (n : Option ℕ) (is : List I) (xs : List (Member C)) (ys : List (Member D)) → SameMembers R is xs ys → SameAdvanced R is (moves_so_many channels at p port xs n) (moves_so_many channels at p port ys n)
+    port_both : (port : PortId) (n : Option ℕ) (is : List I) (xs : List (Member C)) (ys : List (Member D)) → SameMembers R is xs ys → SameStepped R is (moves_so_many channels at p port xs n) (moves_so_many channels at p port ys n)
     port_both port None is xs ys h = still_same is xs ys h
     port_both port (Some n) is xs ys h = then_same is _ _ (λ ms. steps (admits at port) ms p.0) (λ ms. steps (admits at port) ms p.0) (messages_same n port is xs ys h) (λ vs ws k. steps_same _ _ (admits_same at port) is vs ws p.0 k)
 
-    port_same : (port : PortId) (is : List I) (xs : List (Member C)) (ys : List (Member D)) → SameMembers R is xs ys → SameAdvanced R is (moves_port channels at p port xs) (moves_port channels at p port ys)
+    port_same : (port : PortId) (is : List I) (xs : List (Member C)) (ys : List (Member D)) → SameMembers R is xs ys → SameStepped R is (moves_port channels at p port xs) (moves_port channels at p port ys)
     port_same port is xs ys h =
-        subst (λ (o : List Port). SameAdvanced R is (moves_port channels at p port xs) (moves_so_many channels at p port ys (messages_to_move (at_number o port.0)))) (number_same [] ports_of ports_of ports_same is xs ys p.0 h)
+        subst (λ (o : List Port). SameStepped R is (moves_port channels at p port xs) (moves_so_many channels at p port ys (messages_to_move (at_number o port.0)))) (number_same [] ports_of ports_of ports_same is xs ys p.0 h)
         (port_both port (messages_to_move (at_number (ports_from xs p.0) port.0)) is xs ys h)
 
-    ports_all_same : (n number : ℕ) (is : List I) (xs : List (Member C)) (ys : List (Member D)) → SameMembers R is xs ys → SameAdvanced R is (moves_ports n number channels at p xs) (moves_ports n number channels at p ys)
+    ports_all_same : (n number : ℕ) (is : List I) (xs : List (Member C)) (ys : List (Member D)) → SameMembers R is xs ys → SameStepped R is (moves_ports n number channels at p xs) (moves_ports n number channels at p ys)
     ports_all_same zero number is xs ys h = still_same is xs ys h
     ports_all_same (suc n) number is xs ys h = then_same is _ _ (moves_ports n (number + 1) channels at p) (moves_ports n (number + 1) channels at p) (port_same (record { 0 = number }) is xs ys h) (ports_all_same n (number + 1) is)
 
-  ended_same : (channels : List Channel) (at : At) (o : Option ℕ) (is : List I) (xs : List (Member C)) (ys : List (Member D)) → SameMembers R is xs ys → SameAdvanced R is (moves_ended channels at xs o) (moves_ended channels at ys o)
+  ended_same : (channels : List Channel) (at : At) (o : Option ℕ) (is : List I) (xs : List (Member C)) (ys : List (Member D)) → SameMembers R is xs ys → SameStepped R is (moves_ended channels at xs o) (moves_ended channels at ys o)
   ended_same channels at None is xs ys h = still_same is xs ys h
   ended_same channels at (Some p) is xs ys h =
-      subst (λ (o : List Port). SameAdvanced R is (moves_ended channels at xs (Some p)) (moves_ports (length o) 1 channels at (record { 0 = p }) ys)) (number_same [] ports_of ports_of ports_same is xs ys p h)
+      subst (λ (o : List Port). SameStepped R is (moves_ended channels at xs (Some p)) (moves_ports (length o) 1 channels at (record { 0 = p }) ys)) (number_same [] ports_of ports_of ports_same is xs ys p h)
       (ports_all_same channels at (record { 0 = p }) (length (ports_from xs p)) 1 is xs ys h)
 
   -- ---- ticks
 
-  owner_same : (at : At) (o : Option ℕ) (is : List I) (xs : List (Member C)) (ys : List (Member D)) → SameMembers R is xs ys → SameAdvanced R is (ticks_owner at xs o) (ticks_owner at ys o)
+  owner_same : (at : At) (o : Option ℕ) (is : List I) (xs : List (Member C)) (ys : List (Member D)) → SameMembers R is xs ys → SameStepped R is (ticks_owner at xs o) (ticks_owner at ys o)
   owner_same at None is xs ys h = still_same is xs ys h
   owner_same at (Some p) is xs ys h = steps_same _ _ (advances_same at) is xs ys p h
 
@@ -396,15 +396,15 @@ module _ {I C D : Type 0} (R : I → C → D → Type 0) where
       let one = tick_of_module_same plan at devices is xs ys h in
       let left = module_tick plan at devices xs in
       let right = module_tick plan at devices ys in
-      ap (λ (es : List Event). es ++ trace_from plan devices n (option_map next_tick left.at) left.members) one.lines
+      ap (λ (es : List Event). es ++ trace_from plan devices n (option_map next_tick left.at) left.state) one.lines
       ∙ ap (λ (es : List Event). right.lines ++ es)
-      (from_same plan devices n (option_map next_tick left.at) is _ _ one.members
-      ∙ ap (λ (o : Option At). trace_from plan devices n (option_map next_tick o) right.members) one.at)
+      (from_same plan devices n (option_map next_tick left.at) is _ _ one.state
+      ∙ ap (λ (o : Option At). trace_from plan devices n (option_map next_tick o) right.state) one.at)
 
   -- modules on engines that cannot be distinguished have the same trace
   pub trace_same : (plan : Plan) (devices : List DeviceLine) (n : ℕ) (is : List I) (xs : List (Member C)) (ys : List (Member D)) → SameMembers R is xs ys → trace (record { plan = plan; members = xs }) devices n ≡ trace (record { plan = plan; members = ys }) devices n
   trace_same plan devices zero is xs ys h = refl
   trace_same plan devices (suc n) is xs ys h =
       let s = starts_same first_tick condition.NormalStart is xs ys h in
-      ap (λ (es : List Event). es ++ trace_from plan devices (suc n) (Some first_tick) (starts xs).members) s.lines
-      ∙ ap (λ (es : List Event). (starts ys).lines ++ es) (from_same plan devices (suc n) (Some first_tick) is _ _ s.members)
+      ap (λ (es : List Event). es ++ trace_from plan devices (suc n) (Some first_tick) (starts xs).state) s.lines
+      ∙ ap (λ (es : List Event). (starts ys).lines ++ es) (from_same plan devices (suc n) (Some first_tick) is _ _ s.state)

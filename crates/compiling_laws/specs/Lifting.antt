@@ -2,7 +2,7 @@
 use Rattle.std.specs.Prelude.{◌≡◌, List, [], ◌∷◌, Option, Some, None}
 use Rattle.engine_meaning.specs.Simulates.{Simulates}
 use Rattle.kernel_meaning.specs.Partition.{World, Moved, Member}
-use Rattle.module_meaning.specs.Module.{Advanced, Course}
+use Rattle.module_meaning.specs.Module.{Stepped, Course}
 
 abbrev pub SameControl : {C D : Type 0} → (C → D → Type 0) → Option C → Option D → Type 0
 SameControl R None None = Unit {0}
@@ -38,11 +38,11 @@ SameMembers R [] [] [] = Unit {0}
 SameMembers R (i ∷ is) (x ∷ xs) (y ∷ ys) = SameMember (R i) x y × SameMembers R is xs ys
 SameMembers R _ _ _ = ⊥
 
-pub record SameAdvanced {I C D : Type 0} (R : I → C → D → Type 0) (is : List I) (m : Advanced C) (n : Advanced D) : Type 0 where
-  pub members : SameMembers R is m.members n.members
-  pub lines : m.lines ≡ n.lines
+pub record SameStepped {I C D : Type 0} (R : I → C → D → Type 0) (is : List I) (a : Stepped (List (Member C))) (b : Stepped (List (Member D))) : Type 0 where
+  pub state : SameMembers R is a.state b.state
+  pub lines : a.lines ≡ b.lines
 
-pub record SameCourse {I C D : Type 0} (R : I → C → D → Type 0) (is : List I) (c : Course C) (d : Course D) : Type 0 where
+pub record SameCourse {I C D : Type 0} (R : I → C → D → Type 0) (is : List I) (c : Course (List (Member C))) (d : Course (List (Member D))) : Type 0 where
   pub at : c.at ≡ d.at
-  pub members : SameMembers R is c.members d.members
+  pub state : SameMembers R is c.state d.state
   pub lines : c.lines ≡ d.lines

@@ -4,7 +4,7 @@ ghost use Rattle.std.specs.Prelude.{◌≡◌, ℕ, ◌*◌, ◌≤◌, List, le
 ghost use Rattle.std.specs.Int.{w64};
 ghost use Rattle.apex_types.specs.Versions.{third_limits};
 ghost use Rattle.apex_types.specs.declared.cost.Costs.{Costs};
-ghost use Rattle.apex_types.specs.declared.limits.TheConstants.{MOST_INSTRUCTIONS, MOST_PORTS, MOST_SOURCE_BYTES};
+ghost use Rattle.apex_types.specs.Limits.{MOST_INSTRUCTIONS, MOST_PORTS, MOST_SOURCE_BYTES};
 ghost use Rattle.apex_types.specs.declared.row.PortRow.{PortRow};
 ghost use Rattle.pal_meaning.specs.Syntax as written;
 ghost use Rattle.pal_meaning.specs.Program as program;

@@ -3,10 +3,10 @@ use Rattle.finding_laws.proofs.Prelude.{ℕ, ◌+◌, ◌-◌, Bool, max, nat_lt
 use Rattle.std.proofs.Common.{◌^◌, List, [], None, nat_eq}
 use Rattle.std.specs.Prelude.{◌||◌}
 use Rattle.std.specs.Int.{w16, w64}
-use Rattle.apex_types.specs.Costs.{cost_of_ticks}
+use Rattle.apex_types.specs.Costs.{cost_of_ticks, from_order}
 use Rattle.apex_types.specs.Versions.{limits_of}
 use Rattle.apex_types.specs.declared.cost.TheConstants.{COST_KEYS}
-use Rattle.apex_types.specs.declared.limits.Limits.{Limits}
+use Rattle.apex_types.specs.declared.version.Limits.{Limits}
 use Rattle.apex_types.specs.declared.limits.TheConstants.{INSTRUCTION_BYTES, MOST_NAME_BYTES, MOST_SLOTS}
 use Rattle.apex_types.specs.declared.row.ProcessRow.{ProcessRow}
 use Rattle.apex_types.specs.declared.version.TheConstants.{FIRST_VERSION, SECOND_VERSION, THIRD_VERSION}
@@ -182,7 +182,7 @@ cost_steady = then_steady (number_at w16) _ (number_steady w16) (λ n. chosen_st
 
 costs_steady : Steady costs_at
 unfolding costs_at
-costs_steady = then_steady (items_at (λ _. cost_at) COST_KEYS []) _ (items_steady (λ _. cost_at) (λ before. cost_steady) COST_KEYS []) (λ costs. ok_steady _)
+costs_steady = then_steady (items_at (λ _. cost_at) COST_KEYS []) _ (items_steady (λ _. cost_at) (λ before. cost_steady) COST_KEYS []) (λ costs. chosen_steady (from_order costs))
 
 own_fields_steady : (number : ℕ) → Steady (own_fields_at number)
 unfolding own_fields_at

@@ -10,8 +10,8 @@ use Rattle.isolation.specs.declared.input.Input.{Input}
 use Rattle.isolation.specs.declared.input.InputLine.{InputLine}
 use Rattle.isolation.specs.ReplayText as replay
 use Rattle.module_meaning.specs.DeviceText as device
-use Rattle.module_meaning.specs.DeviceText.{first_from, is_device, words_of_ends}
-use Rattle.module_meaning.specs.Table.{Channel, Partition}
+use Rattle.module_meaning.specs.DeviceText.{first_from, words_of_ends}
+use Rattle.module_meaning.specs.Table.{Channel, Partition, is_device}
 use Rattle.module_base.specs.TextLines.{Taking, and_then, ends_with, lines_by, put_line, taken_by, verdict_by}
 use Rattle.module_base.proofs.Alike.{devices_read, inputs_read}
 use Rattle.image_findings.specs.First.{first_wrong, in_text, line_wrong, unended}

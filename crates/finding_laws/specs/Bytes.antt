@@ -1,7 +1,7 @@
 -- The byte of a text of which something is said.
 use Rattle.std.specs.Prelude.{◌≡◌, ◌<◌, ◌+◌, ℕ, Bool, false, List, [], ◌∷◌, ◌++◌, length}
 use Rattle.std.specs.Str.{IsAscii}
-use Rattle.apex_types.specs.declared.limits.TheConstants.{MOST_SOURCE_BYTES}
+use Rattle.apex_types.specs.Limits.{MOST_SOURCE_BYTES}
 use Rattle.source_findings.specs.Texts.{is_above}
 use Rattle.source_findings.specs.What.{What, Wrong, NoAscii, TooLong}
 

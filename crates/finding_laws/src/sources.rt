@@ -2,7 +2,7 @@
 
 ghost use Rattle.std.specs.Prelude.{◌≡◌, ◌↔◌, nat_le, true, ℕ, List, Ok};
 ghost use Rattle.apex_types.specs.declared.cost.Costs.{Costs};
-ghost use Rattle.apex_types.specs.declared.limits.TheConstants.{MOST_INSTRUCTIONS};
+ghost use Rattle.apex_types.specs.Limits.{MOST_INSTRUCTIONS};
 ghost use Rattle.apex_types.specs.declared.row.PortRow.{PortRow};
 ghost use Rattle.pal.specs.Costs.{costs_of};
 ghost use Rattle.pal.specs.ProcedureNames.{names_of_procedures, procedure_names};

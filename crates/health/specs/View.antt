@@ -1,6 +1,6 @@
 -- The view of the fields of the errors, and their invariants.
 use Rattle.std.specs.Prelude.{◌≤◌, length}
-use Rattle.apex_types.specs.declared.limits.TheConstants.{MOST_ERRORS}
+use Rattle.apex_types.specs.Limits.{MOST_ERRORS}
 use Rattle.kernel_meaning.specs.Kernel as meaning
 use Rattle.health.specs.declared.errors.Errors.TheInside as errors
 

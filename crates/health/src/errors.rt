@@ -1,7 +1,7 @@
 //! The errors that wait for the error handler of a partition.
 
 ghost use Rattle.std.specs.Prelude.{◌≡◌, ◌≤◌, ◌-◌, drop, length, slice_get, IfOk, IsNone};
-ghost use Rattle.apex_types.specs.declared.limits.TheConstants.{MOST_WORDS};
+ghost use Rattle.apex_types.specs.Limits.{MOST_ERRORS, MOST_WORDS};
 ghost use Rattle.kernel_meaning.specs.Kernel as meaning;
 ghost use Rattle.kernel_meaning.specs.HealthServices.{is_waiting};
 ghost use Rattle.kernel_meaning.specs.Step.{message};

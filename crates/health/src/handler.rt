@@ -4,6 +4,7 @@ ghost use Rattle.std.specs.Prelude.{◌≡◌, pos, true};
 ghost use Rattle.apex_types.specs.Room.{HasRoom, Grows};
 ghost use Rattle.kernel_meaning.specs.HealthServices as meaning;
 ghost use Rattle.kernel_meaning.specs.Processes.{is_created, row_of};
+ghost use Rattle.kernel_meaning.specs.ProcessServices.{of_row};
 ghost use Rattle.kernel_meaning.specs.Sharing.{both};
 ghost use Rattle.kernel_meaning.specs.Made.{IsMade};
 ghost use Rattle.kernel_meaning.specs.Step.{nothing};
@@ -53,7 +54,7 @@ pub fn create_error_handler(
 
 /// Whether a created runner was found.
 fn is_created(found: &Option<Found>) -> bool
-    ensures { result ≡ meaning.has_row (record_of found.now) is_created }
+    ensures { result ≡ of_row is_created (record_of found.now) }
 {
     match found {
         Some(found) => found.row.created,

@@ -2,7 +2,7 @@
 
 ghost use Rattle.std.specs.Prelude.{◌≡◌, ◌≤◌, ◌==◌, false, length, IfOk};
 ghost use Rattle.std.specs.List.{list_any};
-ghost use Rattle.apex_types.specs.declared.limits.TheConstants.{MOST_PARTITIONS};
+ghost use Rattle.apex_types.specs.Limits.{MOST_PARTITIONS};
 ghost use Rattle.module_meaning.specs.ImageRules.{has_wrong_window, keeps_rules};
 ghost use Rattle.window_table.specs.Schedules.{schedule_of};
 ghost use Rattle.image.specs.Items.{rows_of, channels_of};

@@ -1,7 +1,7 @@
 -- What is wrong with the form of a line: the first part that is not allowed in its place.
 use Rattle.std.specs.Prelude.{ℕ, ◌-◌, ◌==◌, Bool, false, if◌then◌else◌, List, [], ◌∷◌, codes, length, Option, Some, None, option_map, slice_get}
 use Rattle.apex_types.specs.NameText as names
-use Rattle.apex_types.specs.declared.limits.TheConstants.{MOST_TICKS}
+use Rattle.apex_types.specs.Limits.{MOST_TICKS}
 use Rattle.engine_meaning.specs.Digits.{same}
 use Rattle.module_meaning.specs.DeviceText.{plain_number, word}
 use Rattle.image_findings.specs.Names.{mark_of}

@@ -4,8 +4,8 @@ use Rattle.apex_types.specs.declared.row.PortRow.{PortRow}
 use Rattle.isolation.specs.ReplayText.{is_destination}
 use Rattle.machine_meaning.specs.Image.{Image}
 use Rattle.machine_meaning.specs.MachineMeaning.{row_of_item}
-use Rattle.module_meaning.specs.DeviceText.{is_device, words_of_ends}
-use Rattle.module_meaning.specs.Table.{Channel, Partition}
+use Rattle.module_meaning.specs.DeviceText.{words_of_ends}
+use Rattle.module_meaning.specs.Table.{Channel, Partition, is_device}
 use Rattle.image_findings.specs.Names.{Names, Receiver}
 use Rattle.image_findings.specs.declared.names.TextKind.TheVariants.{Devices, Inputs}
 

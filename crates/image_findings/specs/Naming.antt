@@ -1,6 +1,6 @@
 -- What is wrong with a line of one of the forms: its tick, its names, or its length.
 use Rattle.std.specs.Prelude.{ℕ, Bool, false, ◌||◌, nat_lt, if◌then◌else◌, List, [], ◌∷◌, length, Option, Some, None, slice_get}
-use Rattle.apex_types.specs.declared.limits.TheConstants.{MOST_TICKS}
+use Rattle.apex_types.specs.Limits.{MOST_TICKS}
 use Rattle.engine_meaning.specs.Digits.{same}
 use Rattle.module_meaning.specs.DeviceText.{is_room, plain_number}
 use Rattle.image_findings.specs.Names.{Names, Receiver, mark_of}

@@ -5,8 +5,8 @@ ghost use Rattle.image.specs.Items.{channel_of, channels_of, items_of};
 ghost use Rattle.image.specs.Views.{image_of};
 ghost use Rattle.machine_meaning.specs.MachineMeaning.{row_of_item};
 ghost use Rattle.module_base.specs.Views.{rows_in};
-ghost use Rattle.module_meaning.specs.DeviceText.{is_device, words_of_end, words_of_ends, words_of_port};
-ghost use Rattle.module_meaning.specs.Table.{at_number};
+ghost use Rattle.module_meaning.specs.DeviceText.{words_of_end, words_of_ends, words_of_port};
+ghost use Rattle.module_meaning.specs.Table.{at_number, is_device};
 ghost use Rattle.image_findings.specs.Views.{names_of, receiver_of};
 ghost use Rattle.image_findings.specs.Named as spec;
 

@@ -144,12 +144,12 @@ module _ {C : Type 0} (name : List ℕ) (place : ℕ) (names : List (List ℕ)) 
       let q = with_number (suc place) in
       let leaves_now : leaving port x ≡ Some m = ap arrival.first_message e ∙ ap arrival.first_of k in
       let first : brought_message channels p q port ms ≡ brings channels p (with_number (suc place)) port m = ap (λ (o : Option (Member C)). brought_found channels p q port (of_member None (leaving port) o)) h.own ∙ ap (λ (o : Option (ArrayVec ℤ)). brought_found channels p q port o) leaves_now in
-      let ns = (moves_message channels at q port ms).members in
+      let ns = (moves_message channels at q port ms).state in
       let y = (sends_message s at port x).state in
       let there : slice_get (ports_of y) (place_of_port port) ≡ Some (record z { messages = rest }) =
       ap (λ (o : Option (ArrayVec ℤ)). slice_get (ports_of (sends_found s at port x o).state) (place_of_port port)) leaves_now ∙ first_gone s at port x z m rest e k in
       ap (λ (is : List Input). is ++ brought_messages n channels p at q port ns) first
-      ∙ ap (λ (is : List Input). brings channels p (with_number (suc place)) port m ++ is) (messages_held n port ns y (own_message name place names apart channels at lawful s ways port ms x h).members (record z { messages = rest }) there rest refl (omega arith))
+      ∙ ap (λ (is : List Input). brings channels p (with_number (suc place)) port m ++ is) (messages_held n port ns y (own_message name place names apart channels at lawful s ways port ms x h).state (record z { messages = rest }) there rest refl (omega arith))
 
   -- ---- port by port
   so_many_held : (port : PortId) (ms : List (Member C)) (x : Member C) → Is ms x → (z : Port) → slice_get (ports_of x) (place_of_port port) ≡ Some z → (b : Bool)
@@ -178,10 +178,10 @@ module _ {C : Type 0} (name : List ℕ) (place : ℕ) (names : List (List ℕ)) 
       let here = place_at k (ports_of x) z (are 0) in
       let r = own_port_moves name place names apart channels at lawful s ways (record { 0 = suc k }) ms x h in
       let y = (sends_port s at (record { 0 = suc k }) x).state in
-      let ns = (moves_port channels at q (record { 0 = suc k }) ms).members in
+      let ns = (moves_port channels at q (record { 0 = suc k }) ms).state in
       ap (λ (is : List Input). is ++ brought_ports (length zs) (suc k + 1) channels p at q ns) (one_held k ms x h z here)
       ∙ ap (λ (is : List Input). held_port channels p q (suc k) z ++ is)
-      (subst (λ (n : ℕ). brought_ports (length zs) n channels p at q ns ≡ held_ports channels p q n zs) (next k) (ports_held (suc k) zs ns y r.members (λ i. later k i (ports_of x) (ports_of y) (port_stay s at (record { 0 = suc k }) x) ∙ moved k i (ports_of x) (are (suc i)))))
+      (subst (λ (n : ℕ). brought_ports (length zs) n channels p at q ns ≡ held_ports channels p q n zs) (next k) (ports_held (suc k) zs ns y r.state (λ i. later k i (ports_of x) (ports_of y) (port_stay s at (record { 0 = suc k }) x) ∙ moved k i (ports_of x) (are (suc i)))))
     where
       place_at : (k : ℕ) (ps : List Port) (z : Port) → slice_get ps (k + 0) ≡ Some z → slice_get ps k ≡ Some z
       place_at k ps z e = subst (λ (n : ℕ). slice_get ps n ≡ Some z) (plain k) e

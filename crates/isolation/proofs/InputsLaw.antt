@@ -89,7 +89,7 @@ are_delivered image text lines (suc place) item n lawful taken e few =
     image.schedule image.channels image.fault (λ at. lawful_owner image at lawful) (λ at. lawful_end image at lawful) right.0 right.1 lines (accepted_from_device image text lines taken)
     (λ q row f. text_allowed (partitions_in image) image.schedule image.channels image.fault right.0 right.1 q row f text lines taken)
     (λ q x. IsSoundMember (ports_at image q) x) (place_kept image lawful) place item.partition (row_at place item e) n (omega (arith, few)) members (record_of k image.schedule (1 + place) item) own
-    (starts_same (name_in item) place (map name_in image.items) (image_apart image lawful place item e) first_tick condition.NormalStart members (record_of k image.schedule (1 + place) item) (record { own = own; named = members_named k image.schedule 1 image.items })).members.named
+    (starts_same (name_in item) place (map name_in image.items) (image_apart image lawful place item e) first_tick condition.NormalStart members (record_of k image.schedule (1 + place) item) (record { own = own; named = members_named k image.schedule 1 image.items })).state.named
     (first_sound k image.schedule 1 image.items)
   where
     row_at : (q : ℕ) (i : Item) → slice_get image.items q ≡ Some i → slice_get (partitions_in image) q ≡ Some i.partition

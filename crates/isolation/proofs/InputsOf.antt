@@ -1,12 +1,12 @@
 -- The inputs of a run are allowed but for their words, if an invariant says what the source ports hold.
-use Rattle.isolation.proofs.Prelude.{◌≡◌, ℕ, zero, suc, ◌+◌, ◌≤◌, ℤ, Bool, true, false, List, ◌∷◌, ◌++◌, length, map, Option, Some, None, sym, ◌∙◌, arith, le_refl, slice_get, option_map, if◌then◌else◌, AllByRecursion, slice_get-map, ArrayVec, MOST_TICKS, ModuleAction, DeviceLine, At, PortId, Channel, Partition, at_number, Plan, as_origin, first_tick, next_tick, ports_of, of_member, inputs_all, of_tick, is_of_tick, module_tick, starts, started_member, Member, leaving, messages_to_move, has_wrong_ends, has_unknown_port, Schedule, ended, HasOneOwner, HasOneEnd, Input, InputLine, Arrive, ModuleFault, PartitionFault, Path, Surroundings, goes_by_way, takes, meets_fault, takes_all, unless_over, sends_found, sends_message, sends_messages, sends_so_many, sends_port, sends_ports, sends_ended, ticks_own, sends_and_ticks, tick_alone, way_out, brought_in, brought_in_all, shuts_down, held_ports, held_ended, brought_moved, brought_tick, line_in, inputs_from, inputs_of, surroundings_of}
+use Rattle.isolation.proofs.Prelude.{◌≡◌, ℕ, zero, suc, ◌+◌, ◌≤◌, ℤ, Bool, true, false, List, ◌∷◌, ◌++◌, length, map, Option, Some, None, sym, ◌∙◌, arith, le_refl, slice_get, option_map, if◌then◌else◌, AllByRecursion, slice_get-map, ArrayVec, MOST_TICKS, ModuleAction, DeviceLine, At, PortId, Channel, Partition, at_number, Plan, as_origin, first_tick, next_tick, ports_of, of_member, inputs_all, of_tick, is_of_tick, module_tick, starts, started_member, Member, leaving, messages_to_move, has_wrong_ends, has_unknown_port, Schedule, ended, HasOneOwner, HasOneEnd, Input, InputLine, Arrive, ModuleFault, PartitionFault, Course, Surroundings, goes_by_way, takes, meets_fault, takes_all, unless_down, sends_found, sends_message, sends_messages, sends_so_many, sends_port, sends_ports, sends_ended, ticks_own, sends_and_ticks, tick_alone, way_out, brought_in, brought_in_all, shuts_down, held_ports, held_ended, brought_moved, brought_tick, line_in, inputs_from, inputs_of, surroundings_of}
 use Rattle.std.proofs.Common.{[], refl, ap, subst}
 use Rattle.std.specs.Prelude.{cond}
 use Rattle.apex_types.specs.declared.codes.ModuleAction.TheVariants as reaction
 use Rattle.apex_types.specs.declared.codes.StartCondition.TheVariants as condition
 use Rattle.isolation.proofs.Arrivals.{all_brought}
 use Rattle.isolation.proofs.Holding.{IsDelivered, AreDelivered, IsKept, all_append}
-use Rattle.isolation.proofs.Isolated.{tick_in, next_in}
+use Rattle.isolation.proofs.Now.{next_in, tick_in}
 use Rattle.isolation.proofs.Lines.{AreFromDevice, of_tick_from, lines_same}
 use Rattle.isolation.proofs.Steps.{AreApart, SamePath, name_of, same_some}
 use Rattle.isolation.proofs.Tick.{tick_same}
@@ -25,7 +25,7 @@ module _ {C : Type 0} (row : Partition) (Sound : Member C → Type 0) (kept : Is
   takes_sound fault at PartitionFault good x h = kept.breaks at x h
 
   -- a path that continues, or is over
-  over_sound : (c : Path (Member C)) (rest : At → Member C → Path (Member C)) (o : Option At) → Sound c.state → ((a : At) (y : Member C) → Sound y → Sound (rest a y).state) → Sound (unless_over c rest o).state
+  over_sound : (c : Course (Member C)) (rest : At → Member C → Course (Member C)) (o : Option At) → Sound c.state → ((a : At) (y : Member C) → Sound y → Sound (rest a y).state) → Sound (unless_down c rest o).state
   over_sound c rest None h k = h
   over_sound c rest (Some a) h k = k a c.state h
 
@@ -158,16 +158,16 @@ module _ {C : Type 0} (names : List (List ℕ)) (all : AreApart names) (ps : Lis
   moved_allowed place row e ms s (Some at) = held_allowed place row e ms s (ended schedule at)
 
   -- after the devices' lines of a tick; some member is there
-  inputs_stand : (p : ℕ) (w : Member C) (at : At) (ms : List (Member C)) → slice_get ms p ≡ Some w → Stand ms → Stand (inputs_all plan at (of_tick at.now.0 devices) ms).members
+  inputs_stand : (p : ℕ) (w : Member C) (at : At) (ms : List (Member C)) → slice_get ms p ≡ Some w → Stand ms → Stand (inputs_all plan at (of_tick at.now.0 devices) ms).state
   inputs_stand p w at ms here s =
       let lines = of_tick at.now.0 devices in
-      let ns = (inputs_all plan at lines ms).members in
-      let renamed : map name_of ns ≡ names = (one p w here).members.named in
+      let ns = (inputs_all plan at lines ms).state in
+      let renamed : map name_of ns ≡ names = (one p w here).state.named in
       record {
         named = renamed;
         sound = each_place ms ns s.named renamed (λ place x e.
             let row = known_rows place (name_of x) (name_here ms s.named place x e) in
-            (_, (one place x e).members.own, all_sound row.0 (Sound place) (kept place row.0 row.1) fault at (brought_in_all plan (suc place) lines) (in_allowed plan (suc place) row.0 lines (of_tick_allowed plan (suc place) row.0 at.now.0 devices (allowed place row.0 row.1))) x (s.sound place x e)));
+            (_, (one place x e).state.own, all_sound row.0 (Sound place) (kept place row.0 row.1) fault at (brought_in_all plan (suc place) lines) (in_allowed plan (suc place) row.0 lines (of_tick_allowed plan (suc place) row.0 at.now.0 devices (allowed place row.0 row.1))) x (s.sound place x e)));
       }
     where
       one : (place : ℕ) (x : Member C) (e : slice_get ms place ≡ Some x) → SamePath (name_of x) place names (all place (name_of x) (name_here ms s.named place x e)) (inputs_all plan at (of_tick at.now.0 devices) ms) (takes_all fault at (brought_in_all plan (suc place) (of_tick at.now.0 devices)) x)
@@ -178,22 +178,22 @@ module _ {C : Type 0} (names : List (List ℕ)) (all : AreApart names) (ps : Lis
   tick_allowed place row e at ms p w here s =
       let lines = of_tick at.now.0 devices in
       let c = inputs_all plan at lines ms in
-      all_append (IsDelivered row) (brought_in_all plan (suc place) lines) (brought_moved plan (suc place) c.members c.at)
+      all_append (IsDelivered row) (brought_in_all plan (suc place) lines) (brought_moved plan (suc place) c.state c.at)
       (in_allowed plan (suc place) row lines (of_tick_allowed plan (suc place) row at.now.0 devices (allowed place row e)))
-      (moved_allowed place row e c.members (inputs_stand p w at ms here s) c.at)
+      (moved_allowed place row e c.state (inputs_stand p w at ms here s) c.at)
 
   -- after a tick, with the member that is there
-  tick_stand : (p : ℕ) (w : Member C) (at : At) (ms : List (Member C)) → slice_get ms p ≡ Some w → Stand ms → Stand (module_tick plan at devices ms).members × ((y : Member C) × (slice_get (module_tick plan at devices ms).members p ≡ Some y))
+  tick_stand : (p : ℕ) (w : Member C) (at : At) (ms : List (Member C)) → slice_get ms p ≡ Some w → Stand ms → Stand (module_tick plan at devices ms).state × ((y : Member C) × (slice_get (module_tick plan at devices ms).state p ≡ Some y))
   tick_stand p w at ms here s =
-      let ns = (module_tick plan at devices ms).members in
-      let renamed : map name_of ns ≡ names = (one p w here).members.named in (
+      let ns = (module_tick plan at devices ms).state in
+      let renamed : map name_of ns ≡ names = (one p w here).state.named in (
         record {
           named = renamed;
           sound = each_place ms ns s.named renamed (λ place x e.
               let row = known_rows place (name_of x) (name_here ms s.named place x e) in
-              (_, (one place x e).members.own, tick_sound row.0 (Sound place) (kept place row.0 row.1) (surroundings_of plan (suc place) row.0.ports) at (brought_tick plan (suc place) at devices ms) (tick_allowed place row.0 row.1 at ms p w here s) x (s.sound place x e)));
+              (_, (one place x e).state.own, tick_sound row.0 (Sound place) (kept place row.0 row.1) (surroundings_of plan (suc place) row.0.ports) at (brought_tick plan (suc place) at devices ms) (tick_allowed place row.0 row.1 at ms p w here s) x (s.sound place x e)));
         },
-        (_, (one p w here).members.own),
+        (_, (one p w here).state.own),
       )
     where
       one : (place : ℕ) (x : Member C) (e : slice_get ms place ≡ Some x) → SamePath (name_of x) place names (all place (name_of x) (name_here ms s.named place x e)) (module_tick plan at devices ms) (tick_alone (surroundings_of plan (suc place) (known_rows place (name_of x) (name_here ms s.named place x e)).0.ports) at (brought_tick plan (suc place) at devices ms) x)
@@ -210,9 +210,9 @@ module _ {C : Type 0} (names : List (List ℕ)) (all : AreApart names) (ps : Lis
       let r = module_tick plan at devices ms in
       let t = tick_stand place w at ms here s in
       let now = h at refl in
-      tick_lines row before at.now.0 (brought_tick plan (suc place) at devices ms) (inputs_from plan (suc place) devices n (option_map next_tick r.at) r.members) now.0 (low now.1)
+      tick_lines row before at.now.0 (brought_tick plan (suc place) at devices ms) (inputs_from plan (suc place) devices n (option_map next_tick r.at) r.state) now.0 (low now.1)
       (tick_allowed place row e at ms place w here s)
-      (inputs_good place row e n at.now.0 (option_map next_tick r.at) r.members t.1.0 t.1.1 t.0 (λ a k. later now.1 a (next_in at.now.0 r.at a (tick_in plan devices at ms) k)))
+      (inputs_good place row e n at.now.0 (option_map next_tick r.at) r.state t.1.0 t.1.1 t.0 (λ a k. later now.1 a (next_in at.now.0 r.at a (tick_in plan devices at ms) k)))
     where
       low : at.now.0 + suc n ≤ MOST_TICKS + 1 → at.now.0 ≤ MOST_TICKS
       low l = omega arith
@@ -222,10 +222,10 @@ module _ {C : Type 0} (names : List (List ℕ)) (all : AreApart names) (ps : Lis
 
   -- The inputs of n ticks are in order, and each is allowed by its port.
   pub inputs_allowed : (place : ℕ) (row : Partition) → slice_get ps place ≡ Some row → (n : ℕ) → n ≤ MOST_TICKS + 1 → (ms : List (Member C)) (w : Member C) → slice_get ms place ≡ Some w
-      → map name_of (starts ms).members ≡ names → ((q : ℕ) (x : Member C) → slice_get ms q ≡ Some x → Sound q x) → AreDelivered row 0 (inputs_of (record { plan = plan; members = ms }) (suc place) devices n)
+      → map name_of (starts ms).state ≡ names → ((q : ℕ) (x : Member C) → slice_get ms q ≡ Some x → Sound q x) → AreDelivered row 0 (inputs_of (record { plan = plan; members = ms }) (suc place) devices n)
   inputs_allowed place row e zero few ms w here named sound = tt
   inputs_allowed place row e (suc n) few ms w here named sound =
-      inputs_good place row e (suc n) 0 (Some first_tick) (starts ms).members (started_member first_tick condition.NormalStart w) (begun place w here)
+      inputs_good place row e (suc n) 0 (Some first_tick) (starts ms).state (started_member first_tick condition.NormalStart w) (begun place w here)
       (record { named = named; sound = λ q y k. there q y k (slice_get ms q) refl })
       (λ a k. first (ap (λ (o : Option At). now_of o) k))
     where
@@ -236,14 +236,14 @@ module _ {C : Type 0} (names : List (List ℕ)) (all : AreApart names) (ps : Lis
       first : {t : ℕ} → 0 ≡ t → (0 ≤ t) × (t + suc n ≤ MOST_TICKS + 1)
       first k = (omega arith, omega (arith, few, k))
 
-      begun : (q : ℕ) (x : Member C) → slice_get ms q ≡ Some x → slice_get (starts ms).members q ≡ Some (started_member first_tick condition.NormalStart x)
+      begun : (q : ℕ) (x : Member C) → slice_get ms q ≡ Some x → slice_get (starts ms).state q ≡ Some (started_member first_tick condition.NormalStart x)
       begun q x k = slice_get-map (started_member first_tick condition.NormalStart) ms q ∙ ap (option_map (started_member first_tick condition.NormalStart)) k
 
-      there : (q : ℕ) (y : Member C) → slice_get (starts ms).members q ≡ Some y → (o : Option (Member C)) → slice_get ms q ≡ o → Sound q y
+      there : (q : ℕ) (y : Member C) → slice_get (starts ms).state q ≡ Some y → (o : Option (Member C)) → slice_get ms q ≡ o → Sound q y
       there q y k None f = absurd (clash (sym k ∙ slice_get-map (started_member first_tick condition.NormalStart) ms q ∙ ap (option_map (started_member first_tick condition.NormalStart)) f))
         where
           clash : Some y ≡ None → ⊥
           clash h = cc
       there q y k (Some x) f =
-          let other = known_rows q (name_of y) (name_here (starts ms).members named q y k) in
+          let other = known_rows q (name_of y) (name_here (starts ms).state named q y k) in
           subst (λ (z : Member C). Sound q z) (same_some (started_member first_tick condition.NormalStart x) y (sym (begun q x f) ∙ k)) ((kept q other.0 other.1).starts first_tick condition.NormalStart x (sound q x f))

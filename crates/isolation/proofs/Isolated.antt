@@ -1,52 +1,14 @@
 -- The part of a module's trace that belongs to a partition is the trace it has on its own, with the
 -- inputs that the run brings it.
-use Rattle.isolation.proofs.Prelude.{◌≡◌, ◌≢◌, ℕ, zero, suc, ◌+◌, ◌<◌, ◌≤◌, Bool, true, false, List, ◌∷◌, ◌++◌, map, Option, Some, None, sym, ◌∙◌, arith, le_refl, append-nil, if◌then◌else◌, option_map, eq-eqb, ne_eqb, ModuleAction, DeviceInput, DeviceLine, At, PortRow, Plan, Course, unless_down, breaks_module, inputs, inputs_all, of_tick, moves_and_ticks, module_tick, first_tick, next_tick, starts, Member, cold_start, Input, InputLine, Path, goes, tick_alone, part, brought_tick, line_in, inputs_from, inputs_of, surroundings_of}
+use Rattle.isolation.proofs.Prelude.{◌≡◌, ◌≢◌, ℕ, zero, suc, ◌+◌, ◌<◌, ◌≤◌, Bool, true, false, List, ◌∷◌, ◌++◌, map, Option, Some, None, sym, ◌∙◌, arith, le_refl, append-nil, if◌then◌else◌, option_map, eq-eqb, ne_eqb, DeviceLine, At, PortRow, Plan, Course, module_tick, first_tick, next_tick, starts, Member, cold_start, Input, InputLine, goes, tick_alone, part, brought_tick, line_in, inputs_from, inputs_of, surroundings_of}
 use Rattle.std.proofs.Common.{[], refl, ap, subst}
-use Rattle.apex_types.specs.declared.codes.ModuleAction.TheVariants as reaction
 use Rattle.apex_types.specs.declared.codes.StartCondition.TheVariants as condition
-use Rattle.apex_types.specs.declared.device.DeviceInput.TheVariants as device
 use Rattle.module_meaning.specs.Module.{trace_from, trace}
 use Rattle.isolation.specs.Alone.{is_in_tick, inputs_in, alone_from, trace_alone}
 use Rattle.isolation.proofs.Lines.{AreFromDevice}
-use Rattle.isolation.proofs.Steps.{IsApart, AreApart, Holds, SamePath, same_some, joined, starts_same}
+use Rattle.isolation.proofs.Now.{next_in, tick_in}
+use Rattle.isolation.proofs.Steps.{IsApart, AreApart, Holds, SamePath, joined, starts_same}
 use Rattle.isolation.proofs.Tick.{IsIsolating, tick_same}
-
--- ---- a tick stays a tick
-abbrev pub IsIn : ℕ → Option At → Type 0
-IsIn t None = Unit {0}
-IsIn t (Some at) = at.now.0 ≡ t
-
-module _ {C : Type 0} where
-  breaks_in : (at : At) (fault : ModuleAction) (ms : List (Member C)) → IsIn at.now.0 (breaks_module at fault ms).at
-  breaks_in at reaction.Ignore ms = refl
-  breaks_in at reaction.Shutdown ms = tt
-  breaks_in at reaction.Reset ms = refl
-
-  input_in : (plan : Plan) (at : At) (i : DeviceInput) (ms : List (Member C)) → IsIn at.now.0 (inputs plan at i ms).at
-  input_in plan at (device.Message channel m) ms = refl
-  input_in plan at (device.PartitionFault q) ms = refl
-  input_in plan at device.ModuleFault ms = breaks_in at plan.fault ms
-
-  runs_in : (t : ℕ) (c : Course C) (p : At → List (Member C) → Course C) (o : Option At) → IsIn t c.at → IsIn t o
-      → ((a : At) (ms : List (Member C)) → a.now.0 ≡ t → IsIn t (p a ms).at) → IsIn t (unless_down c p o).at
-  runs_in t c p None h k rest = h
-  runs_in t c p (Some a) h k rest = rest a c.members k
-
-  inputs_in_tick : (plan : Plan) (t : ℕ) (ls : List DeviceLine) (at : At) (ms : List (Member C)) → at.now.0 ≡ t → IsIn t (inputs_all plan at ls ms).at
-  inputs_in_tick plan t [] at ms e = e
-  inputs_in_tick plan t (l ∷ ls) at ms e =
-      let h = subst (λ (n : ℕ). IsIn n (inputs plan at l.input ms).at) e (input_in plan at l.input ms) in
-      runs_in t (inputs plan at l.input ms) (λ a ns. inputs_all plan a ls ns) (inputs plan at l.input ms).at h h (λ a ns k. inputs_in_tick plan t ls a ns k)
-
-  pub tick_in : (plan : Plan) (devices : List DeviceLine) (at : At) (ms : List (Member C)) → IsIn at.now.0 (module_tick plan at devices ms).at
-  tick_in plan devices at ms =
-      let c = inputs_all plan at (of_tick at.now.0 devices) ms in
-      let h = inputs_in_tick plan at.now.0 (of_tick at.now.0 devices) at ms refl in
-      runs_in at.now.0 c (moves_and_ticks plan) c.at h h (λ a ns k. k)
-
-pub next_in : (t : ℕ) (o : Option At) (a : At) → IsIn t o → option_map next_tick o ≡ Some a → a.now.0 ≡ t + 1
-next_in t None a h e = absurd (cc)
-next_in t (Some b) a h e = let same : next_tick b ≡ a = same_some (next_tick b) a e in ap (λ (c : At). c.now.0) (sym same) ∙ ap (λ (n : ℕ). n + 1) h
 
 -- ---- the lines of the inputs
 in_append : (t : ℕ) (ls ks : List InputLine) → inputs_in t (ls ++ ks) ≡ inputs_in t ls ++ inputs_in t ks
@@ -74,9 +36,9 @@ none_earlier plan p devices (suc n) None ms t h = refl
 none_earlier plan p devices (suc n) (Some at) ms t h =
     let r = module_tick plan at devices ms in
     let now = h at refl in
-    in_append t (map (line_in at.now.0) (brought_tick plan p at devices ms)) (inputs_from plan p devices n (option_map next_tick r.at) r.members)
-    ∙ ap (λ (is : List Input). is ++ inputs_in t (inputs_from plan p devices n (option_map next_tick r.at) r.members)) (in_another t at.now.0 (brought_tick plan p at devices ms) (differ now))
-    ∙ none_earlier plan p devices n (option_map next_tick r.at) r.members t (λ a e. later now a (next_in at.now.0 r.at a (tick_in plan devices at ms) e))
+    in_append t (map (line_in at.now.0) (brought_tick plan p at devices ms)) (inputs_from plan p devices n (option_map next_tick r.at) r.state)
+    ∙ ap (λ (is : List Input). is ++ inputs_in t (inputs_from plan p devices n (option_map next_tick r.at) r.state)) (in_another t at.now.0 (brought_tick plan p at devices ms) (differ now))
+    ∙ none_earlier plan p devices n (option_map next_tick r.at) r.state t (λ a e. later now a (next_in at.now.0 r.at a (tick_in plan devices at ms) e))
   where
     differ : t < at.now.0 → at.now.0 ≢ t
     differ l e = absurd (omega arith)
@@ -88,7 +50,7 @@ module _ {C : Type 0} (name : List ℕ) (place : ℕ) (names : List (List ℕ)) 
   abbrev Is : List (Member C) → Member C → Type 0
   Is ms x = Holds {C = C} name place names apart ms x
 
-  abbrev Goes : Course C → Path (Member C) → Type 0
+  abbrev Goes : Course (List (Member C)) → Course (Member C) → Type 0
   Goes c d = SamePath {C = C} name place names apart c d
 
   -- the inputs that the run brings from here on are those in these lines
@@ -100,23 +62,23 @@ module _ {C : Type 0} (name : List ℕ) (place : ℕ) (names : List (List ℕ)) 
       let r = module_tick plan at devices ms in
       let b = brought_tick plan (suc place) at devices ms in
       those at refl at.now.0 (le_refl at.now.0)
-      ∙ in_append at.now.0 (map (line_in at.now.0) b) (inputs_from plan (suc place) devices n (option_map next_tick r.at) r.members)
-      ∙ ap (λ (is : List Input). is ++ inputs_in at.now.0 (inputs_from plan (suc place) devices n (option_map next_tick r.at) r.members)) (in_their_tick at.now.0 b)
-      ∙ ap (λ (is : List Input). b ++ is) (none_earlier plan (suc place) devices n (option_map next_tick r.at) r.members at.now.0 (λ a e. later a (next_in at.now.0 r.at a (tick_in plan devices at ms) e)))
+      ∙ in_append at.now.0 (map (line_in at.now.0) b) (inputs_from plan (suc place) devices n (option_map next_tick r.at) r.state)
+      ∙ ap (λ (is : List Input). is ++ inputs_in at.now.0 (inputs_from plan (suc place) devices n (option_map next_tick r.at) r.state)) (in_their_tick at.now.0 b)
+      ∙ ap (λ (is : List Input). b ++ is) (none_earlier plan (suc place) devices n (option_map next_tick r.at) r.state at.now.0 (λ a e. later a (next_in at.now.0 r.at a (tick_in plan devices at ms) e)))
       ∙ append-nil b
     where
       later : (a : At) → a.now.0 ≡ at.now.0 + 1 → at.now.0 < a.now.0
       later a e = omega arith
 
   then_those : (ls : List InputLine) (n : ℕ) (at : At) (ms : List (Member C)) → AreThose ls (suc n) (Some at) ms
-      → AreThose ls n (option_map next_tick (module_tick plan at devices ms).at) (module_tick plan at devices ms).members
+      → AreThose ls n (option_map next_tick (module_tick plan at devices ms).at) (module_tick plan at devices ms).state
   then_those ls n at ms those a e t l =
       let r = module_tick plan at devices ms in
       let b = brought_tick plan (suc place) at devices ms in
       let now = next_in at.now.0 r.at a (tick_in plan devices at ms) e in
       those at refl t (before now l)
-      ∙ in_append t (map (line_in at.now.0) b) (inputs_from plan (suc place) devices n (option_map next_tick r.at) r.members)
-      ∙ ap (λ (is : List Input). is ++ inputs_in t (inputs_from plan (suc place) devices n (option_map next_tick r.at) r.members)) (in_another t at.now.0 b (differ now l))
+      ∙ in_append t (map (line_in at.now.0) b) (inputs_from plan (suc place) devices n (option_map next_tick r.at) r.state)
+      ∙ ap (λ (is : List Input). is ++ inputs_in t (inputs_from plan (suc place) devices n (option_map next_tick r.at) r.state)) (in_another t at.now.0 b (differ now l))
     where
       before : a.now.0 ≡ at.now.0 + 1 → a.now.0 ≤ t → at.now.0 ≤ t
       before e l = omega arith
@@ -134,10 +96,10 @@ module _ {C : Type 0} (name : List ℕ) (place : ℕ) (names : List (List ℕ)) 
       let b = brought_tick plan (suc place) at devices ms in
       let d = tick_alone s at b x in
       let one : Goes r d = tick_same name place names apart all plan rows plain devices from at ms x h in
-      subst (λ (is : List Input). part name (r.lines ++ trace_from plan devices n (option_map next_tick r.at) r.members) ≡ (tick_alone s at is x).lines ++ alone_from s ls n (option_map next_tick (tick_alone s at is x).at) (tick_alone s at is x).state)
+      subst (λ (is : List Input). part name (r.lines ++ trace_from plan devices n (option_map next_tick r.at) r.state) ≡ (tick_alone s at is x).lines ++ alone_from s ls n (option_map next_tick (tick_alone s at is x).at) (tick_alone s at is x).state)
       (sym (here ls n at ms those))
-      (joined name r.lines (trace_from plan devices n (option_map next_tick r.at) r.members) d.lines (alone_from s ls n (option_map next_tick d.at) d.state) one.lines
-      (from_same ls n (option_map next_tick r.at) r.members d.state one.members (then_those ls n at ms those)
+      (joined name r.lines (trace_from plan devices n (option_map next_tick r.at) r.state) d.lines (alone_from s ls n (option_map next_tick d.at) d.state) one.lines
+      (from_same ls n (option_map next_tick r.at) r.state d.state one.state (then_those ls n at ms those)
       ∙ ap (λ (o : Option At). alone_from s ls n (option_map next_tick o) d.state) one.at))
 
   -- A partition's part of the trace is the trace that the partition has on its own.
@@ -147,6 +109,6 @@ module _ {C : Type 0} (name : List ℕ) (place : ℕ) (names : List (List ℕ)) 
   isolated ms x h (suc n) =
       let s = starts_same name place names apart first_tick condition.NormalStart ms x h in
       let g = goes (cold_start first_tick condition.NormalStart) x in
-      let ls = inputs_from plan (suc place) devices (suc n) (Some first_tick) (starts ms).members in
-      joined name (starts ms).lines (trace_from plan devices (suc n) (Some first_tick) (starts ms).members) g.lines (alone_from (surroundings_of plan (suc place) rows) ls (suc n) (Some first_tick) g.state) s.lines
-      (from_same ls (suc n) (Some first_tick) (starts ms).members g.state s.members (λ a e t l. refl))
+      let ls = inputs_from plan (suc place) devices (suc n) (Some first_tick) (starts ms).state in
+      joined name (starts ms).lines (trace_from plan devices (suc n) (Some first_tick) (starts ms).state) g.lines (alone_from (surroundings_of plan (suc place) rows) ls (suc n) (Some first_tick) g.state) s.lines
+      (from_same ls (suc n) (Some first_tick) (starts ms).state g.state s.state (λ a e t l. refl))

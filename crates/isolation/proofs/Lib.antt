@@ -9,6 +9,7 @@ pub mod OwnMessages
 pub mod Lines
 pub mod OwnWindows
 pub mod Tick
+pub mod Now
 pub mod Isolated
 pub mod OfImage
 pub mod Ways

@@ -1,5 +1,5 @@
 -- The lines of the devices, as inputs of one partition.
-use Rattle.isolation.proofs.Prelude.{◌≡◌, ℕ, suc, Bool, true, false, List, ◌∷◌, Some, sym, ◌==◌, slice_get, if◌then◌else◌, eqb-true, eqb-false, ModuleAction, DeviceInput, DeviceLine, At, PartitionId, ChannelEnd, Channel, Plan, Course, goes_on, still, steps, as_origin, breaks_module, starts_all, inputs, inputs_all, is_of_tick, of_tick, Member, breaks_down, cold_start, Path, PartitionFault, ModuleFault, stays, goes, meets_fault, takes_all, brought_in, brought_in_all, shuts_down}
+use Rattle.isolation.proofs.Prelude.{◌≡◌, ℕ, suc, Bool, true, false, List, ◌∷◌, Some, sym, ◌==◌, slice_get, if◌then◌else◌, eqb-true, eqb-false, ModuleAction, DeviceInput, DeviceLine, At, PartitionId, ChannelEnd, Channel, Plan, Course, goes_on, still, steps, as_origin, breaks_module, starts_all, inputs, inputs_all, is_of_tick, of_tick, Member, breaks_down, cold_start, PartitionFault, ModuleFault, goes, meets_fault, takes_all, brought_in, brought_in_all, shuts_down}
 use Rattle.std.proofs.Common.{[], refl, subst}
 use Rattle.std.specs.Prelude.{cond}
 use Rattle.apex_types.specs.declared.codes.ModuleAction.TheVariants as reaction
@@ -35,26 +35,26 @@ module _ {C : Type 0} (name : List ℕ) (place : ℕ) (names : List (List ℕ)) 
   abbrev Is : List (Member C) → Member C → Type 0
   Is ms x = Holds {C = C} name place names apart ms x
 
-  abbrev Goes : Course C → Path (Member C) → Type 0
+  abbrev Goes : Course (List (Member C)) → Course (Member C) → Type 0
   Goes c d = SamePath {C = C} name place names apart c d
 
   fault_same : (at : At) (fault : ModuleAction) (ms : List (Member C)) (x : Member C) → Is ms x → Goes (breaks_module at fault ms) (meets_fault at fault x)
-  fault_same at reaction.Ignore ms x h = record { at = refl; members = h; lines = refl }
-  fault_same at reaction.Shutdown ms x h = record { at = refl; members = h; lines = refl }
+  fault_same at reaction.Ignore ms x h = record { at = refl; state = h; lines = refl }
+  fault_same at reaction.Shutdown ms x h = record { at = refl; state = h; lines = refl }
   fault_same at reaction.Reset ms x h =
       goes_on_same name place names apart (as_origin at) _ (goes (cold_start (as_origin at) condition.HmModuleRestart) x)
       (nothing_then_same name place names apart (tells_fault at reaction.Reset ms) x (starts_all (as_origin at) condition.HmModuleRestart) (goes (cold_start (as_origin at) condition.HmModuleRestart) x)
-      (record { members = h; lines = refl })
+      (record { state = h; lines = refl })
       (λ ns k. starts_same name place names apart (as_origin at) condition.HmModuleRestart ns x k))
 
   breaks_same : (fault : ModuleAction) (at : At) (q : PartitionId) (ms : List (Member C)) (x : Member C) → Is ms x → (b : Bool) → (q.0 == suc place) ≡ b
       → Goes (goes_on at (steps (breaks_down at) ms q.0)) (takes_all fault at (if b then PartitionFault ∷ [] else []) x)
   breaks_same fault at q ms x h true e =
-      subst (λ (d : Path (Member C)). Goes (goes_on at (steps (breaks_down at) ms q.0)) d) (sym (takes_one fault PartitionFault at x))
+      subst (λ (d : Course (Member C)). Goes (goes_on at (steps (breaks_down at) ms q.0)) d) (sym (takes_one fault PartitionFault at x))
       (goes_on_same name place names apart at (steps (breaks_down at) ms q.0) (goes (breaks_down at) x)
       (subst (λ (n : ℕ). Same {C = C} name place names apart (steps (breaks_down at) ms n) (goes (breaks_down at) x)) (sym (eqb-true q.0 (suc place) e)) (steps_own name place names apart (breaks_down at) (breaks_down_keeps at) ms x h)))
   breaks_same fault at q ms x h false e =
-      goes_on_same name place names apart at (steps (breaks_down at) ms q.0) (stays x) (steps_other name place names apart (breaks_down at) (breaks_down_keeps at) q.0 (eqb-false q.0 (suc place) e) ms x h)
+      goes_on_same name place names apart at (steps (breaks_down at) ms q.0) (still x) (steps_other name place names apart (breaks_down at) (breaks_down_keeps at) q.0 (eqb-false q.0 (suc place) e) ms x h)
 
   input_same : (plan : Plan) (at : At) (i : DeviceInput) → IsFromDevice plan.channels i → (ms : List (Member C)) (x : Member C) → Is ms x
       → Goes (inputs plan at i ms) (takes_all plan.fault at (brought_in plan (suc place) i) x)
@@ -62,7 +62,7 @@ module _ {C : Type 0} (name : List ℕ) (place : ℕ) (names : List (List ℕ)) 
       gone_by name place names apart plan.fault at m (slice_get plan.channels channel.0) (λ c e. subst (λ (s : ChannelEnd). NotOf (suc place) s) (sym (from c e)) tt) ms x h
   input_same plan at (device.PartitionFault q) from ms x h = breaks_same plan.fault at q ms x h (q.0 == suc place) refl
   input_same plan at device.ModuleFault from ms x h =
-      subst (λ (d : Path (Member C)). Goes (breaks_module at plan.fault ms) d) (sym (takes_one plan.fault ModuleFault at x)) (fault_same at plan.fault ms x h)
+      subst (λ (d : Course (Member C)). Goes (breaks_module at plan.fault ms) d) (sym (takes_one plan.fault ModuleFault at x)) (fault_same at plan.fault ms x h)
 
   fault_ends : (at b : At) (fault : ModuleAction) (ms : List (Member C)) → is_shutdown fault ≡ true → (breaks_module at fault ms).at ≡ Some b → ⊥
   fault_ends at b reaction.Ignore ms h e = cc
@@ -77,17 +77,17 @@ module _ {C : Type 0} (name : List ℕ) (place : ℕ) (names : List (List ℕ)) 
 
   pub lines_same : (plan : Plan) (ls : List DeviceLine) → AreFromDevice plan.channels ls → (at : At) (ms : List (Member C)) (x : Member C) → Is ms x
       → Goes (inputs_all plan at ls ms) (takes_all plan.fault at (brought_in_all plan (suc place) ls) x)
-  lines_same plan [] from at ms x h = goes_on_same name place names apart at (still ms) (stays x) (still_same name place names apart ms x h)
+  lines_same plan [] from at ms x h = goes_on_same name place names apart at (still ms) (still x) (still_same name place names apart ms x h)
   lines_same plan (l ∷ ls) from at ms x h =
       let first = takes_all plan.fault at (brought_in plan (suc place) l.input) x in
       let rest = if shuts_down plan.fault l.input then [] else brought_in_all plan (suc place) ls in
       let one = input_same plan at l.input from.0 ms x h in
-      subst (λ (d : Path (Member C)). Goes (inputs_all plan at (l ∷ ls) ms) d) (sym (takes_append plan.fault (brought_in plan (suc place) l.input) rest at x))
+      subst (λ (d : Course (Member C)). Goes (inputs_all plan at (l ∷ ls) ms) d) (sym (takes_append plan.fault (brought_in plan (suc place) l.input) rest at x))
       (runs_same name place names apart (inputs plan at l.input ms) first (λ a ns. inputs_all plan a ls ns) (λ a y. takes_all plan.fault a rest y) one
-      (λ b e. more (shuts_down plan.fault l.input) refl b e (lines_same plan ls from.1 b (inputs plan at l.input ms).members first.state one.members)))
+      (λ b e. more (shuts_down plan.fault l.input) refl b e (lines_same plan ls from.1 b (inputs plan at l.input ms).state first.state one.state)))
     where
       more : (s : Bool) → shuts_down plan.fault l.input ≡ s → (b : At) → (inputs plan at l.input ms).at ≡ Some b
-          → Goes (inputs_all plan b ls (inputs plan at l.input ms).members) (takes_all plan.fault b (brought_in_all plan (suc place) ls) (takes_all plan.fault at (brought_in plan (suc place) l.input) x).state)
-          → Goes (inputs_all plan b ls (inputs plan at l.input ms).members) (takes_all plan.fault b (if s then [] else brought_in_all plan (suc place) ls) (takes_all plan.fault at (brought_in plan (suc place) l.input) x).state)
+          → Goes (inputs_all plan b ls (inputs plan at l.input ms).state) (takes_all plan.fault b (brought_in_all plan (suc place) ls) (takes_all plan.fault at (brought_in plan (suc place) l.input) x).state)
+          → Goes (inputs_all plan b ls (inputs plan at l.input ms).state) (takes_all plan.fault b (if s then [] else brought_in_all plan (suc place) ls) (takes_all plan.fault at (brought_in plan (suc place) l.input) x).state)
       more true s b e k = absurd (ends_there plan at b l.input ms s e)
       more false s b e k = k

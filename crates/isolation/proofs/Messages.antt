@@ -1,5 +1,5 @@
 -- Messages of other partitions and of the devices, as inputs of one partition.
-use Rattle.isolation.proofs.Prelude.{◌≡◌, ◌≢◌, ℕ, zero, suc, ◌+◌, ℤ, Bool, true, false, List, ◌∷◌, ◌++◌, Option, Some, None, sym, ◌∙◌, ◌==◌, ◌&&◌, find, if◌then◌else◌, eqb-true, eqb-false, ArrayVec, ModuleAction, At, PartitionId, PortId, ChannelEnd, Channel, at_number, Advanced, Course, goes_on, still, then_goes, steps, of_member, ports_from, delivers, delivers_all, goes_by, is_port, channel_from, moves_found, moves_message, moves_messages, moves_so_many, moves_port, moves_ports, Member, arrives, leaves, leaving, admits, goes_out, messages_to_move, Path, Input, Arrive, stays, goes, keeps_on, takes_all, brought_to, brought_by}
+use Rattle.isolation.proofs.Prelude.{◌≡◌, ◌≢◌, ℕ, zero, suc, ◌+◌, ℤ, Bool, true, false, List, ◌∷◌, ◌++◌, Option, Some, None, sym, ◌∙◌, ◌==◌, ◌&&◌, find, if◌then◌else◌, eqb-true, eqb-false, ArrayVec, ModuleAction, At, PartitionId, PortId, ChannelEnd, Channel, at_number, Stepped, Course, goes_on, still, then_goes, steps, of_member, ports_from, delivers, delivers_all, goes_by, is_port, channel_from, moves_found, moves_message, moves_messages, moves_so_many, moves_port, moves_ports, Member, arrives, leaves, leaving, admits, goes_out, messages_to_move, Input, Arrive, goes, takes_all, brought_to, brought_by}
 use Rattle.std.proofs.Common.{[], refl, subst}
 use Rattle.std.specs.Prelude.{cond}
 use Rattle.apex_types.specs.declared.row.ChannelEnd.TheVariants as ends
@@ -37,10 +37,10 @@ module _ {C : Type 0} (name : List ℕ) (place : ℕ) (names : List (List ℕ)) 
   abbrev Is : List (Member C) → Member C → Type 0
   Is ms x = Holds {C = C} name place names apart ms x
 
-  abbrev Nothing : Advanced C → Member C → Type 0
-  Nothing a x = Same {C = C} name place names apart a (stays x)
+  abbrev Nothing : Stepped (List (Member C)) → Member C → Type 0
+  Nothing a x = Same {C = C} name place names apart a (still x)
 
-  abbrev Goes : Course C → Path (Member C) → Type 0
+  abbrev Goes : Course (List (Member C)) → Course (Member C) → Type 0
   Goes c d = SamePath {C = C} name place names apart c d
 
   -- ---- a message to the ends of a channel that is not from the partition
@@ -57,7 +57,7 @@ module _ {C : Type 0} (name : List ℕ) (place : ℕ) (names : List (List ℕ)) 
       → (ms : List (Member C)) (x : Member C) → Is ms x → (b : Bool) → (q.0 == suc place) ≡ b
       → Goes (goes_on at (then_goes (steps (arrives at port m) ms q.0) (delivers_all at c m es))) (takes_all fault at (if b then Arrive port m ∷ brought_to (suc place) m es else brought_to (suc place) m es) x)
   at_port fault at c m q port es rest ms x h true e =
-      then_path name place names apart at (steps (arrives at port m) ms q.0) (keeps_on at (goes (arrives at port m) x)) (delivers_all at c m es) (λ a y. takes_all fault a (brought_to (suc place) m es) y)
+      then_path name place names apart at (steps (arrives at port m) ms q.0) (goes_on at (goes (arrives at port m) x)) (delivers_all at c m es) (λ a y. takes_all fault a (brought_to (suc place) m es) y)
       (goes_on_same name place names apart at (steps (arrives at port m) ms q.0) (goes (arrives at port m) x)
       (subst (λ (n : ℕ). Same {C = C} name place names apart (steps (arrives at port m) ms n) (goes (arrives at port m) x)) (sym (eqb-true q.0 (suc place) e)) (steps_own name place names apart (arrives at port m) (arrives_keeps at port m) ms x h)))
       rest
@@ -68,26 +68,26 @@ module _ {C : Type 0} (name : List ℕ) (place : ℕ) (names : List (List ℕ)) 
 
   delivered : (fault : ModuleAction) (at : At) (c : Channel) (m : ArrayVec ℤ) → NotOf (suc place) c.source → (es : List ChannelEnd)
       → (ms : List (Member C)) (x : Member C) → Is ms x → Goes (goes_on at (delivers_all at c m es ms)) (takes_all fault at (brought_to (suc place) m es) x)
-  delivered fault at c m n [] ms x h = goes_on_same name place names apart at (still ms) (stays x) (still_same name place names apart ms x h)
+  delivered fault at c m n [] ms x h = goes_on_same name place names apart at (still ms) (still x) (still_same name place names apart ms x h)
   delivered fault at c m n (ends.Device ∷ es) ms x h =
       nothing_then name place names apart at (delivers at c m c.source ends.Device ms) x (delivers_all at c m es) (takes_all fault at (brought_to (suc place) m es) x)
       (to_device at c m c.source n ms x h)
       (λ ns k. delivered fault at c m n es ns x k)
   delivered fault at c m n (ends.Port q port ∷ es) ms x h =
-      subst (λ (a : Advanced C). Goes (goes_on at (then_goes a (delivers_all at c m es))) (takes_all fault at (brought_to (suc place) m (ends.Port q port ∷ es)) x)) (sym (to_port at c m c.source q port ms))
+      subst (λ (a : Stepped (List (Member C))). Goes (goes_on at (then_goes a (delivers_all at c m es))) (takes_all fault at (brought_to (suc place) m (ends.Port q port ∷ es)) x)) (sym (to_port at c m c.source q port ms))
       (at_port fault at c m q port es (delivered fault at c m n es) ms x h (q.0 == suc place) refl)
 
   -- a message by a channel, if there is a channel, that is not from the partition
   pub gone_by : (fault : ModuleAction) (at : At) (m : ArrayVec ℤ) (o : Option Channel) → ((c : Channel) → o ≡ Some c → NotOf (suc place) c.source)
       → (ms : List (Member C)) (x : Member C) → Is ms x → Goes (goes_on at (goes_by at m o ms)) (takes_all fault at (brought_by (suc place) m o) x)
-  gone_by fault at m None n ms x h = goes_on_same name place names apart at (still ms) (stays x) (still_same name place names apart ms x h)
+  gone_by fault at m None n ms x h = goes_on_same name place names apart at (still ms) (still x) (still_same name place names apart ms x h)
   gone_by fault at m (Some c) n ms x h = delivered fault at c m (n c refl) c.destinations ms x h
 
   -- ---- the messages of another partition, whose window has ended
   module _ (fault : ModuleAction) (channels : List Channel) (at : At) (q : PartitionId) (other : q.0 ≢ suc place) where
     other_found : (port : PortId) (o : Option (ArrayVec ℤ)) (ms : List (Member C)) (x : Member C) → Is ms x
         → Goes (goes_on at (moves_found channels at q port ms o)) (takes_all fault at (brought_found channels (suc place) q port o) x)
-    other_found port None ms x h = goes_on_same name place names apart at (still ms) (stays x) (still_same name place names apart ms x h)
+    other_found port None ms x h = goes_on_same name place names apart at (still ms) (still x) (still_same name place names apart ms x h)
     other_found port (Some m) ms x h =
         nothing_then name place names apart at (steps (leaves at port) ms q.0) x (goes_by at m (channel_from channels q port)) (takes_all fault at (brought_by (suc place) m (channel_from channels q port)) x)
         (steps_other name place names apart (leaves at port) (leaves_keeps at port) q.0 other ms x h)
@@ -98,24 +98,24 @@ module _ {C : Type 0} (name : List ℕ) (place : ℕ) (names : List (List ℕ)) 
     other_message port ms x h = other_found port (of_member None (leaving port) (at_number ms q.0)) ms x h
 
     -- one step brings some, and the next one brings more
-    and_more : (a : Advanced C) (is js : List Input) (p : List (Member C) → Advanced C) (x : Member C)
-        → Goes (goes_on at a) (takes_all fault at is x) → ((y : Member C) → Is a.members y → Goes (goes_on at (p a.members)) (takes_all fault at js y))
+    and_more : (a : Stepped (List (Member C))) (is js : List Input) (p : List (Member C) → Stepped (List (Member C))) (x : Member C)
+        → Goes (goes_on at a) (takes_all fault at is x) → ((y : Member C) → Is a.state y → Goes (goes_on at (p a.state)) (takes_all fault at js y))
         → Goes (goes_on at (then_goes a p)) (takes_all fault at (is ++ js) x)
     and_more a is js p x h rest =
-        subst (λ (d : Path (Member C)). Goes (goes_on at (then_goes a p)) d) (sym (takes_append fault is js at x))
+        subst (λ (d : Course (Member C)). Goes (goes_on at (then_goes a p)) d) (sym (takes_append fault is js at x))
         (then_path_at name place names apart at a (takes_all fault at is x) p (λ b y. takes_all fault b js y) h rest)
 
     other_messages : (n : ℕ) (port : PortId) (ms : List (Member C)) (x : Member C) → Is ms x
         → Goes (goes_on at (moves_messages n channels at q port ms)) (takes_all fault at (brought_messages n channels (suc place) at q port ms) x)
-    other_messages zero port ms x h = goes_on_same name place names apart at (still ms) (stays x) (still_same name place names apart ms x h)
+    other_messages zero port ms x h = goes_on_same name place names apart at (still ms) (still x) (still_same name place names apart ms x h)
     other_messages (suc n) port ms x h =
-        and_more (moves_message channels at q port ms) (brought_message channels (suc place) q port ms) (brought_messages n channels (suc place) at q port (moves_message channels at q port ms).members) (moves_messages n channels at q port) x
+        and_more (moves_message channels at q port ms) (brought_message channels (suc place) q port ms) (brought_messages n channels (suc place) at q port (moves_message channels at q port ms).state) (moves_messages n channels at q port) x
         (other_message port ms x h)
-        (λ y k. other_messages n port (moves_message channels at q port ms).members y k)
+        (λ y k. other_messages n port (moves_message channels at q port ms).state y k)
 
     other_so_many : (port : PortId) (o : Option ℕ) (ms : List (Member C)) (x : Member C) → Is ms x
         → Goes (goes_on at (moves_so_many channels at q port ms o)) (takes_all fault at (brought_so_many channels (suc place) at q port ms o) x)
-    other_so_many port None ms x h = goes_on_same name place names apart at (still ms) (stays x) (still_same name place names apart ms x h)
+    other_so_many port None ms x h = goes_on_same name place names apart at (still ms) (still x) (still_same name place names apart ms x h)
     other_so_many port (Some n) ms x h =
         then_nothing name place names apart at (moves_messages n channels at q port ms) (takes_all fault at (brought_messages n channels (suc place) at q port ms) x) (λ ns. steps (admits at port) ns q.0)
         (other_messages n port ms x h)
@@ -127,8 +127,8 @@ module _ {C : Type 0} (name : List ℕ) (place : ℕ) (names : List (List ℕ)) 
 
     pub other_ports : (n number : ℕ) (ms : List (Member C)) (x : Member C) → Is ms x
         → Goes (goes_on at (moves_ports n number channels at q ms)) (takes_all fault at (brought_ports n number channels (suc place) at q ms) x)
-    other_ports zero number ms x h = goes_on_same name place names apart at (still ms) (stays x) (still_same name place names apart ms x h)
+    other_ports zero number ms x h = goes_on_same name place names apart at (still ms) (still x) (still_same name place names apart ms x h)
     other_ports (suc n) number ms x h =
-        and_more (moves_port channels at q (record { 0 = number }) ms) (brought_port channels (suc place) at q (record { 0 = number }) ms) (brought_ports n (number + 1) channels (suc place) at q (moves_port channels at q (record { 0 = number }) ms).members) (moves_ports n (number + 1) channels at q) x
+        and_more (moves_port channels at q (record { 0 = number }) ms) (brought_port channels (suc place) at q (record { 0 = number }) ms) (brought_ports n (number + 1) channels (suc place) at q (moves_port channels at q (record { 0 = number }) ms).state) (moves_ports n (number + 1) channels at q) x
         (other_port (record { 0 = number }) ms x h)
-        (λ y k. other_ports n (number + 1) (moves_port channels at q (record { 0 = number }) ms).members y k)
+        (λ y k. other_ports n (number + 1) (moves_port channels at q (record { 0 = number }) ms).state y k)

@@ -1,6 +1,6 @@
 -- The messages of a partition whose own window has ended: their destinations make no difference to
 -- it.
-use Rattle.isolation.proofs.Prelude.{◌≡◌, ◌≢◌, ℕ, zero, suc, ◌+◌, ℤ, Bool, false, List, ◌∷◌, ◌++◌, length, Option, Some, None, sym, ◌∙◌, if◌then◌else◌, list_any, ne_eqb, ArrayVec, At, PartitionId, PortId, ChannelEnd, Channel, at_number, Advanced, steps, of_member, ports_of, ports_from, delivers, delivers_all, goes_by, channel_from, moves_found, moves_message, moves_messages, moves_so_many, moves_port, moves_ports, Member, arrives, leaves, leaving, admits, goes_out, messages_to_move, Gone, Input, Arrive, Surroundings, stays, goes, goes_by_way, sends_found, sends_message, sends_messages, sends_so_many, sends_port, sends_ports, way_out, brought_to, brought_by, name_to_device}
+use Rattle.isolation.proofs.Prelude.{◌≡◌, ◌≢◌, ℕ, zero, suc, ◌+◌, ℤ, Bool, false, List, ◌∷◌, ◌++◌, length, Option, Some, None, sym, ◌∙◌, if◌then◌else◌, list_any, ne_eqb, ArrayVec, At, PartitionId, PortId, ChannelEnd, Channel, at_number, Stepped, steps, of_member, ports_of, ports_from, delivers, delivers_all, goes_by, channel_from, moves_found, moves_message, moves_messages, moves_so_many, moves_port, moves_ports, Member, arrives, leaves, leaving, admits, goes_out, messages_to_move, Input, Arrive, Surroundings, still, goes, goes_by_way, sends_found, sends_message, sends_messages, sends_so_many, sends_port, sends_ports, way_out, brought_to, brought_by, name_to_device}
 use Rattle.std.proofs.Common.{[], refl, ap, subst}
 use Rattle.apex_types.specs.declared.row.ChannelEnd.TheVariants as ends
 use Rattle.module_meaning.specs.Table.{is_device, has_two_devices}
@@ -54,8 +54,8 @@ module _ (p : ℕ) (channels : List Channel) (lawful : AreLawful p channels) whe
     nothing_messages : (n : ℕ) (port : PortId) (ms : List (Member C)) → brought_messages n channels p at (with_number p) port ms ≡ []
     nothing_messages zero port ms = refl
     nothing_messages (suc n) port ms =
-        ap (λ (is : List Input). is ++ brought_messages n channels p at (with_number p) port (moves_message channels at (with_number p) port ms).members) (nothing_brought port (of_member None (leaving port) (at_number ms p)))
-        ∙ nothing_messages n port (moves_message channels at (with_number p) port ms).members
+        ap (λ (is : List Input). is ++ brought_messages n channels p at (with_number p) port (moves_message channels at (with_number p) port ms).state) (nothing_brought port (of_member None (leaving port) (at_number ms p)))
+        ∙ nothing_messages n port (moves_message channels at (with_number p) port ms).state
 
     nothing_so_many : (port : PortId) (o : Option ℕ) (ms : List (Member C)) → brought_so_many channels p at (with_number p) port ms o ≡ []
     nothing_so_many port None ms = refl
@@ -64,14 +64,14 @@ module _ (p : ℕ) (channels : List Channel) (lawful : AreLawful p channels) whe
     pub nothing_ports : (n number : ℕ) (ms : List (Member C)) → brought_ports n number channels p at (with_number p) ms ≡ []
     nothing_ports zero number ms = refl
     nothing_ports (suc n) number ms =
-        ap (λ (is : List Input). is ++ brought_ports n (number + 1) channels p at (with_number p) (moves_port channels at (with_number p) (record { 0 = number }) ms).members) (nothing_so_many (record { 0 = number }) (messages_to_move (at_number (ports_from ms p) number)) ms)
-        ∙ nothing_ports n (number + 1) (moves_port channels at (with_number p) (record { 0 = number }) ms).members
+        ap (λ (is : List Input). is ++ brought_ports n (number + 1) channels p at (with_number p) (moves_port channels at (with_number p) (record { 0 = number }) ms).state) (nothing_so_many (record { 0 = number }) (messages_to_move (at_number (ports_from ms p) number)) ms)
+        ∙ nothing_ports n (number + 1) (moves_port channels at (with_number p) (record { 0 = number }) ms).state
 
 module _ {C : Type 0} (name : List ℕ) (place : ℕ) (names : List (List ℕ)) (apart : IsApart name place names) where
   abbrev Is : List (Member C) → Member C → Type 0
   Is ms x = Holds {C = C} name place names apart ms x
 
-  abbrev Both : Advanced C → Gone (Member C) → Type 0
+  abbrev Both : Stepped (List (Member C)) → Stepped (Member C) → Type 0
   Both a g = Same {C = C} name place names apart a g
 
   own_device : (at : At) (c : Channel) (m : ArrayVec ℤ) (source : ChannelEnd) → IsOf (suc place) source → (ms : List (Member C)) (x : Member C) → Is ms x → Both (delivers at c m source ends.Device ms) (goes (goes_out at c.name m) x)
@@ -79,15 +79,15 @@ module _ {C : Type 0} (name : List ℕ) (place : ℕ) (names : List (List ℕ)) 
   own_device at c m (ends.Port p other) n ms x h =
       subst (λ (q : ℕ). Both (steps (goes_out at c.name m) ms q) (goes (goes_out at c.name m) x)) (sym n) (steps_own name place names apart (goes_out at c.name m) (goes_out_keeps at c.name m) ms x h)
 
-  own_port : (at : At) (c : Channel) (m : ArrayVec ℤ) (source : ChannelEnd) (q : PartitionId) (port : PortId) → q.0 ≢ suc place → (ms : List (Member C)) (x : Member C) → Is ms x → Both (delivers at c m source (ends.Port q port) ms) (stays x)
+  own_port : (at : At) (c : Channel) (m : ArrayVec ℤ) (source : ChannelEnd) (q : PartitionId) (port : PortId) → q.0 ≢ suc place → (ms : List (Member C)) (x : Member C) → Is ms x → Both (delivers at c m source (ends.Port q port) ms) (still x)
   own_port at c m ends.Device q port n ms x h = steps_other name place names apart (arrives at port m) (arrives_keeps at port m) q.0 n ms x h
   own_port at c m (ends.Port p other) q port n ms x h = steps_other name place names apart (arrives at port m) (arrives_keeps at port m) q.0 n ms x h
 
-  no_device : (at : At) (c : Channel) (m : ArrayVec ℤ) (es : List ChannelEnd) → NoneOf (suc place) es → list_any is_device es ≡ false → (ms : List (Member C)) (x : Member C) → Is ms x → Both (delivers_all at c m es ms) (stays x)
+  no_device : (at : At) (c : Channel) (m : ArrayVec ℤ) (es : List ChannelEnd) → NoneOf (suc place) es → list_any is_device es ≡ false → (ms : List (Member C)) (x : Member C) → Is ms x → Both (delivers_all at c m es ms) (still x)
   no_device at c m [] n d ms x h = still_same name place names apart ms x h
   no_device at c m (ends.Device ∷ es) n d ms x h = absurd (cc)
   no_device at c m (ends.Port q port ∷ es) n d ms x h =
-      nothing_then_same name place names apart (delivers at c m c.source (ends.Port q port) ms) x (delivers_all at c m es) (stays x)
+      nothing_then_same name place names apart (delivers at c m c.source (ends.Port q port) ms) x (delivers_all at c m es) (still x)
       (own_port at c m c.source q port n.0 ms x h)
       (λ ns k. no_device at c m es n.1 d ns x k)
 

@@ -37,7 +37,7 @@ pub use Rattle.arrayvec.specs.ArrayVec.{ArrayVec}
 pub use Rattle.engine_meaning.specs.Digits.{same}
 pub use Rattle.engine_meaning.specs.Engine.{Asks, Calls, Ends, Engine, Faults, Nothing}
 pub use Rattle.engine_meaning.specs.Operators.{is_zero}
-pub use Rattle.isolation.specs.Alone.{Arrive, Gone, Input, InputLine, ModuleFault, PartitionFault, Path, Surroundings, and_runs, and_then, goes, goes_by_way, keeps_on, meets_fault, sends_and_ticks, sends_ended, sends_found, sends_message, sends_messages, sends_port, sends_ports, sends_so_many, stays, takes, takes_all, tick_alone, ticks_own, unless_over, way_out}
+pub use Rattle.isolation.specs.Alone.{Arrive, Input, InputLine, ModuleFault, PartitionFault, Surroundings, goes, goes_by_way, meets_fault, sends_and_ticks, sends_ended, sends_found, sends_message, sends_messages, sends_port, sends_ports, sends_so_many, takes, takes_all, tick_alone, ticks_own, way_out}
 pub use Rattle.isolation.specs.Brought.{brought_by, brought_in, brought_in_all, brought_moved, brought_tick, brought_to, held_ended, held_port, held_ports, inputs_from, inputs_of, line_in, part, shuts_down}
 pub use Rattle.isolation.specs.InputText.{AreInputs, AreWritable, HasNames, IsInput, replay_text}
 pub use Rattle.isolation.specs.Slices.{Slice, machine_inputs, slice}
@@ -63,7 +63,7 @@ pub use Rattle.machine_meaning.specs.MachineControl.{MachineControl}
 pub use Rattle.machine_meaning.specs.MachineMeaning.{machine_members, verdict_for}
 pub use Rattle.module_meaning.specs.DeviceText.{Message, Written, is_room, line_with, message_of, message_with, pieces, words_of_ends}
 pub use Rattle.module_meaning.specs.ImageRules.{has_unknown_port, is_unknown_port}
-pub use Rattle.module_meaning.specs.Module.{Advanced, Course, Plan, as_origin, breaks_module, channel_from, delivers, delivers_all, first_tick, goes_by, goes_on, inputs, inputs_all, is_of_tick, is_port, module_tick, moves_and_ticks, moves_found, moves_message, moves_messages, moves_port, moves_ports, moves_so_many, next_tick, of_member, of_tick, ports_from, ports_of, started_member, starts, starts_all, steps, still, then_goes, unless_down}
+pub use Rattle.module_meaning.specs.Module.{Course, Plan, Stepped, as_origin, breaks_module, channel_from, delivers, delivers_all, first_tick, goes_by, goes_on, inputs, inputs_all, is_of_tick, is_port, module_tick, moves_and_ticks, moves_found, moves_message, moves_messages, moves_port, moves_ports, moves_so_many, next_tick, of_member, of_tick, ports_from, ports_of, started_member, starts, starts_all, steps, still, then_goes, then_runs, unless_down}
 pub use Rattle.module_meaning.specs.Table.{Channel, Partition, at_number, differ, ends_of, fixed_of, has_mixed_ports, has_twice, has_wrong_direction, has_wrong_ends, is_same_port, is_source_port, is_split_queue, sends_to_itself, ◌>>=◌}
 pub use Rattle.std.proofs.Common.{Bool, Err, List, None, Ok, Option, Result, Some, append-nil, append_assoc, arith, cond, false, inl, inr, le_refl, length, map, suc, sym, true, zero, ℕ, ℤ, ◌++◌, ◌+◌, ◌-◌, ◌<◌, ◌∙◌, ◌∷◌, ◌≡◌, ◌≢◌, ◌≤◌}
 pub use Rattle.std.proofs.lemmas.Bool.{and_parts, cases_lt, eq-eqb, eqb-false, eqb-true, leb-true, ne_eqb, not-false, or_from}

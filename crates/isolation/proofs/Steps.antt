@@ -1,5 +1,5 @@
 -- The effect of a step of the module on one partition: its own step, or nothing.
-use Rattle.isolation.proofs.Prelude.{◌≡◌, ◌≢◌, ℕ, zero, suc, false, List, ◌∷◌, ◌++◌, map, Option, Some, None, sym, ◌∙◌, append-nil, arith, slice_get, slice_set, flat_map, option_map, slice_get-map, StartCondition, Event, At, same, Advanced, Course, still, then_goes, steps, goes_on, unless_down, starts_all, started_member, Member, Moved, cold_start, Gone, Path, stays, goes, and_then, keeps_on, unless_over, and_runs, part}
+use Rattle.isolation.proofs.Prelude.{◌≡◌, ◌≢◌, ℕ, zero, suc, false, List, ◌∷◌, ◌++◌, map, Option, Some, None, sym, ◌∙◌, append-nil, arith, slice_get, slice_set, flat_map, option_map, slice_get-map, StartCondition, Event, At, same, Stepped, Course, still, then_goes, steps, goes_on, unless_down, starts_all, started_member, Member, Moved, cold_start, goes, then_runs, part}
 use Rattle.std.proofs.Common.{[], refl, ap, subst}
 use Rattle.module_meaning.specs.Module.{steps_member, then_runs, start_lines}
 use Rattle.kernel_meaning.specs.Partition.{with_world}
@@ -60,13 +60,13 @@ module _ {C : Type 0} (name : List ℕ) (place : ℕ) (names : List (List ℕ)) 
 
   -- A step of the module is this step of the partition: it leads to the same record, and the lines
   -- are the part.
-  pub record Same (a : Advanced C) (g : Gone (Member C)) : Type 0 where
-    pub members : Holds a.members g.state
+  pub record Same (a : Stepped (List (Member C))) (g : Stepped (Member C)) : Type 0 where
+    pub state : Holds a.state g.state
     pub lines : part name a.lines ≡ g.lines
 
-  pub record SamePath (c : Course C) (d : Path (Member C)) : Type 0 where
+  pub record SamePath (c : Course (List (Member C))) (d : Course (Member C)) : Type 0 where
     pub at : c.at ≡ d.at
-    pub members : Holds c.members d.state
+    pub state : Holds c.state d.state
     pub lines : part name c.lines ≡ d.lines
 
   name_at : (ms : List (Member C)) (x : Member C) → Holds ms x → (q : ℕ) (y : Member C) → slice_get ms q ≡ Some y → slice_get names q ≡ Some (name_of y)
@@ -78,15 +78,15 @@ module _ {C : Type 0} (name : List ℕ) (place : ℕ) (names : List (List ℕ)) 
   other_name : (ms : List (Member C)) (x : Member C) → Holds ms x → (q : ℕ) (y : Member C) → q ≢ place → slice_get ms q ≡ Some y → same name (name_of y) ≡ false
   other_name ms x h q y n e = apart.others q (name_of y) n (name_at ms x h q y e)
 
-  pub still_same : (ms : List (Member C)) (x : Member C) → Holds ms x → Same (still ms) (stays x)
-  still_same ms x h = record { members = h; lines = refl }
+  pub still_same : (ms : List (Member C)) (x : Member C) → Holds ms x → Same (still ms) (still x)
+  still_same ms x h = record { state = h; lines = refl }
 
   own_lines : (f : Member C → Moved C) → StepKeeps f → (ms : List (Member C)) (x : Member C) → Holds ms x → part name (f x).lines ≡ (f x).lines
   own_lines f k ms x h = subst (λ (n : List ℕ). part n (f x).lines ≡ (f x).lines) (own_name ms x h) (k x).own.seen
 
   own_step : (f : Member C → Moved C) → StepKeeps f → (ms : List (Member C)) (x : Member C) → Holds ms x → Same (steps_member f ms place (Some x)) (goes f x)
   own_step f k ms x h = record {
-    members = record {
+    state = record {
       own = get_set_same ms place x (with_world x (f x).world) h.own;
       named = map_set_same name_of ms place x (with_world x (f x).world) h.own (ap (λ f. f.name) (k x).fixed) ∙ h.named;
     };
@@ -97,10 +97,10 @@ module _ {C : Type 0} (name : List ℕ) (place : ℕ) (names : List (List ℕ)) 
   pub steps_own : (f : Member C → Moved C) → StepKeeps f → (ms : List (Member C)) (x : Member C) → Holds ms x → Same (steps f ms (suc place)) (goes f x)
   steps_own f k ms x h = subst (λ (o : Option (Member C)). Same (steps_member f ms place o) (goes f x)) (sym h.own) (own_step f k ms x h)
 
-  other_step : (f : Member C → Moved C) → StepKeeps f → (q : ℕ) → q ≢ place → (ms : List (Member C)) (x : Member C) → Holds ms x → (o : Option (Member C)) → slice_get ms q ≡ o → Same (steps_member f ms q o) (stays x)
+  other_step : (f : Member C → Moved C) → StepKeeps f → (q : ℕ) → q ≢ place → (ms : List (Member C)) (x : Member C) → Holds ms x → (o : Option (Member C)) → slice_get ms q ≡ o → Same (steps_member f ms q o) (still x)
   other_step f k q n ms x h None e = still_same ms x h
   other_step f k q n ms x h (Some y) e = record {
-    members = record {
+    state = record {
       own = get_set_other ms q place (with_world y (f y).world) n ∙ h.own;
       named = map_set_same name_of ms q y (with_world y (f y).world) e (ap (λ f. f.name) (k y).fixed) ∙ h.named;
     };
@@ -108,74 +108,74 @@ module _ {C : Type 0} (name : List ℕ) (place : ℕ) (names : List (List ℕ)) 
   }
 
   -- a step of another partition
-  pub steps_other : (f : Member C → Moved C) → StepKeeps f → (q : ℕ) → q ≢ suc place → (ms : List (Member C)) (x : Member C) → Holds ms x → Same (steps f ms q) (stays x)
+  pub steps_other : (f : Member C → Moved C) → StepKeeps f → (q : ℕ) → q ≢ suc place → (ms : List (Member C)) (x : Member C) → Holds ms x → Same (steps f ms q) (still x)
   steps_other f k zero n ms x h = still_same ms x h
   steps_other f k (suc q) n ms x h = other_step f k q (λ e. n (ap suc e)) ms x h (slice_get ms q) refl
 
   -- ---- one after another
-  pub then_same : (a : Advanced C) (g : Gone (Member C)) (p : List (Member C) → Advanced C) (q : Member C → Gone (Member C))
-      → Same a g → ((ms : List (Member C)) (x : Member C) → Holds ms x → Same (p ms) (q x)) → Same (then_goes a p) (and_then g q)
+  pub then_same : (a : Stepped (List (Member C))) (g : Stepped (Member C)) (p : List (Member C) → Stepped (List (Member C))) (q : Member C → Stepped (Member C))
+      → Same a g → ((ms : List (Member C)) (x : Member C) → Holds ms x → Same (p ms) (q x)) → Same (then_goes a p) (then_goes g q)
   then_same a g p q h rest =
-      let more = rest a.members g.state h.members in
-      record { members = more.members; lines = joined name a.lines (p a.members).lines g.lines (q g.state).lines h.lines more.lines }
+      let more = rest a.state g.state h.state in
+      record { state = more.state; lines = joined name a.lines (p a.state).lines g.lines (q g.state).lines h.lines more.lines }
 
   -- a step that does nothing to the partition, followed by another
-  pub nothing_then : (at : At) (a : Advanced C) (x : Member C) (p : List (Member C) → Advanced C) (d : Path (Member C))
-      → Same a (stays x) → ((ms : List (Member C)) → Holds ms x → SamePath (goes_on at (p ms)) d) → SamePath (goes_on at (then_goes a p)) d
+  pub nothing_then : (at : At) (a : Stepped (List (Member C))) (x : Member C) (p : List (Member C) → Stepped (List (Member C))) (d : Course (Member C))
+      → Same a (still x) → ((ms : List (Member C)) → Holds ms x → SamePath (goes_on at (p ms)) d) → SamePath (goes_on at (then_goes a p)) d
   nothing_then at a x p d h rest =
-      let more = rest a.members h.members in
-      record { at = more.at; members = more.members; lines = joined name a.lines (p a.members).lines [] d.lines h.lines more.lines }
+      let more = rest a.state h.state in
+      record { at = more.at; state = more.state; lines = joined name a.lines (p a.state).lines [] d.lines h.lines more.lines }
 
-  pub nothing_then_same : (a : Advanced C) (x : Member C) (p : List (Member C) → Advanced C) (g : Gone (Member C))
-      → Same a (stays x) → ((ms : List (Member C)) → Holds ms x → Same (p ms) g) → Same (then_goes a p) g
+  pub nothing_then_same : (a : Stepped (List (Member C))) (x : Member C) (p : List (Member C) → Stepped (List (Member C))) (g : Stepped (Member C))
+      → Same a (still x) → ((ms : List (Member C)) → Holds ms x → Same (p ms) g) → Same (then_goes a p) g
   nothing_then_same a x p g h rest =
-      let more = rest a.members h.members in
-      record { members = more.members; lines = joined name a.lines (p a.members).lines [] g.lines h.lines more.lines }
+      let more = rest a.state h.state in
+      record { state = more.state; lines = joined name a.lines (p a.state).lines [] g.lines h.lines more.lines }
 
-  pub then_nothing_same : (a : Advanced C) (g : Gone (Member C)) (p : List (Member C) → Advanced C)
-      → Same a g → ((ms : List (Member C)) (x : Member C) → Holds ms x → Same (p ms) (stays x)) → Same (then_goes a p) g
+  pub then_nothing_same : (a : Stepped (List (Member C))) (g : Stepped (Member C)) (p : List (Member C) → Stepped (List (Member C)))
+      → Same a g → ((ms : List (Member C)) (x : Member C) → Holds ms x → Same (p ms) (still x)) → Same (then_goes a p) g
   then_nothing_same a g p h rest =
-      let more = rest a.members g.state h.members in
-      record { members = more.members; lines = joined name a.lines (p a.members).lines g.lines [] h.lines more.lines ∙ append-nil g.lines }
+      let more = rest a.state g.state h.state in
+      record { state = more.state; lines = joined name a.lines (p a.state).lines g.lines [] h.lines more.lines ∙ append-nil g.lines }
 
-  pub goes_on_same : (at : At) (a : Advanced C) (g : Gone (Member C)) → Same a g → SamePath (goes_on at a) (keeps_on at g)
-  goes_on_same at a g h = record { at = refl; members = h.members; lines = h.lines }
+  pub goes_on_same : (at : At) (a : Stepped (List (Member C))) (g : Stepped (Member C)) → Same a g → SamePath (goes_on at a) (goes_on at g)
+  goes_on_same at a g h = record { at = refl; state = h.state; lines = h.lines }
 
-  unless_same : (c : Course C) (d : Path (Member C)) (p : At → List (Member C) → Course C) (q : At → Member C → Path (Member C)) (o : Option At)
-      → SamePath c d → c.at ≡ o → ((at : At) → c.at ≡ Some at → SamePath (p at c.members) (q at d.state))
-      → SamePath (unless_down c p o) (unless_over d q o)
+  unless_same : (c : Course (List (Member C))) (d : Course (Member C)) (p : At → List (Member C) → Course (List (Member C))) (q : At → Member C → Course (Member C)) (o : Option At)
+      → SamePath c d → c.at ≡ o → ((at : At) → c.at ≡ Some at → SamePath (p at c.state) (q at d.state))
+      → SamePath (unless_down c p o) (unless_down d q o)
   unless_same c d p q None h e rest = h
   unless_same c d p q (Some at) h e rest =
       let more = rest at e in
-      record { at = more.at; members = more.members; lines = joined name c.lines (p at c.members).lines d.lines (q at d.state).lines h.lines more.lines }
+      record { at = more.at; state = more.state; lines = joined name c.lines (p at c.state).lines d.lines (q at d.state).lines h.lines more.lines }
 
-  pub runs_same : (c : Course C) (d : Path (Member C)) (p : At → List (Member C) → Course C) (q : At → Member C → Path (Member C))
-      → SamePath c d → ((at : At) → c.at ≡ Some at → SamePath (p at c.members) (q at d.state))
-      → SamePath (then_runs c p) (and_runs d q)
+  pub runs_same : (c : Course (List (Member C))) (d : Course (Member C)) (p : At → List (Member C) → Course (List (Member C))) (q : At → Member C → Course (Member C))
+      → SamePath c d → ((at : At) → c.at ≡ Some at → SamePath (p at c.state) (q at d.state))
+      → SamePath (then_runs c p) (then_runs d q)
   runs_same c d p q h rest =
-      subst (λ (o : Option At). SamePath (then_runs c p) (unless_over d q o)) h.at (unless_same c d p q c.at h refl rest)
+      subst (λ (o : Option At). SamePath (then_runs c p) (unless_down d q o)) h.at (unless_same c d p q c.at h refl rest)
 
   -- steps that continue, followed by steps that continue
-  pub then_path_at : (at : At) (a : Advanced C) (d : Path (Member C)) (p : List (Member C) → Advanced C) (q : At → Member C → Path (Member C))
-      → SamePath (goes_on at a) d → ((x : Member C) → Holds a.members x → SamePath (goes_on at (p a.members)) (q at x))
-      → SamePath (goes_on at (then_goes a p)) (and_runs d q)
+  pub then_path_at : (at : At) (a : Stepped (List (Member C))) (d : Course (Member C)) (p : List (Member C) → Stepped (List (Member C))) (q : At → Member C → Course (Member C))
+      → SamePath (goes_on at a) d → ((x : Member C) → Holds a.state x → SamePath (goes_on at (p a.state)) (q at x))
+      → SamePath (goes_on at (then_goes a p)) (then_runs d q)
   then_path_at at a d p q h rest =
-      let more = rest d.state h.members in
-      subst (λ (o : Option At). SamePath (goes_on at (then_goes a p)) (unless_over d q o)) h.at
-      (record { at = more.at; members = more.members; lines = joined name a.lines (p a.members).lines d.lines (q at d.state).lines h.lines more.lines })
+      let more = rest d.state h.state in
+      subst (λ (o : Option At). SamePath (goes_on at (then_goes a p)) (unless_down d q o)) h.at
+      (record { at = more.at; state = more.state; lines = joined name a.lines (p a.state).lines d.lines (q at d.state).lines h.lines more.lines })
 
-  pub then_path : (at : At) (a : Advanced C) (d : Path (Member C)) (p : List (Member C) → Advanced C) (q : At → Member C → Path (Member C))
+  pub then_path : (at : At) (a : Stepped (List (Member C))) (d : Course (Member C)) (p : List (Member C) → Stepped (List (Member C))) (q : At → Member C → Course (Member C))
       → SamePath (goes_on at a) d → ((ms : List (Member C)) (x : Member C) → Holds ms x → SamePath (goes_on at (p ms)) (q at x))
-      → SamePath (goes_on at (then_goes a p)) (and_runs d q)
-  then_path at a d p q h rest = then_path_at at a d p q h (λ x k. rest a.members x k)
+      → SamePath (goes_on at (then_goes a p)) (then_runs d q)
+  then_path at a d p q h rest = then_path_at at a d p q h (λ x k. rest a.state x k)
 
   -- a step, followed by one that does nothing to the partition
-  pub then_nothing : (at : At) (a : Advanced C) (d : Path (Member C)) (p : List (Member C) → Advanced C)
-      → SamePath (goes_on at a) d → ((ms : List (Member C)) (x : Member C) → Holds ms x → Same (p ms) (stays x))
+  pub then_nothing : (at : At) (a : Stepped (List (Member C))) (d : Course (Member C)) (p : List (Member C) → Stepped (List (Member C)))
+      → SamePath (goes_on at a) d → ((ms : List (Member C)) (x : Member C) → Holds ms x → Same (p ms) (still x))
       → SamePath (goes_on at (then_goes a p)) d
   then_nothing at a d p h rest =
-      let more = rest a.members d.state h.members in
-      record { at = h.at; members = more.members; lines = joined name a.lines (p a.members).lines d.lines [] h.lines more.lines ∙ append-nil d.lines }
+      let more = rest a.state d.state h.state in
+      record { at = h.at; state = more.state; lines = joined name a.lines (p a.state).lines d.lines [] h.lines more.lines ∙ append-nil d.lines }
 
   -- ---- the start of all
   none_start : (at : At) (c : StartCondition) (ms : List (Member C)) → ((q : ℕ) (y : Member C) → slice_get ms q ≡ Some y → same name (name_of y) ≡ false) → part name (flat_map (start_lines at c) ms) ≡ []
@@ -195,7 +195,7 @@ module _ {C : Type 0} (name : List ℕ) (place : ℕ) (names : List (List ℕ)) 
 
   pub starts_same : (at : At) (c : StartCondition) (ms : List (Member C)) (x : Member C) → Holds ms x → Same (starts_all at c ms) (goes (cold_start at c) x)
   starts_same at c ms x h = record {
-    members = record {
+    state = record {
       own = slice_get-map (started_member at c) ms place ∙ ap (option_map (started_member at c)) h.own;
       named = map_map_same name_of (started_member at c) (λ y. ap (λ f. f.name) (cold_start_keeps at c y).fixed) ms ∙ h.named;
     };

@@ -6,7 +6,8 @@ use Rattle.std.specs.Prelude.{map}
 use Rattle.apex_types.specs.declared.device.DeviceFault.TheVariants as fault
 use Rattle.apex_types.specs.declared.device.DeviceInput.TheVariants as device
 use Rattle.apex_types.specs.declared.row.ChannelEnd.TheVariants as ends
-use Rattle.module_meaning.specs.DeviceText.{WrittenLine, ModuleFault, PartitionFault, plain_number, word, words, put_word, fault_of, written_of, line_of_pieces, first_from, is_device, within, taken_message, taken_fault, named, taken, ends_with, put_line, and_then, lines_from, line_of, verdict}
+use Rattle.module_meaning.specs.DeviceText.{WrittenLine, ModuleFault, PartitionFault, plain_number, word, words, put_word, fault_of, written_of, line_of_pieces, first_from, within, taken_message, taken_fault, named, taken, ends_with, put_line, and_then, lines_from, line_of, verdict}
+use Rattle.module_meaning.specs.Table.{is_device}
 use Rattle.machine_meaning.specs.MachineMeaning.{row_of_item}
 use Rattle.isolation.proofs.Holding.{HasLength}
 use Rattle.isolation.proofs.Lines.{IsFromDevice, AreFromDevice}

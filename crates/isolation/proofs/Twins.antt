@@ -13,7 +13,7 @@ brought_message channels p q port members = brought_found channels p q port (of_
 abbrev pub brought_messages : {C : Type 0} → ℕ → List Channel → ℕ → At → PartitionId → PortId → List (Member C) → List Input
 brought_messages zero channels p at q port members = []
 brought_messages (suc n) channels p at q port members =
-    brought_message channels p q port members ++ brought_messages n channels p at q port (moves_message channels at q port members).members
+    brought_message channels p q port members ++ brought_messages n channels p at q port (moves_message channels at q port members).state
 
 abbrev pub brought_so_many : {C : Type 0} → List Channel → ℕ → At → PartitionId → PortId → List (Member C) → Option ℕ → List Input
 brought_so_many channels p at q port members None = []
@@ -26,7 +26,7 @@ abbrev pub brought_ports : {C : Type 0} → ℕ → ℕ → List Channel → ℕ
 brought_ports zero number channels p at q members = []
 brought_ports (suc n) number channels p at q members =
     brought_port channels p at q (record { 0 = number }) members
-    ++ brought_ports n (number + 1) channels p at q (moves_port channels at q (record { 0 = number }) members).members
+    ++ brought_ports n (number + 1) channels p at q (moves_port channels at q (record { 0 = number }) members).state
 
 abbrev pub brought_ended : {C : Type 0} → List Channel → ℕ → At → List (Member C) → Option ℕ → List Input
 brought_ended channels p at members None = []

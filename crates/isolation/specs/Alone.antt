@@ -8,7 +8,7 @@ use Rattle.apex_types.specs.declared.event.Event.{Event}
 use Rattle.apex_types.specs.declared.identity.At.{At}
 use Rattle.apex_types.specs.declared.identity.PortId.{PortId}
 use Rattle.module_meaning.specs.Table.{at_number}
-use Rattle.module_meaning.specs.Module.{as_origin, first_tick, next_tick, ports_of}
+use Rattle.module_meaning.specs.Module.{Stepped, Course, still, then_goes, goes_on, then_runs, as_origin, first_tick, next_tick, ports_of}
 use Rattle.kernel_meaning.specs.Partition.{Member, Moved, with_world, cold_start, breaks_down, advances, arrives, leaves, leaving, admits, goes_out, messages_to_move}
 use Rattle.kernel_meaning.specs.Windows.{Schedule, owner, ended}
 pub use Rattle.isolation.specs.declared.input.Input.{Input}
@@ -36,54 +36,26 @@ pub record Alone (Control : Type 0) : Type 0 where
   pub around : Surroundings
   pub member : Member Control
 
--- a state after a step, and the lines of the step
-pub record Gone (State : Type 0) : Type 0 where
-  pub state : State
-  pub lines : List Event
-
-abbrev pub stays : {S : Type 0} → S → Gone S
-stays x = record { state = x; lines = [] }
-
-abbrev pub and_then : {S : Type 0} → Gone S → (S → Gone S) → Gone S
-and_then g rest = let h = rest g.state in record { state = h.state; lines = g.lines ++ h.lines }
-
--- The same if the module may start again, or be shut down: the tick with the origin valid from here
--- on; None if the module is shut down.
-pub record Path (State : Type 0) : Type 0 where
-  pub at : Option At
-  pub state : State
-  pub lines : List Event
-
-abbrev pub keeps_on : {S : Type 0} → At → Gone S → Path S
-keeps_on at g = record { at = Some at; state = g.state; lines = g.lines }
-
-abbrev pub unless_over : {S : Type 0} → Path S → (At → S → Path S) → Option At → Path S
-unless_over c rest None = c
-unless_over c rest (Some at) = let d = rest at c.state in record { at = d.at; state = d.state; lines = c.lines ++ d.lines }
-
-abbrev pub and_runs : {S : Type 0} → Path S → (At → S → Path S) → Path S
-and_runs c rest = unless_over c rest c.at
-
 -- a step of a partition
-abbrev pub goes : {C : Type 0} → (Member C → Moved C) → Member C → Gone (Member C)
+abbrev pub goes : {C : Type 0} → (Member C → Moved C) → Member C → Stepped (Member C)
 goes step x = record { state = with_world x (step x).world; lines = (step x).lines }
 
 -- ---- the inputs
 -- a fault of the module, whose line belongs to no partition
-abbrev pub meets_fault : {C : Type 0} → At → ModuleAction → Member C → Path (Member C)
-meets_fault at reaction.Ignore x = keeps_on at (stays x)
+abbrev pub meets_fault : {C : Type 0} → At → ModuleAction → Member C → Course (Member C)
+meets_fault at reaction.Ignore x = goes_on at (still x)
 meets_fault at reaction.Shutdown x = record { at = None; state = x; lines = [] }
-meets_fault at reaction.Reset x = keeps_on (as_origin at) (goes (cold_start (as_origin at) condition.HmModuleRestart) x)
+meets_fault at reaction.Reset x = goes_on (as_origin at) (goes (cold_start (as_origin at) condition.HmModuleRestart) x)
 
-abbrev pub takes : {C : Type 0} → ModuleAction → At → Input → Member C → Path (Member C)
-takes fault at (Arrive port m) x = keeps_on at (goes (arrives at port m) x)
+abbrev pub takes : {C : Type 0} → ModuleAction → At → Input → Member C → Course (Member C)
+takes fault at (Arrive port m) x = goes_on at (goes (arrives at port m) x)
 takes fault at ModuleFault x = meets_fault at fault x
-takes fault at PartitionFault x = keeps_on at (goes (breaks_down at) x)
+takes fault at PartitionFault x = goes_on at (goes (breaks_down at) x)
 
 -- each in turn, unless the module is shut down
-abbrev pub takes_all : {C : Type 0} → ModuleAction → At → List Input → Member C → Path (Member C)
-takes_all fault at [] x = keeps_on at (stays x)
-takes_all fault at (i ∷ is) x = and_runs (takes fault at i x) (λ a y. takes_all fault a is y)
+abbrev pub takes_all : {C : Type 0} → ModuleAction → At → List Input → Member C → Course (Member C)
+takes_all fault at [] x = goes_on at (still x)
+takes_all fault at (i ∷ is) x = then_runs (takes fault at i x) (λ a y. takes_all fault a is y)
 
 abbrev pub is_in_tick : ℕ → InputLine → Bool
 is_in_tick t l = l.tick.0 == t
@@ -94,52 +66,52 @@ inputs_in t (l ∷ ls) = if is_in_tick t l then l.input ∷ inputs_in t ls else 
 
 -- ---- its own messages
 -- a message that has left a port leaves the module too, if its channel goes to the device
-abbrev pub goes_by_way : {C : Type 0} → At → ArrayVec ℤ → Option (List ℕ) → Member C → Gone (Member C)
-goes_by_way at m None x = stays x
+abbrev pub goes_by_way : {C : Type 0} → At → ArrayVec ℤ → Option (List ℕ) → Member C → Stepped (Member C)
+goes_by_way at m None x = still x
 goes_by_way at m (Some channel) x = goes (goes_out at channel m) x
 
-abbrev pub sends_found : {C : Type 0} → Surroundings → At → PortId → Member C → Option (ArrayVec ℤ) → Gone (Member C)
-sends_found s at port x None = stays x
-sends_found s at port x (Some m) = and_then (goes (leaves at port) x) (goes_by_way at m (way_out s port))
+abbrev pub sends_found : {C : Type 0} → Surroundings → At → PortId → Member C → Option (ArrayVec ℤ) → Stepped (Member C)
+sends_found s at port x None = still x
+sends_found s at port x (Some m) = then_goes (goes (leaves at port) x) (goes_by_way at m (way_out s port))
 
 -- the first message of a port, whatever happens to it
-abbrev pub sends_message : {C : Type 0} → Surroundings → At → PortId → Member C → Gone (Member C)
+abbrev pub sends_message : {C : Type 0} → Surroundings → At → PortId → Member C → Stepped (Member C)
 sends_message s at port x = sends_found s at port x (leaving port x)
 
-abbrev pub sends_messages : {C : Type 0} → ℕ → Surroundings → At → PortId → Member C → Gone (Member C)
-sends_messages zero s at port x = stays x
-sends_messages (suc n) s at port x = and_then (sends_message s at port x) (sends_messages n s at port)
+abbrev pub sends_messages : {C : Type 0} → ℕ → Surroundings → At → PortId → Member C → Stepped (Member C)
+sends_messages zero s at port x = still x
+sends_messages (suc n) s at port x = then_goes (sends_message s at port x) (sends_messages n s at port)
 
-abbrev pub sends_so_many : {C : Type 0} → Surroundings → At → PortId → Member C → Option ℕ → Gone (Member C)
-sends_so_many s at port x None = stays x
-sends_so_many s at port x (Some n) = and_then (sends_messages n s at port x) (goes (admits at port))
+abbrev pub sends_so_many : {C : Type 0} → Surroundings → At → PortId → Member C → Option ℕ → Stepped (Member C)
+sends_so_many s at port x None = still x
+sends_so_many s at port x (Some n) = then_goes (sends_messages n s at port x) (goes (admits at port))
 
 -- all messages of a source port, the oldest first, then the senders that wait for room in it
-abbrev pub sends_port : {C : Type 0} → Surroundings → At → PortId → Member C → Gone (Member C)
+abbrev pub sends_port : {C : Type 0} → Surroundings → At → PortId → Member C → Stepped (Member C)
 sends_port s at port x = sends_so_many s at port x (messages_to_move (at_number (ports_of x) port.0))
 
 -- sends the messages of n ports, from port `number` on
-abbrev pub sends_ports : {C : Type 0} → ℕ → ℕ → Surroundings → At → Member C → Gone (Member C)
-sends_ports zero number s at x = stays x
-sends_ports (suc n) number s at x = and_then (sends_port s at (record { 0 = number }) x) (sends_ports n (number + 1) s at)
+abbrev pub sends_ports : {C : Type 0} → ℕ → ℕ → Surroundings → At → Member C → Stepped (Member C)
+sends_ports zero number s at x = still x
+sends_ports (suc n) number s at x = then_goes (sends_port s at (record { 0 = number }) x) (sends_ports n (number + 1) s at)
 
 -- ---- one tick
 -- if its window has ended, its source ports send, in number order
-abbrev pub sends_ended : {C : Type 0} → Surroundings → At → Member C → Bool → Gone (Member C)
-sends_ended s at x ends = if ends then sends_ports (length (ports_of x)) 1 s at x else stays x
+abbrev pub sends_ended : {C : Type 0} → Surroundings → At → Member C → Bool → Stepped (Member C)
+sends_ended s at x ends = if ends then sends_ports (length (ports_of x)) 1 s at x else still x
 
 -- advances if its window holds the tick
-abbrev pub ticks_own : {C : Type 0} → At → Member C → Bool → Gone (Member C)
-ticks_own at x owns = if owns then goes (advances at) x else stays x
+abbrev pub ticks_own : {C : Type 0} → At → Member C → Bool → Stepped (Member C)
+ticks_own at x owns = if owns then goes (advances at) x else still x
 
-abbrev pub sends_and_ticks : {C : Type 0} → Surroundings → At → Member C → Path (Member C)
+abbrev pub sends_and_ticks : {C : Type 0} → Surroundings → At → Member C → Course (Member C)
 sends_and_ticks s at x =
-    keeps_on at (and_then (sends_ended s at x (is_some (ended s.schedule at))) (λ y. ticks_own at y (is_some (owner s.schedule at))))
+    goes_on at (then_goes (sends_ended s at x (is_some (ended s.schedule at))) (λ y. ticks_own at y (is_some (owner s.schedule at))))
 
 -- In a tick, the inputs act first. Then the partition's messages leave, if its window has ended.
 -- Then it advances, if the tick is in its window. After a shutdown nothing happens.
-abbrev pub tick_alone : {C : Type 0} → Surroundings → At → List Input → Member C → Path (Member C)
-tick_alone s at inputs x = and_runs (takes_all s.fault at inputs x) (sends_and_ticks s)
+abbrev pub tick_alone : {C : Type 0} → Surroundings → At → List Input → Member C → Course (Member C)
+tick_alone s at inputs x = then_runs (takes_all s.fault at inputs x) (sends_and_ticks s)
 
 -- ---- the trace
 abbrev pub alone_from : {C : Type 0} → Surroundings → List InputLine → ℕ → Option At → Member C → List Event

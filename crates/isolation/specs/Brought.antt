@@ -88,7 +88,7 @@ abbrev pub brought_tick : {C : Type 0} → Plan → ℕ → At → List DeviceLi
 brought_tick plan p at devices members =
     let lines = of_tick at.now.0 devices in
     let c = inputs_all plan at lines members in
-    brought_in_all plan p lines ++ brought_moved plan p c.members c.at
+    brought_in_all plan p lines ++ brought_moved plan p c.state c.at
 
 abbrev pub line_in : ℕ → Input → InputLine
 line_in t i = record { tick = record { 0 = t }; input = i }
@@ -98,9 +98,9 @@ inputs_from plan p devices zero at members = []
 inputs_from plan p devices (suc n) None members = []
 inputs_from plan p devices (suc n) (Some at) members =
     let r = module_tick plan at devices members in
-    map (line_in at.now.0) (brought_tick plan p at devices members) ++ inputs_from plan p devices n (option_map next_tick r.at) r.members
+    map (line_in at.now.0) (brought_tick plan p at devices members) ++ inputs_from plan p devices n (option_map next_tick r.at) r.state
 
 -- The inputs of partition p in n ticks of a module with these device lines.
 abbrev pub inputs_of : {C : Type 0} → Module C → ℕ → List DeviceLine → ℕ → List InputLine
 inputs_of m p devices zero = []
-inputs_of m p devices (suc n) = inputs_from m.plan p devices (suc n) (Some first_tick) (starts m.members).members
+inputs_of m p devices (suc n) = inputs_from m.plan p devices (suc n) (Some first_tick) (starts m.members).state

@@ -1,6 +1,6 @@
 -- The partition, the inputs and the ticks of a replay.
 use Rattle.std.specs.Prelude.{◌≡◌, ℕ, ◌≤◌, List, Option, Some, Result, Ok}
-use Rattle.apex_types.specs.declared.limits.TheConstants.{MOST_TICKS}
+use Rattle.apex_types.specs.Limits.{MOST_TICKS}
 use Rattle.module_meaning.specs.DeviceText.{first_from}
 use Rattle.engine_meaning.specs.Digits.{same}
 use Rattle.machine_meaning.specs.Image.{Item, Image}

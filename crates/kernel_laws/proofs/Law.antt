@@ -1,5 +1,5 @@
 -- The order in every run of a module.
-use Rattle.kernel_laws.proofs.Prelude.{◌≡◌, ◌↔◌, ℕ, List, Some, subst, slice_get, Discipline, DeviceLine, ListKey, Entry, at_number, Kernel, Module, Advanced, Member, waiting, IsReleasedFirst, members_after, Numbers, first_numbers, IsOrdered, AreOrdered, disciplines_of, names_of}
+use Rattle.kernel_laws.proofs.Prelude.{◌≡◌, ◌↔◌, ℕ, List, Some, subst, slice_get, Discipline, DeviceLine, ListKey, Entry, at_number, Kernel, Module, Stepped, Member, waiting, IsReleasedFirst, members_after, Numbers, first_numbers, IsOrdered, AreOrdered, disciplines_of, names_of}
 use Rattle.std.proofs.Common.{ap}
 use Rattle.kernel_laws.proofs.WaitingOrder.{released_first}
 use Rattle.kernel_laws.specs.RunLaw.{RunGoes, HasOrder, HoldsReady}
@@ -12,8 +12,8 @@ run_goes {C = C} m devices n h =
     let r = run_is m devices n in
     record {
       history = r.history;
-      members = ap (λ (a : Advanced C). a.members) r.same;
-      lines = ap (λ (a : Advanced C). a.lines) r.same;
+      members = ap (λ (a : Stepped (List (Member C))). a.state) r.same;
+      lines = ap (λ (a : Stepped (List (Member C))). a.lines) r.same;
       order = goes_through (disciplines_of m.members) (names_of m.members) r.history (λ p. first_numbers) m.members h;
     }
 

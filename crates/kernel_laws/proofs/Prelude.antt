@@ -59,7 +59,7 @@ pub use Rattle.kernel_meaning.specs.Times.{Treated, amount, begins, due_from, en
 pub use Rattle.kernel_meaning.specs.WindowFacts.{BeginWithin, begins_late}
 pub use Rattle.kernel_meaning.specs.Windows.{Schedule, ended, owner, phase, tick_from}
 pub use Rattle.machine_meaning.specs.MachineMeaning.{machine_module}
-pub use Rattle.module_meaning.specs.Module.{Advanced, Course, Module, Plan, inputs_all, module_tick, moves_and_ticks, moves_ended, moves_port, moves_ports, moves_so_many, next_tick, of_member, of_tick, ports_from, steps, steps_member, still, then_goes, then_runs, ticks_owner, trace_from}
+pub use Rattle.module_meaning.specs.Module.{Course, Module, Plan, Stepped, inputs_all, module_tick, moves_and_ticks, moves_ended, moves_port, moves_ports, moves_so_many, next_tick, of_member, of_tick, ports_from, steps, steps_member, still, then_goes, then_runs, ticks_owner, trace_from}
 pub use Rattle.module_meaning.specs.SourceMeaning.{source_module}
 pub use Rattle.module_meaning.specs.Table.{Channel, at_number}
 pub use Rattle.std.proofs.Common.{Bool, IsTrue, List, None, Option, Some, arith, cond, false, inl, inr, length, map, nat_abs, nat_eq, refl, subst, suc, sym, true, zero, ℕ, ℤ, ◌%◌, ◌++◌, ◌+◌, ◌-◌, ◌<◌, ◌↔◌, ◌∙◌, ◌∷◌, ◌≡◌, ◌≢◌, ◌≤◌, ◌⊎◌}

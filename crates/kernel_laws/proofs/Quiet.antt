@@ -1,5 +1,5 @@
 -- Ticks in which nothing happens change nothing: n of them are one jump.
-use Rattle.kernel_laws.proofs.Prelude.{◌≡◌, inl, inr, ℕ, zero, suc, ◌+◌, ◌<◌, ◌≤◌, List, ◌∷◌, ◌++◌, refl, sym, ◌∙◌, arith, length, subst, slice_get, slice_set, option_map, none-some, same_Some, DeviceLine, At, PartitionId, PortId, Engine, Channel, at_number, with_ports, of_ports, of_processes, Plan, of_tick, Advanced, Course, still, ports_from, of_member, trace_from, module_tick, next_tick, moves_port, moves_ports, moves_ended, moves_so_many, steps, steps_member, ticks_owner, moves_and_ticks, then_goes, then_runs, inputs_all, Member, World, Moved, admits, moved, followed_by, with_world, tick, clearing_phase, treats_due, choice_phase, spends_chosen, messages_to_move, place_of_port, chooses_with_handler, nothing, tick_from, owner, ended, HasNothingDue}
+use Rattle.kernel_laws.proofs.Prelude.{◌≡◌, inl, inr, ℕ, zero, suc, ◌+◌, ◌<◌, ◌≤◌, List, ◌∷◌, ◌++◌, refl, sym, ◌∙◌, arith, length, subst, slice_get, slice_set, option_map, none-some, same_Some, DeviceLine, At, PartitionId, PortId, Engine, Channel, at_number, with_ports, of_ports, of_processes, Plan, of_tick, Stepped, Course, still, ports_from, of_member, trace_from, module_tick, next_tick, moves_port, moves_ports, moves_ended, moves_so_many, steps, steps_member, ticks_owner, moves_and_ticks, then_goes, then_runs, inputs_all, Member, World, Moved, admits, moved, followed_by, with_world, tick, clearing_phase, treats_due, choice_phase, spends_chosen, messages_to_move, place_of_port, chooses_with_handler, nothing, tick_from, owner, ended, HasNothingDue}
 use Rattle.std.proofs.Common.{[], ap}
 use Rattle.std.specs.Prelude.{Option, Some, None}
 use Rattle.kernel_meaning.specs.PortServices as arrival
@@ -34,8 +34,8 @@ steps_found : {C : Type 0} (step : Member C → Moved C) (members : List (Member
     → ((x : Member C) → slice_get members place ≡ Some x → step x ≡ stays x.world) → steps_member step members place o ≡ still members
 steps_found step members place None e h = refl
 steps_found step members place (Some x) e h =
-    ap (λ (m : Moved _). record { members = slice_set members place (with_world x m.world); lines = m.lines }) (h x e)
-    ∙ ap (λ l. record { members = l; lines = [] }) (set_itself members place x e)
+    ap (λ (m : Moved _). record { state = slice_set members place (with_world x m.world); lines = m.lines }) (h x e)
+    ∙ ap (λ l. record { state = l; lines = [] }) (set_itself members place x e)
 
 pub steps_still : {C : Type 0} (step : Member C → Moved C) (members : List (Member C)) (number : ℕ)
     → ((x : Member C) → at_number members number ≡ Some x → step x ≡ stays x.world) → steps step members number ≡ still members
@@ -78,7 +78,7 @@ ports_rest : {C : Type 0} (n number : ℕ) (channels : List Channel) (at : At) (
     → moves_ports n number channels at p members ≡ still members
 ports_rest zero number channels at p members from limit h = refl
 ports_rest (suc n) number channels at p members from limit h =
-    ap (λ (a : Advanced _). then_goes a (moves_ports n (number + 1) channels at p)) (rests_in channels at p (record { 0 = number }) members (at_number members p.0) from limit refl h)
+    ap (λ (a : Stepped _). then_goes a (moves_ports n (number + 1) channels at p)) (rests_in channels at p (record { 0 = number }) members (at_number members p.0) from limit refl h)
     ∙ ports_rest n (number + 1) channels at p members from limit h
 
 ended_rests : {C : Type 0} (channels : List Channel) (at : At) (members : List (Member C)) (o : Option ℕ) (from limit : ℕ) → AreStill at.origin.0 from limit members
@@ -115,6 +115,6 @@ jump plan devices origin from limit members h (suc n) m t start within none =
     let one_more : suc n + m ≡ suc (n + m) = omega arith in
     let there : t + 1 + n ≡ t + suc n = omega arith in
     ap (λ k. trace_from plan devices k (Some (tick_from origin t)) members) one_more
-    ∙ ap (λ (r : Course _). r.lines ++ trace_from plan devices (n + m) (option_map next_tick r.at) r.members) (still_tick plan devices origin t from limit members start (omega (arith, within)) h (none t (omega arith) (omega arith)))
+    ∙ ap (λ (r : Course _). r.lines ++ trace_from plan devices (n + m) (option_map next_tick r.at) r.state) (still_tick plan devices origin t from limit members start (omega (arith, within)) h (none t (omega arith) (omega arith)))
     ∙ jump plan devices origin from limit members h n m (t + 1) (omega (arith, start)) (omega (arith, within)) (λ u above below. none u (omega (arith, above)) (omega (arith, below)))
     ∙ ap (λ u. trace_from plan devices m (Some (tick_from origin u)) members) there

@@ -1,5 +1,5 @@
 -- Every run of a module is a history.
-use Rattle.kernel_laws.proofs.Prelude.{◌≡◌, ℕ, zero, suc, ◌+◌, ℤ, List, ◌∷◌, ◌++◌, map, length, Option, Some, None, refl, sym, ◌∙◌, append_assoc, slice_get, slice_set, option_map, ArrayVec, StartCondition, DeviceLine, Event, At, PartitionId, PortId, Channel, at_number, Plan, Module, Advanced, Course, still, then_goes, then_runs, steps, steps_member, inputs_all, of_tick, of_member, moves_so_many, ports_from, moves_port, moves_ports, moves_ended, ticks_owner, moves_and_ticks, module_tick, next_tick, trace_from, Member, messages_to_move, owner, ended, Move, Starts, BreaksDown, Arrives, Leaves, Admits, GoesOut, Advances, makes, Happening, Moves, Tells, happens, all_happen, members_after}
+use Rattle.kernel_laws.proofs.Prelude.{◌≡◌, ℕ, zero, suc, ◌+◌, ℤ, List, ◌∷◌, ◌++◌, map, length, Option, Some, None, refl, sym, ◌∙◌, append_assoc, slice_get, slice_set, option_map, ArrayVec, StartCondition, DeviceLine, Event, At, PartitionId, PortId, Channel, at_number, Plan, Module, Stepped, Course, still, then_goes, then_runs, steps, steps_member, inputs_all, of_tick, of_member, moves_so_many, ports_from, moves_port, moves_ports, moves_ended, ticks_owner, moves_and_ticks, module_tick, next_tick, trace_from, Member, messages_to_move, owner, ended, Move, Starts, BreaksDown, Arrives, Leaves, Admits, GoesOut, Advances, makes, Happening, Moves, Tells, happens, all_happen, members_after}
 use Rattle.std.proofs.Common.{[], ap, append-nil}
 use Rattle.std.specs.Prelude.{flat_map}
 use Rattle.apex_types.specs.declared.codes.ModuleAction.{ModuleAction}
@@ -34,58 +34,58 @@ starts_at at c (suc n) place = Moves (suc place) (Starts at c) ∷ starts_at at 
 
 module _ {C : Type 0} where
   -- a step of the module is a history
-  pub record IsHistory (ms : List (Member C)) (a : Advanced C) : Type 0 where
+  pub record IsHistory (ms : List (Member C)) (a : Stepped (List (Member C))) : Type 0 where
     pub history : List Happening
     pub same : a ≡ all_happen history ms
 
   -- the members and the lines of a step that may shut the module down
-  abbrev pub advanced : Course C → Advanced C
-  advanced c = record { members = c.members; lines = c.lines }
+  abbrev pub stepped : Course (List (Member C)) → Stepped (List (Member C))
+  stepped c = record { state = c.state; lines = c.lines }
 
   -- ---- one after another
 
   -- to these members, with these lines
-  abbrev leads : List (Member C) → List Event → Advanced C
-  leads ms lines = record { members = ms; lines = lines }
+  abbrev leads : List (Member C) → List Event → Stepped (List (Member C))
+  leads ms lines = record { state = ms; lines = lines }
 
   -- with lines before its own
-  abbrev before : List Event → Advanced C → Advanced C
-  before ls a = leads a.members (ls ++ a.lines)
+  abbrev before : List Event → Stepped (List (Member C)) → Stepped (List (Member C))
+  before ls a = leads a.state (ls ++ a.lines)
 
   happen_after : (hs ks : List Happening) (ms : List (Member C)) → all_happen (hs ++ ks) ms ≡ then_goes (all_happen hs ms) (all_happen ks)
   happen_after [] ks ms = refl
   happen_after (h ∷ hs) ks ms =
       let a = happens h ms in
-      let rest = all_happen hs a.members in
-      ap (before a.lines) (happen_after hs ks a.members) ∙ ap (leads (all_happen ks rest.members).members) (sym (append_assoc a.lines rest.lines (all_happen ks rest.members).lines))
+      let rest = all_happen hs a.state in
+      ap (before a.lines) (happen_after hs ks a.state) ∙ ap (leads (all_happen ks rest.state).state) (sym (append_assoc a.lines rest.lines (all_happen ks rest.state).lines))
 
   pub still_is : (ms : List (Member C)) → IsHistory ms (still ms)
   still_is ms = record { history = []; same = refl }
 
-  pub then_is : (ms : List (Member C)) (a : Advanced C) (p : List (Member C) → Advanced C) → IsHistory ms a → ((ns : List (Member C)) → IsHistory ns (p ns)) → IsHistory ms (then_goes a p)
+  pub then_is : (ms : List (Member C)) (a : Stepped (List (Member C))) (p : List (Member C) → Stepped (List (Member C))) → IsHistory ms a → ((ns : List (Member C)) → IsHistory ns (p ns)) → IsHistory ms (then_goes a p)
   then_is ms a p h rest =
-      let more = rest a.members in
+      let more = rest a.state in
       record {
         history = h.history ++ more.history;
-        same = ap (before a.lines) more.same ∙ ap (λ (b : Advanced C). then_goes b (all_happen more.history)) h.same ∙ sym (happen_after h.history more.history ms);
+        same = ap (before a.lines) more.same ∙ ap (λ (b : Stepped (List (Member C))). then_goes b (all_happen more.history)) h.same ∙ sym (happen_after h.history more.history ms);
       }
 
   -- a move of one partition
   move_is : (move : Move) (p : ℕ) (ms : List (Member C)) → IsHistory ms (steps (makes move) ms p)
   move_is move p ms =
-      let a : Advanced C = steps (makes move) ms p in
-      record { history = Moves p move ∷ []; same = ap (leads a.members) (sym (append-nil a.lines)) }
+      let a : Stepped (List (Member C)) = steps (makes move) ms p in
+      record { history = Moves p move ∷ []; same = ap (leads a.state) (sym (append-nil a.lines)) }
 
   line_is : (at : At) (action : ModuleAction) (ms : List (Member C)) → IsHistory ms (tells_fault at action ms)
   line_is at action ms = record { history = Tells at action ∷ []; same = refl }
 
-  unless_is : (ms : List (Member C)) (c : Course C) (p : At → List (Member C) → Course C) (o : Option At) → IsHistory ms (advanced c)
-      → ((at : At) (ns : List (Member C)) → IsHistory ns (advanced (p at ns))) → IsHistory ms (advanced (unless_down c p o))
+  unless_is : (ms : List (Member C)) (c : Course (List (Member C))) (p : At → List (Member C) → Course (List (Member C))) (o : Option At) → IsHistory ms (stepped c)
+      → ((at : At) (ns : List (Member C)) → IsHistory ns (stepped (p at ns))) → IsHistory ms (stepped (unless_down c p o))
   unless_is ms c p None h rest = h
-  unless_is ms c p (Some at) h rest = then_is ms (advanced c) (λ ns. advanced (p at ns)) h (rest at)
+  unless_is ms c p (Some at) h rest = then_is ms (stepped c) (λ ns. stepped (p at ns)) h (rest at)
 
-  runs_is : (ms : List (Member C)) (c : Course C) (p : At → List (Member C) → Course C) → IsHistory ms (advanced c) → ((at : At) (ns : List (Member C)) → IsHistory ns (advanced (p at ns)))
-      → IsHistory ms (advanced (then_runs c p))
+  runs_is : (ms : List (Member C)) (c : Course (List (Member C))) (p : At → List (Member C) → Course (List (Member C))) → IsHistory ms (stepped c) → ((at : At) (ns : List (Member C)) → IsHistory ns (stepped (p at ns)))
+      → IsHistory ms (stepped (then_runs c p))
   runs_is ms c p h rest = unless_is ms c p c.at h rest
 
   -- ---- the start of all
@@ -104,7 +104,7 @@ module _ {C : Type 0} where
   starts_behind at c done (x ∷ ms) =
       let y : Member C = started_member at c x in
       let ls : List Event = flat_map (start_lines at c) ms in
-      ap (λ (a : Advanced C). then_goes a (all_happen (starts_at at c (length ms) (suc (length done))))) (one_starts at c done x ms)
+      ap (λ (a : Stepped (List (Member C))). then_goes a (all_happen (starts_at at c (length ms) (suc (length done))))) (one_starts at c done x ms)
       ∙ ap (before (start_lines at c x))
       (ap (λ (n : ℕ). all_happen (starts_at at c (length ms) n) (done ++ y ∷ ms)) (sym (length_last done y))
       ∙ ap (all_happen (starts_at at c (length ms) (length (done ++ y ∷ [])))) (sym (append_assoc done (y ∷ []) ms))
@@ -131,18 +131,18 @@ module _ {C : Type 0} where
 
   -- ---- the devices
 
-  breaks_is : (at : At) (fault : ModuleAction) (ms : List (Member C)) → IsHistory ms (advanced (breaks_module at fault ms))
+  breaks_is : (at : At) (fault : ModuleAction) (ms : List (Member C)) → IsHistory ms (stepped (breaks_module at fault ms))
   breaks_is at reaction.Ignore ms = line_is at reaction.Ignore ms
   breaks_is at reaction.Shutdown ms = line_is at reaction.Shutdown ms
   breaks_is at reaction.Reset ms =
       then_is ms (tells_fault at reaction.Reset ms) (starts_all (as_origin at) condition.HmModuleRestart) (line_is at reaction.Reset ms) (starts_is (as_origin at) condition.HmModuleRestart)
 
-  input_is : (plan : Plan) (at : At) (i : DeviceInput) (ms : List (Member C)) → IsHistory ms (advanced (inputs plan at i ms))
+  input_is : (plan : Plan) (at : At) (i : DeviceInput) (ms : List (Member C)) → IsHistory ms (stepped (inputs plan at i ms))
   input_is plan at (device.Message channel m) ms = goes_by_is at m (slice_get plan.channels channel.0) ms
   input_is plan at (device.PartitionFault p) ms = move_is (BreaksDown at) p.0 ms
   input_is plan at device.ModuleFault ms = breaks_is at plan.fault ms
 
-  inputs_is : (plan : Plan) (ls : List DeviceLine) (at : At) (ms : List (Member C)) → IsHistory ms (advanced (inputs_all plan at ls ms))
+  inputs_is : (plan : Plan) (ls : List DeviceLine) (at : At) (ms : List (Member C)) → IsHistory ms (stepped (inputs_all plan at ls ms))
   inputs_is plan [] at ms = still_is ms
   inputs_is plan (l ∷ ls) at ms = runs_is ms (inputs plan at l.input ms) (λ a ns. inputs_all plan a ls ns) (input_is plan at l.input ms) (inputs_is plan ls)
 
@@ -183,30 +183,30 @@ module _ {C : Type 0} where
   owner_is at None ms = still_is ms
   owner_is at (Some p) ms = move_is (Advances at) p ms
 
-  moves_and_ticks_is : (plan : Plan) (at : At) (ms : List (Member C)) → IsHistory ms (advanced (moves_and_ticks plan at ms))
+  moves_and_ticks_is : (plan : Plan) (at : At) (ms : List (Member C)) → IsHistory ms (stepped (moves_and_ticks plan at ms))
   moves_and_ticks_is plan at ms =
       then_is ms (moves_ended plan.channels at ms (ended plan.schedule at)) (λ ns. ticks_owner at ns (owner plan.schedule at))
       (ended_is plan.channels at ms (ended plan.schedule at)) (owner_is at (owner plan.schedule at))
 
-  tick_is : (plan : Plan) (devices : List DeviceLine) (at : At) (ms : List (Member C)) → IsHistory ms (advanced (module_tick plan at devices ms))
+  tick_is : (plan : Plan) (devices : List DeviceLine) (at : At) (ms : List (Member C)) → IsHistory ms (stepped (module_tick plan at devices ms))
   tick_is plan devices at ms =
       runs_is ms (inputs_all plan at (of_tick at.now.0 devices) ms) (moves_and_ticks plan) (inputs_is plan (of_tick at.now.0 devices) at ms) (moves_and_ticks_is plan)
 
   -- ---- a run
 
   -- the members and the lines of n ticks
-  abbrev run_from : Plan → List DeviceLine → ℕ → Option At → List (Member C) → Advanced C
-  run_from plan devices n at ms = record { members = members_from plan devices n at ms; lines = trace_from plan devices n at ms }
+  abbrev run_from : Plan → List DeviceLine → ℕ → Option At → List (Member C) → Stepped (List (Member C))
+  run_from plan devices n at ms = record { state = members_from plan devices n at ms; lines = trace_from plan devices n at ms }
 
   run_from_is : (plan : Plan) (devices : List DeviceLine) (n : ℕ) (o : Option At) (ms : List (Member C)) → IsHistory ms (run_from plan devices n o ms)
   run_from_is plan devices zero o ms = still_is ms
   run_from_is plan devices (suc n) None ms = still_is ms
   run_from_is plan devices (suc n) (Some at) ms =
       let r = module_tick plan at devices ms in
-      then_is ms (advanced r) (run_from plan devices n (option_map next_tick r.at)) (tick_is plan devices at ms) (run_from_is plan devices n (option_map next_tick r.at))
+      then_is ms (stepped r) (run_from plan devices n (option_map next_tick r.at)) (tick_is plan devices at ms) (run_from_is plan devices n (option_map next_tick r.at))
 
-  abbrev pub run : Module C → List DeviceLine → ℕ → Advanced C
-  run m devices n = record { members = members_after m devices n; lines = trace m devices n }
+  abbrev pub run : Module C → List DeviceLine → ℕ → Stepped (List (Member C))
+  run m devices n = record { state = members_after m devices n; lines = trace m devices n }
 
   pub run_is : (m : Module C) (devices : List DeviceLine) (n : ℕ) → IsHistory m.members (run m devices n)
   run_is m devices zero = still_is m.members

@@ -61,14 +61,14 @@ module _ {C : Type 0} (d : ℕ → ListKey → Discipline) (names : ℕ → ℕ 
 
   step_ordered : (numbers : ℕ → Numbers) (move : Move) (ms : List (Member C)) (place : ℕ) (o : Option (Member C)) → slice_get ms place ≡ o → AreOrdered d names numbers ms
       → (g : MoveGoesAt (d (suc place)) (names (suc place)) (numbers (suc place)) move o)
-      → AreOrdered d names (with_numbers (suc place) (numbers_at (d (suc place)) (names (suc place)) (numbers (suc place)) move o g) numbers) (steps_member (makes move) ms place o).members
+      → AreOrdered d names (with_numbers (suc place) (numbers_at (d (suc place)) (names (suc place)) (numbers (suc place)) move o g) numbers) (steps_member (makes move) ms place o).state
   step_ordered numbers move ms place None there h g = λ q x e. subst (λ (n : Numbers). IsSo q n x) (sym (same_numbers numbers (suc place) q)) (h q x e)
   step_ordered numbers move ms place (Some x) there h g =
       put_ordered numbers ms place x (with_world x (makes move x).world) (numbers_by (d (suc place)) (names (suc place)) (numbers (suc place)) move x g) h there
       (ordered_by (d (suc place)) (names (suc place)) (numbers (suc place)) move x g)
 
   happens_ordered : (numbers : ℕ → Numbers) (move : Move) (p : ℕ) (ms : List (Member C)) → AreOrdered d names numbers ms → (g : MoveGoesAt (d p) (names p) (numbers p) move (at_number ms p))
-      → AreOrdered d names (with_numbers p (numbers_at (d p) (names p) (numbers p) move (at_number ms p) g) numbers) (happens (Moves p move) ms).members
+      → AreOrdered d names (with_numbers p (numbers_at (d p) (names p) (numbers p) move (at_number ms p) g) numbers) (happens (Moves p move) ms).state
   happens_ordered numbers move zero ms h g = λ q x e. subst (λ (n : Numbers). IsSo q n x) (sym (same_numbers numbers 0 q)) (h q x e)
   happens_ordered numbers move (suc place) ms h g = step_ordered numbers move ms place (slice_get ms place) refl h g
 
@@ -82,7 +82,7 @@ module _ {C : Type 0} (d : ℕ → ListKey → Discipline) (names : ℕ → ℕ 
       (h, (g, goes_through hs _ _ (happens_ordered numbers move p ms h g)))
 
   -- and they are so at its end
-  pub ends_ordered : (hs : List Happening) (numbers : ℕ → Numbers) (ms : List (Member C)) → GoThrough d names hs numbers ms → (later : ℕ → Numbers) × AreOrdered d names later (all_happen hs ms).members
+  pub ends_ordered : (hs : List Happening) (numbers : ℕ → Numbers) (ms : List (Member C)) → GoThrough d names hs numbers ms → (later : ℕ → Numbers) × AreOrdered d names later (all_happen hs ms).state
   ends_ordered [] numbers ms h = (numbers, h)
   ends_ordered (Tells at action ∷ hs) numbers ms h = ends_ordered hs numbers ms h
   ends_ordered (Moves p move ∷ hs) numbers ms h = let rest = h.1 in ends_ordered hs _ _ rest.1

@@ -8,7 +8,7 @@ use Rattle.std.specs.Prelude.{replicate}
 use Rattle.apex_types.specs.Versions.{costs_of, limits_of}
 use Rattle.apex_types.specs.declared.cost.Costs.{Costs}
 use Rattle.apex_types.specs.declared.identity.ListKey.TheVariants as key
-use Rattle.apex_types.specs.declared.limits.Limits.{Limits}
+use Rattle.apex_types.specs.declared.version.Limits.{Limits}
 use Rattle.apex_types.specs.declared.limits.TheConstants.{MOST_OBJECTS}
 use Rattle.kernel_meaning.specs.Fresh.{fresh_kernel, fresh_queues}
 use Rattle.kernel_meaning.specs.Kernel.{Fixed}
@@ -49,17 +49,17 @@ module _ {C : Type 0} (few : ℕ → Type 0) where
       by_test false q = h (suc j) z (sym (get_set_other ms place j y (λ k. eqb-false (suc place) (suc j) q (ap suc k))) ∙ e)
 
   module _ (d : ℕ → ListKey → Discipline) (names : ℕ → ℕ → List ℕ) where
-    happens_hold : (numbers : ℕ → Numbers) (move : Move) (p : ℕ) (ms : List (Member C)) → AreOrdered d names numbers ms → AllHold ms → AllHold (happens (Moves p move) ms).members
+    happens_hold : (numbers : ℕ → Numbers) (move : Move) (p : ℕ) (ms : List (Member C)) → AreOrdered d names numbers ms → AllHold ms → AllHold (happens (Moves p move) ms).state
     happens_hold numbers move zero ms ordered h = h
     happens_hold numbers move (suc place) ms ordered h = by_member (slice_get ms place) refl
       where
-        by_member : (o : Option (Member C)) → slice_get ms place ≡ o → AllHold (steps_member (makes move) ms place o).members
+        by_member : (o : Option (Member C)) → slice_get ms place ≡ o → AllHold (steps_member (makes move) ms place o).state
         by_member None there = h
         by_member (Some x) there =
             put_holds ms place x (with_world x (makes move x).world) h there
             (makes_hold (d (suc place)) (names (suc place)) (numbers (suc place)) move x (ordered (suc place) x there) (h (suc place) x there))
 
-    ends_hold : (hs : List Happening) (numbers : ℕ → Numbers) (ms : List (Member C)) → GoThrough d names hs numbers ms → AllHold ms → AllHold (all_happen hs ms).members
+    ends_hold : (hs : List Happening) (numbers : ℕ → Numbers) (ms : List (Member C)) → GoThrough d names hs numbers ms → AllHold ms → AllHold (all_happen hs ms).state
     ends_hold [] numbers ms g h = h
     ends_hold (Tells at action ∷ hs) numbers ms g h = ends_hold hs numbers ms g h
     ends_hold (Moves p move ∷ hs) numbers ms g h = let rest = g.1 in ends_hold hs _ _ rest.1 (happens_hold numbers move p ms g.0 h)

@@ -6,7 +6,7 @@ use Rattle.apex_types.specs.declared.codes.StartCondition.{StartCondition}
 use Rattle.apex_types.specs.declared.device.DeviceLine.{DeviceLine}
 use Rattle.apex_types.specs.declared.identity.At.{At}
 use Rattle.apex_types.specs.declared.identity.PortId.{PortId}
-use Rattle.module_meaning.specs.Module.{Plan, Module, Advanced, still, then_goes, steps, starts, first_tick, next_tick, module_tick, tells_fault}
+use Rattle.module_meaning.specs.Module.{Plan, Module, Stepped, still, then_goes, steps, starts, first_tick, next_tick, module_tick, tells_fault}
 use Rattle.kernel_meaning.specs.Partition.{Member, Moved, cold_start, breaks_down, arrives, leaves, admits, goes_out, advances}
 
 -- The moves of a module with a partition: it clears it to a cold start, breaks its hardware, lets a
@@ -35,12 +35,12 @@ pub data Happening : Type 0 where
   Moves : (p : ℕ) (move : Move) → Happening
   Tells : (at : At) (action : ModuleAction) → Happening
 
-abbrev pub happens : {C : Type 0} → Happening → List (Member C) → Advanced C
+abbrev pub happens : {C : Type 0} → Happening → List (Member C) → Stepped (List (Member C))
 happens (Moves p move) members = steps (makes move) members p
 happens (Tells at action) members = tells_fault at action members
 
 -- each in turn
-abbrev pub all_happen : {C : Type 0} → List Happening → List (Member C) → Advanced C
+abbrev pub all_happen : {C : Type 0} → List Happening → List (Member C) → Stepped (List (Member C))
 all_happen [] members = still members
 all_happen (h ∷ hs) members = then_goes (happens h members) (all_happen hs)
 
@@ -53,9 +53,9 @@ members_from plan devices zero at members = members
 members_from plan devices (suc n) None members = members
 members_from plan devices (suc n) (Some at) members =
     let r = module_tick plan at devices members in
-    members_from plan devices n (option_map next_tick r.at) r.members
+    members_from plan devices n (option_map next_tick r.at) r.state
 
 -- The members after n ticks of a run: before its first tick the module has started them.
 abbrev pub members_after : {C : Type 0} → Module C → List DeviceLine → ℕ → List (Member C)
 members_after m devices zero = m.members
-members_after m devices (suc n) = let s = starts m.members in members_from m.plan devices (suc n) (Some first_tick) s.members
+members_after m devices (suc n) = let s = starts m.members in members_from m.plan devices (suc n) (Some first_tick) s.state

@@ -118,14 +118,14 @@ GoThrough d names (Tells at action ∷ hs) numbers members = GoThrough d names h
 GoThrough d names (Moves p move ∷ hs) numbers members =
     AreOrdered d names numbers members
     × ((g : MoveGoesAt (d p) (names p) (numbers p) move (at_number members p))
-    × GoThrough d names hs (with_numbers p (numbers_at (d p) (names p) (numbers p) move (at_number members p) g) numbers) (happens (Moves p move) members).members)
+    × GoThrough d names hs (with_numbers p (numbers_at (d p) (names p) (numbers p) move (at_number members p) g) numbers) (happens (Moves p move) members).state)
 
 -- ---- a run
 
 -- A run of n ticks is a history, with these states and these lines, and in each state of it the lists are in order.
 pub record RunGoes {C : Type 0} (m : Module C) (devices : List DeviceLine) (n : ℕ) : Type 0 where
   pub history : List Happening
-  pub members : members_after m devices n ≡ (all_happen history m.members).members
+  pub members : members_after m devices n ≡ (all_happen history m.members).state
   pub lines : trace m devices n ≡ (all_happen history m.members).lines
   pub order : GoThrough (disciplines_of m.members) (names_of m.members) history (λ p. first_numbers) m.members
 

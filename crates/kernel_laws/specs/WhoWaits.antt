@@ -6,7 +6,7 @@ use Rattle.apex_types.specs.declared.codes.ProcessState.TheVariants.{Waiting}
 use Rattle.apex_types.specs.declared.identity.ListKey.{ListKey}
 use Rattle.apex_types.specs.declared.identity.ListKey.TheVariants as key
 use Rattle.apex_types.specs.declared.identity.ProcessIndex.{ProcessIndex}
-use Rattle.apex_types.specs.declared.limits.TheConstants.{MOST_OBJECTS}
+use Rattle.apex_types.specs.Limits.{MOST_OBJECTS}
 use Rattle.apex_types.specs.declared.process.ProcessStatus.{ProcessStatus}
 use Rattle.apex_types.specs.declared.process.Wait.{Wait}
 use Rattle.apex_types.specs.declared.process.Wait.TheVariants as wait

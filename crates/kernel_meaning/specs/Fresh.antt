@@ -1,7 +1,7 @@
 -- A partition before its first start.
 use Rattle.std.specs.Prelude.{ℕ, ℤ, List, [], ◌∷◌, Option, None, option_map, map, replicate, Bool, false}
 use Rattle.arrayvec.specs.ArrayVec.{ArrayVec}
-use Rattle.apex_types.specs.declared.limits.TheConstants.{MOST_OBJECTS}
+use Rattle.apex_types.specs.Limits.{MOST_OBJECTS}
 use Rattle.apex_types.specs.declared.codes.Mode.TheVariants as mode
 use Rattle.apex_types.specs.declared.codes.ProcessState.TheVariants.{Dormant}
 use Rattle.apex_types.specs.declared.codes.StartCondition.TheVariants as condition

@@ -16,7 +16,7 @@ use Rattle.apex_types.specs.declared.event.EventKind.TheVariants as event
 use Rattle.apex_types.specs.declared.event.Subject.{Subject}
 use Rattle.apex_types.specs.declared.identity.Runner.{Runner}
 use Rattle.apex_types.specs.declared.identity.Runner.TheVariants as runner
-use Rattle.apex_types.specs.declared.limits.TheConstants.{MOST_ERRORS, MOST_REPORT_WORDS}
+use Rattle.apex_types.specs.Limits.{MOST_ERRORS, MOST_REPORT_WORDS}
 use Rattle.apex_types.specs.Runners as asks
 use Rattle.apex_types.specs.declared.process.ProcessStatus.{ProcessStatus}
 use Rattle.apex_types.specs.declared.process.WaitingError.{WaitingError}
@@ -26,6 +26,7 @@ use Rattle.apex_types.specs.declared.service.Service.TheVariants as service
 use Rattle.kernel_meaning.specs.Times.{mode_of_action, begins}
 use Rattle.kernel_meaning.specs.Kernel.{Errors, Kernel, of_processes, with_errors}
 use Rattle.kernel_meaning.specs.PartitionServices.{clears}
+use Rattle.kernel_meaning.specs.ProcessServices.{of_row}
 use Rattle.kernel_meaning.specs.Processes.{Processes, row_of, put_row, rests_found, subject, answers, refuses, wakes, is_created, is_dormant, is_normal, is_same}
 use Rattle.kernel_meaning.specs.Sharing as sharing
 use Rattle.kernel_meaning.specs.Sharing.{Sharing, becomes, is_large_enough, fills}
@@ -49,13 +50,8 @@ report s p array length words =
 
 -- ---- the error handler
 
--- a test of a record, which a missing one does not pass
-abbrev pub has_row : Option ProcessStatus → (ProcessStatus → Bool) → Bool
-has_row None test = false
-has_row (Some r) test = test r
-
 abbrev pub is_handler_created : Processes → Bool
-is_handler_created s = has_row (row_of s runner.Handler) is_created
+is_handler_created s = of_row is_created (row_of s runner.Handler)
 
 abbrev pub creates_found : Processes → Runner → Option ProcessStatus → Step Processes
 creates_found s p None = nothing s

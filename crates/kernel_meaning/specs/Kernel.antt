@@ -1,7 +1,7 @@
 -- The state of a partition other than its controls and its data, in parts with an owner each; the
 -- errors that wait for its error handler.
 use Rattle.std.specs.Prelude.{Bool, List, [], ◌∷◌, ◌++◌, length, nat_lt, if◌then◌else◌, ℕ}
-use Rattle.apex_types.specs.declared.limits.TheConstants.{MOST_ERRORS}
+use Rattle.apex_types.specs.Limits.{MOST_ERRORS}
 use Rattle.apex_types.specs.declared.process.WaitingError.{WaitingError}
 use Rattle.apex_types.specs.declared.codes.Mode.{Mode}
 use Rattle.apex_types.specs.declared.codes.StartCondition.{StartCondition}
@@ -64,38 +64,26 @@ of_processes k s = lifted (with_processes k) s
 abbrev pub with_objects : Kernel → Sharing Objects
 with_objects k = record { processes = k.processes; shared = k.objects }
 
-abbrev pub put_objects : Kernel → Sharing Objects → Kernel
-put_objects k b = record k { processes = b.processes; objects = b.shared }
-
 -- a step of the processes and the objects, as a step of the partition
 abbrev pub of_objects : Kernel → Step (Sharing Objects) → Step Kernel
-of_objects k s = lifted (put_objects k) s
+of_objects k s = lifted (λ (b : Sharing Objects). record k { processes = b.processes; objects = b.shared }) s
 
 -- the processes and the ports
 abbrev pub with_ports : Kernel → Sharing Ports
 with_ports k = record { processes = k.processes; shared = k.ports }
 
-abbrev pub put_ports : Kernel → Sharing Ports → Kernel
-put_ports k b = record k { processes = b.processes; ports = b.shared }
-
 -- a step of the processes and the ports, as a step of the partition
 abbrev pub of_ports : Kernel → Step (Sharing Ports) → Step Kernel
-of_ports k s = lifted (put_ports k) s
-
-abbrev pub put_only_ports : Kernel → Ports → Kernel
-put_only_ports k o = record k { ports = o }
+of_ports k s = lifted (λ (b : Sharing Ports). record k { processes = b.processes; ports = b.shared }) s
 
 -- a step of only the ports, as a step of the partition
 abbrev pub of_ports_alone : Kernel → Step Ports → Step Kernel
-of_ports_alone k s = lifted (put_only_ports k) s
+of_ports_alone k s = lifted (λ (o : Ports). record k { ports = o }) s
 
 -- the processes and the errors
 abbrev pub with_errors : Kernel → Sharing Errors
 with_errors k = record { processes = k.processes; shared = k.errors }
 
-abbrev pub put_errors : Kernel → Sharing Errors → Kernel
-put_errors k b = record k { processes = b.processes; errors = b.shared }
-
 -- a step of the processes and the errors, as a step of the partition
 abbrev pub of_errors : Kernel → Step (Sharing Errors) → Step Kernel
-of_errors k s = lifted (put_errors k) s
+of_errors k s = lifted (λ (b : Sharing Errors). record k { processes = b.processes; errors = b.shared }) s

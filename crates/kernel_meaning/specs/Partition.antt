@@ -2,7 +2,7 @@
 -- the runner spends.
 use Rattle.std.specs.Prelude.{ℕ, ◌-◌, min, ℤ, pos, negsuc, Bool, true, false, List, [], ◌∷◌, ◌++◌, length, take, drop, Option, Some, None, slice_get, slice_set, map, if◌then◌else◌}
 use Rattle.arrayvec.specs.ArrayVec.{ArrayVec}
-use Rattle.apex_types.specs.declared.limits.TheConstants.{MOST_WORDS}
+use Rattle.apex_types.specs.Limits.{MOST_WORDS}
 use Rattle.apex_types.specs.Runners.{place_of, Action}
 use Rattle.apex_types.specs.declared.codes.ErrorKind.TheVariants.{DeadlineMissed}
 use Rattle.apex_types.specs.declared.codes.Mode.{Mode}
@@ -82,9 +82,8 @@ takes_processor s (Some p) = runs s p (row_of s p)
 
 abbrev pub are_same : Option Runner → Option Runner → Bool
 are_same None None = true
-are_same None (Some q) = false
-are_same (Some p) None = false
 are_same (Some p) (Some q) = is_same p q
+are_same _ _ = false
 
 -- if the choice changes: the old runner becomes READY, the new one RUNNING
 abbrev pub chooses : Mode → Processes → Step Processes

@@ -1,5 +1,5 @@
 -- Clear, the normal start, the services on the partition's mode, and the end of a body.
-use Rattle.std.specs.Prelude.{ℕ, zero, suc, ℤ, pos, negsuc, Bool, true, false, ◌&&◌, not, List, [], ◌∷◌, Option, Some, None, map, slice_get, slice_set, is_some}
+use Rattle.std.specs.Prelude.{ℕ, zero, suc, ℤ, pos, Bool, true, false, ◌&&◌, not, List, [], ◌∷◌, Option, Some, None, map, slice_get, slice_set, is_some}
 use Rattle.apex_types.specs.declared.codes.Mode.{Mode}
 use Rattle.apex_types.specs.declared.codes.Mode.TheVariants as mode
 use Rattle.apex_types.specs.declared.codes.ProcessState.TheVariants.{Dormant, Ready}
@@ -107,12 +107,11 @@ get_partition_status k p = of_processes k (answers k.processes p service.GetPart
 -- ---- SET_PARTITION_MODE
 
 abbrev pub mode_of : ℤ → Option Mode
-mode_of (negsuc n) = None
 mode_of (pos zero) = Some mode.Idle
 mode_of (pos (suc zero)) = Some mode.ColdStart
 mode_of (pos (suc (suc zero))) = Some mode.WarmStart
 mode_of (pos (suc (suc (suc zero)))) = Some mode.Normal
-mode_of (pos (suc (suc (suc (suc n))))) = None
+mode_of _ = None
 
 abbrev pub is_warm : Mode → Bool
 is_warm mode.WarmStart = true

@@ -1,6 +1,6 @@
 -- The services on processes and on time, a row each.
 use Rattle.std.specs.Prelude.{ℕ, suc, ◌+◌, ℤ, pos, negsuc, Bool, true, false, not, ◌&&◌, ◌||◌, nat_le, [], ◌∷◌, Option, Some, None, is_some, if◌then◌else◌, zero, nat_lt}
-use Rattle.apex_types.specs.declared.limits.TheConstants.{GREATEST_PRIORITY, MOST_LOCK_LEVEL}
+use Rattle.apex_types.specs.Limits.{GREATEST_PRIORITY, MOST_LOCK_LEVEL}
 use Rattle.apex_types.specs.declared.codes.Mode.{Mode}
 use Rattle.apex_types.specs.declared.codes.ProcessState.{ProcessState}
 use Rattle.apex_types.specs.declared.codes.ProcessState.TheVariants.{Dormant, Ready, Running, Waiting}

@@ -4,7 +4,7 @@
 -- equals the process that has been ready longest. INIT and the error handler are in no list: their
 -- records say whether they are ready. The processes that wait for an object or a port are in its
 -- list, in the order of their release.
-use Rattle.std.specs.Prelude.{ℕ, zero, suc, ℤ, pos, negsuc, ◌==◌, ◌||◌, Bool, true, false, not, is_some, List, [], ◌∷◌, Option, Some, None, if◌then◌else◌, slice_get, slice_set}
+use Rattle.std.specs.Prelude.{ℕ, suc, ℤ, pos, ◌==◌, ◌||◌, Bool, true, false, not, is_some, List, [], ◌∷◌, Option, Some, None, if◌then◌else◌, slice_get, slice_set}
 use Rattle.arrayvec.specs.ArrayVec.{ArrayVec}
 use Rattle.apex_types.specs.Runners.{place_of}
 use Rattle.apex_types.specs.declared.codes.Mode.{Mode}
@@ -198,9 +198,8 @@ numbered p (Some r) = Some (runner.Process p, r)
 
 -- the process with this number, which is its place from 1 on, with its record
 abbrev pub process_at : Processes → ℤ → Option (Runner × ProcessStatus)
-process_at s (negsuc n) = None
-process_at s (pos zero) = None
 process_at s (pos (suc n)) = numbered (index n) (row_of s (runner.Process (index n)))
+process_at s _ = None
 
 -- a test of the process found, which a missing one does not pass
 abbrev pub has : Option (Runner × ProcessStatus) → (ProcessStatus → Bool) → Bool

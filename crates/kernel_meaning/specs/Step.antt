@@ -1,9 +1,8 @@
 -- The result of a step of the kernel, and how steps are combined. A service is a step over the part
 -- of a partition's state that it reads and changes.
-use Rattle.std.specs.Prelude.{ℕ, ◌-◌, ℤ, pos, negsuc, replicate, take, Bool, List, [], ◌∷◌, ◌++◌, if◌then◌else◌}
+use Rattle.std.specs.Prelude.{◌-◌, ℤ, pos, negsuc, replicate, take, Bool, List, [], ◌∷◌, ◌++◌, if◌then◌else◌}
 use Rattle.arrayvec.specs.ArrayVec.{ArrayVec}
 use Rattle.apex_types.specs.declared.codes.ReturnCode.{ReturnCode}
-use Rattle.apex_types.specs.declared.codes.ReturnCode.TheVariants as code
 use Rattle.apex_types.specs.declared.event.EventKind.{EventKind}
 use Rattle.apex_types.specs.declared.event.EventKind.TheVariants as event
 use Rattle.apex_types.specs.declared.event.Subject.{Subject}
@@ -11,6 +10,7 @@ use Rattle.apex_types.specs.declared.identity.Runner.{Runner}
 use Rattle.apex_types.specs.Runners.{Action}
 use Rattle.apex_types.specs.Runners as action
 use Rattle.apex_types.specs.declared.service.Service.{Service}
+use Rattle.apex_types.specs.CodeWords.{return_code_number}
 use Rattle.apex_types.specs.ServiceShape.{answer_words}
 
 -- The part after the step; what happened, in order; and the actions on the processor, the data and
@@ -46,21 +46,12 @@ abbrev pub first_words : ℤ → List ℤ → List ℤ
 first_words (pos n) words = take n words
 first_words (negsuc n) words = []
 
-abbrev pub code_number : ReturnCode → ℕ
-code_number code.NoError = 0
-code_number code.NoAction = 1
-code_number code.NotAvailable = 2
-code_number code.InvalidParam = 3
-code_number code.InvalidConfig = 4
-code_number code.InvalidMode = 5
-code_number code.TimedOut = 6
-
 -- a service of p ends with a code and its outputs: its line, then the reply to the process
 abbrev pub answered : {P : Type 0} → P → Runner → Subject → Service → ReturnCode → List ℤ → Step P
 answered part p who service c outputs = record {
   part = part;
   lines = event.Return who service c ∷ [];
-  actions = action.Reply p (message (pos (code_number c) ∷ outputs)) ∷ [];
+  actions = action.Reply p (message (pos (return_code_number c) ∷ outputs)) ∷ [];
 }
 
 -- the outputs of a refused service, which are 0

@@ -1,6 +1,6 @@
 -- The times that programs give, the start of a process, its release, the normal start, and what is due.
-use Rattle.std.specs.Prelude.{ℕ, zero, ◌^◌, ℤ, pos, negsuc, Bool, true, false, nat_le, suc, ◌+◌, ◌-◌, ◌==◌, [], ◌∷◌, length, Option, Some, None, if◌then◌else◌, is_some}
-use Rattle.apex_types.specs.declared.limits.TheConstants.{MOST_TICKS}
+use Rattle.std.specs.Prelude.{ℕ, zero, ℤ, pos, negsuc, Bool, true, false, nat_le, suc, ◌+◌, ◌-◌, ◌==◌, [], ◌∷◌, length, Option, Some, None, if◌then◌else◌, is_some}
+use Rattle.apex_types.specs.Limits.{MOST_TICKS}
 use Rattle.apex_types.specs.declared.codes.Mode.{Mode}
 use Rattle.apex_types.specs.declared.identity.At.{At}
 use Rattle.apex_types.specs.declared.identity.Runner.{Runner}

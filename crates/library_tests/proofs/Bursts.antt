@@ -1,4 +1,4 @@
--- Many ticks of a script together.
+-- Ticks of a script, one and many together.
 use Rattle.std.proofs.Common.{◌≡◌, ℕ, zero, suc, ◌+◌, ◌-◌, ◌<◌, ◌≤◌, ℤ, List, [], ◌∷◌, true, false, map, refl, ap, sym, ◌∙◌, arith}
 use Rattle.std.specs.Prelude.{Option, Some, None, slice_get, slice_set}
 use Rattle.std.proofs.lemmas.Option.{none-some, same_Some}
@@ -7,7 +7,7 @@ use Rattle.engine_meaning.specs.Engine.{Asks, Nothing}
 use Rattle.kernel_meaning.specs.Partition.{control_at, ticked}
 use Rattle.kernel_laws.specs.Bursts.{Told, Burst, later, burst, is_nothing, told_of}
 use Rattle.kernel_laws.proofs.Until.{later_later, stops, ticked_once}
-use Rattle.partition_base.specs.Bursting.{at_place, burst_at}
+use Rattle.partition_base.specs.Bursting.{at_place, burst_at, tick_at_place, ticked_at}
 use Rattle.partition_base.proofs.Bursts.{burst_none}
 use Rattle.library_tests.specs.Plays.{control_of}
 use Rattle.library_tests.specs.Scripts.{script_engine}
@@ -87,6 +87,25 @@ none_set [] zero c e = refl
 none_set [] (suc p) c e = refl
 none_set (x ∷ parts) zero c e = absurd (none-some x (sym e))
 none_set (x ∷ parts) (suc p) c e = ap (λ l. control_of x ∷ l) (none_set parts p c e)
+
+pub ticked_part : (scripts : List (List Asks)) (parts : List Part) (p : ℕ) (part new : Part) (words : List ℤ) (asks : Asks) → slice_get parts p ≡ Some part
+    → control_of new ≡ (ticked (script_engine scripts) (control_of part) words).control → asks ≡ (ticked (script_engine scripts) (control_of part) words).asks
+    → record { control = map control_of (slice_set parts p new); words = words; asks = asks } ≡ ticked_at (script_engine scripts) p (map control_of parts) words
+ticked_part scripts parts p part new words asks here to told =
+    let controls = map control_of parts in
+    let t = ticked (script_engine scripts) (control_of part) words in
+    ap (λ l. record { control = l; words = words; asks = asks }) (map-set control_of parts p new)
+    ∙ ap (λ c. record { control = slice_set controls p c; words = words; asks = asks }) to
+    ∙ ap (λ ws. record { control = slice_set controls p t.control; words = ws; asks = asks }) (same_words scripts (control_of part) words)
+    ∙ ap (λ a. record { control = slice_set controls p t.control; words = t.words; asks = a }) told
+    ∙ ap (λ c. tick_at_place p controls (ticked (script_engine scripts) c words)) (part_there parts p part here)
+
+pub no_part_ticks : (scripts : List (List Asks)) (parts : List Part) (p : ℕ) (words : List ℤ) → slice_get parts p ≡ None
+    → record { control = map control_of parts; words = words; asks = Nothing } ≡ ticked_at (script_engine scripts) p (map control_of parts) words
+no_part_ticks scripts parts p words none =
+    let controls = map control_of parts in
+    ap (λ l. record { control = l; words = words; asks = Nothing }) (sym (none_set parts p None none))
+    ∙ ap (λ c. tick_at_place p controls (ticked (script_engine scripts) c words)) (sym (no_part parts p none))
 
 pub played : (scripts : List (List Asks)) (parts : List Part) (p k ticks : ℕ) (part new : Part) (words : List ℤ) (asks : Asks) → slice_get parts p ≡ Some part
     → record { control = control_of new; words = words; told = asks; ticks = ticks } ≡ burst (ticked (script_engine scripts)) k (control_of part) words

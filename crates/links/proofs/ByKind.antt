@@ -8,7 +8,7 @@ use Rattle.apex_types.specs.declared.identity.ListKey.{ListKey}
 use Rattle.apex_types.specs.declared.identity.ListKey.TheVariants as key
 use Rattle.kernel_meaning.specs.Queues.{Queues, list_at, put_list, each_list, without_in_all, joins}
 use Rattle.links.specs.ByKind.{lists_from, by_kind, number_from, number_of}
-use Rattle.links.specs.Lists.{joins_in}
+use Rattle.links.specs.Lists.{moves_to}
 
 same_queues : {a b c d e a' b' c' d' e' : List (List Entry)} → a ≡ a' → b ≡ b' → c ≡ c' → d ≡ d' → e ≡ e' → ◌≡◌ {A = Queues} (record { semaphores = a; events = b; buffers = c; blackboards = d; ports = e }) (record { semaphores = a'; events = b'; buffers = c'; blackboards = d'; ports = e' })
 same_queues p q r s t = rw (p, q, r, s, t) refl
@@ -107,7 +107,7 @@ each_key change lists = same_queues (each_from 0 change lists) (each_from MOST_O
 
 -- ---- a process that joins a list
 
-pub joins_key : (k : ListKey) (d : Discipline) (e : Entry) (lists : List (List Entry)) → length lists ≡ (5 * MOST_OBJECTS) → by_kind (joins_in (number_of k) d e lists) ≡ joins k d e (by_kind lists)
+pub joins_key : (k : ListKey) (d : Discipline) (e : Entry) (lists : List (List Entry)) → length lists ≡ (5 * MOST_OBJECTS) → by_kind (moves_to (number_of k) d e lists) ≡ joins k d e (by_kind lists)
 joins_key k d e lists whole =
     let left = without_in_each e.process.0 lists in
     let full : length left ≡ (5 * MOST_OBJECTS) = length-map lists (without e.process.0) ∙ whole in

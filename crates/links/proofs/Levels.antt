@@ -1,5 +1,5 @@
 -- The lists one after another.
-use Rattle.links.proofs.Prelude.{◌≡◌, ℕ, zero, suc, ◌+◌, ◌<◌, ◌≤◌, nat_eq, nat_lt, cond, true, false, not, List, [], ◌∷◌, ◌++◌, length, slice_get, replicate, refl, sym, ap, ◌∙◌, arith, nat_tests, Entry, without, behind_equals, list_in, without_in_each, put_in, emptied_each, times_listed, in_order, one_if_any}
+use Rattle.links.proofs.Prelude.{◌≡◌, ℕ, zero, suc, ◌+◌, ◌<◌, ◌≤◌, nat_eq, nat_lt, cond, true, false, not, List, [], ◌∷◌, ◌++◌, length, slice_get, replicate, refl, sym, ap, ◌∙◌, arith, nat_tests, Entry, without, behind_equals, list_in, without_in_each, put_in, emptied_each, IsInNone, times_listed, in_order, one_if_any}
 use Rattle.links.specs.Levels.{AreOfLevel, AreLevels}
 
 append_assoc : {A : Type 0} (xs ys zs : List A) → (xs ++ ys) ++ zs ≡ xs ++ (ys ++ zs)
@@ -42,12 +42,11 @@ pub times_append : (p : ℕ) (xs ys : List Entry) → times_listed p (xs ++ ys) 
 times_append p [] ys = omega arith
 times_append p (x ∷ xs) ys = omega (arith, times_append p xs ys)
 
--- if no list contains p, nothing leaves
-pub all_absent : (p : ℕ) (lists : List (List Entry)) → times_listed p (in_order lists) ≡ 0 → without_in_each p lists ≡ lists
-all_absent p [] h = refl
-all_absent p (l ∷ ls) h =
-    let both = times_append p l (in_order ls) in
-    ap (λ x. x ∷ without_in_each p ls) (without_absent p l (omega (arith, both, h))) ∙ ap (λ rest. l ∷ rest) (all_absent p ls (omega (arith, both, h)))
+-- p is in none of the lists, if it is not in all of them together
+pub absent_each : (p : ℕ) (lists : List (List Entry)) → times_listed p (in_order lists) ≡ 0 → IsInNone p lists
+absent_each p [] h k = refl
+absent_each p (l ∷ ls) h zero = omega (arith, times_append p l (in_order ls), h)
+absent_each p (l ∷ ls) h (suc k) = absent_each p ls (omega (arith, times_append p l (in_order ls), h)) k
 
 -- ---- an entry after its equals
 behind_first : (m k : ℕ) (e : Entry) (ls : List (List Entry)) → m < k → e.priority.0 + m ≡ 255 → AreLevels k ls → behind_equals e (in_order ls) ≡ e ∷ in_order ls

@@ -1,5 +1,5 @@
 -- Each process stays only in its home.
-use Rattle.links.proofs.Prelude.{◌≡◌, ℕ, zero, suc, ◌+◌, ◌<◌, ◌≤◌, Bool, true, false, not, cond, List, [], ◌∷◌, length, drop, map, refl, sym, ap, ◌∙◌, replicate, arith, subst, inl, inr, get_or, length-set, slice_set, slice_index_or, if◌then◌else◌, nat_tests, cases_lt, cases_eq, get_or_past, get_or-map, ArrayVec, Discipline, ListId, Entry, without, behind_equals, list_in, joined, no_entries, without_in_each, put_in, emptied_each, times_listed, AreBelow, IsListed, length-without, entries_of, once_at, IsHomed}
+use Rattle.links.proofs.Prelude.{◌≡◌, ℕ, zero, suc, ◌+◌, ◌<◌, ◌≤◌, Bool, true, false, not, cond, List, [], ◌∷◌, length, drop, map, refl, sym, ap, ◌∙◌, replicate, arith, subst, inl, inr, get_or, length-set, slice_set, slice_index_or, if◌then◌else◌, nat_tests, cases_lt, cases_eq, get_or_past, get_or-map, ArrayVec, Discipline, ListId, Entry, without, behind_equals, list_in, joined, no_entries, IsInNone, without_in_each, put_in, emptied_each, times_listed, AreBelow, IsListed, length-without, entries_of, once_at, IsHomed}
 use Rattle.std.proofs.Common.{get_or-set_other}
 use Rattle.std.specs.Prelude.{nat_eq, nat_lt, slice_get, Option, Some, None, IfSome}
 use Rattle.std.proofs.lemmas.List.{get_or-replicate, length-replicate, map-set}
@@ -129,7 +129,7 @@ IsHomed-leaves p lists homes h = λ q k. elim (cases_eq q p) [
       rw (list_at-without p lists k, home, stays) (h q k)
 ]
 
-pub absent : (p : ℕ) (lists old : List (List Entry)) → lists ≡ without_in_each p old → (j : ℕ) → times_listed p (list_in lists j) ≡ 0
+pub absent : (p : ℕ) (lists old : List (List Entry)) → lists ≡ without_in_each p old → IsInNone p lists
 absent p lists old is j = rw (is, list_at-without p old j) (without-none p (list_in old j))
 
 -- ---- each list has room
@@ -185,7 +185,7 @@ joined-times : (d : Discipline) (e : Entry) (q : ℕ) (es : List Entry) → time
 joined-times discipline.Fifo e q es = last-times e q es
 joined-times discipline.Priority e q es = behind-times e q es
 
-pub IsHomed-joins : (d : Discipline) (e : Entry) (home : ListId) (lists : List (List Entry)) (homes : List (Option ListId)) → IsHomed lists homes → home.0 < length lists → e.process.0 < length homes → ((j : ℕ) → times_listed e.process.0 (list_in lists j) ≡ 0) → IsHomed (put_in lists home.0 (joined d e (list_in lists home.0))) (slice_set homes e.process.0 (Some home))
+pub IsHomed-joins : (d : Discipline) (e : Entry) (home : ListId) (lists : List (List Entry)) (homes : List (Option ListId)) → IsHomed lists homes → home.0 < length lists → e.process.0 < length homes → IsInNone e.process.0 lists → IsHomed (put_in lists home.0 (joined d e (list_in lists home.0))) (slice_set homes e.process.0 (Some home))
 IsHomed-joins d e home lists homes h there within none = λ q j.
     let es = list_in lists home.0 in
     let next = joined d e (list_in lists home.0) in

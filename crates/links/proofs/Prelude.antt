@@ -8,7 +8,7 @@ pub use Rattle.kernel_laws.specs.Ready.{AreBelow, IsListed, times_listed}
 pub use Rattle.kernel_meaning.specs.Queues.{behind_equals, joined, list_in, no_entries, without}
 pub use Rattle.links.specs.DueOrder.{AreDueBelow, AreFrom, AreInOrder, behind_earlier, due_at}
 pub use Rattle.links.specs.Levels.{IsLowest, in_order, one_if_any}
-pub use Rattle.links.specs.Lists.{emptied_each, put_in, without_in_each}
+pub use Rattle.links.specs.Lists.{IsInNone, emptied_each, put_in, without_in_each}
 pub use Rattle.links.specs.OneHome.{IsHomed, entries_of, once_at}
 pub use Rattle.links.specs.Timers.{IsExact, tick_in}
 pub use Rattle.links.specs.declared.dues.DueEntry.{DueEntry}

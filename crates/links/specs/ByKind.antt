@@ -3,7 +3,7 @@
 use Rattle.std.specs.Prelude.{◌*◌, ℕ, ◌≡◌, ◌+◌, nat_lt, List, length, take, drop, if◌then◌else◌}
 use Rattle.apex_types.specs.declared.identity.ListKey.{ListKey}
 use Rattle.apex_types.specs.declared.identity.ListKey.TheVariants as key
-use Rattle.apex_types.specs.declared.limits.TheConstants.{MOST_OBJECTS}
+use Rattle.apex_types.specs.Limits.{MOST_OBJECTS}
 use Rattle.apex_types.specs.declared.process.Entry.{Entry}
 use Rattle.kernel_meaning.specs.Queues.{Queues}
 use Rattle.links.specs.declared.waiting_lists.TheConstants.{ALL_LISTS}

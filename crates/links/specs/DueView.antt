@@ -1,6 +1,6 @@
 -- The view of a due list, and its invariants.
 use Rattle.std.specs.Prelude.{ℕ, ◌≤◌, List}
-use Rattle.apex_types.specs.declared.limits.TheConstants.{MOST_PROCESSES}
+use Rattle.apex_types.specs.Limits.{MOST_PROCESSES}
 use Rattle.links.specs.declared.dues.DueEntry.{DueEntry}
 use Rattle.links.specs.declared.due_list.DueList.TheInside.{Inside}
 use Rattle.links.specs.DueOrder.{AreInOrder, AreDueBelow, times_due}

@@ -1,6 +1,6 @@
 -- The view of the waiting lists, and their invariants.
 use Rattle.std.specs.Prelude.{◌≡◌, List, length, map}
-use Rattle.apex_types.specs.declared.limits.TheConstants.{MOST_PROCESSES}
+use Rattle.apex_types.specs.Limits.{MOST_PROCESSES}
 use Rattle.apex_types.specs.declared.process.Entry.{Entry}
 use Rattle.links.specs.OneHome.{entries_of, IsHomed}
 use Rattle.links.specs.declared.links.Links.TheInside.{Inside}

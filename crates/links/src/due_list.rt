@@ -1,7 +1,8 @@
 //! The due list: processes with a due tick.
 
 ghost use Rattle.std.specs.Prelude.{◌≡◌, ◌<◌, [], slice_get, IfSome};
-ghost use Rattle.links.specs.DueOrder.{AreFrom, behind_earlier, due_at, without};
+ghost use Rattle.apex_types.specs.Limits.{MOST_PROCESSES};
+ghost use Rattle.links.specs.DueOrder.{AreFrom, behind_earlier, due_at, times_due, without};
 ghost use Rattle.links.specs.Timers.{HasThoseDue};
 
 use crate::dues::{self, DueEntry, Dues};
@@ -59,12 +60,13 @@ impl DueList {
         dues::leave(&mut self.dues, process);
     }
 
-    /// Moves a process after all entries whose tick is not later than `tick`.
+    /// Inserts a process, for which nothing is due yet, after all entries whose tick is not later
+    /// than `tick`.
     pub fn insert_by_due(&mut self, process: ProcessIndex, tick: Ticks)
-        requires { process.0 < MOST_PROCESSES }
-        ensures { self.new ≡ behind_earlier (due_at process tick) (without process.0 self.old) }
+        requires below { process.0 < MOST_PROCESSES }
+        requires absent { times_due process.0 self.old ≡ 0 }
+        ensures { self.new ≡ behind_earlier (due_at process tick) self.old }
     {
-        self.remove(process);
         dues::enter(&mut self.dues, DueEntry { process, tick });
     }
 }

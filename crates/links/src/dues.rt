@@ -1,6 +1,7 @@
 //! Entries in the order of their ticks.
 
 ghost use Rattle.std.specs.Prelude.{◌≡◌, ℕ, ◌<◌, ◌≤◌, length};
+ghost use Rattle.apex_types.specs.Limits.{MOST_PROCESSES};
 ghost use Rattle.links.specs.DueOrder.{AreDueBelow, AreInOrder, behind_earlier, times_due, without};
 ghost use Rattle.links.specs.Timers.{HasThoseDue};
 

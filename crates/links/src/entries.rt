@@ -1,6 +1,7 @@
 //! One list.
 
 ghost use Rattle.std.specs.Prelude.{◌≡◌, ◌<◌, ◌≤◌, length, slice_get};
+ghost use Rattle.apex_types.specs.Limits.{MOST_PROCESSES};
 ghost use Rattle.kernel_meaning.specs.Queues.{behind_equals, without};
 ghost use Rattle.kernel_meaning.specs.Queues.{joined};
 ghost use Rattle.kernel_laws.specs.Ready.{times_listed};

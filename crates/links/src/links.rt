@@ -1,9 +1,10 @@
 //! Lists of processes, with the list of each process.
 
 ghost use Rattle.std.specs.Prelude.{◌≡◌, ℕ, ◌<◌, ◌≤◌, [], drop, length, replicate, slice_get, IfOk, IfSome};
+ghost use Rattle.apex_types.specs.Limits.{MOST_PROCESSES};
 ghost use Rattle.apex_types.specs.declared.codes.Discipline.TheVariants as discipline;
 ghost use Rattle.kernel_meaning.specs.Queues.{list_in};
-ghost use Rattle.links.specs.Lists.{emptied_each, joins_in, put_in, without_in_each};
+ghost use Rattle.links.specs.Lists.{IsInNone, emptied_each, joins_in, moves_to, put_in, without_in_each};
 ghost use Rattle.kernel_laws.specs.Ready.{times_listed};
 ghost use Rattle.links.specs.OneHome.{once_at};
 
@@ -89,33 +90,47 @@ impl Links {
         }
     }
 
-    /// Moves a process from its list to `list`, where its place follows the discipline.
+    /// Adds an entry to `list`, where its place follows the discipline.
     #[inline(always)]
-    pub fn join(&mut self, list: ListId, discipline: Discipline, entry: Entry)
+    fn join(&mut self, list: ListId, discipline: Discipline, entry: Entry)
         requires below { entry.process.0 < MOST_PROCESSES }
+        requires nowhere { IsInNone entry.process.0 self.old }
         ensures { self.new ≡ joins_in list.0 discipline entry self.old }
     {
-        self.remove(entry.process);
         if usize::from(list.0) < self.lists.len() {
             lists::join_at(&mut self.lists, list, discipline, entry);
             homes::put_home(&mut self.homes, entry.process, Some(list));
         }
     }
 
-    /// Moves a process from its list to the end of `list`.
+    /// Adds an entry to the end of `list`. Its process is in no list.
     pub fn push_back(&mut self, list: ListId, entry: Entry)
         requires below { entry.process.0 < MOST_PROCESSES }
+        requires nowhere { IsInNone entry.process.0 self.old }
         ensures { self.new ≡ joins_in list.0 discipline.Fifo entry self.old }
     {
         self.join(list, Discipline::Fifo, entry);
     }
 
-    /// Moves a process from its list to `list`, after all entries of its priority or a higher one.
+    /// Adds an entry to `list`, after all entries of its priority or a higher one. Its process is
+    /// in no list.
     pub fn insert_by_priority(&mut self, list: ListId, entry: Entry)
         requires below { entry.process.0 < MOST_PROCESSES }
+        requires nowhere { IsInNone entry.process.0 self.old }
         ensures { self.new ≡ joins_in list.0 discipline.Priority entry self.old }
     {
         self.join(list, Discipline::Priority, entry);
+    }
+
+    /// Moves a process from its list, if it is in one, to `list`, where its place follows the
+    /// discipline.
+    #[inline(always)]
+    pub fn move_to(&mut self, list: ListId, discipline: Discipline, entry: Entry)
+        requires below { entry.process.0 < MOST_PROCESSES }
+        ensures { self.new ≡ moves_to list.0 discipline entry self.old }
+    {
+        self.remove(entry.process);
+        self.join(list, discipline, entry);
     }
 
     /// Removes and returns the first entry of `list`.

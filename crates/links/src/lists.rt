@@ -1,6 +1,7 @@
 //! All lists, each with its number.
 
 ghost use Rattle.std.specs.Prelude.{◌≡◌, ◌<◌, ◌≤◌, [], length, map, replicate, slice_get, IfOk};
+ghost use Rattle.apex_types.specs.Limits.{MOST_PROCESSES};
 ghost use Rattle.kernel_meaning.specs.Queues.{without};
 ghost use Rattle.kernel_meaning.specs.Queues.{joined, list_in};
 ghost use Rattle.kernel_laws.specs.Ready.{times_listed};

@@ -1,6 +1,7 @@
 //! The ready processes.
 
 ghost use Rattle.std.specs.Prelude.{◌≡◌, ◌<◌, ◌≤◌, [], slice_get, IfOk, IfSome};
+ghost use Rattle.apex_types.specs.Limits.{MOST_PROCESSES};
 ghost use Rattle.kernel_meaning.specs.Queues.{behind_equals, without};
 
 use crate::links::Links;
@@ -68,9 +69,9 @@ impl ReadyLists {
         }
     }
 
-    /// Adds a ready process after its equals.
+    /// Moves a process after its equals, whether it was ready before or not.
     #[inline(always)]
-    pub fn push_back(&mut self, entry: Entry)
+    pub fn move_back(&mut self, entry: Entry)
         requires { entry.process.0 < MOST_PROCESSES }
         ensures { self.new ≡ behind_equals entry (without entry.process.0 self.old) }
     {

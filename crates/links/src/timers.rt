@@ -1,6 +1,7 @@
 //! A timer list, kept exact.
 
 ghost use Rattle.std.specs.Prelude.{◌≡◌, ◌<◌, ℕ, Option};
+ghost use Rattle.apex_types.specs.Limits.{MOST_PROCESSES};
 ghost use Rattle.links.specs.Timers.{IsDueMask, IsExact, IsLeastTick, IsNextDue, number_of, earlier as earlier_of, set_timer as timer_set, ticks_with};
 
 use crate::due_list::DueList;
@@ -13,9 +14,9 @@ pub fn set_timer(dues: &mut DueList, process: ProcessIndex, tick: Option<Ticks>)
     ensures exact { (ticks : ℕ → Option ℕ) → IsExact ticks dues.old
         → IsExact (ticks_with process.0 (number_of tick) ticks) dues.new }
 {
-    match tick {
-        Some(tick) => dues.insert_by_due(process, tick),
-        None => dues.remove(process),
+    dues.remove(process);
+    if let Some(tick) = tick {
+        dues.insert_by_due(process, tick);
     }
 }
 

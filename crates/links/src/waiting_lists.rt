@@ -1,7 +1,7 @@
 //! The waiting lists of a partition, each by its key.
 
 ghost use Rattle.std.specs.Prelude.{◌*◌, ◌≡◌, ◌<◌, ◌≤◌, length, slice_get, IfOk, IfSome};
-ghost use Rattle.apex_types.specs.declared.limits.TheConstants.{MOST_OBJECTS, MOST_PROCESSES};
+ghost use Rattle.apex_types.specs.Limits.{MOST_OBJECTS, MOST_PROCESSES};
 ghost use Rattle.kernel_meaning.specs.Queues.{emptied, joins, list_at, without_in_all};
 ghost use Rattle.kernel_meaning.specs.Fresh.{fresh_queues};
 ghost use Rattle.links.specs.ByKind as by_kind;
@@ -102,12 +102,13 @@ impl WaitingLists {
         self.lists.remove(process);
     }
 
-    /// Moves a process from its list to `list`, where its place follows the discipline.
-    pub fn join(&mut self, list: ListKey, discipline: Discipline, entry: Entry)
+    /// Moves a process from its list, if it is in one, to `list`, where its place follows the
+    /// discipline.
+    pub fn move_to(&mut self, list: ListKey, discipline: Discipline, entry: Entry)
         requires { entry.process.0 < MOST_PROCESSES }
         ensures { self.new ≡ joins list discipline entry self.old }
     {
-        self.lists.join(number_of(list), discipline, entry);
+        self.lists.move_to(number_of(list), discipline, entry);
     }
 
     /// Empties all lists.

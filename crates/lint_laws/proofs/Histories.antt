@@ -23,7 +23,7 @@ use Rattle.kernel_laws.proofs.Places.{get_set_same, get_set_other}
 use Rattle.kernel_meaning.specs.Kernel.{Fixed}
 use Rattle.kernel_meaning.specs.Partition.{Member, with_world}
 use Rattle.module_meaning.specs.Accepted.{IsJudged}
-use Rattle.module_meaning.specs.Module.{Advanced, steps_member}
+use Rattle.module_meaning.specs.Module.{Stepped, steps_member}
 use Rattle.module_meaning.specs.SourceMeaning.{source_members, source_module, source_trace}
 use Rattle.module_meaning.specs.Table.{Partition, Table, at_number}
 use Rattle.pal_meaning.specs.Program.{Program}
@@ -66,8 +66,8 @@ module _ (name : List ℕ) (Says : Event → Type 0) (Holds : Member SourceContr
       own : (x : Member SourceControl) → slice_get ms place ≡ Some x → Holds x
       named : map name_of ms ≡ names
 
-    abbrev Goes : Advanced SourceControl → Type 0
-    Goes a = Stands a.members × NoLine Says a.lines
+    abbrev Goes : Stepped (List (Member SourceControl)) → Type 0
+    Goes a = Stands a.state × NoLine Says a.lines
 
     step_goes : (numbers : ℕ → Numbers) (move : Move) (ms : List (Member SourceControl)) (q : ℕ) (o : Option (Member SourceControl)) → slice_get ms q ≡ o → AreOrdered d called numbers ms → Stands ms
         → Goes (steps_member (makes move) ms q o)

@@ -1,5 +1,5 @@
 -- Many ticks of a lone partition together.
-use Rattle.lone_partition.proofs.Prelude.{◌≡◌, ℕ, zero, suc, ◌+◌, ◌-◌, ◌<◌, ◌≤◌, Bool, true, false, List, [], ◌∷◌, ◌++◌, length, Option, Some, None, refl, sym, ap, subst, ◌∙◌, append_assoc, arith, option_map, is_some, Event, At, PortId, next_tick, ports_of, Member, moved, at_tick, owner, ended, Gone, Path, Surroundings, and_then, alone_from, goes, inputs_in, keeps_on, sends_ended, sends_ports, sends_so_many, stays, tick_alone, ticks_own, InputLine, IsStill, AreFrom, inputs_of, tick_of_input, IsWithin, LeadsTo, HasRun, HasAdvancedWritten, Sent}
+use Rattle.lone_partition.proofs.Prelude.{◌≡◌, ℕ, zero, suc, ◌+◌, ◌-◌, ◌<◌, ◌≤◌, Bool, true, false, List, [], ◌++◌, length, Option, Some, None, refl, sym, ap, subst, ◌∙◌, append_assoc, arith, option_map, is_some, Event, At, PortId, next_tick, ports_of, Member, moved, at_tick, owner, ended, Stepped, Course, Surroundings, then_goes, alone_from, goes, inputs_in, goes_on, sends_ended, sends_ports, sends_so_many, still, tick_alone, ticks_own, InputLine, IsStill, AreFrom, inputs_of, tick_of_input, IsWithin, LeadsTo, HasRun, HasAdvancedWritten, Sent}
 use Rattle.std.proofs.Common.{inl, inr, cond, nat_le}
 use Rattle.apex_types.specs.declared.limits.TheConstants.{MOST_EVENTS}
 use Rattle.kernel_meaning.specs.Kernel.{of_ports}
@@ -23,38 +23,38 @@ HaveNoInputs from limit inputs = (t : ℕ) → from ≤ t → t < limit → inpu
 module _ {C : Type 0} (s : Surroundings) where
   -- ---- a tick in which nothing happens
 
-  port_rests : (at : At) (x : Member C) (port : PortId) → IsAtRest x.world.kernel port → sends_port s at port x ≡ stays x
+  port_rests : (at : At) (x : Member C) (port : PortId) → IsAtRest x.world.kernel port → sends_port s at port x ≡ still x
   port_rests at x port (inl none) = ap (sends_so_many s at port x) none
   port_rests at x port (inr both) =
       ap (sends_so_many s at port x) both.0
       ∙ ap (λ k. goes (λ (y : Member C). moved at x.engine (of_ports x.world.kernel k) x.world) x) both.1
 
-  ports_rest : (n number : ℕ) (at : At) (x : Member C) → ((port : PortId) → IsAtRest x.world.kernel port) → sends_ports n number s at x ≡ stays x
+  ports_rest : (n number : ℕ) (at : At) (x : Member C) → ((port : PortId) → IsAtRest x.world.kernel port) → sends_ports n number s at x ≡ still x
   ports_rest zero number at x h = refl
   ports_rest (suc n) number at x h =
-      ap (λ (g : Gone (Member C)). and_then g (sends_ports n (number + 1) s at)) (port_rests at x (record { 0 = number }) (h (record { 0 = number })))
+      ap (λ (g : Stepped (Member C)). then_goes g (sends_ports n (number + 1) s at)) (port_rests at x (record { 0 = number }) (h (record { 0 = number })))
       ∙ ports_rest n (number + 1) at x h
 
-  ended_rests : (at : At) (x : Member C) (b : Bool) → ((port : PortId) → IsAtRest x.world.kernel port) → sends_ended s at x b ≡ stays x
+  ended_rests : (at : At) (x : Member C) (b : Bool) → ((port : PortId) → IsAtRest x.world.kernel port) → sends_ended s at x b ≡ still x
   ended_rests at x true h = ports_rest (length (ports_of x)) 1 at x h
   ended_rests at x false h = refl
 
-  owner_rests : (at : At) (x : Member C) (b : Bool) → tick x.engine at x.world ≡ record { world = x.world; lines = [] } → ticks_own at x b ≡ stays x
+  owner_rests : (at : At) (x : Member C) (b : Bool) → tick x.engine at x.world ≡ record { world = x.world; lines = [] } → ticks_own at x b ≡ still x
   owner_rests at x true h = ap (λ (m : Moved C). goes (λ (y : Member C). m) x) h
   owner_rests at x false h = refl
 
   -- a tick before the limit without an input changes nothing and writes nothing
   still_tick : (inputs : List InputLine) (origin t from limit : ℕ) (x : Member C) → from ≤ t → t < limit → IsStill origin from limit x.world.kernel → inputs_in t inputs ≡ []
-      → tick_alone s (tick_from origin t) (inputs_in t inputs) x ≡ keeps_on (tick_from origin t) (stays x)
+      → tick_alone s (tick_from origin t) (inputs_in t inputs) x ≡ goes_on (tick_from origin t) (still x)
   still_tick inputs origin t from limit x there below h none =
       let at = tick_from origin t in
       ap (λ is. tick_alone s at is x) none
-      ∙ ap (λ (g : Gone (Member C)). keeps_on at (and_then g (λ y. ticks_own at y (is_some (owner s.schedule at))))) (ended_rests at x (is_some (ended s.schedule at)) h.ports)
-      ∙ ap (keeps_on at) (owner_rests at x (is_some (owner s.schedule at)) (idle_tick x.engine at x.world h.idle (h.due t there below)))
+      ∙ ap (λ (g : Stepped (Member C)). goes_on at (then_goes g (λ y. ticks_own at y (is_some (owner s.schedule at))))) (ended_rests at x (is_some (ended s.schedule at)) h.ports)
+      ∙ ap (goes_on at) (owner_rests at x (is_some (owner s.schedule at)) (idle_tick x.engine at x.world h.idle (h.due t there below)))
 
   -- n ticks that each leave the partition unchanged are one jump
   still_ticks : (inputs : List InputLine) (origin n m t : ℕ) (x : Member C)
-      → ((i : ℕ) → i < n → tick_alone s (tick_from origin (t + i)) (inputs_in (t + i) inputs) x ≡ keeps_on (tick_from origin (t + i)) (stays x))
+      → ((i : ℕ) → i < n → tick_alone s (tick_from origin (t + i)) (inputs_in (t + i) inputs) x ≡ goes_on (tick_from origin (t + i)) (still x))
       → alone_from s inputs (n + m) (Some (tick_from origin t)) x ≡ alone_from s inputs m (Some (tick_from origin (t + n))) x
   still_ticks inputs origin zero m t x h =
       let same : 0 + m ≡ m = omega arith in
@@ -64,12 +64,12 @@ module _ {C : Type 0} (s : Surroundings) where
       let one_more : suc n + m ≡ suc (n + m) = omega arith in
       let now : t + 0 ≡ t = omega arith in
       let there : t + 1 + n ≡ t + suc n = omega arith in
-      let first = subst (λ u. tick_alone s (tick_from origin u) (inputs_in u inputs) x ≡ keeps_on (tick_from origin u) (stays x)) now (h 0 (omega arith)) in
-      let next : (i : ℕ) → i < n → tick_alone s (tick_from origin (t + 1 + i)) (inputs_in (t + 1 + i) inputs) x ≡ keeps_on (tick_from origin (t + 1 + i)) (stays x) = λ i below.
+      let first = subst (λ u. tick_alone s (tick_from origin u) (inputs_in u inputs) x ≡ goes_on (tick_from origin u) (still x)) now (h 0 (omega arith)) in
+      let next : (i : ℕ) → i < n → tick_alone s (tick_from origin (t + 1 + i)) (inputs_in (t + 1 + i) inputs) x ≡ goes_on (tick_from origin (t + 1 + i)) (still x) = λ i below.
       let u : t + suc i ≡ t + 1 + i = omega arith in
-      subst (λ u. tick_alone s (tick_from origin u) (inputs_in u inputs) x ≡ keeps_on (tick_from origin u) (stays x)) u (h (suc i) (omega (arith, below))) in
+      subst (λ u. tick_alone s (tick_from origin u) (inputs_in u inputs) x ≡ goes_on (tick_from origin u) (still x)) u (h (suc i) (omega (arith, below))) in
       ap (λ k. alone_from s inputs k (Some (tick_from origin t)) x) one_more
-      ∙ ap (λ (r : Path (Member C)). r.lines ++ alone_from s inputs (n + m) (option_map next_tick r.at) r.state) first
+      ∙ ap (λ (r : Course (Member C)). r.lines ++ alone_from s inputs (n + m) (option_map next_tick r.at) r.state) first
       ∙ still_ticks inputs origin n m (t + 1) x next
       ∙ ap (λ u. alone_from s inputs m (Some (tick_from origin u)) x) there
 
@@ -80,12 +80,12 @@ module _ {C : Type 0} (s : Surroundings) where
   -- ---- a tick without an owner
 
   within_tick : (inputs : List InputLine) (origin t : ℕ) (owns : Option ℕ) (x : Member C) → IsWithin s inputs origin t owns
-      → tick_alone s (tick_from origin t) (inputs_in t inputs) x ≡ keeps_on (tick_from origin t) (ticks_own (tick_from origin t) x (is_some owns))
+      → tick_alone s (tick_from origin t) (inputs_in t inputs) x ≡ goes_on (tick_from origin t) (ticks_own (tick_from origin t) x (is_some owns))
   within_tick inputs origin t owns x h =
       let at = tick_from origin t in
       ap (λ is. tick_alone s at is x) h.inputs
-      ∙ ap (λ o. keeps_on at (and_then (sends_ended s at x (is_some o)) (λ y. ticks_own at y (is_some (owner s.schedule at))))) h.ended
-      ∙ ap (λ o. keeps_on at (ticks_own at x (is_some o))) h.owner
+      ∙ ap (λ o. goes_on at (then_goes (sends_ended s at x (is_some o)) (λ y. ticks_own at y (is_some (owner s.schedule at))))) h.ended
+      ∙ ap (λ o. goes_on at (ticks_own at x (is_some o))) h.owner
 
   pub leads_empty : (inputs : List InputLine) (n origin now : ℕ) (x : Member C) → ((i : ℕ) → i < n → IsWithin s inputs origin (now + i) None) → LeadsTo s inputs n (tick_from origin now) x [] x
   leads_empty inputs n origin now x h m =
@@ -96,7 +96,7 @@ module _ {C : Type 0} (s : Surroundings) where
   first_tick : (inputs : List InputLine) (origin number k t : ℕ) (x : Member C) → IsWithin s inputs origin t (Some number)
       → alone_from s inputs (suc k) (Some (tick_from origin t)) x ≡ (tick x.engine (tick_from origin t) x.world).lines ++ alone_from s inputs k (Some (tick_from origin (t + 1))) (with_world x (tick x.engine (tick_from origin t) x.world).world)
   first_tick inputs origin number k t x h =
-      ap (λ (r : Path (Member C)). r.lines ++ alone_from s inputs k (option_map next_tick r.at) r.state) (within_tick inputs origin t (Some number) x h)
+      ap (λ (r : Course (Member C)). r.lines ++ alone_from s inputs k (option_map next_tick r.at) r.state) (within_tick inputs origin t (Some number) x h)
 
   abbrev Piece : List InputLine → (origin m t : ℕ) → Member C → Burst (World C) ℕ (List Event) → Type 0
   Piece inputs origin m t x b = alone_from s inputs (b.ticks + m) (Some (tick_from origin t)) x ≡ b.told ++ alone_from s inputs m (Some (tick_from origin b.words)) (with_world x b.control)
@@ -143,10 +143,6 @@ module _ {C : Type 0} (s : Surroundings) where
       ∙ ap (λ (z : Member C). told ++ alone_from s inputs m (Some (tick_from origin (now + n))) z) (sym g.0)
 
 -- ---- the lines of the inputs
-
-pub from_lower : (t u : ℕ) (ls : List InputLine) → t ≤ u → AreFrom tick_of_input u ls → AreFrom tick_of_input t ls
-from_lower t u [] h order = tt
-from_lower t u (l ∷ ls) h order = let there : u ≤ l.tick.0 = order.0 in (omega (arith, h, there), order.1)
 
 none_comes : (t u : ℕ) (ls : List InputLine) → t < u → AreFrom tick_of_input u ls → inputs_in t ls ≡ []
 none_comes t u ls below order = inputs_are t ls ∙ ap inputs_of (none_before tick_of_input t u ls below order)

@@ -3,7 +3,7 @@ use Rattle.lone_partition.proofs.Prelude.{◌≡◌, ◌≢◌, ℕ, suc, ◌+�
 use Rattle.std.proofs.Common.{◌==◌, if◌then◌else◌}
 use Rattle.std.proofs.lemmas.Bool.Decides.{Decides-eqb}
 
-not_true : (b : Bool) → (b ≡ true → ⊥) → b ≡ false
+pub not_true : (b : Bool) → (b ≡ true → ⊥) → b ≡ false
 not_true true h = absurd (h refl)
 not_true false h = refl
 
@@ -28,6 +28,11 @@ module _ {L : Type 0} (tick_of : L → ℕ) where
       let from : u ≤ tick_of l = order.0 in
       let other : t ≢ tick_of l = λ e. absurd (omega arith) in
       other_stays t l ls other ∙ none_before t (tick_of l) ls (omega arith) order.1
+
+  -- lines of these ticks are of lower ones or later
+  pub from_lower : (t u : ℕ) (ls : List L) → t ≤ u → AreFrom tick_of u ls → AreFrom tick_of t ls
+  from_lower t u [] h order = tt
+  from_lower t u (l ∷ ls) h order = let there : u ≤ tick_of l = order.0 in (omega (arith, h, there), order.1)
 
   -- how many lines in front are of a tick
   abbrev pub front : ℕ → List L → ℕ

@@ -10,8 +10,7 @@ pub use Rattle.apex_types.specs.declared.row.PortRow.{PortRow}
 pub use Rattle.image.specs.Items.{channels_of, item_of, items_of}
 pub use Rattle.image.specs.Views.{image_of}
 pub use Rattle.image.specs.declared.item.PartitionItem.{PartitionItem}
-pub use Rattle.isolation.proofs.Isolated.{IsIn}
-pub use Rattle.isolation.specs.Alone.{Alone, Gone, Path, Surroundings, alone_from, and_then, goes, goes_by_way, inputs_in, keeps_on, sends_and_ticks, sends_ended, sends_messages, sends_ports, sends_so_many, stays, takes, takes_all, tick_alone, ticks_own, trace_alone, unless_over}
+pub use Rattle.isolation.specs.Alone.{Alone, Surroundings, alone_from, goes, goes_by_way, inputs_in, sends_and_ticks, sends_ended, sends_messages, sends_ports, sends_so_many, takes, takes_all, tick_alone, ticks_own, trace_alone}
 pub use Rattle.isolation.specs.Surrounded.{surroundings_of, ways_from}
 pub use Rattle.isolation.specs.declared.input.Input.{Input}
 pub use Rattle.isolation.specs.declared.input.InputLine.{InputLine}
@@ -25,11 +24,12 @@ pub use Rattle.lone_partition.specs.Only.{only_part}
 pub use Rattle.lone_partition.specs.Outputs.{next_at, sent_of}
 pub use Rattle.lone_partition.specs.Pieces.{HasAdvancedWritten, HasRun, IsWithin, LeadsTo}
 pub use Rattle.lone_partition.specs.Sent.{HasSent, Sent}
-pub use Rattle.lone_partition.specs.Written.{IsMade, IsPathMade}
+pub use Rattle.lone_partition.specs.Written.{IsCourse, IsMade}
 pub use Rattle.machine_meaning.specs.Image.{Item}
 pub use Rattle.machine_meaning.specs.MachineControl.{MachineControl}
 pub use Rattle.machine_meaning.specs.MachineMeaning.{machine_member, machine_module}
-pub use Rattle.module_meaning.specs.Module.{first_tick, next_tick, ports_of}
+pub use Rattle.module_meaning.specs.Module.{Course, Stepped, first_tick, goes_on, next_tick, ports_of, still, then_goes, unless_down}
+pub use Rattle.module_meaning.specs.Standing.{IsNow}
 pub use Rattle.module_meaning.specs.Table.{at_number}
 pub use Rattle.partition.specs.Fresh.{idle_kernel}
 pub use Rattle.partition.specs.Members.{member_of}

@@ -1,10 +1,10 @@
 -- A lone partition tick by tick, and the lines of its trace.
-use Rattle.lone_partition.proofs.Prelude.{◌≡◌, ◌≢◌, ℕ, zero, suc, ◌+◌, ◌<◌, ◌≤◌, List, [], ◌∷◌, ◌++◌, Option, Some, None, refl, sym, ap, subst, ◌∙◌, arith, option_map, text_of, ModuleAction, Event, At, first_tick, next_tick, Member, IsIn, Alone, Path, Surroundings, goes, inputs_in, unless_over, takes, takes_all, sends_and_ticks, tick_alone, alone_from, trace_alone, Input, InputLine, inputs_of, lines_in, tick_of_input, Sent, HasSent, IsMade, IsPathMade}
+use Rattle.lone_partition.proofs.Prelude.{◌≡◌, ◌≢◌, ℕ, zero, suc, ◌+◌, ◌<◌, ◌≤◌, List, [], ◌∷◌, ◌++◌, Option, Some, None, refl, sym, ap, subst, ◌∙◌, arith, option_map, text_of, ModuleAction, Event, At, first_tick, next_tick, Member, IsNow, Alone, Surroundings, goes, inputs_in, takes, takes_all, sends_and_ticks, tick_alone, alone_from, trace_alone, Input, InputLine, inputs_of, lines_in, tick_of_input, Sent, HasSent, IsMade, IsCourse}
 use Rattle.std.proofs.Common.{le_refl}
 use Rattle.apex_types.specs.declared.codes.ModuleAction.TheVariants as reaction
 use Rattle.apex_types.specs.declared.codes.StartCondition.TheVariants as condition
 use Rattle.kernel_meaning.specs.Partition.{cold_start}
-use Rattle.isolation.proofs.Isolated.{next_in}
+use Rattle.isolation.proofs.Now.{next_in, runs_in}
 use Rattle.isolation.specs.Alone.{meets_fault}
 use Rattle.isolation.specs.declared.input.Input.TheVariants.{Arrive, ModuleFault, PartitionFault}
 use Rattle.lone_partition.proofs.LinesOfTicks.{inputs_are}
@@ -13,28 +13,23 @@ use Rattle.lone_partition.proofs.Outputs.{CompletesLines, lines_are_over, lines_
 -- ---- a tick stays a tick
 
 module _ {C : Type 0} where
-  meets_in : (at : At) (fault : ModuleAction) (x : Member C) → IsIn at.now.0 (meets_fault at fault x).at
+  meets_in : (at : At) (fault : ModuleAction) (x : Member C) → IsNow at.now.0 (meets_fault at fault x).at
   meets_in at reaction.Ignore x = refl
   meets_in at reaction.Shutdown x = tt
   meets_in at reaction.Reset x = refl
 
-  takes_in : (fault : ModuleAction) (at : At) (i : Input) (x : Member C) → IsIn at.now.0 (takes fault at i x).at
+  takes_in : (fault : ModuleAction) (at : At) (i : Input) (x : Member C) → IsNow at.now.0 (takes fault at i x).at
   takes_in fault at (Arrive port m) x = refl
   takes_in fault at ModuleFault x = meets_in at fault x
   takes_in fault at PartitionFault x = refl
 
-  runs_in : (t : ℕ) (c : Path (Member C)) (rest : At → Member C → Path (Member C)) (o : Option At) → IsIn t c.at → IsIn t o
-      → ((a : At) (y : Member C) → a.now.0 ≡ t → IsIn t (rest a y).at) → IsIn t (unless_over c rest o).at
-  runs_in t c rest None h k more = h
-  runs_in t c rest (Some a) h k more = more a c.state k
-
-  takes_all_in : (fault : ModuleAction) (t : ℕ) (is : List Input) (at : At) (x : Member C) → at.now.0 ≡ t → IsIn t (takes_all fault at is x).at
+  takes_all_in : (fault : ModuleAction) (t : ℕ) (is : List Input) (at : At) (x : Member C) → at.now.0 ≡ t → IsNow t (takes_all fault at is x).at
   takes_all_in fault t [] at x e = e
   takes_all_in fault t (i ∷ is) at x e =
-      let h = subst (λ (n : ℕ). IsIn n (takes fault at i x).at) e (takes_in fault at i x) in
+      let h = subst (λ (n : ℕ). IsNow n (takes fault at i x).at) e (takes_in fault at i x) in
       runs_in t (takes fault at i x) (λ a y. takes_all fault a is y) (takes fault at i x).at h h (λ a y k. takes_all_in fault t is a y k)
 
-  pub tick_in : (s : Surroundings) (is : List Input) (at : At) (x : Member C) → IsIn at.now.0 (tick_alone s at is x).at
+  pub tick_in : (s : Surroundings) (is : List Input) (at : At) (x : Member C) → IsNow at.now.0 (tick_alone s at is x).at
   tick_in s is at x =
       let c = takes_all s.fault at is x in
       let h = takes_all_in s.fault at.now.0 is at x refl in
@@ -82,7 +77,7 @@ module _ {C : Type 0} where
   -- one more tick, followed by this, or by nothing
   ticks_on : (whole : List Event) (s : Surroundings) (lines own later : List InputLine) (n k : ℕ) (at : At) (answer : Option At) (x y : Member C) (old mid new : Sent) → n ≡ suc k
       → own ≡ lines_in tick_of_input at.now.0 lines → ((t : ℕ) → at.now.0 < t → lines_in tick_of_input t later ≡ lines_in tick_of_input t lines)
-      → CompletesLines whole (alone_from s lines n (Some at) x) old mid → IsPathMade (tick_alone s at (inputs_of own) x) answer y mid new
+      → CompletesLines whole (alone_from s lines n (Some at) x) old mid → IsCourse (tick_alone s at (inputs_of own) x) answer y mid new
       → CompletesLines whole (alone_from s later k (option_map next_tick answer) y) old new
   ticks_on whole s lines own later n k at answer x y old mid new count is_own of_later way h =
       let r = tick_alone s at (inputs_of own) x in
@@ -92,14 +87,14 @@ module _ {C : Type 0} where
 
   pub goes_on : (whole : List Event) (s : Surroundings) (lines own later : List InputLine) (n k : ℕ) (at last : At) (x y : Member C) (old mid new : Sent) → n ≡ suc k
       → own ≡ lines_in tick_of_input at.now.0 lines → ((t : ℕ) → at.now.0 < t → lines_in tick_of_input t later ≡ lines_in tick_of_input t lines)
-      → CompletesLines whole (alone_from s lines n (Some at) x) old mid → IsPathMade (tick_alone s at (inputs_of own) x) (Some last) y mid new
+      → CompletesLines whole (alone_from s lines n (Some at) x) old mid → IsCourse (tick_alone s at (inputs_of own) x) (Some last) y mid new
       → CompletesLines whole (alone_from s later k (Some (next_tick last)) y) old new
   goes_on whole s lines own later n k at last x y old mid new count is_own of_later way h = ticks_on whole s lines own later n k at (Some last) x y old mid new count is_own of_later way h
 
   -- the last tick, since the module is shut down in it
   pub ends_down : (whole : List Event) (s : Surroundings) (lines own later : List InputLine) (n k : ℕ) (at : At) (x y : Member C) (old mid new : Sent) → n ≡ suc k
       → own ≡ lines_in tick_of_input at.now.0 lines → ((t : ℕ) → at.now.0 < t → lines_in tick_of_input t later ≡ lines_in tick_of_input t lines)
-      → CompletesLines whole (alone_from s lines n (Some at) x) old mid → IsPathMade (tick_alone s at (inputs_of own) x) None y mid new
+      → CompletesLines whole (alone_from s lines n (Some at) x) old mid → IsCourse (tick_alone s at (inputs_of own) x) None y mid new
       → HasSent old new (text_of whole)
   ends_down whole s lines own later n k at x y old mid new count is_own of_later way h =
       lines_are_over whole (alone_from s later k None y) old new (none_left s later k y) (ticks_on whole s lines own later n k at None x y old mid new count is_own of_later way h)

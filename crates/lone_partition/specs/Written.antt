@@ -6,23 +6,23 @@ use Rattle.apex_types.specs.Line.{TakesBeginning}
 use Rattle.apex_types.specs.declared.event.Event.{Event}
 use Rattle.apex_types.specs.declared.identity.At.{At}
 use Rattle.apex_types.specs.declared.sink.SinkFault.{SinkFault}
-use Rattle.isolation.specs.Alone.{Gone, Path}
+use Rattle.module_meaning.specs.Module.{Stepped, Course}
 use Rattle.lone_partition.specs.Sent.{Sent, HasSent}
 
 -- Between two states of an output a step was made, and its lines were to be written.
-pub record IsMade {S : Type 0} (g : Gone S) (now : S) (old new : Sent) : Type 0 where
-  pub state : now ≡ g.state
-  pub sent : HasSent old new (text_of g.lines)
+pub record IsMade {S : Type 0} (a : Stepped S) (now : S) (old new : Sent) : Type 0 where
+  pub state : now ≡ a.state
+  pub sent : HasSent old new (text_of a.lines)
 
 -- ---- steps that may start the module again, or shut it down
 
 -- the state after such a step, and its lines
-abbrev pub done_in : {S : Type 0} → Path S → Gone S
+abbrev pub done_in : {S : Type 0} → Course S → Stepped S
 done_in c = record { state = c.state; lines = c.lines }
 
 -- Between two states of an output such a step was made, and its lines were to be written. The
 -- result is the tick with the origin valid from here on, or none.
-pub record IsPathMade {S : Type 0} (c : Path S) (answer : Option At) (now : S) (old new : Sent) : Type 0 where
+pub record IsCourse {S : Type 0} (c : Course S) (answer : Option At) (now : S) (old new : Sent) : Type 0 where
   pub at : answer ≡ c.at
   pub made : IsMade (done_in c) now old new
 

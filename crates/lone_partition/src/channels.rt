@@ -2,7 +2,7 @@
 
 ghost use Rattle.std.specs.Prelude.{◌≡◌, ◌≤◌, length, option_map, IfOk};
 ghost use Rattle.std.specs.List.{list_any};
-ghost use Rattle.apex_types.specs.declared.limits.TheConstants.{MOST_PORTS};
+ghost use Rattle.apex_types.specs.Limits.{MOST_PORTS};
 ghost use Rattle.module_meaning.specs.Module as meaning;
 ghost use Rattle.module_meaning.specs.Table as rules_of_tables;
 ghost use Rattle.image.specs.Items.{channel_of, channels_of};

@@ -5,7 +5,7 @@ ghost use Rattle.isolation.specs.Alone.{meets_fault, takes, takes_all};
 ghost use Rattle.partition.specs.Members.{member_of};
 ghost use Rattle.lone_partition.specs.Lines.{inputs_of};
 ghost use Rattle.lone_partition.specs.Outputs.{next_at, sent_of};
-ghost use Rattle.lone_partition.specs.Written.{IsPathMade};
+ghost use Rattle.lone_partition.specs.Written.{IsCourse};
 
 use crate::output::Output;
 use crate::step::{PartitionStep, write_step};
@@ -26,7 +26,7 @@ fn meet_fault<E: Executor, S: Sink>(
 ) -> Option<Moment>
     requires { E.laid mem.old ≡ E.layout partition.old.executor }
     ensures fits { E.laid mem.new ≡ E.layout partition.new.executor }
-    ensures written { IsPathMade
+    ensures written { IsCourse
         (meets_fault moment.at action (member_of E.Executor partition.old mem.old)) (next_at result)
         (member_of E.Executor partition.new mem.new) (sent_of S.Sink output.old)
         (sent_of S.Sink output.new) }
@@ -57,7 +57,7 @@ fn take<E: Executor, S: Sink>(
 ) -> Option<Moment>
     requires { E.laid mem.old ≡ E.layout partition.old.executor }
     ensures fits { E.laid mem.new ≡ E.layout partition.new.executor }
-    ensures written { IsPathMade
+    ensures written { IsCourse
         (takes fault moment.at input.now (member_of E.Executor partition.old mem.old))
         (next_at result) (member_of E.Executor partition.new mem.new) (sent_of S.Sink output.old)
         (sent_of S.Sink output.new) }
@@ -88,7 +88,7 @@ pub fn take_all<E: Executor, S: Sink>(
 ) -> Option<Moment>
     requires { E.laid mem.old ≡ E.layout partition.old.executor }
     ensures fits { E.laid mem.new ≡ E.layout partition.new.executor }
-    ensures written { IsPathMade
+    ensures written { IsCourse
         (takes_all fault moment.at (inputs_of lines.now)
         (member_of E.Executor partition.old mem.old))
         (next_at result) (member_of E.Executor partition.new mem.new) (sent_of S.Sink output.old)

@@ -23,8 +23,8 @@ mod surroundings;
 mod ticking;
 
 pub use channels::channel_from;
-pub use lines::{HasTick, split_tick};
-pub use load::{fixed, load_memory, load_partition};
+pub use lines::{HasTick, at_most, split_tick, until_line};
+pub use load::{fixed, load_partition};
 pub use lone::LonePartition;
 pub use output::Output;
 pub use pieces::write_advance;

@@ -58,3 +58,29 @@ fn count_of_tick<L: HasTick>(lines: &[L], tick: Ticks) -> usize
     }
     count
 }
+
+/// How many of `most` ticks, from `now` on, come before the first of these lines. The lines are of
+/// the tick `now` or later.
+pub fn until_line<L: HasTick>(lines: &[L], now: Ticks, most: u32) -> u32
+    requires order { AreFrom L.tick_of now.0 lines.now }
+    ensures within { result ≤ most }
+    ensures from { AreFrom L.tick_of (now.0 + result) lines.now }
+{
+    match lines.first() {
+        Some(line) => at_most(line.own_tick().0.saturating_sub(now.0), most),
+        None => most,
+    }
+}
+
+/// `ticks`, or `most` if there are more.
+pub fn at_most(ticks: u64, most: u32) -> u32
+    ensures within { result ≤ most }
+    ensures ticks { result ≤ ticks }
+    ensures some { 0 < ticks → 0 < most → 0 < result }
+{
+    if ticks < u64::from(most) {
+        ticks as u32
+    } else {
+        most
+    }
+}

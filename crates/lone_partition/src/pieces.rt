@@ -1,7 +1,7 @@
 //! Many ticks of one partition together: pieces of its windows, and ticks in which nothing happens.
 
 ghost use Rattle.std.specs.Prelude.{◌≡◌, ◌≤◌, ◌<◌, ◌+◌, ◌^◌, ℕ, List, Some};
-ghost use Rattle.apex_types.specs.declared.limits.TheConstants.{MOST_TICKS};
+ghost use Rattle.apex_types.specs.Limits.{MOST_TICKS};
 ghost use Rattle.isolation.specs.Alone.{Surroundings as Around};
 ghost use Rattle.isolation.specs.declared.input.InputLine.{InputLine};
 ghost use Rattle.partition.specs.Members.{member_of};
@@ -10,10 +10,11 @@ ghost use Rattle.lone_partition.specs.Lines.{AreFrom, tick_of_input};
 ghost use Rattle.lone_partition.specs.Outputs.{sent_of};
 ghost use Rattle.lone_partition.specs.Pieces.{HasAdvancedWritten, HasRunSome, IsWithin};
 
+use crate::lines::{at_most, until_line};
 use crate::output::Output;
 use crate::running::later;
 use crate::surroundings::Surroundings;
-use apex_types::{Moment, Sink, Ticks};
+use apex_types::{Moment, Sink};
 use isolation::InputLine;
 use partition::Partition;
 use partition_base::Executor;
@@ -71,31 +72,6 @@ fn write_piece<E: Executor, S: Sink>(
     most - left
 }
 
-/// How many of `most` ticks, from `now` on, come before the first of these inputs. The inputs are
-/// of the tick `now` or later.
-fn until_input(lines: &[InputLine], now: Ticks, most: u32) -> u32
-    requires { AreFrom tick_of_input now.0 lines.now }
-    ensures within { result ≤ most }
-    ensures from { AreFrom tick_of_input (now.0 + result) lines.now }
-{
-    match lines.first() {
-        Some(line) => at_most(line.tick.0.saturating_sub(now.0), most),
-        None => most,
-    }
-}
-
-/// `ticks`, or `most` if there are more.
-fn at_most(ticks: u64, most: u32) -> u32
-    ensures within { result ≤ most }
-    ensures ticks { result ≤ ticks }
-{
-    if ticks < u64::from(most) {
-        ticks as u32
-    } else {
-        most
-    }
-}
-
 /// Executes some of `most` ticks, either all inside its window or all outside; returns how many. 0
 /// if a window of the partition ends at the first tick, since its messages leave then.
 fn advance_window<E: Executor, S: Sink>(
@@ -146,7 +122,7 @@ pub fn advance<E: Executor, S: Sink>(
         (member_of E.Executor partition.old mem.old) (member_of E.Executor partition.new mem.new)
         (sent_of S.Sink output.old) (sent_of S.Sink output.new) result }
 {
-    let quiet = until_input(lines, moment.at.now, most);
+    let quiet = until_line(lines, moment.at.now, most);
     let still = partition.kernel().still_ticks(moment, quiet);
     if still > 0 {
         return still;

@@ -1,7 +1,7 @@
 //! A partition that runs alone, tick by tick.
 
 ghost use Rattle.std.specs.Prelude.{◌≡◌, ◌≤◌, ◌<◌, ◌+◌, ◌-◌, ◌^◌, Some};
-ghost use Rattle.apex_types.specs.declared.limits.TheConstants.{MOST_TICKS};
+ghost use Rattle.apex_types.specs.Limits.{MOST_TICKS};
 ghost use Rattle.apex_types.specs.Line.{text_of};
 ghost use Rattle.module_meaning.specs.Module.{first_tick};
 ghost use Rattle.kernel_meaning.specs.Windows.{at_tick};

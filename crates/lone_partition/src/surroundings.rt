@@ -1,7 +1,7 @@
 //! The surroundings of a partition.
 
 ghost use Rattle.std.specs.Prelude.{◌≡◌, ◌≤◌, length, IfOk};
-ghost use Rattle.apex_types.specs.declared.limits.TheConstants.{MOST_PORTS};
+ghost use Rattle.apex_types.specs.Limits.{MOST_PORTS};
 ghost use Rattle.machine_meaning.specs.MachineMeaning.{machine_module};
 ghost use Rattle.image.specs.Views.{image_of};
 ghost use Rattle.isolation.specs.Alone.{way_out};

@@ -6,7 +6,7 @@ ghost use Rattle.lone_partition.specs.Lines.{inputs_of};
 ghost use Rattle.partition.specs.Members.{member_of};
 ghost use Rattle.lone_partition.specs.Around.{around};
 ghost use Rattle.lone_partition.specs.Outputs.{next_at, sent_of};
-ghost use Rattle.lone_partition.specs.Written.{IsMade, IsPathMade, done_in};
+ghost use Rattle.lone_partition.specs.Written.{IsCourse, IsMade, done_in};
 
 use crate::input::take_all;
 use crate::output::Output;
@@ -97,7 +97,7 @@ pub fn tick<E: Executor, S: Sink>(
 ) -> Option<Moment>
     requires { E.laid mem.old ≡ E.layout partition.old.executor }
     ensures fits { E.laid mem.new ≡ E.layout partition.new.executor }
-    ensures written { IsPathMade
+    ensures written { IsCourse
         (tick_alone (around surroundings.now) moment.at (inputs_of lines.now)
         (member_of E.Executor partition.old mem.old))
         (next_at result) (member_of E.Executor partition.new mem.new) (sent_of S.Sink output.old)

@@ -4,7 +4,7 @@ use Rattle.std.specs.Prelude.{◌&&◌, FitsSigned}
 use Rattle.std.specs.List.{flat_map}
 use Rattle.std.specs.Int.{w16, w32, w64}
 use Rattle.std.proofs.lemmas.Bool.{leb-true, le-leb, eqb-true}
-use Rattle.apex_types.specs.declared.limits.Limits.{Limits}
+use Rattle.apex_types.specs.declared.version.Limits.{Limits}
 use Rattle.machine_laws.proofs.VersionLimits.{AreBytes}
 use Rattle.apex_types.specs.declared.limits.TheConstants.{GREATEST_PRIORITY, INSTRUCTION_BYTES, LEAST_STACK_WORDS, MOST_INSTRUCTIONS, MOST_PARAMETERS, MOST_PROCEDURES, MOST_SLOTS, MOST_STACK_WORDS, MOST_TICKS}
 use Rattle.apex_types.specs.declared.row.RoutineRow.{RoutineRow}
@@ -17,7 +17,7 @@ use Rattle.machine_meaning.specs.ImageReading.{Fault, Limit, Read, ◌>>=◌, nu
 use Rattle.machine_meaning.specs.ImageLimits.{IsFrom, EachBeside, AreObjects, IsRoutine, IsBody, IsDuration, IsProcess, IsHandler, AreBodies, IsCode, IsSection}
 use Rattle.machine_laws.proofs.ImageFields.{IsBytes, bind_ok, ok_is, Takes, Takes-then, Reads, said, first, last, assoc3, assoc4, assoc5}
 use Rattle.machine_laws.proofs.ImageNumbers.{wide16, wide32, number_reads, limited_reads, small_reads}
-use Rattle.machine_laws.proofs.ImageNames.{word_reads, bytes_reads, held, fresh_reads}
+use Rattle.machine_laws.proofs.ImageNames.{chosen_ok, word_reads, bytes_reads, held, fresh_reads}
 use Rattle.machine_laws.proofs.ImageChoices.{truth_reads}
 use Rattle.machine_laws.proofs.ImageLists.{items_take, items_again, list_reads}
 use Rattle.machine_laws.proofs.ImageObjects.{objects_reads}
@@ -104,16 +104,12 @@ word_stands (Some n) good =
     let high : leb n MOST_TICKS ≡ true = le-leb n MOST_TICKS good.most in
     rw (low, high) refl
 
-chosen_duration : (rest : List ℕ) (o : Option (Option ℕ)) (x : Option ℕ × List ℕ) → chosen rest o ≡ Ok x → (o ≡ Some x.0) × (rest ≡ x.1)
-chosen_duration rest None x e = absurd cc
-chosen_duration rest (Some a) x e = let i = ok_is (a, rest) x e in (ap (λ (y : Option ℕ × List ℕ). Some y.0) i, ap (λ (y : Option ℕ × List ℕ). y.1) i)
-
 pub duration_reads : Reads duration_at duration IsDuration
 unfolding duration_at
 duration_reads = record {
   takes = λ bytes x fits e.
       let a = bind_ok (word_at bytes) (λ word. chosen word.1 (duration_of word.0)) x e in
-      let g = chosen_duration a.0.1 (duration_of a.0.0) x a.2 in
+      let g = chosen_ok a.0.1 (duration_of a.0.0) x a.2 in
       let p = word_reads.takes bytes a.0 fits a.1 in
       let s = stands a.0.0 x.0 g.0 in
       (subst (λ (t : List ℕ). Takes bytes t x.1) s.0 (subst (λ (r : List ℕ). Takes bytes (i64 a.0.0) r) g.1 p.0), s.1);

@@ -1,9 +1,10 @@
 -- What an image has as one of its version: the costs of the second and the third.
-use Rattle.std.proofs.Common.{◌≡◌, ℕ, ◌^◌, ◌<◌, Bool, true, false, cond, eqb, ltb, List, [], ◌∷◌, ◌++◌, length, Option, Some, None, Ok, refl, sym, ap, subst, ◌∙◌, arith, lit<}
+use Rattle.std.proofs.Common.{◌≡◌, ℕ, ◌^◌, ◌<◌, Bool, true, false, cond, eqb, List, [], ◌∷◌, ◌++◌, Option, Some, Ok, refl, sym, ap, subst, ◌∙◌, arith}
 use Rattle.std.specs.Prelude.{◌||◌, nat_le}
 use Rattle.std.specs.Int.{w16}
 use Rattle.std.specs.List.{flat_map}
 use Rattle.std.proofs.lemmas.Bool.{and_parts, eqb-true, leb-true}
+use Rattle.std.proofs.lemmas.Option.{none-some, same_Some}
 use Rattle.apex_types.specs.Costs.{cost_if, cost_of_ticks, from_order, in_order, is_cost}
 use Rattle.apex_types.specs.declared.cost.TheConstants.{COST_KEYS}
 use Rattle.apex_types.specs.Versions.{number_of}
@@ -18,7 +19,8 @@ use Rattle.machine_meaning.specs.ImageSpelling.{u16, costs, own_fields}
 use Rattle.machine_meaning.specs.ImageReading.{Read, ◌>>=◌, number_at, chosen, cost_at, costs_at, items_at, own_fields_at}
 use Rattle.machine_meaning.specs.ImageLimits.{EachBeside}
 use Rattle.machine_laws.proofs.ImageLists.{items_take, items_again}
-use Rattle.machine_laws.proofs.ImageFields.{IsBytes, bind_ok, ok_is, Takes, Reads}
+use Rattle.machine_laws.proofs.ImageFields.{bind_ok, ok_is, Takes, Reads}
+use Rattle.machine_laws.proofs.ImageNames.{chosen_ok}
 use Rattle.machine_laws.proofs.ImageNumbers.{wide16, number_reads}
 
 abbrev cost : TickCost → List ℕ
@@ -48,25 +50,25 @@ cost_reads = record {
       ∙ ap (λ (o : Option TickCost). chosen rest o) (sym (is_of_ticks c.ticks c.within));
 }
 
--- as many costs as there are keys are those of a table, in its order
-as_many : (xs : List TickCost) → length xs ≡ COST_KEYS → in_order (from_order xs) ≡ xs
-as_many [] count = absurd (omega (arith, count))
-as_many (a ∷ []) count = absurd (omega (arith, count))
-as_many (a ∷ b ∷ []) count = absurd (omega (arith, count))
-as_many (a ∷ b ∷ c ∷ []) count = absurd (omega (arith, count))
-as_many (a ∷ b ∷ c ∷ d ∷ []) count = absurd (omega (arith, count))
-as_many (a ∷ b ∷ c ∷ d ∷ e ∷ []) count = absurd (omega (arith, count))
-as_many (a ∷ b ∷ c ∷ d ∷ e ∷ f ∷ []) count = absurd (omega (arith, count))
-as_many (a ∷ b ∷ c ∷ d ∷ e ∷ f ∷ g ∷ []) count = absurd (omega (arith, count))
-as_many (a ∷ b ∷ c ∷ d ∷ e ∷ f ∷ g ∷ h ∷ []) count = absurd (omega (arith, count))
-as_many (a ∷ b ∷ c ∷ d ∷ e ∷ f ∷ g ∷ h ∷ i ∷ []) count = absurd (omega (arith, count))
-as_many (a ∷ b ∷ c ∷ d ∷ e ∷ f ∷ g ∷ h ∷ i ∷ j ∷ []) count = absurd (omega (arith, count))
-as_many (a ∷ b ∷ c ∷ d ∷ e ∷ f ∷ g ∷ h ∷ i ∷ j ∷ k ∷ []) count = absurd (omega (arith, count))
-as_many (a ∷ b ∷ c ∷ d ∷ e ∷ f ∷ g ∷ h ∷ i ∷ j ∷ k ∷ l ∷ []) count = absurd (omega (arith, count))
-as_many (a ∷ b ∷ c ∷ d ∷ e ∷ f ∷ g ∷ h ∷ i ∷ j ∷ k ∷ l ∷ m ∷ []) count = absurd (omega (arith, count))
-as_many (a ∷ b ∷ c ∷ d ∷ e ∷ f ∷ g ∷ h ∷ i ∷ j ∷ k ∷ l ∷ m ∷ n ∷ []) count = absurd (omega (arith, count))
-as_many (a ∷ b ∷ c ∷ d ∷ e ∷ f ∷ g ∷ h ∷ i ∷ j ∷ k ∷ l ∷ m ∷ n ∷ o ∷ []) count = refl
-as_many (a ∷ b ∷ c ∷ d ∷ e ∷ f ∷ g ∷ h ∷ i ∷ j ∷ k ∷ l ∷ m ∷ n ∷ o ∷ p ∷ rest) count = absurd (omega (arith, count))
+-- costs in the order of a table's keys are those that they were taken from
+ordered : (xs : List TickCost) (c : Costs) → from_order xs ≡ Some c → in_order c ≡ xs
+ordered [] made is = absurd (none-some made is)
+ordered (a ∷ []) made is = absurd (none-some made is)
+ordered (a ∷ b ∷ []) made is = absurd (none-some made is)
+ordered (a ∷ b ∷ c ∷ []) made is = absurd (none-some made is)
+ordered (a ∷ b ∷ c ∷ d ∷ []) made is = absurd (none-some made is)
+ordered (a ∷ b ∷ c ∷ d ∷ e ∷ []) made is = absurd (none-some made is)
+ordered (a ∷ b ∷ c ∷ d ∷ e ∷ f ∷ []) made is = absurd (none-some made is)
+ordered (a ∷ b ∷ c ∷ d ∷ e ∷ f ∷ g ∷ []) made is = absurd (none-some made is)
+ordered (a ∷ b ∷ c ∷ d ∷ e ∷ f ∷ g ∷ h ∷ []) made is = absurd (none-some made is)
+ordered (a ∷ b ∷ c ∷ d ∷ e ∷ f ∷ g ∷ h ∷ i ∷ []) made is = absurd (none-some made is)
+ordered (a ∷ b ∷ c ∷ d ∷ e ∷ f ∷ g ∷ h ∷ i ∷ j ∷ []) made is = absurd (none-some made is)
+ordered (a ∷ b ∷ c ∷ d ∷ e ∷ f ∷ g ∷ h ∷ i ∷ j ∷ k ∷ []) made is = absurd (none-some made is)
+ordered (a ∷ b ∷ c ∷ d ∷ e ∷ f ∷ g ∷ h ∷ i ∷ j ∷ k ∷ l ∷ []) made is = absurd (none-some made is)
+ordered (a ∷ b ∷ c ∷ d ∷ e ∷ f ∷ g ∷ h ∷ i ∷ j ∷ k ∷ l ∷ m ∷ []) made is = absurd (none-some made is)
+ordered (a ∷ b ∷ c ∷ d ∷ e ∷ f ∷ g ∷ h ∷ i ∷ j ∷ k ∷ l ∷ m ∷ n ∷ []) made is = absurd (none-some made is)
+ordered (a ∷ b ∷ c ∷ d ∷ e ∷ f ∷ g ∷ h ∷ i ∷ j ∷ k ∷ l ∷ m ∷ n ∷ o ∷ []) made is = ap in_order (sym (same_Some _ made is))
+ordered (a ∷ b ∷ c ∷ d ∷ e ∷ f ∷ g ∷ h ∷ i ∷ j ∷ k ∷ l ∷ m ∷ n ∷ o ∷ p ∷ rest) made is = absurd (none-some made is)
 
 each_there : (before xs : List TickCost) → EachBeside (λ _ _. Unit {0}) before xs
 each_there before [] = tt
@@ -76,15 +78,14 @@ pub costs_reads : Reads costs_at costs (λ _. Unit {0})
 unfolding costs_at costs
 costs_reads = record {
   takes = λ bytes x fits e.
-      let a = bind_ok (items_at (λ _. cost_at) COST_KEYS [] bytes) (λ y. Ok (from_order y.0, y.1)) x e in
+      let a = bind_ok (items_at (λ _. cost_at) COST_KEYS [] bytes) (λ y. chosen y.1 (from_order y.0)) x e in
       let q = items_take (λ _. cost_at) cost (λ _ _. Unit {0}) (λ _. cost_reads) COST_KEYS [] bytes a.0 fits a.1 in
-      let i = ok_is (from_order a.0.0, a.0.1) x a.2 in
-      let count : length a.0.0 ≡ COST_KEYS = ap length q.all_is ∙ q.count in
-      let same : q.new ≡ in_order (from_order a.0.0) = sym q.all_is ∙ sym (as_many a.0.0 count) in
-      let taken : Takes bytes (flat_map cost (in_order (from_order a.0.0))) a.0.1 = subst (λ (y : List TickCost). Takes bytes (flat_map cost y) a.0.1) same q.taken in
-      (subst (λ (y : Costs × List ℕ). Takes bytes (flat_map cost (in_order y.0)) y.1) i taken, tt);
+      let is = chosen_ok a.0.1 (from_order a.0.0) x a.2 in
+      let same : q.new ≡ in_order x.0 = sym q.all_is ∙ sym (ordered a.0.0 x.0 is.0) in
+      let taken : Takes bytes (flat_map cost (in_order x.0)) a.0.1 = subst (λ (y : List TickCost). Takes bytes (flat_map cost y) a.0.1) same q.taken in
+      (subst (λ (rest : List ℕ). Takes bytes (flat_map cost (in_order x.0)) rest) is.1 taken, tt);
   again = λ c rest good.
-      ap (λ (y : Read (List TickCost)). y >>= λ z. Ok (from_order z.0, z.1)) (items_again (λ _. cost_at) cost (λ _ _. Unit {0}) (λ _. cost_reads) (in_order c) [] rest (each_there [] (in_order c)));
+      ap (λ (y : Read (List TickCost)). y >>= λ z. chosen z.1 (from_order z.0)) (items_again (λ _. cost_at) cost (λ _ _. Unit {0}) (λ _. cost_reads) (in_order c) [] rest (each_there [] (in_order c)));
 }
 
 -- what the version with a number has

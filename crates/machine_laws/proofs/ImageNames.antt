@@ -97,7 +97,7 @@ fresh_reads is_used = record {
 
 -- ---- choices
 
-chosen_ok : {A : Type 0} (rest : List ℕ) (o : Option A) (x : A × List ℕ) → chosen rest o ≡ Ok x → (o ≡ Some x.0) × (rest ≡ x.1)
+pub chosen_ok : {A : Type 0} (rest : List ℕ) (o : Option A) (x : A × List ℕ) → chosen rest o ≡ Ok x → (o ≡ Some x.0) × (rest ≡ x.1)
 chosen_ok rest None x e = absurd cc
 chosen_ok rest (Some a) x e = let i = ok_is (a, rest) x e in (ap (λ (y : _ × List ℕ). Some y.0) i, ap (λ (y : _ × List ℕ). y.1) i)
 

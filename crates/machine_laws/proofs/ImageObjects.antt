@@ -2,7 +2,7 @@
 use Rattle.std.proofs.Common.{◌^◌, max, ◌++◌, refl, ap, lit<, ◌<◌}
 use Rattle.std.specs.Prelude.{FitsSigned}
 use Rattle.std.specs.Int.{w32, w64}
-use Rattle.apex_types.specs.declared.limits.Limits.{Limits}
+use Rattle.apex_types.specs.declared.version.Limits.{Limits}
 use Rattle.apex_types.specs.declared.limits.TheConstants.{MOST_DATA_WORDS, MOST_DEPTH, MOST_OBJECTS, MOST_SEMAPHORE_VALUE}
 use Rattle.apex_types.specs.declared.row.SemaphoreRow.{SemaphoreRow}
 use Rattle.apex_types.specs.declared.row.BufferRow.{BufferRow}

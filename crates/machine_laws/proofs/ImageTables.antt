@@ -3,7 +3,7 @@ use Rattle.std.proofs.Common.{◌≡◌, ℕ, zero, suc, ◌-◌, ◌^◌, ◌<�
 use Rattle.std.specs.Prelude.{◌&&◌, ◌==◌}
 use Rattle.std.specs.Int.{w32, w64}
 use Rattle.std.proofs.lemmas.Bool.{ltb-false, le-ltb, eqb-true}
-use Rattle.apex_types.specs.declared.limits.Limits.{Limits}
+use Rattle.apex_types.specs.declared.version.Limits.{Limits}
 use Rattle.machine_laws.proofs.VersionLimits.{AreBytes}
 use Rattle.apex_types.specs.declared.limits.TheConstants.{MOST_DEPTH, MOST_DESTINATIONS, MOST_PORTS, MOST_TICKS}
 use Rattle.apex_types.specs.declared.codes.Discipline.{Discipline}

@@ -1,6 +1,6 @@
 -- The limits of a version are small, and no greater than those of the third.
 use Rattle.std.proofs.Common.{ℕ, ◌≤◌, ◌<◌, arith, lit<, ◌^◌}
-use Rattle.apex_types.specs.declared.limits.Limits.{Limits}
+use Rattle.apex_types.specs.declared.version.Limits.{Limits}
 use Rattle.apex_types.specs.declared.limits.TheConstants.{MOST_PARTITIONS, MOST_PROCESSES, MOST_WORDS}
 use Rattle.apex_types.specs.declared.version.ImageVersion.{ImageVersion}
 use Rattle.apex_types.specs.declared.version.ImageVersion.TheVariants.{First, Second, Third}

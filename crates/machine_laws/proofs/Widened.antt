@@ -1,6 +1,6 @@
 -- What is within the limits of a version is within those of the third. So an image may be upgraded.
 use Rattle.std.proofs.Common.{◌≡◌, ℕ, ◌≤◌, List, [], ◌∷◌, ◌++◌, length, arith}
-use Rattle.apex_types.specs.declared.limits.Limits.{Limits}
+use Rattle.apex_types.specs.declared.version.Limits.{Limits}
 use Rattle.apex_types.specs.declared.row.BlackboardRow.{BlackboardRow}
 use Rattle.apex_types.specs.declared.row.BufferRow.{BufferRow}
 use Rattle.apex_types.specs.declared.row.PortRow.{PortRow}

@@ -2,7 +2,7 @@
 use Rattle.std.specs.Prelude.{ℕ, List, [], ◌∷◌, ◌++◌, Option, Some, None}
 use Rattle.std.specs.Coded.{×_prop, Unit-prop}
 use Rattle.std.proofs.Props.{props}
-use Rattle.apex_types.specs.declared.limits.Limits.{Limits}
+use Rattle.apex_types.specs.declared.version.Limits.{Limits}
 use Rattle.apex_types.specs.declared.row.BodyRow.{BodyRow}
 use Rattle.apex_types.specs.declared.row.ProcessRow.{ProcessRow}
 use Rattle.apex_types.specs.declared.row.PortRow.{PortRow}

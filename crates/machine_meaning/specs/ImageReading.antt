@@ -4,14 +4,14 @@ use Rattle.std.specs.Prelude.{ℕ, zero, suc, ◌+◌, ◌-◌, ◌%◌, ◌^◌
 use Rattle.std.specs.List.{list_all, list_any}
 use Rattle.std.specs.Str.{bytes_eq}
 use Rattle.std.specs.Int.{Width, w16, w32, w64, byte_len, from_le_bytes, cast_signed}
-use Rattle.apex_types.specs.declared.limits.TheConstants.{GREATEST_PRIORITY, INSTRUCTION_BYTES, LEAST_STACK_WORDS, MOST_CHANNELS, MOST_DATA_WORDS, MOST_DEPTH, MOST_DESTINATIONS, MOST_FRAME_TICKS, MOST_INSTRUCTIONS, MOST_NAME_BYTES, MOST_OBJECTS, MOST_PORTS, MOST_PROCEDURES, MOST_SEMAPHORE_VALUE, MOST_SLOTS, MOST_STACK_WORDS, MOST_TICKS, MOST_WINDOWS}
+use Rattle.apex_types.specs.Limits.{GREATEST_PRIORITY, INSTRUCTION_BYTES, LEAST_STACK_WORDS, MOST_CHANNELS, MOST_DATA_WORDS, MOST_DEPTH, MOST_DESTINATIONS, MOST_FRAME_TICKS, MOST_INSTRUCTIONS, MOST_NAME_BYTES, MOST_OBJECTS, MOST_PORTS, MOST_PROCEDURES, MOST_SEMAPHORE_VALUE, MOST_SLOTS, MOST_STACK_WORDS, MOST_TICKS, MOST_WINDOWS}
 use Rattle.apex_types.specs.Costs.{cost_of_ticks, from_order}
 use Rattle.apex_types.specs.declared.cost.TheConstants.{COST_KEYS}
 use Rattle.apex_types.specs.NameText.{is_name}
 use Rattle.apex_types.specs.declared.cost.TickCost.{TickCost}
 use Rattle.apex_types.specs.declared.cost.Costs.{Costs}
 use Rattle.apex_types.specs.Versions.{limits_of}
-use Rattle.apex_types.specs.declared.limits.Limits.{Limits}
+use Rattle.apex_types.specs.declared.version.Limits.{Limits}
 use Rattle.apex_types.specs.declared.version.TheConstants.{FIRST_VERSION, SECOND_VERSION, THIRD_VERSION}
 use Rattle.apex_types.specs.declared.version.ImageVersion.{ImageVersion}
 use Rattle.apex_types.specs.declared.version.ImageVersion.TheVariants.{First, Second, Third}
@@ -394,7 +394,7 @@ cost_at bytes = do
 unfoldable pub costs_at : List ℕ → Read Costs
 costs_at bytes = do
   costs ← items_at (λ _. cost_at) COST_KEYS [] bytes
-  Ok (from_order costs.0, costs.1)
+  chosen costs.1 (from_order costs.0)
 
 -- what an image has as one of the version with this number
 unfoldable pub own_fields_at : ℕ → List ℕ → Read ImageVersion

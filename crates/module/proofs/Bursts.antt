@@ -1,5 +1,5 @@
 -- Many ticks of the module together, between two standings.
-use Rattle.module.proofs.Prelude.{◌≡◌, ◌⊎◌, inl, inr, ℕ, zero, suc, ◌+◌, ◌-◌, ◌<◌, ◌≤◌, Bool, true, false, cond, List, ◌∷◌, ◌++◌, length, Option, Some, None, refl, sym, ap, ◌∙◌, arith, slice_get, slice_set, option_map, none-some, same_Some, text_of, TakesBeginning, IsUnderWay, under_way_more, under_way_fails, DeviceLine, Event, At, Kernel, Plan, Member, Moved, World, tick, with_world, Schedule, tick_from, owner, ended, Engine, IsStill, AreStill, HaveNoLines, nothing_sent, Sent, LeadsTo, HasPassedSome, HasSkippedSome, HasRun, IsBrokenOff, HasMoved, ticks_by, Standing, lines_of, AreFrom, Elapsed, elapse, preceded_by, Course, Advanced, of_tick, origin_of, then_runs, module_tick}
+use Rattle.module.proofs.Prelude.{◌≡◌, ◌⊎◌, inl, inr, ℕ, zero, suc, ◌+◌, ◌-◌, ◌<◌, ◌≤◌, Bool, true, false, cond, List, ◌∷◌, ◌++◌, length, Option, Some, None, refl, sym, ap, ◌∙◌, arith, slice_get, slice_set, option_map, none-some, same_Some, text_of, TakesBeginning, IsUnderWay, under_way_fails, DeviceLine, Event, At, Kernel, Plan, Member, Moved, World, tick, with_world, Schedule, tick_from, owner, ended, Engine, IsStill, AreStill, HaveNoLines, nothing_sent, Sent, LeadsTo, HasPassedSome, HasSkippedSome, IsBrokenOff, HasMoved, ticks_by, Standing, lines_of, AreFrom, Elapsed, elapse, preceded_by, Course, Stepped, of_tick, origin_of, then_runs, module_tick}
 use Rattle.std.proofs.Common.{[], subst, nat_le}
 use Rattle.apex_types.specs.declared.limits.TheConstants.{MOST_EVENTS}
 use Rattle.kernel_meaning.specs.Windows.{at_tick}
@@ -10,9 +10,11 @@ use Rattle.partition.specs.declared.rooms.TheConstants.{LINES_FOR_TICK}
 use Rattle.partition.proofs.Gathering.{some_ticks}
 use Rattle.module_meaning.specs.Module.{goes_on}
 use Rattle.kernel_laws.proofs.Quiet.{still_tick}
+use Rattle.lone_partition.proofs.LinesOfTicks as of_any
 use Rattle.module.proofs.DeviceLines.{none_before, of_tick_again}
+use Rattle.module.specs.Written.{tick_of_line}
 use Rattle.module.proofs.Standing.{begins_later, skipped_leads}
-use Rattle.module.proofs.Texts.{text_append}
+use Rattle.lone_partition.proofs.Texts.{text_append}
 
 abbrev pub standing_at : {C : Type 0} → List (Member C) → (now origin : ℕ) → Standing C
 standing_at ms now origin = record { members = ms; now = now; origin = Some origin }
@@ -20,8 +22,7 @@ standing_at ms now origin = record { members = ms; now = now; origin = Some orig
 -- ---- the device lines
 
 pub from_lower : (t u : ℕ) (ls : List DeviceLine) → t ≤ u → AreFrom u ls → AreFrom t ls
-from_lower t u [] h order = tt
-from_lower t u (l ∷ ls) h order = let there : u ≤ l.tick.0 = order.0 in (omega (arith, h, there), order.1)
+from_lower t u ls h order = of_any.from_lower tick_of_line t u ls h order
 
 pub no_lines : (t u : ℕ) (ls : List DeviceLine) → AreFrom u ls → HaveNoLines t u ls
 no_lines t u ls order = λ v from below. none_before v u ls below order
@@ -45,9 +46,9 @@ elapse_still plan lines origin from limit ms h (suc n) m t begun start within no
     let its = of_tick t lines in
     let one_more : suc n + m ≡ suc (n + m) = omega arith in
     let there : t + 1 + n ≡ t + suc n = omega arith in
-    let shows : Course _ → Elapsed _ = λ c. preceded_by c.lines (elapse plan lines (n + m) (record { members = c.members; now = t + 1; origin = option_map origin_of c.at })) in
+    let shows : Course _ → Elapsed _ = λ c. preceded_by c.lines (elapse plan lines (n + m) (record { members = c.state; now = t + 1; origin = option_map origin_of c.at })) in
     ap (λ k. elapse plan lines k (standing_at ms t origin)) one_more
-    ∙ ap (λ (b : Advanced _). shows (then_runs (goes_on at b) (λ x xs. module_tick plan x its xs))) (begins_later t ms begun)
+    ∙ ap (λ (b : Stepped _). shows (then_runs (goes_on at b) (λ x xs. module_tick plan x its xs))) (begins_later t ms begun)
     ∙ ap shows (still_tick plan its origin t from limit ms start (omega (arith, within)) h (of_tick_again t lines ∙ none t (omega arith) (omega arith)))
     ∙ elapse_still plan lines origin from limit ms h n m (t + 1) (omega (arith, begun)) (omega (arith, start)) (omega (arith, within)) (λ u above below. none u (omega (arith, above)) (omega (arith, below)))
     ∙ ap (λ u. elapse plan lines m (standing_at ms u origin)) there
@@ -104,7 +105,7 @@ has_moved at k place n ms x y next told same h =
 
 -- ---- still partitions
 
-apart : (a b : ℕ) → (a < b) ⊎ (b ≤ a)
+pub apart : (a b : ℕ) → (a < b) ⊎ (b ≤ a)
 apart a zero = inr (omega arith)
 apart zero (suc b) = inl (omega arith)
 apart (suc a) (suc b) = elim (apart a b) [ inl h ↦ inl (omega (arith, h)) | inr h ↦ inr (omega (arith, h)) ]
@@ -141,14 +142,6 @@ all_still origin now n place ms h before q x e = elim (apart q place) [
 ]
 
 -- ---- the text of a run
-
-pub runs_on : {C : Type 0} {old mid new : Option (List ℕ)} {text : List ℕ} {before between : ℕ} (plan : Plan) (lines : List DeviceLine) (s next : Standing C) (left n k : ℕ) → left ≡ n + k
-    → IsUnderWay old mid text (text_of (lines_of plan lines left s)) → HasRun plan lines n s next mid new before between
-    → IsUnderWay old new text (text_of (lines_of plan lines k next))
-runs_on {old = old} {mid = mid} {new = new} {text = text} plan lines s next left n k count way h =
-    let split : text_of (lines_of plan lines left s) ≡ text_of h.told ++ text_of (lines_of plan lines k next) =
-    ap (λ (e : Elapsed _). text_of e.lines) (ap (λ j. elapse plan lines j s) count ∙ h.leads k) ∙ text_append h.told (lines_of plan lines k next) in
-    under_way_more old mid new text (text_of h.told) _ (rw split at way) h.written
 
 pub breaks_off : {C : Type 0} {old mid new : Option (List ℕ)} {text : List ℕ} {before between : ℕ} (plan : Plan) (lines : List DeviceLine) (s : Standing C) (left k : ℕ) → k ≤ left
     → IsUnderWay old mid text (text_of (lines_of plan lines left s)) → IsBrokenOff plan lines k s mid new before between
@@ -189,7 +182,7 @@ skip_ticks plan k n t origin s here from few begun still =
     (few, refl, ap (λ j. elapse plan [] j s) all ∙ lift plan [] n t origin s [] s.members here from (leads_still plan [] n t origin s.members begun tt still) 0)
 
 -- ticks that were skipped lead on with any device lines that are later
-pub skipped_ahead : {C : Type 0} (plan : Plan) (lines : List DeviceLine) (k : ℕ) (s next : Standing C) → next.now ≡ s.now + k → AreFrom next.now lines → elapse plan [] k s ≡ record { lines = []; standing = next } → LeadsTo plan lines k s [] next
+pub skipped_ahead : {C : Type 0} (plan : Plan) (lines : List DeviceLine) (k : ℕ) (s next : Standing C) → next.now ≡ s.now + k → AreFrom next.now lines → elapse plan [] k s ≡ still next → LeadsTo plan lines k s [] next
 skipped_ahead plan lines k s next now order is = skipped_leads plan lines k s next (subst (λ u. HaveNoLines s.now u lines) now (no_lines s.now next.now lines order)) is
 
 -- some of fewer ticks are some of more

@@ -5,6 +5,7 @@ use Rattle.std.specs.Prelude.{if◌then◌else◌}
 use Rattle.apex_types.specs.declared.device.DeviceFault.TheVariants as fault
 use Rattle.module_meaning.specs.DeviceText as text
 use Rattle.module_meaning.specs.DeviceText.{WrittenLine}
+use Rattle.module_meaning.specs.Table.{is_device}
 
 abbrev ok_line : DeviceLine → Result DeviceLine DeviceFault
 ok_line l = Ok l
@@ -30,7 +31,7 @@ if_device false c tick i l e = absurd cc
 
 message_tick : (rows : List Partition) (count tick : ℕ) (ws : List ℤ) (o : Option (ℕ × Channel)) (l : DeviceLine) → text.taken_message rows count tick ws o ≡ ok_line l → tick ≡ l.tick.0
 message_tick rows count tick ws None l e = absurd cc
-message_tick rows count tick ws (Some f) l e = if_device (text.is_device f.1.source) _ tick _ l e
+message_tick rows count tick ws (Some f) l e = if_device (is_device f.1.source) _ tick _ l e
 
 fault_tick : (count tick : ℕ) (o : Option (ℕ × Partition)) (l : DeviceLine) → text.taken_fault count tick o ≡ ok_line l → tick ≡ l.tick.0
 fault_tick count tick None l e = absurd cc

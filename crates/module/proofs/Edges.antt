@@ -1,5 +1,5 @@
 -- Ticks of the owner of a window from an edge on: first the messages move, then it makes its ticks.
-use Rattle.module.proofs.Prelude.{◌≡◌, ℕ, zero, suc, ◌+◌, ◌-◌, ◌<◌, ◌≤◌, List, ◌∷◌, ◌++◌, Option, Some, None, Bool, true, false, cond, inl, inr, ◌⊎◌, length, map, refl, sym, ap, ◌∙◌, append-nil, arith, slice_get, slice_set, option_map, none-some, same_Some, place_of_number, DeviceLine, Event, At, PartitionId, Ticks, Engine, Port, is_source, Member, World, messages_to_move, tick, with_world, Schedule, tick_from, owner, ended, Advanced, Course, Plan, inputs_all, module_tick, moves_and_ticks, moves_ended, moves_ports, moves_so_many, of_member, of_tick, ports_from, ports_of, steps_member, still, then_goes, then_runs, ticks_owner, Channel, at_number, lines_sent, nothing_sent, Sent, LeadsTo, EndsQuietly, HasNoSource, HasPassed, HasPassedSome, HasPassedBehind, HasPassedSomeBehind, HasMoved, HasMovedWritten, ticks_by, Elapsed, Standing, elapse, preceded_by, origin_of, ticks_in, AreFrom, IsMade}
+use Rattle.module.proofs.Prelude.{◌≡◌, ℕ, zero, suc, ◌+◌, ◌-◌, ◌<◌, ◌≤◌, List, ◌∷◌, ◌++◌, Option, Some, None, Bool, true, false, cond, inl, inr, ◌⊎◌, length, map, refl, sym, ap, ◌∙◌, append-nil, arith, slice_get, slice_set, option_map, none-some, same_Some, place_of_number, DeviceLine, Event, At, PartitionId, Ticks, Engine, Port, is_source, Member, World, messages_to_move, tick, with_world, Schedule, tick_from, owner, ended, Stepped, Course, Plan, inputs_all, module_tick, moves_and_ticks, moves_ended, moves_ports, moves_so_many, of_member, of_tick, ports_from, ports_of, steps_member, still, then_goes, then_runs, ticks_owner, Channel, at_number, lines_sent, nothing_sent, Sent, LeadsTo, EndsQuietly, HasNoSource, HasPassed, HasPassedSome, HasPassedBehind, HasPassedSomeBehind, HasMoved, HasMovedWritten, ticks_by, Elapsed, Standing, elapse, preceded_by, origin_of, ticks_in, AreFrom, IsMade}
 use Rattle.std.proofs.Common.{[], subst}
 use Rattle.std.proofs.lemmas.Bool.{cases_lt}
 use Rattle.kernel_meaning.specs.Partition.{advances}
@@ -17,16 +17,16 @@ standing_by ms now origin = record { members = ms; now = now; origin = origin }
 
 pub after_moves : {C : Type 0} (plan : Plan) (lines : List DeviceLine) (k now origin : ℕ) (ms : List (Member C)) → 0 < now → of_tick now lines ≡ []
     → let a = moves_ended plan.channels (tick_from origin now) ms (ended plan.schedule (tick_from origin now)) in
-    elapse plan lines (suc k) (standing_at ms now origin) ≡ preceded_by a.lines (elapse_behind plan lines (suc k) (standing_at a.members now origin))
+    elapse plan lines (suc k) (standing_at ms now origin) ≡ preceded_by a.lines (elapse_behind plan lines (suc k) (standing_at a.state now origin))
 after_moves plan lines k now origin ms begun none =
     let at = tick_from origin now in
     let its = of_tick now lines in
-    let shows : Course _ → Elapsed _ = λ c. preceded_by c.lines (elapse plan lines k (record { members = c.members; now = now + 1; origin = option_map origin_of c.at })) in
+    let shows : Course _ → Elapsed _ = λ c. preceded_by c.lines (elapse plan lines k (record { members = c.state; now = now + 1; origin = option_map origin_of c.at })) in
     let a = moves_ended plan.channels at ms (ended plan.schedule at) in
-    let o = ticks_owner at a.members (owner plan.schedule at) in
-    ap (λ (b : Advanced _). shows (then_runs (goes_on at b) (λ x xs. module_tick plan x its xs))) (begins_later now ms begun)
+    let o = ticks_owner at a.state (owner plan.schedule at) in
+    ap (λ (b : Stepped _). shows (then_runs (goes_on at b) (λ x xs. module_tick plan x its xs))) (begins_later now ms begun)
     ∙ ap (λ ls. shows (then_runs (inputs_all plan at ls ms) (moves_and_ticks plan))) (of_tick_again now lines ∙ none)
-    ∙ preceded_twice a.lines o.lines (elapse plan lines k (standing_at o.members (now + 1) origin))
+    ∙ preceded_twice a.lines o.lines (elapse plan lines k (standing_at o.state (now + 1) origin))
 
 -- ---- edges at which nothing moves
 
@@ -49,7 +49,7 @@ no_moves : {C : Type 0} (plan : Plan) (lines : List DeviceLine) (k now origin p 
     → elapse plan lines (suc k) (standing_at ms now origin) ≡ elapse_behind plan lines (suc k) (standing_at ms now origin)
 no_moves plan lines k now origin p ms begun none over =
     after_moves plan lines k now origin ms begun none
-    ∙ ap (λ (a : Advanced _). preceded_by a.lines (elapse_behind plan lines (suc k) (standing_at a.members now origin)))
+    ∙ ap (λ (a : Stepped _). preceded_by a.lines (elapse_behind plan lines (suc k) (standing_at a.state now origin)))
     (quiet_moves plan.channels (tick_from origin now) ms p (ended plan.schedule (tick_from origin now)) over)
 
 -- no tick of a partition makes a port of it a source
@@ -119,7 +119,7 @@ owner_tick : {C : Type 0} (plan : Plan) (lines : List DeviceLine) (k now origin 
     elapse_behind plan lines (suc k) (standing_at ms now origin) ≡ preceded_by a.lines (elapse plan lines k (standing_at (slice_set ms place (with_world x a.world)) (now + 1) origin))
 owner_tick plan lines k now origin place ms x e owned =
     let at = tick_from origin now in
-    let shows : Advanced _ → Elapsed _ = λ a. preceded_by a.lines (elapse plan lines k (standing_at a.members (now + 1) origin)) in
+    let shows : Stepped _ → Elapsed _ = λ a. preceded_by a.lines (elapse plan lines k (standing_at a.state (now + 1) origin)) in
     ap (λ o. shows (ticks_owner at ms o)) owned
     ∙ ap (λ o. shows (steps_member (advances at) ms place o)) e
 
@@ -172,7 +172,7 @@ nobody_ticks plan lines zero m now origin ms rests h =
     let here : now + 0 ≡ now = omega arith in
     let next : now + 1 ≡ now + suc zero = omega arith in
     ap (λ j. elapse_behind plan lines j (standing_at ms now origin)) once
-    ∙ ap (λ (a : Advanced _). preceded_by a.lines (elapse plan lines m (standing_at a.members (now + 1) origin)))
+    ∙ ap (λ (a : Stepped _). preceded_by a.lines (elapse plan lines m (standing_at a.state (now + 1) origin)))
     (subst (λ u. ticks_owner (tick_from origin u) ms (owner plan.schedule (tick_from origin u)) ≡ still ms) here (rests 0 (omega arith)))
     ∙ ap (λ u. elapse plan lines m (standing_at ms u origin)) next
 nobody_ticks plan lines (suc n) m now origin ms rests h =
@@ -183,7 +183,7 @@ nobody_ticks plan lines (suc n) m now origin ms rests h =
     let there : now + 1 + suc n ≡ now + suc (suc n) = omega arith in
     let next = h 0 (omega arith) in
     ap (λ j. elapse_behind plan lines j (standing_at ms now origin)) one_more
-    ∙ ap (λ (a : Advanced _). preceded_by a.lines (elapse plan lines (suc (n + m)) (standing_at a.members (now + 1) origin)))
+    ∙ ap (λ (a : Stepped _). preceded_by a.lines (elapse plan lines (suc (n + m)) (standing_at a.state (now + 1) origin)))
     (subst (λ u. ticks_owner (tick_from origin u) ms (owner plan.schedule (tick_from origin u)) ≡ still ms) here (rests 0 (omega arith)))
     ∙ no_moves plan lines (n + m) (now + 1) origin 0 ms (omega arith) (subst (λ u. of_tick u lines ≡ []) first next.0) (inl (subst (λ u. ended plan.schedule (tick_from origin u) ≡ None) first next.1))
     ∙ ap (λ j. elapse_behind plan lines j (standing_at ms (now + 1) origin)) others
@@ -311,16 +311,16 @@ run_nobody plan lines (suc n) origin s sent o from some order owned over rests =
 pub behind_fewer : {C : Type 0} (old new : Sent) (plan : Plan) (lines : List DeviceLine) (m k n : ℕ) (s next : Standing C) → m ≤ k → HasPassedSomeBehind plan lines m s next old new n → HasPassedSomeBehind plan lines k s next old new n
 behind_fewer old new plan lines m k n s next few h = let all : n ≤ k = let within : n ≤ m = h.1 in omega (arith, within, few) in (h.0, all, h.2, h.3)
 
-edge_leads : {C : Type 0} (plan : Plan) (lines : List DeviceLine) (n now origin : ℕ) (before : List (Member C)) (a : Advanced C) (next : Standing C) (told : List Event) → 0 < now → 0 < n → AreFrom (now + n) lines
+edge_leads : {C : Type 0} (plan : Plan) (lines : List DeviceLine) (n now origin : ℕ) (before : List (Member C)) (a : Stepped (List (Member C))) (next : Standing C) (told : List Event) → 0 < now → 0 < n → AreFrom (now + n) lines
     → moves_ended plan.channels (tick_from origin now) before (ended plan.schedule (tick_from origin now)) ≡ a
-    → LeadsBehind plan lines n (standing_at a.members now origin) told next → LeadsTo plan lines n (standing_at before now origin) (a.lines ++ told) next
+    → LeadsBehind plan lines n (standing_at a.state now origin) told next → LeadsTo plan lines n (standing_at before now origin) (a.lines ++ told) next
 edge_leads plan lines zero now origin before a next told begun some order is h m = absurd (omega (arith, some))
 edge_leads plan lines (suc n) now origin before a next told begun some order is h m =
     let one_more : suc n + m ≡ suc (n + m) = omega arith in
     ap (λ j. elapse plan lines j (standing_at before now origin)) one_more
     ∙ after_moves plan lines (n + m) now origin before begun (none_before now (now + suc n) lines (omega arith) order)
-    ∙ ap (λ (a : Advanced _). preceded_by a.lines (elapse_behind plan lines (suc (n + m)) (standing_at a.members now origin))) is
-    ∙ ap (λ j. preceded_by a.lines (elapse_behind plan lines j (standing_at a.members now origin))) (sym one_more)
+    ∙ ap (λ (a : Stepped _). preceded_by a.lines (elapse_behind plan lines (suc (n + m)) (standing_at a.state now origin))) is
+    ∙ ap (λ j. preceded_by a.lines (elapse_behind plan lines j (standing_at a.state now origin))) (sym one_more)
     ∙ ap (preceded_by a.lines) (h m)
     ∙ sym (preceded_twice a.lines told (elapse plan lines m next))
 
@@ -332,11 +332,11 @@ pub edge_run : {C : Type 0} {old mid new : Sent} (plan : Plan) (lines : List Dev
 edge_run {old = old} {mid = mid} {new = new} plan lines k n origin s ms next rows o from begun order channels over made h =
     let at = tick_from origin s.now in
     let a = moves_ended rows at s.members o in
-    let is : moves_ended plan.channels at s.members (ended plan.schedule at) ≡ record { members = ms; lines = a.lines } =
-    ap (λ cs. moves_ended cs at s.members (ended plan.schedule at)) (sym channels) ∙ ap (λ e. moves_ended rows at s.members e) (sym over) ∙ ap (λ (xs : List (Member _)). record { members = xs; lines = a.lines }) (sym made.members) in
+    let is : moves_ended plan.channels at s.members (ended plan.schedule at) ≡ record { state = ms; lines = a.lines } =
+    ap (λ cs. moves_ended cs at s.members (ended plan.schedule at)) (sym channels) ∙ ap (λ e. moves_ended rows at s.members e) (sym over) ∙ ap (λ (xs : List (Member _)). record { state = xs; lines = a.lines }) (sym made.state) in
     let within : n ≤ k = h.1 in
     let leads : LeadsTo plan lines n (standing_at s.members s.now origin) (a.lines ++ h.3.told) next =
-    edge_leads plan lines n s.now origin s.members (record { members = ms; lines = a.lines }) next h.3.told begun h.0 (from_lower (s.now + n) (s.now + k) lines (omega (arith, within)) order) is
+    edge_leads plan lines n s.now origin s.members (record { state = ms; lines = a.lines }) next h.3.told begun h.0 (from_lower (s.now + n) (s.now + k) lines (omega (arith, within)) order) is
     (subst (λ (p : Option ℕ). LeadsBehind plan lines n (record { members = ms; now = s.now; origin = p }) h.3.told next) from h.3.leads) in (
       within,
       h.2,

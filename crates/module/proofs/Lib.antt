@@ -1,4 +1,5 @@
 pub mod Prelude
+pub mod Ahead
 pub mod Brought
 pub mod Built
 pub mod Bursts
@@ -19,7 +20,6 @@ pub mod Named
 pub mod SameTraces
 pub mod Starting
 pub mod Told
-pub mod Texts
 pub mod Refused
 pub mod Replayed
 pub mod Runs
@@ -27,5 +27,6 @@ pub mod Shutdown
 pub mod Standing
 pub mod Unbrought
 pub mod Unseen
+pub mod Watched
 pub mod Written
 pub mod Passed

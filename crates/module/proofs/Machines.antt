@@ -1,5 +1,5 @@
 -- A tick of a machine within a run.
-use Rattle.module.proofs.Prelude.{◌≡◌, ◌<◌, ◌≤◌, ◌+◌, ◌-◌, ◌^◌, ℕ, zero, suc, true, false, List, Option, Some, None, Result, Ok, Err, inl, inr, refl, sym, ap, ◌∙◌, append-nil, arith, Appends-nil, Appends, is_none, MOST_TICKS, text_of, TakesBeginning, DeviceLine, Event, IsUnderWay, under_way_more, under_way_fails, Image, of_tick, MachineControl, Member, machine_module, machine_trace, Machine, HaveTicked, fresh_machine, Elapsed, Standing, after, elapse, lines_of, ticks, RunFault}
+use Rattle.module.proofs.Prelude.{◌≡◌, ◌<◌, ◌≤◌, ◌+◌, ◌-◌, ℕ, zero, suc, true, false, List, Option, Result, Ok, Err, inl, inr, refl, sym, ap, ◌∙◌, append-nil, arith, Appends-nil, Appends, MOST_TICKS, text_of, TakesBeginning, DeviceLine, Event, IsUnderWay, under_way_more, under_way_fails, Image, of_tick, machine_module, machine_trace, Machine, HaveTicked, fresh_machine, Elapsed, after, elapse, lines_of, ticks, RunFault}
 use Rattle.std.proofs.Common.{[], subst}
 use Rattle.std.proofs.KnownBytes.{Appends-kept}
 use Rattle.std.specs.Io.KnownBytes.{Keeps}
@@ -9,7 +9,7 @@ use Rattle.module.specs.Running.{RunsImage}
 use Rattle.module.specs.declared.fault.RunFault.TheVariants as fault
 use Rattle.module.proofs.DeviceLines.{of_tick_again}
 use Rattle.module.specs.Pieces.{LeadsTo}
-use Rattle.module.proofs.Standing.{tick_text, none_down, is_traced, skipped_leads}
+use Rattle.module.proofs.Standing.{tick_text, is_traced, skipped_leads}
 
 -- ---- the result of a tick that may be made
 
@@ -27,13 +27,6 @@ only_write fault.Memory sound within h = absurd h
 
 pub ticks_are_the_trace : (image : Image) (lines : List DeviceLine) (n : ℕ) → lines_of (machine_module image).plan lines n (fresh_machine image).standing ≡ machine_trace image lines n
 ticks_are_the_trace image lines n = sym (is_traced (machine_module image).plan lines n (machine_module image).members)
-
--- nothing is out before the first tick
-pub begins_with : (image : Image) (m : Machine) (devices : List DeviceLine) (n : ℕ) (taken : Option (List ℕ)) → m ≡ fresh_machine image → IsUnderWay taken taken (text_of (machine_trace image devices n)) (text_of (lines_of (machine_module image).plan devices n m.standing))
-begins_with image m devices n taken fresh =
-    let same : text_of (machine_trace image devices n) ≡ text_of (lines_of (machine_module image).plan devices n m.standing) =
-    ap text_of (is_traced (machine_module image).plan devices n (machine_module image).members ∙ ap (λ (x : Machine). lines_of (machine_module image).plan devices n x.standing) (sym fresh)) in
-    subst (λ text. IsUnderWay taken taken (text_of (machine_trace image devices n)) text) same (under_way_start taken (text_of (machine_trace image devices n)))
 
 -- one more tick
 pub goes_on : {old mid new : Option (List ℕ)} {text : List ℕ} {before between : ℕ} (image : Image) (m next : Machine) (lines now later : List DeviceLine) (n k : ℕ) → n ≡ suc k → m.image ≡ image
@@ -61,22 +54,7 @@ ends_early {old = old} {mid = mid} {new = new} {text = text} image m next lines 
 pub run_fails : (events : List Event) (old new : Option (List ℕ)) (f : RunFault) (r : Result (Unit {0}) RunFault) → r ≡ Err f → f ≡ fault.Write → TakesBeginning old new (text_of events) → RunsImage events old new r
 run_fails events old new f r e is h = subst (RunsImage events old new) (sym (e ∙ ap (λ (x : RunFault). Err x) is)) h
 
--- nothing is left to run
-pub nothing_left : {old new : Option (List ℕ)} {text : List ℕ} (image : Image) (lines : List DeviceLine) (n : ℕ) (s : Standing MachineControl) → n ≡ 0 → IsUnderWay old new text (text_of (lines_of (machine_module image).plan lines n s)) → Appends old new text
-nothing_left {old = old} {new = new} {text = text} image lines n s none way =
-    under_way_end old new text (subst (IsUnderWay old new text) (ap (λ k. text_of (lines_of (machine_module image).plan lines k s)) none) way)
-
--- the module is shut down
-pub shut_down : {old new : Option (List ℕ)} {text : List ℕ} (image : Image) (lines : List DeviceLine) (n now : ℕ) (ms : List (Member MachineControl)) (o : Option ℕ) → is_none o ≡ true
-    → IsUnderWay old new text (text_of (lines_of (machine_module image).plan lines n (record { members = ms; now = now; origin = o }))) → Appends old new text
-shut_down {old = old} {new = new} {text = text} image lines n now ms None down way =
-    under_way_end old new text (subst (IsUnderWay old new text) (ap text_of (none_down (machine_module image).plan lines n now ms None refl)) way)
-shut_down image lines n now ms (Some origin) down way = absurd cc
-
 -- ---- a sink that is offered nothing
-
-pub kept_under_way : {old mid new : Option (List ℕ)} {text rest : List ℕ} → IsUnderWay old mid text rest → Keeps mid new → IsUnderWay old new text rest
-kept_under_way {old = old} {mid = mid} {new = new} way kept = record { done = way.done; taken = Appends-kept old mid new way.done way.taken kept; left = way.left }
 
 pub kept_fails : (old mid new : Option (List ℕ)) (text rest : List ℕ) → IsUnderWay old mid text rest → Keeps mid new → TakesBeginning old new text
 kept_fails old mid new text rest way kept =
@@ -123,7 +101,7 @@ calls_run image lines (suc calls) n m last old new before now answer same sound 
     let plan = (machine_module image).plan in
     let count : n ≡ k + (n - k) = omega (arith, within) in
     let later : next.standing.now ≡ m.standing.now + k = skipped.2.1 in
-    let is : elapse plan [] k m.standing ≡ record { lines = []; standing = next.standing } = ap (λ (i : Image). elapse (machine_module i).plan [] k m.standing) (sym same) ∙ skipped.2.2 in
+    let is : elapse plan [] k m.standing ≡ still next.standing = ap (λ (i : Image). elapse (machine_module i).plan [] k m.standing) (sym same) ∙ skipped.2.2 in
     let leads : LeadsTo plan lines k m.standing [] next.standing = skipped_leads plan lines k m.standing next.standing none is in
     let lines_left : lines_of plan lines n m.standing ≡ lines_of plan lines (n - k) next.standing =
     ap (λ (e : Elapsed _). e.lines) (ap (λ i. elapse plan lines i m.standing) count ∙ leads (n - k)) in

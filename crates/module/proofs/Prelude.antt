@@ -43,6 +43,7 @@ pub use Rattle.lone_partition.proofs.Outputs.{lines_sent, nothing_sent}
 pub use Rattle.lone_partition.specs.Loading.{fresh_item}
 pub use Rattle.lone_partition.specs.Outputs.{next_at, sent_of}
 pub use Rattle.lone_partition.specs.Sent.{Sent}
+pub use Rattle.lone_partition.specs.Written.{IsCourse, IsMade}
 pub use Rattle.machine_laws.proofs.ImageLaws.{spelled_is_read}
 pub use Rattle.machine_meaning.specs.Image.{Image, Item}
 pub use Rattle.machine_meaning.specs.ImageLimits.{IsLawful}
@@ -68,7 +69,7 @@ pub use Rattle.module_meaning.specs.Standing.{Elapsed, IsNow, Standing, after, a
 pub use Rattle.module.specs.Standing.{moment_of, ticks_in}
 pub use Rattle.module.specs.Telling.{TellsSlice}
 pub use Rattle.module.specs.Views.{members_in, plan_of, standing_of}
-pub use Rattle.module.specs.Written.{AreFrom, IsCourse, IsMade}
+pub use Rattle.module.specs.Written.{AreFrom}
 pub use Rattle.module.specs.declared.fault.BuildFault.{BuildFault}
 pub use Rattle.module.specs.declared.fault.RunFault.{RunFault}
 pub use Rattle.module.specs.declared.fault.RunFault.TheVariants.{Failed, Image as NoImage, Memory, Partition as NoPartition, Write}
@@ -76,7 +77,7 @@ pub use Rattle.module.specs.declared.inputs_fault.InputsFault.{InputsFault}
 pub use Rattle.module_base.specs.Refusals.{IsRefusal}
 pub use Rattle.module_base.specs.declared.fault.DeviceTextFault.{DeviceTextFault}
 pub use Rattle.module_meaning.specs.Accepted.{AreAccepted, IsAccepted, IsTable}
-pub use Rattle.module_meaning.specs.Module.{Advanced, Course, Plan, as_origin, breaks_module, channel_from, delivers_all, first_tick, inputs, inputs_all, module_tick, moves_and_ticks, moves_ended, moves_messages, moves_ports, moves_so_many, next_tick, of_member, of_tick, ports_from, ports_of, start_lines, starts, starts_all, steps, steps_member, still, then_goes, then_runs, ticks_owner, trace_from, unless_down}
+pub use Rattle.module_meaning.specs.Module.{Course, Plan, Stepped, as_origin, breaks_module, channel_from, delivers_all, first_tick, inputs, inputs_all, module_tick, moves_and_ticks, moves_ended, moves_messages, moves_ports, moves_so_many, next_tick, of_member, of_tick, ports_from, ports_of, start_lines, starts, starts_all, steps, steps_member, still, then_goes, then_runs, ticks_owner, trace_from, unless_down}
 pub use Rattle.module_meaning.specs.SourceMeaning.{source_trace}
 pub use Rattle.module_meaning.specs.Table.{Channel, Partition, Table, at_number, fixed_of}
 pub use Rattle.pal_base.specs.ProgramView.{program_of}

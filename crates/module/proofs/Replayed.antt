@@ -7,8 +7,7 @@ use Rattle.isolation.specs.Brought.{part}
 use Rattle.isolation.specs.Slices.{machine_alone, slice_trace}
 use Rattle.lone_partition.specs.Lines.{AreFrom, tick_of_input}
 use Rattle.module_base.specs.declared.fault.DeviceTextFault.TheVariants as text_fault
-use Rattle.module.specs.Isolated.{ReplaysPart}
-use Rattle.module.specs.Replays.{IsInputRefusal, LacksPartition}
+use Rattle.module.specs.Replays.{IsInputRefusal, LacksPartition, ReplaysPart}
 use Rattle.module.specs.declared.fault.RunFault.TheVariants.{Ticks, Device}
 use Rattle.module.proofs.Headline.{ok_image, image_is}
 use Rattle.module.proofs.Named.{by_number, no_number, numbered_name, numbered_slice}

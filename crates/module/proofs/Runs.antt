@@ -1,9 +1,9 @@
 -- Many ticks of a machine within a run, and a run that its device text refuses.
-use Rattle.module.proofs.Prelude.{◌≡◌, ◌≤◌, ◌+◌, ℕ, List, Option, Result, Ok, Err, refl, sym, ap, ◌∙◌, text_of, TakesBeginning, IsUnderWay, MOST_TICKS, DeviceFault, DeviceLine, Image, Fault, machine_module, verdict_for, Machine, HasRun, IsBrokenOff, AreRefused, IsDeviceRefusal, Runs, lines_of, RunFault}
+use Rattle.module.proofs.Prelude.{◌≡◌, ◌≤◌, ℕ, List, Option, Result, Ok, Err, refl, sym, ap, ◌∙◌, text_of, TakesBeginning, IsUnderWay, MOST_TICKS, DeviceFault, DeviceLine, Image, Fault, machine_module, verdict_for, Machine, IsBrokenOff, AreRefused, IsDeviceRefusal, Runs, lines_of, RunFault}
 use Rattle.std.proofs.Common.{subst}
 use Rattle.module.specs.Machines.{HasRunOn}
 use Rattle.module.specs.declared.fault.RunFault.TheVariants as fault
-use Rattle.module.proofs.Bursts.{runs_on, breaks_off}
+use Rattle.module.proofs.Bursts.{breaks_off}
 
 -- it is made, or the sink fails
 pub only_broken : (lines : List DeviceLine) (k : ℕ) (m next : Machine) (old new : Option (List ℕ)) (before now : ℕ) (f : RunFault) → HasRunOn lines k m next old new before now (Err f) → (f ≡ fault.Write) × IsBrokenOff (machine_module m.image).plan lines k m.standing old new before now
@@ -14,13 +14,6 @@ only_broken lines k m next old new before now (fault.Image f) h = absurd h
 only_broken lines k m next old new before now fault.Partition h = absurd h
 only_broken lines k m next old new before now (fault.Device f) h = absurd h
 only_broken lines k m next old new before now fault.Memory h = absurd h
-
--- further ticks
-pub runs_by : {old mid new : Option (List ℕ)} {text : List ℕ} {before between : ℕ} (image : Image) (m next : Machine) (lines : List DeviceLine) (left n k : ℕ) → left ≡ n + k → m.image ≡ image
-    → IsUnderWay old mid text (text_of (lines_of (machine_module image).plan lines left m.standing)) → HasRun (machine_module m.image).plan lines n m.standing next.standing mid new before between
-    → IsUnderWay old new text (text_of (lines_of (machine_module image).plan lines k next.standing))
-runs_by {mid = mid} {new = new} {before = before} {between = between} image m next lines left n k count same way h =
-    runs_on (machine_module image).plan lines m.standing next.standing left n k count way (subst (λ (i : Image). HasRun (machine_module i).plan lines n m.standing next.standing mid new before between) same h)
 
 -- the sink fails in these ticks
 pub breaks_by : {old mid new : Option (List ℕ)} {text : List ℕ} {before between : ℕ} (image : Image) (m : Machine) (lines : List DeviceLine) (left k : ℕ) → k ≤ left → m.image ≡ image

@@ -3,15 +3,15 @@ use Rattle.module.proofs.Prelude.{◌≡◌, ℕ, ◌+◌, ◌<◌, ◌≤◌, L
 use Rattle.apex_types.specs.declared.codes.ModuleAction.TheVariants as reaction
 use Rattle.apex_types.specs.declared.codes.StartCondition.TheVariants as condition
 use Rattle.module_meaning.specs.Module.{tells_fault}
-use Rattle.module.proofs.Written.{CompletesCourse, course_is_over, ends_down}
+use Rattle.lone_partition.proofs.Written.{CompletesCourse, course_is_over, ends_down}
 
 -- after the last one nothing is left
-pub lines_are_over : {C : Type 0} {whole : Course C} {old new : Sent} (plan : Plan) (at : At) (lines : List DeviceLine) (i : ℕ) (now : List (Member C))
+pub lines_are_over : {C : Type 0} {whole : Course (List (Member C))} {old new : Sent} (plan : Plan) (at : At) (lines : List DeviceLine) (i : ℕ) (now : List (Member C))
     → CompletesCourse whole (inputs_all plan at (drop i lines) now) old new → length lines ≤ i → IsCourse whole (Some at) now old new
 lines_are_over plan at lines i now way past = course_is_over at now (ap (λ (ls : List DeviceLine). inputs_all plan at ls now) (drop_all i lines past)) way
 
 -- a line shuts the module down, and so all do
-pub lines_end_down : {C : Type 0} {whole : Course C} {members : List (Member C)} {old mid new : Sent} (plan : Plan) (at : At) (lines : List DeviceLine) (i : ℕ) (l : DeviceLine) (now : List (Member C))
+pub lines_end_down : {C : Type 0} {whole : Course (List (Member C))} {members : List (Member C)} {old mid new : Sent} (plan : Plan) (at : At) (lines : List DeviceLine) (i : ℕ) (l : DeviceLine) (now : List (Member C))
     → CompletesCourse whole (inputs_all plan at (drop i lines) now) old mid → i < length lines → l ≡ get_or lines i l
     → IsCourse (inputs plan at l.input now) None members mid new → IsCourse whole None members old new
 lines_end_down {members = members} {new = new} plan at lines i l now way within is h =
@@ -38,7 +38,7 @@ module _ {C : Type 0} {now : List (Member C)} {old new : Sent} (ms : List (Membe
 
   pub fault_shuts_down : (action : ModuleAction) → action ≡ reaction.Shutdown → IsMade (tells_fault at action ms) now old new → IsCourse (breaks_module at action ms) None now old new
   fault_shuts_down reaction.Ignore e h = absurd cc
-  fault_shuts_down reaction.Shutdown e h = record { at = refl; made = record { members = h.members; sent = h.sent } }
+  fault_shuts_down reaction.Shutdown e h = record { at = refl; made = record { state = h.state; sent = h.sent } }
   fault_shuts_down reaction.Reset e h = absurd cc
 
   pub fault_resets : (origin : At) (action : ModuleAction) → action ≡ reaction.Reset → origin ≡ as_origin at

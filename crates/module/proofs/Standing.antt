@@ -1,23 +1,25 @@
 -- A module tick by tick, and its trace.
-use Rattle.module.proofs.Prelude.{◌≡◌, ℕ, zero, suc, ◌+◌, ◌<◌, ◌≤◌, ◌==◌, Bool, false, if◌then◌else◌, List, ◌++◌, Option, Some, None, refl, sym, ap, ◌∙◌, append_assoc, arith, Decides-eqb, none-some, same_Some, option_map, text_of, DeviceLine, Event, At, Ticks, Plan, Advanced, Course, of_tick, first_tick, next_tick, still, starts, module_tick, trace_from, Member, tick_from, IsNow, Elapsed, Standing, at_first, begins, elapse, moment_of, preceded_by, ticks_from, ticks_in, ticks, origin_of, after, lines_of}
+use Rattle.module.proofs.Prelude.{◌≡◌, ℕ, zero, suc, ◌+◌, ◌<◌, ◌≤◌, ◌==◌, Bool, false, if◌then◌else◌, List, ◌++◌, Option, Some, None, refl, sym, ap, ◌∙◌, append_assoc, arith, Decides-eqb, none-some, same_Some, option_map, text_of, DeviceLine, Event, At, Ticks, Plan, Stepped, Course, of_tick, first_tick, next_tick, still, starts, module_tick, trace_from, Member, tick_from, IsNow, Elapsed, Standing, at_first, begins, elapse, moment_of, preceded_by, ticks_from, ticks_in, ticks, origin_of, after, lines_of}
 use Rattle.std.proofs.Common.{[], subst}
 use Rattle.module_meaning.specs.Module.{trace}
 use Rattle.kernel_laws.specs.Quiet.{HaveNoLines}
 use Rattle.module.specs.Pieces.{LeadsTo}
 use Rattle.module_meaning.specs.Standing.{begins_and_ticks}
-use Rattle.module.proofs.DeviceLines.{not_true, of_tick_again, same_tick, tick_now}
-use Rattle.module.proofs.Texts.{text_append}
+use Rattle.lone_partition.proofs.LinesOfTicks.{not_true}
+use Rattle.isolation.proofs.Now.{tick_in}
+use Rattle.module.proofs.DeviceLines.{of_tick_again, same_tick}
+use Rattle.lone_partition.proofs.Texts.{text_append}
 
 -- the begin, and then the tick
-abbrev behind : {C : Type 0} → Advanced C → Course C → Course C
-behind b d = record { at = d.at; members = d.members; lines = b.lines ++ d.lines }
+abbrev behind : {C : Type 0} → Stepped (List (Member C)) → Course (List (Member C)) → Course (List (Member C))
+behind b d = record { at = d.at; state = d.state; lines = b.lines ++ d.lines }
 
 -- ---- other device lines
 
 -- only the lines of its tick count
 pub same_ticks : {C : Type 0} (plan : Plan) (xs ys : List DeviceLine) (t : ℕ) (ms : List (Member C)) (o : Option ℕ) → of_tick t xs ≡ of_tick t ys → ticks_from plan xs t ms o ≡ ticks_from plan ys t ms o
 same_ticks plan xs ys t ms None e = refl
-same_ticks plan xs ys t ms (Some origin) e = ap (behind (begins t ms)) (same_tick plan (tick_from origin t) xs ys (begins t ms).members e)
+same_ticks plan xs ys t ms (Some origin) e = ap (behind (begins t ms)) (same_tick plan (tick_from origin t) xs ys (begins t ms).state e)
 
 -- only the lines of these ticks count
 same_lines : {C : Type 0} (plan : Plan) (n : ℕ) (s : Standing C) (xs ys : List DeviceLine) → ((u : ℕ) → s.now ≤ u → of_tick u xs ≡ of_tick u ys) → lines_of plan xs n s ≡ lines_of plan ys n s
@@ -30,10 +32,10 @@ same_lines plan (suc n) s xs ys h =
 -- ---- several ticks, and then others
 
 pub preceded_twice : {C : Type 0} (told more : List Event) (e : Elapsed C) → preceded_by (told ++ more) e ≡ preceded_by told (preceded_by more e)
-preceded_twice told more e = ap (λ (ls : List Event). record { lines = ls; standing = e.standing }) (append_assoc told more e.lines)
+preceded_twice told more e = ap (λ (ls : List Event). record { state = e.state; lines = ls }) (append_assoc told more e.lines)
 
 -- k ticks, then j more
-elapse_more : {C : Type 0} (plan : Plan) (lines : List DeviceLine) (k j : ℕ) (s : Standing C) → let e = elapse plan lines k s in elapse plan lines (k + j) s ≡ preceded_by e.lines (elapse plan lines j e.standing)
+elapse_more : {C : Type 0} (plan : Plan) (lines : List DeviceLine) (k j : ℕ) (s : Standing C) → let e = elapse plan lines k s in elapse plan lines (k + j) s ≡ preceded_by e.lines (elapse plan lines j e.state)
 elapse_more plan lines zero j s = let same : 0 + j ≡ j = omega arith in ap (λ i. elapse plan lines i s) same
 elapse_more plan lines (suc k) j s =
     let c = ticks plan (of_tick s.now lines) s in
@@ -41,7 +43,7 @@ elapse_more plan lines (suc k) j s =
     let one_more : suc k + j ≡ suc (k + j) = omega arith in
     ap (λ i. elapse plan lines i s) one_more
     ∙ ap (preceded_by c.lines) (elapse_more plan lines k j (after s c))
-    ∙ sym (preceded_twice c.lines e.lines (elapse plan lines j e.standing))
+    ∙ sym (preceded_twice c.lines e.lines (elapse plan lines j e.state))
 
 -- only the lines of these ticks count
 elapse_alike : {C : Type 0} (plan : Plan) (xs ys : List DeviceLine) (n : ℕ) (s : Standing C) → ((u : ℕ) → s.now ≤ u → u < s.now + n → of_tick u xs ≡ of_tick u ys) → elapse plan xs n s ≡ elapse plan ys n s
@@ -52,10 +54,10 @@ elapse_alike plan xs ys (suc n) s h =
     ∙ ap (preceded_by own.lines) (elapse_alike plan xs ys n (after s own) (λ u above below. h u (omega (arith, above)) (omega (arith, below))))
 
 -- ticks that were skipped lead on with any device lines that have none of them
-pub skipped_leads : {C : Type 0} (plan : Plan) (lines : List DeviceLine) (k : ℕ) (s next : Standing C) → HaveNoLines s.now (s.now + k) lines → elapse plan [] k s ≡ record { lines = []; standing = next } → LeadsTo plan lines k s [] next
+pub skipped_leads : {C : Type 0} (plan : Plan) (lines : List DeviceLine) (k : ℕ) (s next : Standing C) → HaveNoLines s.now (s.now + k) lines → elapse plan [] k s ≡ still next → LeadsTo plan lines k s [] next
 skipped_leads plan lines k s next none is m =
     elapse_more plan lines k m s
-    ∙ ap (λ (e : Elapsed _). preceded_by e.lines (elapse plan lines m e.standing)) (elapse_alike plan lines [] k s none ∙ is)
+    ∙ ap (λ (e : Elapsed _). preceded_by e.lines (elapse plan lines m e.state)) (elapse_alike plan lines [] k s none ∙ is)
 
 -- The text of the first of several ticks, with the lines of this tick, and that of the other ticks,
 -- with the later lines.
@@ -100,23 +102,23 @@ later_is plan lines (suc n) now ms (Some origin) h =
     let at = tick_from origin now in
     let its = of_tick now lines in
     let own = module_tick plan at lines ms in
-    ap (λ (b : Advanced _). (b.lines ++ (module_tick plan at its b.members).lines) ++ lines_of plan lines n (record { members = (module_tick plan at its b.members).members; now = now + 1; origin = option_map origin_of (module_tick plan at its b.members).at })) (begins_later now ms h)
-    ∙ ap (λ (c : Course _). c.lines ++ lines_of plan lines n (record { members = c.members; now = now + 1; origin = option_map origin_of c.at })) (same_tick plan at its lines ms (of_tick_again now lines))
+    ap (λ (b : Stepped _). (b.lines ++ (module_tick plan at its b.state).lines) ++ lines_of plan lines n (record { members = (module_tick plan at its b.state).state; now = now + 1; origin = option_map origin_of (module_tick plan at its b.state).at })) (begins_later now ms h)
+    ∙ ap (λ (c : Course _). c.lines ++ lines_of plan lines n (record { members = c.state; now = now + 1; origin = option_map origin_of c.at })) (same_tick plan at its lines ms (of_tick_again now lines))
     ∙ ap (λ (es : List Event). own.lines ++ es)
-    (later_is plan lines n (now + 1) own.members (option_map origin_of own.at) (omega arith) ∙ ap (λ (x : Option At). trace_from plan lines n x own.members) (same_next now own.at (tick_now plan at lines ms)))
+    (later_is plan lines n (now + 1) own.state (option_map origin_of own.at) (omega arith) ∙ ap (λ (x : Option At). trace_from plan lines n x own.state) (same_next now own.at (tick_in plan lines at ms)))
 
 -- n ticks of a module, one after another, make its trace
 pub is_traced : {C : Type 0} (plan : Plan) (devices : List DeviceLine) (n : ℕ) (ms : List (Member C)) → trace (record { plan = plan; members = ms }) devices n ≡ lines_of plan devices n (at_first ms)
 is_traced plan devices zero ms = refl
 is_traced plan devices (suc n) ms =
     let s = starts ms in
-    let own = module_tick plan first_tick devices s.members in
-    let next = lines_of plan devices n (record { members = own.members; now = 0 + 1; origin = option_map origin_of own.at }) in
-    let first = same_tick plan first_tick (of_tick 0 devices) devices s.members (of_tick_again 0 devices) in
-    sym (ap (λ (c : Course _). (s.lines ++ c.lines) ++ lines_of plan devices n (record { members = c.members; now = 0 + 1; origin = option_map origin_of c.at })) first
+    let own = module_tick plan first_tick devices s.state in
+    let next = lines_of plan devices n (record { members = own.state; now = 0 + 1; origin = option_map origin_of own.at }) in
+    let first = same_tick plan first_tick (of_tick 0 devices) devices s.state (of_tick_again 0 devices) in
+    sym (ap (λ (c : Course _). (s.lines ++ c.lines) ++ lines_of plan devices n (record { members = c.state; now = 0 + 1; origin = option_map origin_of c.at })) first
     ∙ append_assoc s.lines own.lines next
     ∙ ap (λ (es : List Event). s.lines ++ (own.lines ++ es))
-    (later_is plan devices n (0 + 1) own.members (option_map origin_of own.at) (omega arith) ∙ ap (λ (x : Option At). trace_from plan devices n x own.members) (same_next 0 own.at (tick_now plan first_tick devices s.members))))
+    (later_is plan devices n (0 + 1) own.state (option_map origin_of own.at) (omega arith) ∙ ap (λ (x : Option At). trace_from plan devices n x own.state) (same_next 0 own.at (tick_in plan devices first_tick s.state))))
 
 -- ---- the next tick
 
@@ -126,7 +128,7 @@ ticks_now plan lines s answer is = subst (IsNow s.now) (sym is) (from s.origin)
   where
     from : (o : Option ℕ) → IsNow s.now (ticks_from plan lines s.now s.members o).at
     from None = tt
-    from (Some origin) = tick_now plan (tick_from origin s.now) lines (begins s.now s.members).members
+    from (Some origin) = tick_in plan lines (tick_from origin s.now) (begins s.now s.members).state
 
 -- its number
 pub moment_now : (now : Ticks) (o : Option Ticks) (at : At) → Some at ≡ moment_of now o → at.now ≡ now
@@ -144,6 +146,6 @@ goes_from plan lines now ms None at e = absurd (none-some at (sym e))
 goes_from plan lines now ms (Some origin) at e = ap (λ (a : At). begins_and_ticks plan a lines ms) (same_Some at (record { now = now; origin = origin }) e)
 
 -- after a shutdown nothing happens
-pub goes_nowhere : {C : Type 0} (plan : Plan) (lines : List DeviceLine) (now : Ticks) (ms : List (Member C)) (o : Option Ticks) → None ≡ moment_of now o → ticks_from plan lines now.0 ms (ticks_in o) ≡ record { at = None; members = ms; lines = [] }
+pub goes_nowhere : {C : Type 0} (plan : Plan) (lines : List DeviceLine) (now : Ticks) (ms : List (Member C)) (o : Option Ticks) → None ≡ moment_of now o → ticks_from plan lines now.0 ms (ticks_in o) ≡ record { at = None; state = ms; lines = [] }
 goes_nowhere plan lines now ms None e = refl
 goes_nowhere plan lines now ms (Some origin) e = let at : At = record { now = now; origin = origin } in absurd (none-some at e)

@@ -1,5 +1,5 @@
 -- The start of the partitions, one after the other.
-use Rattle.module.proofs.Prelude.{◌≡◌, ℕ, zero, suc, ◌+◌, ◌<◌, ◌≤◌, List, ◌∷◌, ◌++◌, length, map, take, drop, Option, Some, None, refl, sym, ap, ◌∙◌, arith, slice_get, flat_map, Event, StartCondition, At, Advanced, steps_member, start_lines, Member, members_of, AreFitting, Ghosts}
+use Rattle.module.proofs.Prelude.{◌≡◌, ℕ, zero, suc, ◌+◌, ◌<◌, ◌≤◌, List, ◌∷◌, ◌++◌, length, map, take, drop, Option, Some, None, refl, sym, ap, ◌∙◌, arith, slice_get, flat_map, Event, StartCondition, At, Stepped, steps_member, start_lines, Member, members_of, AreFitting, Ghosts}
 use Rattle.std.proofs.Common.{[], subst}
 use Rattle.module_meaning.specs.Module.{started_member}
 use Rattle.kernel_meaning.specs.Partition.{cold_start}
@@ -8,7 +8,7 @@ use Rattle.partition.specs.declared.partition.Partition.{Partition}
 
 module _ (at : At) (reason : StartCondition) where
   -- the start of a partition
-  abbrev pub starts_member : {C : Type 0} → List (Member C) → ℕ → Option (Member C) → Advanced C
+  abbrev pub starts_member : {C : Type 0} → List (Member C) → ℕ → Option (Member C) → Stepped (List (Member C))
   starts_member members place o = steps_member (cold_start at reason) members place o
 
   -- the first n members have started, and the others have not
@@ -19,7 +19,7 @@ module _ (at : At) (reason : StartCondition) where
   none_left [] = refl
   none_left (x ∷ xs) = none_left xs
 
-  behind_members : {C : Type 0} (y : Member C) (ms : List (Member C)) (n : ℕ) (o : Option (Member C)) → (starts_member (y ∷ ms) (suc n) o).members ≡ y ∷ (starts_member ms n o).members
+  behind_members : {C : Type 0} (y : Member C) (ms : List (Member C)) (n : ℕ) (o : Option (Member C)) → (starts_member (y ∷ ms) (suc n) o).state ≡ y ∷ (starts_member ms n o).state
   behind_members y ms n None = refl
   behind_members y ms n (Some x) = refl
 
@@ -27,7 +27,7 @@ module _ (at : At) (reason : StartCondition) where
   behind_lines y ms n None = refl
   behind_lines y ms n (Some x) = refl
 
-  pub next_members : {C : Type 0} (xs : List (Member C)) (n : ℕ) → n < length xs → (starts_member (started_to n xs) n (slice_get (started_to n xs) n)).members ≡ started_to (n + 1) xs
+  pub next_members : {C : Type 0} (xs : List (Member C)) (n : ℕ) → n < length xs → (starts_member (started_to n xs) n (slice_get (started_to n xs) n)).state ≡ started_to (n + 1) xs
   next_members [] n h = absurd (omega arith)
   next_members (x ∷ xs) zero h = refl
   next_members (x ∷ xs) (suc n) h =
@@ -75,8 +75,8 @@ module _ (at : At) (reason : StartCondition) where
       subst (λ k. k ≤ n) same h
 
   -- one more has started
-  pub step_members : {C : Type 0} (now next xs : List (Member C)) (n : ℕ) → now ≡ started_to n xs → n < length xs → next ≡ (starts_member now n (slice_get now n)).members → next ≡ started_to (n + 1) xs
-  step_members now next xs n so_far h e = e ∙ ap (λ ms. (starts_member ms n (slice_get ms n)).members) so_far ∙ next_members xs n h
+  pub step_members : {C : Type 0} (now next xs : List (Member C)) (n : ℕ) → now ≡ started_to n xs → n < length xs → next ≡ (starts_member now n (slice_get now n)).state → next ≡ started_to (n + 1) xs
+  step_members now next xs n so_far h e = e ∙ ap (λ ms. (starts_member ms n (slice_get ms n)).state) so_far ∙ next_members xs n h
 
   -- its lines, and those of the others
   pub step_lines : {C : Type 0} (now xs : List (Member C)) (n : ℕ) → now ≡ started_to n xs → n < length xs

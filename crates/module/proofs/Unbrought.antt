@@ -54,7 +54,7 @@ ended_brings channels p members (Some q) origin from limit h = found_holds_nothi
 
 -- the inputs that a tick brings by these lines, which are all of it
 abbrev by_lines : {C : Type 0} → Plan → ℕ → At → List (Member C) → List DeviceLine → List Input
-by_lines plan p at ms lines = let c = inputs_all plan at lines ms in brought_in_all plan p lines ++ brought_moved plan p c.members c.at
+by_lines plan p at ms lines = let c = inputs_all plan at lines ms in brought_in_all plan p lines ++ brought_moved plan p c.state c.at
 
 still_brings : {C : Type 0} (plan : Plan) (p : ℕ) (devices : List DeviceLine) (origin t from limit : ℕ) (members : List (Member C)) → AreStill origin from limit members → of_tick t devices ≡ []
     → brought_tick plan p (tick_from origin t) devices members ≡ []
@@ -76,8 +76,8 @@ unbrought plan p devices origin from limit members h (suc n) m t start within no
     let own = none t (omega arith) (omega arith) in
     let next = module_tick plan (tick_from origin t) devices members in
     ap (λ k. inputs_from plan p devices k (Some (tick_from origin t)) members) one_more
-    ∙ ap (λ (is : List Input). map (line_in t) is ++ inputs_from plan p devices (n + m) (option_map next_tick next.at) next.members) (still_brings plan p devices origin t from limit members h own)
-    ∙ ap (λ (r : Course _). inputs_from plan p devices (n + m) (option_map next_tick r.at) r.members) (still_tick plan devices origin t from limit members start (omega (arith, within)) h own)
+    ∙ ap (λ (is : List Input). map (line_in t) is ++ inputs_from plan p devices (n + m) (option_map next_tick next.at) next.state) (still_brings plan p devices origin t from limit members h own)
+    ∙ ap (λ (r : Course _). inputs_from plan p devices (n + m) (option_map next_tick r.at) r.state) (still_tick plan devices origin t from limit members start (omega (arith, within)) h own)
     ∙ unbrought plan p devices origin from limit members h n m (t + 1) (omega (arith, start)) (omega (arith, within)) (λ u above below. none u (omega (arith, above)) (omega (arith, below)))
     ∙ ap (λ u. inputs_from plan p devices m (Some (tick_from origin u)) members) there
 

@@ -9,11 +9,11 @@ use Rattle.module.proofs.Collecting.{both_collected}
 -- ---- what was collected
 
 -- by the device lines, then by the messages
-pub tick_collected : {C X : Type 0} (tick : ℕ) (a brought : List Input) (old mid new : List InputLine) (plan : Plan) (p : ℕ) (c : Course C) (members : List (Member C)) (last : Option At) (r : Result X InputsFault)
-    → brought ≡ a ++ brought_moved plan p c.members c.at → last ≡ c.at → members ≡ c.members → mid ≡ old ++ map (line_in tick) a → AreCollected tick (brought_moved plan p members last) mid new r → AreCollected tick brought old new r
+pub tick_collected : {C X : Type 0} (tick : ℕ) (a brought : List Input) (old mid new : List InputLine) (plan : Plan) (p : ℕ) (c : Course (List (Member C))) (members : List (Member C)) (last : Option At) (r : Result X InputsFault)
+    → brought ≡ a ++ brought_moved plan p c.state c.at → last ≡ c.at → members ≡ c.state → mid ≡ old ++ map (line_in tick) a → AreCollected tick (brought_moved plan p members last) mid new r → AreCollected tick brought old new r
 tick_collected tick a brought old mid new plan p c members last r parts on same first h =
     let all : brought ≡ a ++ brought_moved plan p members last =
-    parts ∙ ap (λ (o : Option At). a ++ brought_moved plan p c.members o) (sym on) ∙ ap (λ (ms : List (Member _)). a ++ brought_moved plan p ms last) (sym same) in
+    parts ∙ ap (λ (o : Option At). a ++ brought_moved plan p c.state o) (sym on) ∙ ap (λ (ms : List (Member _)). a ++ brought_moved plan p ms last) (sym same) in
     subst (λ (is : List Input). AreCollected tick is old new r) (sym all) (both_collected tick a (brought_moved plan p members last) old mid new r first h)
 
 -- ---- a sink that forgets

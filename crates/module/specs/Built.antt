@@ -2,7 +2,7 @@
 use Rattle.std.specs.Prelude.{◌≡◌, ◌≤◌, ℕ, false, List, [], ◌∷◌, map, Some, All, FitsSigned}
 use Rattle.std.specs.Int.{w64}
 use Rattle.std.specs.List.{list_any}
-use Rattle.apex_types.specs.declared.limits.TheConstants.{MOST_INSTRUCTIONS}
+use Rattle.apex_types.specs.Limits.{MOST_INSTRUCTIONS}
 use Rattle.apex_types.specs.declared.version.ImageVersion.TheVariants.{Third}
 use Rattle.pal_meaning.specs.Program.{size_of}
 use Rattle.pal_meaning.specs.Program.{Program}

@@ -1,7 +1,7 @@
 -- The inputs of one partition that are collected, tick by tick.
-use Rattle.std.specs.Prelude.{◌≡◌, ◌<◌, ◌≤◌, ℕ, zero, suc, ◌+◌, ℤ, List, [], ◌∷◌, ◌++◌, length, map, Option, Some, None, Result, Ok, Err}
+use Rattle.std.specs.Prelude.{◌≡◌, ◌<◌, ℕ, zero, suc, ◌+◌, ℤ, List, [], ◌++◌, length, map, Option, Some, None, Result, Ok, Err}
 use Rattle.arrayvec.specs.ArrayVec.{ArrayVec}
-use Rattle.apex_types.specs.declared.limits.TheConstants.{MOST_DEVICE_LINES}
+use Rattle.apex_types.specs.Limits.{MOST_DEVICE_LINES}
 use Rattle.apex_types.specs.declared.device.DeviceLine.{DeviceLine}
 use Rattle.apex_types.specs.declared.identity.At.{At}
 use Rattle.apex_types.specs.declared.identity.PartitionId.{PartitionId}
@@ -45,16 +45,16 @@ held_found channels p q number (Some x) = held_port channels p q number x
 -- ---- a tick that is not shown
 
 -- Such a step was made. `answer` is the tick with the origin valid from here on, or none.
-pub record IsMadeUnseen {C : Type 0} (c : Course C) (answer : Option At) (now : List (Member C)) : Type 0 where
+pub record IsMadeUnseen {S : Type 0} (c : Course S) (answer : Option At) (now : S) : Type 0 where
   pub at : answer ≡ c.at
-  pub members : now ≡ c.members
+  pub state : now ≡ c.state
 
 -- ---- what the next ticks bring
 
 -- after a shutdown there are no inputs
 abbrev pub brought_from : {C : Type 0} → Plan → ℕ → List DeviceLine → ℕ → List (Member C) → Option ℕ → List Input
 brought_from plan p lines now members None = []
-brought_from plan p lines now members (Some origin) = brought_tick plan p (tick_from origin now) lines (begins now members).members
+brought_from plan p lines now members (Some origin) = brought_tick plan p (tick_from origin now) lines (begins now members).state
 
 -- the inputs that the next tick brings partition p, with these device lines
 abbrev pub brought_next : {C : Type 0} → Plan → ℕ → List DeviceLine → Standing C → List Input

@@ -1,14 +1,12 @@
 -- The promise of isolation for a run: it shows each partition as if it ran alone.
-use Rattle.std.specs.Prelude.{◌≡◌, ℕ, List, Option, Some, Result, Ok}
+use Rattle.std.specs.Prelude.{◌≡◌, ℕ, List, Option, Some, Result}
 use Rattle.std.specs.Io.KnownBytes.{Appends}
 use Rattle.apex_types.specs.Line.{text_of}
 use Rattle.apex_types.specs.declared.device.DeviceLine.{DeviceLine}
-use Rattle.machine_meaning.specs.Image.{Image, Item}
+use Rattle.machine_meaning.specs.Image.{Image}
 use Rattle.machine_meaning.specs.ImageReading.{Fault}
 use Rattle.machine_meaning.specs.MachineMeaning.{machine_trace}
 use Rattle.isolation.specs.Brought.{part}
-use Rattle.isolation.specs.ReplayText.{replay_verdict}
-use Rattle.isolation.specs.Replays.{numbered}
 use Rattle.isolation.specs.Slices.{Slice, machine_inputs, slice, slice_trace}
 use Rattle.module.specs.Runs.{IsRun}
 
@@ -26,10 +24,3 @@ pub record WritesAlone (image : Image) (lines : List DeviceLine) (n : ℕ) (old 
 -- An image was read and a device text was taken, and what was written shows each partition as if it ran alone.
 abbrev pub IsIsolated : Result Image Fault → List ℕ → ℕ → Option (List ℕ) → Option (List ℕ) → Type 0
 IsIsolated read devices n old new = (image : Image) × (lines : List DeviceLine) × IsRun read devices n image lines × WritesAlone image lines n old new
-
--- For the inputs that a run of the whole image brings a partition, the text written is the
--- partition's part of that run's trace.
-abbrev pub ReplaysPart : Result Image Fault → List ℕ → List ℕ → ℕ → Option (List ℕ) → Option (List ℕ) → Type 0
-ReplaysPart read name inputs n old new =
-    (image : Image) (found : ℕ × Item) (devices : List ℕ) (lines : List DeviceLine) → IsRun read devices n image lines → numbered image name ≡ Some found
-    → replay_verdict found.1.partition inputs ≡ Ok (machine_inputs image found.0 lines n) → Appends old new (text_of (part name (machine_trace image lines n)))

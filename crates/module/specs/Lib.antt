@@ -18,4 +18,5 @@ pub mod Running
 pub mod Telling
 pub mod Upgrades
 pub mod Views
+pub mod Watched
 pub mod Written

@@ -1,12 +1,13 @@
 -- A machine that runs an image tick by tick, and the promise of a tick.
-use Rattle.std.specs.Prelude.{◌≡◌, ◌≤◌, ◌<◌, ◌^◌, ℕ, zero, suc, ◌+◌, ◌-◌, Bool, true, false, List, Option, Result, Ok, Err, ◌⊎◌}
+use Rattle.std.specs.Prelude.{◌≡◌, ◌≤◌, ◌<◌, ℕ, zero, suc, ◌+◌, ◌-◌, Bool, true, false, List, Option, Result, Ok, Err, ◌⊎◌}
 use Rattle.std.specs.Io.KnownBytes.{Appends}
-use Rattle.apex_types.specs.declared.limits.TheConstants.{MOST_TICKS}
+use Rattle.apex_types.specs.Limits.{MOST_TICKS}
 use Rattle.apex_types.specs.Line.{text_of}
 use Rattle.apex_types.specs.Line.{TakesBeginning}
 use Rattle.apex_types.specs.declared.device.DeviceLine.{DeviceLine}
 use Rattle.kernel_laws.specs.Quiet.{HaveNoLines}
 use Rattle.machine_meaning.specs.Image.{Image}
+use Rattle.kernel_meaning.specs.Partition.{Member}
 use Rattle.machine_meaning.specs.MachineControl.{MachineControl}
 use Rattle.module_meaning.specs.Module.{Course, of_tick}
 use Rattle.machine_meaning.specs.MachineMeaning.{machine_module}
@@ -33,7 +34,7 @@ abbrev pub fresh_machine : Image → Machine
 fresh_machine image = record { image = image; standing = at_first (machine_module image).members; failed = false }
 
 -- the next tick of an image, with these device lines
-abbrev pub course_of : List DeviceLine → Machine → Course MachineControl
+abbrev pub course_of : List DeviceLine → Machine → Course (List (Member MachineControl))
 course_of lines m = ticks (machine_module m.image).plan lines m.standing
 
 -- neither the machine nor the sink was touched

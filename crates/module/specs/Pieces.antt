@@ -7,7 +7,7 @@ use Rattle.apex_types.specs.declared.device.DeviceLine.{DeviceLine}
 use Rattle.apex_types.specs.declared.event.Event.{Event}
 use Rattle.apex_types.specs.declared.identity.At.{At}
 use Rattle.engine_meaning.specs.Engine.{Engine}
-use Rattle.module_meaning.specs.Module.{Plan, ports_from, ticks_owner}
+use Rattle.module_meaning.specs.Module.{Plan, ports_from, still, ticks_owner}
 use Rattle.kernel_meaning.specs.Partition.{Member, Moved, World, messages_to_move, tick, with_world}
 use Rattle.kernel_meaning.specs.Windows.{ended, owner, tick_from}
 use Rattle.lone_partition.specs.Sent.{Sent, HasSent}
@@ -29,7 +29,7 @@ HasPassedSome plan lines k s next old new n = (n ≤ k) × (next.now ≡ s.now +
 
 -- Of k ticks, n were made, which have no device lines and write none.
 abbrev pub HasSkippedSome : {C : Type 0} → Plan → ℕ → Standing C → Standing C → ℕ → Type 0
-HasSkippedSome plan k s next n = (n ≤ k) × (next.now ≡ s.now + n) × (elapse plan [] n s ≡ record { lines = []; standing = next })
+HasSkippedSome plan k s next n = (n ≤ k) × (next.now ≡ s.now + n) × (elapse plan [] n s ≡ still next)
 
 -- n ticks were made, and their lines were written.
 pub record HasRun {C : Type 0} (plan : Plan) (lines : List DeviceLine) (n : ℕ) (s next : Standing C) (old new : Option (List ℕ)) (before after : ℕ) : Type 0 where
@@ -88,11 +88,11 @@ abbrev pub elapse_from : {C : Type 0} → Plan → List DeviceLine → ℕ → (
 elapse_from plan lines n now members None = elapse plan lines (suc n) (record { members = members; now = now; origin = None })
 elapse_from plan lines n now members (Some origin) =
     let a = ticks_owner (tick_from origin now) members (owner plan.schedule (tick_from origin now)) in
-    preceded_by a.lines (elapse plan lines n (record { members = a.members; now = now + 1; origin = Some origin }))
+    preceded_by a.lines (elapse plan lines n (record { members = a.state; now = now + 1; origin = Some origin }))
 
 -- n ticks without device lines in the first, whose messages have moved already
 abbrev pub elapse_behind : {C : Type 0} → Plan → List DeviceLine → ℕ → Standing C → Elapsed C
-elapse_behind plan lines zero s = record { lines = []; standing = s }
+elapse_behind plan lines zero s = still s
 elapse_behind plan lines (suc n) s = elapse_from plan lines n s.now s.members s.origin
 
 -- n such ticks write these lines and lead to this `Standing`, whatever ticks follow.

@@ -1,7 +1,7 @@
 -- The promise of building and running a module: the trace that the table and the sources mean.
-use Rattle.std.specs.Prelude.{◌≡◌, ℕ, ◌^◌, ◌<◌, ◌≤◌, List, Option, Result, Ok, Err}
+use Rattle.std.specs.Prelude.{◌≡◌, ℕ, ◌<◌, ◌≤◌, List, Option, Result, Ok, Err}
 use Rattle.std.specs.Io.KnownBytes.{Appends}
-use Rattle.apex_types.specs.declared.limits.TheConstants.{MOST_TICKS}
+use Rattle.apex_types.specs.Limits.{MOST_TICKS}
 use Rattle.apex_types.specs.Line.{text_of, TakesBeginning}
 use Rattle.apex_types.specs.declared.device.DeviceFault.{DeviceFault}
 use Rattle.apex_types.specs.declared.device.DeviceLine.{DeviceLine}
@@ -12,7 +12,7 @@ use Rattle.module_meaning.specs.SourceMeaning.{source_trace, IsAcceptedRun}
 use Rattle.module_meaning.specs.Accepted.{IsModule}
 use Rattle.module.specs.declared.fault.BuildAndRunFault.{BuildAndRunFault}
 use Rattle.module.specs.declared.fault.BuildAndRunFault.TheVariants.{Build, Run}
-use Rattle.module.specs.declared.fault.RunFault.TheVariants.{Ticks, Image as NoImage, Partition as NoPartition, Device, Memory, Write, Failed}
+use Rattle.module.specs.declared.fault.RunFault.TheVariants.{Ticks, Device, Memory, Write}
 use Rattle.module.specs.Refusals.{IsRefusal}
 
 -- Table and sources are accepted, and with this table the device text is refused.
@@ -32,7 +32,5 @@ Means table sources devices n old new (Err (Run Write)) = (t : Table) × (progra
 Means table sources devices n old new (Err (Build fault)) = IsRefusal table sources fault × (new ≡ old)
 Means table sources devices n old new (Err (Run Ticks)) = (MOST_TICKS < n) × (new ≡ old)
 Means table sources devices n old new (Err (Run (Device f))) = (n ≤ MOST_TICKS) × IsDeviceRefused table sources devices f × (new ≡ old)
-Means table sources devices n old new (Err (Run (NoImage f))) = ⊥
-Means table sources devices n old new (Err (Run NoPartition)) = ⊥
 Means table sources devices n old new (Err (Run Memory)) = new ≡ old
-Means table sources devices n old new (Err (Run Failed)) = ⊥
+Means table sources devices n old new (Err (Run _)) = ⊥

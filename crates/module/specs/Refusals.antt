@@ -1,6 +1,6 @@
 -- The reasons for which a module is refused, and when each refusal is right.
-use Rattle.std.specs.Prelude.{◌≡◌, ◌≢◌, ◌⊎◌, ℕ, Bool, nat_lt, List, ◌∷◌, length, if◌then◌else◌, Option, Some, None, Err}
-use Rattle.apex_types.specs.declared.limits.TheConstants.{MOST_INSTRUCTIONS}
+use Rattle.std.specs.Prelude.{◌≡◌, ◌≢◌, ◌⊎◌, ℕ, Bool, nat_lt, List, ◌∷◌, length, if◌then◌else◌, Option, Some, None}
+use Rattle.apex_types.specs.Limits.{MOST_INSTRUCTIONS}
 use Rattle.pal_meaning.specs.Program.{size_of, Program}
 use Rattle.compiler.specs.declared.fault.CompileFault.TheVariants as compile
 use Rattle.module_meaning.specs.Table.{Partition, Table}

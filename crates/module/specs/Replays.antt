@@ -1,18 +1,21 @@
 -- The promises of replaying one partition of an image.
-use Rattle.std.specs.Prelude.{◌≡◌, ℕ, ◌^◌, ◌<◌, ◌≤◌, List, Option, Some, None, Result, Ok, Err}
+use Rattle.std.specs.Prelude.{◌≡◌, ℕ, ◌<◌, ◌≤◌, List, Option, Some, None, Result, Ok, Err}
 use Rattle.std.specs.Io.KnownBytes.{Appends}
-use Rattle.apex_types.specs.declared.limits.TheConstants.{MOST_TICKS}
+use Rattle.apex_types.specs.Limits.{MOST_TICKS}
 use Rattle.apex_types.specs.Line.{text_of, TakesBeginning}
 use Rattle.apex_types.specs.declared.device.DeviceFault.{DeviceFault}
+use Rattle.apex_types.specs.declared.device.DeviceLine.{DeviceLine}
 use Rattle.machine_meaning.specs.ImageReading.{Fault}
 use Rattle.machine_meaning.specs.Image.{Image, Item}
+use Rattle.machine_meaning.specs.MachineMeaning.{machine_trace}
+use Rattle.isolation.specs.Brought.{part}
 use Rattle.isolation.specs.declared.input.InputLine.{InputLine}
 use Rattle.isolation.specs.ReplayText.{replay_verdict}
 use Rattle.isolation.specs.Replays.{IsReplay, numbered}
-use Rattle.isolation.specs.Slices.{Slice, slice_trace}
+use Rattle.isolation.specs.Slices.{Slice, machine_inputs, slice_trace}
 use Rattle.module.specs.declared.fault.RunFault.{RunFault}
 use Rattle.module.specs.declared.fault.RunFault.TheVariants.{Ticks, Image as NoImage, Partition as NoPartition, Device, Memory, Write, Failed}
-use Rattle.module.specs.Runs.{IsImageRefusal}
+use Rattle.module.specs.Runs.{IsImageRefusal, IsRun}
 
 -- the image has no partition of this name
 abbrev pub LacksPartition : Result Image Fault → List ℕ → Type 0
@@ -36,3 +39,10 @@ Replays read name inputs n old new (Err NoPartition) = (n ≤ MOST_TICKS) × Lac
 Replays read name inputs n old new (Err (Device f)) = (n ≤ MOST_TICKS) × IsInputRefusal read name inputs f × (new ≡ old)
 Replays read name inputs n old new (Err Memory) = new ≡ old
 Replays read name inputs n old new (Err Failed) = ⊥
+
+-- For the inputs that a run of the whole image brings a partition, the text written is the
+-- partition's part of that run's trace.
+abbrev pub ReplaysPart : Result Image Fault → List ℕ → List ℕ → ℕ → Option (List ℕ) → Option (List ℕ) → Type 0
+ReplaysPart read name inputs n old new =
+    (image : Image) (found : ℕ × Item) (devices : List ℕ) (lines : List DeviceLine) → IsRun read devices n image lines → numbered image name ≡ Some found
+    → replay_verdict found.1.partition inputs ≡ Ok (machine_inputs image found.0 lines n) → Appends old new (text_of (part name (machine_trace image lines n)))

@@ -1,7 +1,7 @@
 -- The promise of running an image: the trace that the image means.
-use Rattle.std.specs.Prelude.{◌≡◌, ℕ, ◌^◌, ◌<◌, ◌≤◌, List, Option, Some, None, Result, Ok, Err}
+use Rattle.std.specs.Prelude.{◌≡◌, ℕ, ◌<◌, ◌≤◌, List, Option, Some, None, Result, Ok, Err}
 use Rattle.std.specs.Io.KnownBytes.{Appends}
-use Rattle.apex_types.specs.declared.limits.TheConstants.{MOST_TICKS}
+use Rattle.apex_types.specs.Limits.{MOST_TICKS}
 use Rattle.apex_types.specs.Line.{text_of, TakesBeginning}
 use Rattle.apex_types.specs.declared.device.DeviceFault.{DeviceFault}
 use Rattle.apex_types.specs.declared.device.DeviceLine.{DeviceLine}
@@ -11,7 +11,7 @@ use Rattle.machine_meaning.specs.Image.{Image}
 use Rattle.image.specs.Named.{named}
 use Rattle.image.specs.declared.fault.ImageFault.{ImageFault}
 use Rattle.module.specs.declared.fault.RunFault.{RunFault}
-use Rattle.module.specs.declared.fault.RunFault.TheVariants.{Ticks, Image as NoImage, Partition as NoPartition, Device, Memory, Write, Failed}
+use Rattle.module.specs.declared.fault.RunFault.TheVariants.{Ticks, Image as NoImage, Device, Memory, Write}
 
 -- the image that was read, and the lines of the device text, within the ticks that are run
 pub record IsRun (read : Result Image Fault) (devices : List ℕ) (n : ℕ) (image : Image) (lines : List DeviceLine) : Type 0 where
@@ -43,5 +43,4 @@ Runs read devices n old new (Err Ticks) = (MOST_TICKS < n) × (new ≡ old)
 Runs read devices n old new (Err (Device f)) = (n ≤ MOST_TICKS) × IsDeviceRefusal read devices f × (new ≡ old)
 Runs read devices n old new (Err (NoImage f)) = (n ≤ MOST_TICKS) × IsImageRefusal read f × (new ≡ old)
 Runs read devices n old new (Err Memory) = new ≡ old
-Runs read devices n old new (Err NoPartition) = ⊥
-Runs read devices n old new (Err Failed) = ⊥
+Runs read devices n old new (Err _) = ⊥

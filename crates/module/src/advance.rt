@@ -5,7 +5,7 @@ ghost use Rattle.module_meaning.specs.Module as meaning;
 ghost use Rattle.lone_partition.specs.Outputs.{next_at, sent_of};
 ghost use Rattle.module_meaning.specs.Standing.{begins, begins_and_ticks};
 ghost use Rattle.module.specs.Views.{members_in, plan_of};
-ghost use Rattle.module.specs.Written.{done_in, IsCourse, IsMade};
+ghost use Rattle.lone_partition.specs.Written.{IsCourse, IsMade, done_in};
 
 use crate::member::Members;
 use apex_types::{At, DeviceLine, Moment, PartitionId, Sink, StartCondition, Ticks};

@@ -1,7 +1,7 @@
 //! The inputs of one partition, as they are collected in a run.
 
 ghost use Rattle.std.specs.Prelude.{◌≡◌, ◌≤◌, ◌∷◌, [], length};
-ghost use Rattle.apex_types.specs.declared.limits.TheConstants.{MOST_DEVICE_LINES};
+ghost use Rattle.apex_types.specs.Limits.{MOST_DEVICE_LINES};
 ghost use Rattle.module.specs.Collecting.{AreCollected};
 
 use crate::inputs_fault::InputsFault;

@@ -7,7 +7,7 @@ ghost use Rattle.kernel_meaning.specs.Partition.{messages_to_move};
 ghost use Rattle.image.specs.Items.{channel_of, channels_of};
 ghost use Rattle.lone_partition.specs.Outputs.{sent_of};
 ghost use Rattle.module.specs.Views.{members_in};
-ghost use Rattle.module.specs.Written.{IsMade};
+ghost use Rattle.lone_partition.specs.Written.{IsMade};
 
 use crate::member::Members;
 use apex_types::{ChannelEnd, Moment, PartitionId, PortId, Sink, Words, copied};

@@ -4,7 +4,7 @@ ghost use Rattle.std.specs.Prelude.{◌≡◌};
 ghost use Rattle.module_meaning.specs.Module as meaning;
 ghost use Rattle.lone_partition.specs.Outputs.{next_at, sent_of};
 ghost use Rattle.module.specs.Views.{members_in, plan_of};
-ghost use Rattle.module.specs.Written.{IsCourse};
+ghost use Rattle.lone_partition.specs.Written.{IsCourse};
 
 use crate::member::Members;
 use apex_types::{DeviceInput, DeviceLine, Moment, Sink};

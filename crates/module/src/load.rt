@@ -1,7 +1,7 @@
 //! From an image to its partitions, ready to start.
 
 ghost use Rattle.std.specs.Prelude.{◌≡◌, ◌≤◌, length, map, IfOk};
-ghost use Rattle.apex_types.specs.declared.limits.TheConstants.{MOST_PARTITIONS};
+ghost use Rattle.apex_types.specs.Limits.{MOST_PARTITIONS};
 ghost use Rattle.machine_meaning.specs.MachineMeaning.{machine_module};
 ghost use Rattle.image.specs.Views.{image_of};
 ghost use Rattle.partition_base.specs.contracts.machine.PartitionProcessorExecutor.TheImpl.{ghosts as machine};

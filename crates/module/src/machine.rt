@@ -1,7 +1,7 @@
 //! An image that runs tick by tick.
 
 ghost use Rattle.std.specs.Prelude.{◌≡◌, ◌<◌, ◌≤◌, ◌+◌, ◌-◌, ◌^◌, ℕ, List, Option, Result, Ok, false, is_none, IfOk, IfErr, OnOk};
-ghost use Rattle.apex_types.specs.declared.limits.TheConstants.{MOST_TICKS};
+ghost use Rattle.apex_types.specs.Limits.{MOST_TICKS};
 ghost use Rattle.machine_meaning.specs.MachineMeaning.{verdict_for};
 ghost use Rattle.module_meaning.specs.Module.{of_tick};
 ghost use Rattle.image.specs.Views.{image_of};

@@ -1,7 +1,7 @@
 //! The partitions of a module and the memory of all of them, over any executor.
 
 ghost use Rattle.std.specs.Prelude.{◌≤◌, ◌^◌, length};
-ghost use Rattle.apex_types.specs.declared.limits.TheConstants.{MOST_PARTITIONS, MOST_TICKS};
+ghost use Rattle.apex_types.specs.Limits.{MOST_PARTITIONS, MOST_TICKS};
 ghost use Rattle.module.specs.Members.{AreFitting};
 ghost use Rattle.module.specs.Standing.{origin_or_zero};
 

@@ -1,7 +1,7 @@
 //! Many ticks of a module together: pieces of windows, and ticks in which nothing happens.
 
 ghost use Rattle.std.specs.Prelude.{◌≡◌, ◌≢◌, ◌≤◌, ◌<◌, ◌+◌, ◌^◌, ℕ, suc, true, false, List, Some, None, length, option_map, slice_get};
-ghost use Rattle.apex_types.specs.declared.limits.TheConstants.{MOST_TICKS};
+ghost use Rattle.apex_types.specs.Limits.{MOST_TICKS};
 ghost use Rattle.apex_types.specs.declared.device.DeviceLine.{DeviceLine};
 ghost use Rattle.apex_types.specs.declared.identity.At.{At};
 ghost use Rattle.module_meaning.specs.Module as meaning;
@@ -12,14 +12,15 @@ ghost use Rattle.module.specs.Collecting.{BringsNothing};
 ghost use Rattle.module.specs.Pieces.{EndsQuietly, HasMovedWritten, HasNoSource, HasPassedSome, HasPassedSomeBehind, HasSkippedSome};
 ghost use Rattle.module.specs.Standing.{ticks_in};
 ghost use Rattle.module.specs.Views.{members_in, plan_of, standing_of};
-ghost use Rattle.module.specs.Written.{AreFrom, IsMade};
+ghost use Rattle.lone_partition.specs.Written.{IsMade};
+ghost use Rattle.module.specs.Written.{AreFrom};
 
 use crate::member::{Members, Module};
 use crate::step::number_at;
 use apex_types::limits::MOST_TICKS;
 use apex_types::{At, DeviceLine, Moment, PartitionId, PortId, Sink, Ticks};
 use image::Image;
-use lone_partition::{Output, write_advance};
+use lone_partition::{Output, at_most, until_line, write_advance};
 use partition_base::Executor;
 use regions::PartitionMem;
 use window_table::Span;
@@ -116,32 +117,6 @@ impl<E: Executor<Mem = PartitionMem>> Members<E> {
     {
         let mem = self.memory.lend(number_at(place));
         write_advance(&mut self.partitions[place], mem, moment, most, output)
-    }
-}
-
-/// How many of `most` ticks, from `now` on, come before the first of these lines. The lines are of
-/// the tick `now` or later.
-pub fn until_line(lines: &[DeviceLine], now: Ticks, most: u32) -> u32
-    requires order { AreFrom now.0 lines.now }
-    ensures within { result ≤ most }
-    ensures from { AreFrom (now.0 + result) lines.now }
-{
-    match lines.first() {
-        Some(line) => at_most(line.tick().saturating_sub(now.0), most),
-        None => most,
-    }
-}
-
-/// `ticks`, or `most` if there are more.
-pub fn at_most(ticks: u64, most: u32) -> u32
-    ensures within { result ≤ most }
-    ensures ticks { result ≤ ticks }
-    ensures some { 0 < ticks → 0 < most → 0 < result }
-{
-    if ticks < u64::from(most) {
-        ticks as u32
-    } else {
-        most
     }
 }
 

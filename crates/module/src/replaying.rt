@@ -1,12 +1,11 @@
 //! Replaying one partition of an image from its inputs.
 
 ghost use Rattle.std.specs.Prelude.{◌≡◌, ◌≢◌, ◌≤◌, ◌<◌, ◌+◌, ◌-◌, ◌^◌, Some, length, IfErr, OnOk, IsErrOf};
-ghost use Rattle.apex_types.specs.declared.limits.TheConstants.{MOST_TICKS};
+ghost use Rattle.apex_types.specs.Limits.{MOST_TICKS};
 ghost use Rattle.machine_meaning.specs.ImageReading.{image_at};
 ghost use Rattle.image.specs.Views.{image_of};
 ghost use Rattle.isolation.specs.Slices.{Slice, slice};
-ghost use Rattle.module.specs.Isolated.{ReplaysPart};
-ghost use Rattle.module.specs.Replays.{Replays};
+ghost use Rattle.module.specs.Replays.{Replays, ReplaysPart};
 ghost use Rattle.module.specs.Running.{ReplaysSlice};
 
 use crate::fault::RunFault;

@@ -2,7 +2,7 @@
 
 ghost use Rattle.std.specs.Prelude.{◌≡◌, ◌≢◌, ◌≤◌, ◌<◌, ◌+◌, ◌-◌, ◌^◌, Ok, map, IfOk, IfErr, OnOk, IsErrOf};
 ghost use Rattle.std.specs.Io.KnownBytes.{Keeps};
-ghost use Rattle.apex_types.specs.declared.limits.TheConstants.{MOST_TICKS};
+ghost use Rattle.apex_types.specs.Limits.{MOST_TICKS};
 ghost use Rattle.machine_meaning.specs.MachineMeaning.{verdict_for};
 ghost use Rattle.machine_meaning.specs.ImageReading.{image_at};
 ghost use Rattle.machine_meaning.specs.MachineMeaning.{machine_trace};
@@ -13,6 +13,7 @@ ghost use Rattle.module.specs.Machines.{fresh_machine, machine_of};
 ghost use Rattle.module.specs.Promises.{Means};
 ghost use Rattle.module.specs.Runs.{Runs};
 ghost use Rattle.module.specs.Running.{RunsImage};
+ghost use Rattle.module.specs.Watched.{IsToldAll, IsToldMade, IsToldRun, IsToldWhole};
 ghost use Rattle.module.specs.Written.{AreFrom};
 
 use crate::building::build;
@@ -56,12 +57,13 @@ pub fn run<S: Sink>(
     run_watched(alloc, image, devices, ticks, sink, &mut Unwatched)
 }
 
-/// Runs the image as [`run`] does, and reports to a watcher how far the run is: after at most 2^20
-/// ticks, each time.
+/// Runs the image as [`run`] does, and reports to a watcher how far the run is, in rising order:
+/// after at most 2^20 ticks each time, once the sink has taken their text, and at the end.
 ///
 /// # Errors
 ///
 /// Those of [`run`].
+#[tactic(auto, using(crate::proofs::Watched::not_begun))]
 pub fn run_watched<S: Sink, W: Watch>(
     alloc: Global,
     image: &[u8],
@@ -79,6 +81,10 @@ pub fn run_watched<S: Sink, W: Watch>(
     ensures write { IsErrOf result RunFault.Write → S.failures sink.new ≡ S.failures sink.old + 1 }
     ensures quiet { IfErr result
         (λ fault. fault ≢ RunFault.Write → S.failures sink.new ≡ S.failures sink.old) }
+    ensures followed { IsToldRun (image_at image.now) devices.now ticks (S.taken sink.old)
+        (S.taken sink.new) (W.told watch.old) (W.told watch.new) }
+    ensures whole { OnOk result
+        (IsToldWhole (image_at image.now) devices.now ticks (W.told watch.old) (W.told watch.new)) }
 {
     if ticks > MOST_TICKS {
         return Err(RunFault::Ticks);
@@ -132,6 +138,10 @@ fn run_ticks<S: Sink, W: Watch>(
         (S.taken sink.old) (S.taken sink.new) result }
     ensures ok { OnOk result (S.failures sink.new ≡ S.failures sink.old) }
     ensures write { IsErrOf result RunFault.Write → S.failures sink.new ≡ S.failures sink.old + 1 }
+    ensures followed { IsToldMade (machine_of machine.old).image devices.now ticks (S.taken sink.old)
+        (S.taken sink.new) (W.told watch.old) (W.told watch.new) }
+    ensures whole { OnOk result (IsToldAll (machine_of machine.old).image devices.now ticks
+        (W.told watch.old) (W.told watch.new)) }
 {
     let mut left = ticks;
     let mut lines = devices;

@@ -1,7 +1,7 @@
 //! A step of one partition; the others are unchanged.
 
 ghost use Rattle.std.specs.Prelude.{◌≡◌, ◌≢◌, ◌<◌, ◌+◌, ℕ, None, length, slice_get};
-ghost use Rattle.apex_types.specs.declared.limits.TheConstants.{MOST_PARTITIONS};
+ghost use Rattle.apex_types.specs.Limits.{MOST_PARTITIONS};
 ghost use Rattle.module_meaning.specs.Table.{at_number};
 ghost use Rattle.module_meaning.specs.Module as meaning;
 ghost use Rattle.kernel_meaning.specs.Partition.{leaves, leaving};
@@ -9,7 +9,7 @@ ghost use Rattle.lone_partition.specs.Outputs.{sent_of};
 ghost use Rattle.lone_partition.specs.Steps.{step_of};
 ghost use Rattle.module.specs.Views.{members_in};
 ghost use Rattle.regions.specs.Parts.{place_of};
-ghost use Rattle.module.specs.Written.{IsMade};
+ghost use Rattle.lone_partition.specs.Written.{IsMade};
 
 use crate::member::Members;
 use apex_types::{Moment, PartitionId, PortId, Sink, Words};
@@ -56,7 +56,7 @@ impl<E: Executor<Mem = PartitionMem>> Members<E> {
 
     /// Executes a step of the partition with this number, if there is such a partition, and writes
     /// its lines.
-    #[tactic(auto, using(crate::proofs::Written::still_made))]
+    #[tactic(auto, using(lone_partition::proofs::Written::still_made))]
     pub fn step<S: Sink>(
         &mut self,
         number: PartitionId,
@@ -106,7 +106,7 @@ impl<E: Executor<Mem = PartitionMem>> Members<E> {
 
     /// Takes the first message of a port out of the partition with this number, if there is such a
     /// partition and its port holds a message. Returns the message.
-    #[tactic(auto, using(crate::proofs::Written::still_made))]
+    #[tactic(auto, using(lone_partition::proofs::Written::still_made))]
     pub fn leave<S: Sink>(
         &mut self,
         number: PartitionId,

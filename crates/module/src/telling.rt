@@ -1,7 +1,7 @@
 //! The inputs that a run of an image brings one of its partitions.
 
-ghost use Rattle.std.specs.Prelude.{◌≡◌, ◌≢◌, ◌≤◌, ◌<◌, ◌+◌, ◌-◌, ◌^◌, Some, length, IfErr, IfOk, OnOk, IsErrOf};
-ghost use Rattle.apex_types.specs.declared.limits.TheConstants.{MOST_TICKS};
+ghost use Rattle.std.specs.Prelude.{◌≡◌, ◌≢◌, ◌≤◌, ◌<◌, ◌+◌, ◌-◌, ◌^◌, [], ◌∷◌, Some, length, IfErr, IfOk, OnOk, IsErrOf};
+ghost use Rattle.apex_types.specs.Limits.{MOST_TICKS};
 ghost use Rattle.machine_meaning.specs.ImageReading.{image_at};
 ghost use Rattle.machine_meaning.specs.MachineMeaning.{machine_module};
 ghost use Rattle.image.specs.Views.{image_of};
@@ -11,20 +11,21 @@ ghost use Rattle.module.specs.Collecting.{HasNoRoom};
 ghost use Rattle.module_meaning.specs.Standing.{at_first};
 ghost use Rattle.module.specs.Telling.{Tells, TellsSlice};
 ghost use Rattle.module.specs.Views.{standing_of};
+ghost use Rattle.module.specs.Watched.{Hears, IsFollowed};
 ghost use Rattle.module.specs.Written.{AreFrom};
+ghost use Rattle.module.specs.declared.telling.TheConstants.{STEPS_BETWEEN_REPORTS};
 
 use crate::collected::Collected;
 use crate::inputs_fault::InputsFault;
 use crate::member::Module;
 use crate::naming::numbered;
-use crate::pieces::{at_most, until_line};
 use crate::ticks::split_tick;
 use crate::watch::{Unwatched, Watch};
 use crate::watching::Forgetful;
 use apex_types::limits::MOST_TICKS;
 use apex_types::{DeviceLine, PartitionId, Sink, Ticks, TraceBuffer};
 use image::{Image, load_image};
-use lone_partition::Output;
+use lone_partition::{Output, at_most, until_line};
 use module_base::{read_devices, write_inputs};
 use partition_base::PartitionProcessor;
 use std::alloc::Global;
@@ -77,11 +78,13 @@ pub fn inputs<S: Sink>(
     inputs_watched(alloc, image, wanted, sink, &mut Unwatched)
 }
 
-/// Writes the inputs as [`inputs`] does, and reports to a watcher how far the run is.
+/// Writes the inputs as [`inputs`] does, and reports to a watcher how far the run is, in rising
+/// order and before its last tick.
 ///
 /// # Errors
 ///
 /// Those of [`inputs`].
+#[tactic(auto, using(crate::proofs::Watched::not_followed))]
 pub fn inputs_watched<S: Sink, W: Watch>(
     alloc: Global,
     image: &[u8],
@@ -97,6 +100,8 @@ pub fn inputs_watched<S: Sink, W: Watch>(
         → S.failures sink.new ≡ S.failures sink.old + 1 }
     ensures quiet { IfErr result
         (λ fault. fault ≢ InputsFault.Write → S.failures sink.new ≡ S.failures sink.old) }
+    ensures followed { IsFollowed wanted.entry.ticks (wanted.entry.ticks - 1) (W.told watch.old)
+        (W.told watch.new) }
 {
     if wanted.ticks > MOST_TICKS {
         return Err(InputsFault::Ticks);
@@ -109,6 +114,7 @@ pub fn inputs_watched<S: Sink, W: Watch>(
 }
 
 /// The same for the partition with this number.
+#[tactic(auto, using(crate::proofs::Watched::not_followed))]
 fn tell_numbered<S: Sink, W: Watch>(
     alloc: Global,
     image: Image,
@@ -129,6 +135,8 @@ fn tell_numbered<S: Sink, W: Watch>(
         → S.failures sink.new ≡ S.failures sink.old + 1 }
     ensures quiet { IfErr result
         (λ fault. fault ≢ InputsFault.Write → S.failures sink.new ≡ S.failures sink.old) }
+    ensures followed { IsFollowed wanted.entry.ticks (wanted.entry.ticks - 1) (W.told watch.old)
+        (W.told watch.new) }
 {
     let lines = read_devices(alloc, &image, wanted.devices)?;
     let mut module = Module::load(alloc, image)?;
@@ -139,7 +147,12 @@ fn tell_numbered<S: Sink, W: Watch>(
 }
 
 /// Counts a step of a run that is at this tick of `ticks`; after the most untold ones it is reported.
-fn one_more<W: Watch>(steps: u32, now: Ticks, ticks: u64, watch: &mut W) -> u32 {
+fn one_more<W: Watch>(steps: u32, now: Ticks, ticks: u64, watch: &mut W) -> u32
+    ensures quiet { steps < STEPS_BETWEEN_REPORTS
+        → (result ≡ steps + 1) × (W.told watch.new ≡ W.told watch.old) }
+    ensures told { STEPS_BETWEEN_REPORTS ≤ steps
+        → (result ≡ 0) × Hears (W.told watch.old) (W.told watch.new) ((now.0, ticks) ∷ []) }
+{
     if steps < STEPS_BETWEEN_REPORTS {
         return steps + 1;
     }
@@ -148,6 +161,7 @@ fn one_more<W: Watch>(steps: u32, now: Ticks, ticks: u64, watch: &mut W) -> u32 
 }
 
 /// Collects the inputs that `ticks` ticks with these device lines bring the watched partition.
+#[tactic(auto, using(crate::proofs::Watched::not_followed))]
 pub fn collect<W: Watch>(
     alloc: Global,
     running: &mut Module<PartitionProcessor>,
@@ -167,6 +181,7 @@ pub fn collect<W: Watch>(
     ensures refused { IfErr result
         (HasNoRoom
         (length (machine_inputs (image_of running.old.image) watched.0 devices.now ticks))) }
+    ensures followed { IsFollowed ticks (ticks - 1) (W.told watch.old) (W.told watch.new) }
 {
     let mut trace = TraceBuffer::new(alloc)?;
     let mut nowhere = Forgetful;

@@ -1,13 +1,14 @@
 //! The ticks of a module, one after another.
 
-ghost use Rattle.std.specs.Prelude.{◌≡◌, ◌≤◌, ◌<◌, ◌+◌, ◌^◌, ℕ, length, drop, take, option_map};
-ghost use Rattle.apex_types.specs.declared.limits.TheConstants.{MOST_TICKS};
+ghost use Rattle.std.specs.Prelude.{◌≡◌, ◌≤◌, ◌<◌, ◌+◌, ◌^◌, ℕ, option_map};
+ghost use Rattle.apex_types.specs.Limits.{MOST_TICKS};
 ghost use Rattle.module_meaning.specs.Module as meaning;
 ghost use Rattle.lone_partition.specs.Outputs.{next_at, sent_of};
 ghost use Rattle.module_meaning.specs.Standing.{IsNow, origin_of, ticks};
 ghost use Rattle.module.specs.Standing.{moment_of};
 ghost use Rattle.module.specs.Views.{members_in, plan_of, standing_of};
-ghost use Rattle.module.specs.Written.{AreFrom, HasGoneOn, IsCourse};
+ghost use Rattle.lone_partition.specs.Written.{IsCourse};
+ghost use Rattle.module.specs.Written.{AreFrom, HasGoneOn};
 
 use crate::member::Module;
 use apex_types::{At, DeviceLine, Moment, Sink, Ticks};
@@ -92,21 +93,5 @@ pub fn split_tick(lines: &[DeviceLine], tick: u64) -> (&[DeviceLine], &[DeviceLi
     ensures rest { (t : ℕ) → tick < t
         → meaning.of_tick t result.1.now ≡ meaning.of_tick t lines.now }
 {
-    lines.split_at(count_of_tick(lines, Ticks(tick)))
-}
-
-/// How many of these lines, which are of `now` or later ticks, are of `now`.
-fn count_of_tick(lines: &[DeviceLine], now: Ticks) -> usize
-    requires order { AreFrom now.0 lines.now }
-    ensures within { result ≤ length lines.now }
-    ensures now { take result lines.now ≡ meaning.of_tick now.0 lines.now }
-    ensures later { AreFrom (now.0 + 1) (drop result lines.now) }
-    ensures rest { (t : ℕ) → now.0 < t
-        → meaning.of_tick t (drop result lines.now) ≡ meaning.of_tick t lines.now }
-{
-    let mut count = 0;
-    while count < lines.len() && lines[count].tick == now {
-        count += 1;
-    }
-    count
+    lone_partition::split_tick(lines, Ticks(tick))
 }

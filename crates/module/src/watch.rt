@@ -1,13 +1,21 @@
 //! Watchers of a run.
 
+ghost use Rattle.std.specs.Prelude.{◌≡◌, [], ◌∷◌, None};
+ghost use Rattle.module.specs.Watched.{Hears, Told};
+
 /// Gets reports on how far a run is. Nothing of the run depends on it.
 pub trait Watch {
-    /// From now on reports are wanted.
-    fn begin(&mut self);
+    /// The reports so far, if the watcher makes them known.
+    ghost told: { Self → Told } = { λ _. None };
 
-    /// `made` ticks of the run have run: called at least once in 2^20 ticks in which something
-    /// happens.
-    fn reached(&mut self, made: u64, ticks: u64);
+    /// From now on reports are wanted.
+    fn begin(&mut self)
+        ensures { told self.new ≡ told self.old };
+
+    /// `made` of the run's `ticks` ticks have run: called at least once in 2^20 ticks in which
+    /// something happens, each time with more.
+    fn reached(&mut self, made: u64, ticks: u64)
+        ensures { Hears (told self.old) (told self.new) ((made, ticks) ∷ []) };
 }
 
 /// Watches nothing.

@@ -1,7 +1,7 @@
 //! Ticks of a module without output, and the inputs that they bring one partition.
 
 ghost use Rattle.std.specs.Prelude.{◌≡◌, ◌<◌, ◌+◌, ◌^◌, ℕ, None, Some, IfOk, OnOk};
-ghost use Rattle.apex_types.specs.declared.limits.TheConstants.{MOST_TICKS};
+ghost use Rattle.apex_types.specs.Limits.{MOST_TICKS};
 ghost use Rattle.module_meaning.specs.Module as meaning;
 ghost use Rattle.isolation.specs.Brought.{brought_moved, brought_tick};
 ghost use Rattle.lone_partition.specs.Outputs.{next_at};
@@ -47,7 +47,7 @@ impl<E: Executor<Mem = PartitionMem>> Members<E> {
         ensures members { OnOk result
             (members_in E.Executor self.new
             ≡ (meaning.moves_and_ticks (plan_of plan.now) moment.at
-            (members_in E.Executor self.old)).members) }
+            (members_in E.Executor self.old)).state) }
         ensures inputs { AreCollected moment.at.now.0
             (brought_moved (plan_of plan.now) watched.0 (members_in E.Executor self.old)
             (Some moment.at))
@@ -109,7 +109,7 @@ impl<E: Executor<Mem = PartitionMem>> Members<E> {
             (next_at last) (members_in E.Executor self.new)) }
         ensures inputs { AreCollected moment.at.now.0
             (brought_tick (plan_of plan.now) watched.0 moment.at lines.now
-            (begins moment.at.now.0 (members_in E.Executor self.old)).members)
+            (begins moment.at.now.0 (members_in E.Executor self.old)).state)
             inputs.old.lines.items inputs.new.lines.items result }
     {
         self.begin(moment, output);

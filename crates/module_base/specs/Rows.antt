@@ -1,6 +1,6 @@
 -- The facts about the row of a partition of an image.
 use Rattle.std.specs.Prelude.{◌≤◌, length, All}
-use Rattle.apex_types.specs.declared.limits.TheConstants.{MOST_PORTS, MOST_WORDS}
+use Rattle.apex_types.specs.Limits.{MOST_PORTS, MOST_WORDS}
 use Rattle.apex_types.specs.declared.row.PortRow.{PortRow}
 use Rattle.module_meaning.specs.Table.{Partition}
 

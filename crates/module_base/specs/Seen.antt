@@ -1,6 +1,6 @@
 -- The code's view of the lines of a device text.
 use Rattle.std.specs.Prelude.{ℤ, List, length, nat_le, if◌then◌else◌}
-use Rattle.apex_types.specs.declared.limits.TheConstants.{MOST_WORDS}
+use Rattle.apex_types.specs.Limits.{MOST_WORDS}
 use Rattle.module_meaning.specs.DeviceText as meant
 use Rattle.kernel_meaning.specs.Step.{message}
 use Rattle.module_base.specs.declared.line.MessageWords.{MessageWords}

@@ -2,10 +2,10 @@
 
 ghost use Rattle.std.specs.Prelude.{◌≡◌, ◌<◌, ℤ, List, Some, Ok, IfOk, IfErr};
 ghost use Rattle.module_meaning.specs.DeviceText as meant;
-ghost use Rattle.module_meaning.specs.DeviceText.{first_from, is_device, words_of_end, words_of_ends, words_of_port};
+ghost use Rattle.module_meaning.specs.DeviceText.{first_from, words_of_end, words_of_ends, words_of_port};
 ghost use Rattle.machine_meaning.specs.MachineMeaning.{verdict_for};
 ghost use Rattle.engine_meaning.specs.Digits.{same};
-ghost use Rattle.module_meaning.specs.Table.{at_number};
+ghost use Rattle.module_meaning.specs.Table.{at_number, is_device};
 ghost use Rattle.image.specs.Items.{channel_of};
 ghost use Rattle.image.specs.Views.{image_of};
 ghost use Rattle.module_base.specs.Refusals.{IsRefusal};

@@ -1,7 +1,7 @@
 //! Replay texts: the meaning of the lines of a text for one partition.
 
 ghost use Rattle.std.specs.Prelude.{◌≡◌, ◌≤◌, ℤ, List, Some, Ok, Err, All, length, IfOk, IfErr, if◌then◌else◌};
-ghost use Rattle.apex_types.specs.declared.limits.TheConstants.{MOST_PORTS, MOST_WORDS};
+ghost use Rattle.apex_types.specs.Limits.{MOST_PORTS, MOST_WORDS};
 ghost use Rattle.apex_types.specs.declared.device.DeviceFault.TheVariants as fault;
 ghost use Rattle.apex_types.specs.declared.row.PortRow.{PortRow};
 ghost use Rattle.module_meaning.specs.DeviceText as meant;

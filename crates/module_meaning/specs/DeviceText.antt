@@ -1,8 +1,8 @@
 -- The text of the devices: the meaning of each line, and why a line is refused.
-use Rattle.std.specs.Prelude.{ℕ, zero, suc, ◌+◌, ◌-◌, ◌^◌, ℤ, pos, negsuc, Bool, true, false, not, ◌&&◌, ◌==◌, nat_lt, nat_le, if◌then◌else◌, List, [], ◌∷◌, length, codes, Option, Some, None, Result, Ok, Err}
+use Rattle.std.specs.Prelude.{ℕ, suc, ◌+◌, ◌-◌, ◌^◌, ℤ, pos, negsuc, Bool, true, false, not, ◌&&◌, ◌==◌, nat_lt, nat_le, if◌then◌else◌, List, [], ◌∷◌, length, codes, Option, Some, None, Result, Ok, Err}
 use Rattle.std.specs.List.{list_all}
 use Rattle.apex_types.specs.Line.{space}
-use Rattle.apex_types.specs.declared.limits.TheConstants.{MOST_DEVICE_LINES, MOST_TICKS}
+use Rattle.apex_types.specs.Limits.{MOST_DEVICE_LINES, MOST_TICKS}
 use Rattle.apex_types.specs.NameText.{is_name}
 use Rattle.apex_types.specs.declared.device.DeviceFault.{DeviceFault}
 use Rattle.apex_types.specs.declared.device.DeviceFault.TheVariants as fault
@@ -13,7 +13,7 @@ use Rattle.apex_types.specs.declared.row.ChannelEnd.{ChannelEnd}
 use Rattle.apex_types.specs.declared.row.ChannelEnd.TheVariants as ends
 use Rattle.apex_types.specs.declared.row.PortRow.{PortRow}
 use Rattle.engine_meaning.specs.Digits.{same, is_digit, decimal_value, front}
-use Rattle.module_meaning.specs.Table.{Partition, Channel, at_number}
+use Rattle.module_meaning.specs.Table.{Partition, Channel, at_number, is_device}
 use Rattle.kernel_meaning.specs.Step.{message}
 
 -- ---- pieces of a text
@@ -53,9 +53,8 @@ positive (Some n) = Some (pos n)
 
 -- 0 is written without a sign
 abbrev pub negative : Option ℕ → Option ℤ
-negative None = None
-negative (Some zero) = None
 negative (Some (suc n)) = Some (negsuc n)
+negative _ = None
 
 -- a word of 64 bits
 abbrev pub word : List ℕ → Option ℤ
@@ -136,10 +135,6 @@ words_of_end rows (ends.Port p port) = words_of_partition (at_number rows p.0) p
 abbrev pub words_of_ends : List Partition → List ChannelEnd → ℕ
 words_of_ends rows [] = 0
 words_of_ends rows (e ∷ es) = words_of_end rows e
-
-abbrev pub is_device : ChannelEnd → Bool
-is_device ends.Device = true
-is_device _ = false
 
 -- the first item that passes the test, with its place, counted from a place
 unfoldable pub first_from : {A : Type 0} → ℕ → (A → Bool) → List A → Option (ℕ × A)

@@ -1,7 +1,7 @@
 -- The meaning of the sources of a module: the trace. Kernel, windows and trace are those of an
 -- image too; here the processes run on their sources.
-use Rattle.std.specs.Prelude.{ℕ, ◌+◌, List, [], ◌∷◌, map, is_some, ◌≡◌, ◌^◌, ◌≤◌, Ok}
-use Rattle.apex_types.specs.declared.limits.TheConstants.{MOST_TICKS}
+use Rattle.std.specs.Prelude.{ℕ, ◌+◌, List, [], ◌∷◌, map, is_some, ◌≡◌, ◌≤◌, Ok}
+use Rattle.apex_types.specs.Limits.{MOST_TICKS}
 use Rattle.apex_types.specs.declared.device.DeviceLine.{DeviceLine}
 use Rattle.apex_types.specs.declared.event.Event.{Event}
 use Rattle.apex_types.specs.declared.event.Subject.TheVariants.{Process}
@@ -18,7 +18,6 @@ use Rattle.kernel_meaning.specs.Windows.{Schedule}
 use Rattle.pal_meaning.specs.SourceControl.{SourceControl, source_engine}
 use Rattle.kernel_meaning.specs.Fresh.{fresh_kernel, fresh_row, fresh_world}
 use Rattle.module_meaning.specs.DeviceText.{verdict}
-use Rattle.pal_meaning.specs.Program.{Program}
 use Rattle.module_meaning.specs.Accepted.{IsModule}
 
 -- ---- the meaning of sources
@@ -48,7 +47,7 @@ source_trace t sources devices n = trace (source_module t sources) devices n
 
 -- Table and sources are accepted as this table and these programs, and the device text as these
 -- lines for them, for a run of `n` ticks.
-pub record IsAcceptedRun (table : List ℕ) (sources : List (List ℕ)) (devices : List ℕ) (n : ℕ) (t : Table) (programs : List Program) (lines : List DeviceLine) : Type 0 where
+pub record IsAcceptedRun (table : List ℕ) (sources : List (List ℕ)) (devices : List ℕ) (n : ℕ) (t : Table) (programs : List program.Program) (lines : List DeviceLine) : Type 0 where
   pub accepted : IsModule table sources t programs
   pub taken : verdict t.partitions t.channels devices ≡ Ok lines
   pub few : n ≤ MOST_TICKS

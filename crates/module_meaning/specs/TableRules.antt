@@ -1,13 +1,13 @@
 -- The text of a module table, and the rules that it has to keep. A text is a TOML document whose
 -- keys are those of a module table, each with a value of its type. The verdict on it is its table,
 -- or the first rule that it breaks.
-use Rattle.std.specs.Prelude.{ℕ, ℤ, codes, eqb, Bool, true, false, ◌&&◌, ◌||◌, is_some, if◌then◌else◌, List, [], ◌∷◌, Option, Some, None, ◌+◌, ◌^◌, pos, refl, ◌+ℤ◌, nat_abs, not, nat_lt, int_lt, is_none, ◌++◌, length, map, unwrap_or, Result, Ok, Err}
+use Rattle.std.specs.Prelude.{ℕ, ℤ, codes, eqb, Bool, true, false, ◌&&◌, ◌||◌, is_some, if◌then◌else◌, List, [], ◌∷◌, Option, Some, None, ◌+◌, pos, refl, ◌+ℤ◌, nat_abs, not, nat_lt, int_lt, is_none, ◌++◌, length, map, unwrap_or, Result, Ok, Err}
 use Rattle.std.specs.Cmp.Lexicographic.{pointwise}
 use Rattle.toml.specs.Data.{Items, no_items, item, Members, no_members, member, get_member, as_str, as_integer, as_bool, as_array, as_table}
 use Rattle.apex_types.specs.Costs.{cost_of_ticks, from_order, ticks, written_costs}
 use Rattle.apex_types.specs.declared.cost.TickCost.{TickCost}
 use Rattle.apex_types.specs.declared.cost.Costs.{Costs}
-use Rattle.apex_types.specs.declared.limits.TheConstants.{MOST_CHANNELS, MOST_COST, MOST_DEPTH, MOST_DESTINATIONS, MOST_FRAME_TICKS, MOST_PARTITIONS, MOST_PORTS, MOST_TICKS, MOST_WINDOWS, MOST_WORDS}
+use Rattle.apex_types.specs.Limits.{MOST_CHANNELS, MOST_COST, MOST_DEPTH, MOST_DESTINATIONS, MOST_FRAME_TICKS, MOST_PARTITIONS, MOST_PORTS, MOST_TICKS, MOST_WINDOWS, MOST_WORDS}
 use Rattle.apex_types.specs.declared.codes.Discipline.{Discipline}
 use Rattle.apex_types.specs.declared.codes.Discipline.TheVariants as orders
 use Rattle.apex_types.specs.declared.codes.ModuleAction.{ModuleAction}
@@ -407,8 +407,7 @@ cost_row z = unwrap_or (cost_of_ticks (nat_abs z)) (ticks 1 refl)
 
 -- A table that writes no costs has those that are written of Pal.
 abbrev pub costs_or_written : Option (List ℤ) → Costs
-costs_or_written None = written_costs
-costs_or_written (Some numbers) = from_order (map cost_row numbers)
+costs_or_written numbers = unwrap_or (numbers >>= λ all. from_order (map cost_row all)) written_costs
 
 unfoldable pub numbered : TableText → Table
 numbered t = record { schedule = record { frame = nat_abs t.frame; windows = map (window_row t.partitions) t.windows }; fault = unwrap_or t.fault module_action.Ignore; costs = costs_or_written t.costs; partitions = map partition_row t.partitions; channels = map (channel_row t.partitions) t.channels }

@@ -5,8 +5,7 @@ use Rattle.apex_types.specs.declared.row.PortRow.{PortRow}
 use Rattle.pal_meaning.specs.Program as program
 use Rattle.pal_meaning.specs.Syntax as written
 use Rattle.pal_meaning.specs.WellFormed.{verdict}
-use Rattle.pal_base.specs.Accepted.{IsAccepted}
-use Rattle.pal_base.specs.Answers.{HasText}
+use Rattle.pal_base.specs.Accepted.{HasText, IsAccepted}
 
 pub accepted_from : (ports : List PortRow) (period : ℕ) (tree : written.Program) (p : program.Program) → ∥ HasText tree ∥₁ → verdict ports period tree ≡ Ok p → ∥ IsAccepted p ∥₁
 accepted_from ports period tree p text judged = ∥∥₁_map text one

@@ -2,7 +2,7 @@
 -- program before other parts.
 use Rattle.std.specs.Prelude.{ℕ, Bool, ◌&&◌, nat_le, List, [], ◌∷◌, length, map, flat_map, filter_map, option_map}
 use Rattle.std.specs.List.{list_all}
-use Rattle.apex_types.specs.declared.limits.TheConstants.{MOST_PROCESSES}
+use Rattle.apex_types.specs.Limits.{MOST_PROCESSES}
 use Rattle.pal_meaning.specs.Resolve.{Entry, no_counts, counts_of, words_of, semaphore_of, buffer_of, blackboard_of, procedure_of, resolve_stack_body, resolve_process}
 use Rattle.pal_meaning.specs.Syntax as written
 use Rattle.pal_meaning.specs.Program as tree

@@ -2,7 +2,7 @@
 
 ghost use Rattle.std.specs.Prelude.{◌≡◌, ◌&&◌, List, ℕ, Some, map, length, nat_le, is_ok, is_some, option_map, IfOk};
 ghost use Rattle.std.specs.List.{list_all};
-ghost use Rattle.apex_types.specs.declared.limits.TheConstants.{LEAST_STACK_WORDS, MOST_PROCESSES, MOST_STACK_WORDS};
+ghost use Rattle.apex_types.specs.Limits.{LEAST_STACK_WORDS, MOST_PROCESSES, MOST_STACK_WORDS};
 ghost use Rattle.apex_types.specs.NameText as name_text;
 ghost use Rattle.pal_meaning.specs.Resolve.{no_counts};
 ghost use Rattle.pal_meaning.specs.Syntax as tree;

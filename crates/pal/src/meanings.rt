@@ -1,7 +1,7 @@
 //! The meanings of the declared names of a program.
 
 ghost use Rattle.std.specs.Prelude.{◌≡◌, ◌+◌, ◌++◌, ◌&&◌, [], List, ℕ, ◌<◌, map, take, position, is_ok, true, option_map, IfOk, IfSome};
-ghost use Rattle.apex_types.specs.declared.limits.TheConstants.{MOST_PORTS};
+ghost use Rattle.apex_types.specs.Limits.{MOST_PORTS};
 ghost use Rattle.pal_meaning.specs.Resolve as meant;
 ghost use Rattle.pal_meaning.specs.Resolve.{Entry, declared_entries, declaration_entries, process_entries, no_counts, declared_meaning};
 ghost use Rattle.pal_meaning.specs.WellFormed.{are_new};

@@ -4,7 +4,7 @@
 ghost use Rattle.std.specs.Prelude.{◌≡◌, ◌++◌, ◌-◌, ◌^◌, List, ℕ, pos, map, length, replicate, flat_map, filter_map, option_map, true, IfOk, OnOk};
 ghost use Rattle.std.specs.List.{list_all};
 ghost use Rattle.apex_types.specs.NameText.{is_name};
-ghost use Rattle.apex_types.specs.declared.limits.TheConstants.{MOST_SEMAPHORE_VALUE};
+ghost use Rattle.apex_types.specs.Limits.{MOST_SEMAPHORE_VALUE};
 ghost use Rattle.pal_meaning.specs.Program as tree;
 ghost use Rattle.pal_meaning.specs.Resolve as meant;
 ghost use Rattle.pal_meaning.specs.Resolve.{no_counts, counts_of, words_of, array_words, semaphore_of, buffer_of, blackboard_of, resolve_expr, resolve_exprs, resolve_links, resolve_stmt, resolve_block};

@@ -6,6 +6,10 @@ use Rattle.pal_meaning.specs.Syntax as written
 use Rattle.pal_meaning.specs.WellFormed.{verdict}
 use Rattle.pal_meaning.specs.Grammar.{IsProgramOf}
 
+-- there is a text of the program
+abbrev pub HasText : written.Program → Type 0
+HasText program = (text : List ℕ) × IsProgramOf text program
+
 -- There is a text of a program that is well formed for a partition with these ports and this period, and
 -- this is that program.
 pub record IsAccepted (program : Program) : Type 0 where

@@ -6,28 +6,19 @@ use Rattle.pal_base.specs.declared.fault.Refusal.TheVariants.{Text, Grammar, Nam
 use Rattle.pal_meaning.specs.Grammar.{IsProgramOf, IsText}
 use Rattle.pal_meaning.specs.Program as resolved
 use Rattle.pal_meaning.specs.WellFormed.{Refused, ByName, ByKind, ByLimit, ByPeriod}
-use Rattle.pal_base.specs.declared.fault.Refusal.TheVariants as refusal
-
--- there is a text of the program
-abbrev pub HasText : tree.Program → Type 0
-HasText program = (text : List ℕ) × IsProgramOf text program
 
 -- the condition of each refusal; memory may run out on each source text
 abbrev pub IsRefused : Refusal → List ℕ → Type 0
 IsRefused Text text = IsText text → ⊥
 IsRefused Grammar text = IsText text × ((program : tree.Program) → IsProgramOf text program → ⊥)
-IsRefused Name text = ⊥
-IsRefused Kind text = ⊥
-IsRefused Limit text = ⊥
-IsRefused Period text = ⊥
 IsRefused Memory text = IsText text
+IsRefused _ text = ⊥
 
 -- a refusal has the number of the verdict; a refusal for memory says nothing of the verdict
 abbrev pub Refuses : Refusal → Result resolved.Program Refused → Type 0
-Refuses refusal.Text verdict = ⊥
-Refuses refusal.Grammar verdict = ⊥
-Refuses refusal.Name verdict = verdict ≡ Err ByName
-Refuses refusal.Kind verdict = verdict ≡ Err ByKind
-Refuses refusal.Limit verdict = verdict ≡ Err ByLimit
-Refuses refusal.Period verdict = verdict ≡ Err ByPeriod
-Refuses refusal.Memory verdict = Unit {0}
+Refuses Name verdict = verdict ≡ Err ByName
+Refuses Kind verdict = verdict ≡ Err ByKind
+Refuses Limit verdict = verdict ≡ Err ByLimit
+Refuses Period verdict = verdict ≡ Err ByPeriod
+Refuses Memory verdict = Unit {0}
+Refuses _ verdict = ⊥

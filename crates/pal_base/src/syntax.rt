@@ -1,6 +1,6 @@
 //! A program as it is written: names are texts, each with the line of its word.
 
-ghost use Rattle.pal_base.specs.Answers.{HasText};
+ghost use Rattle.pal_base.specs.Accepted.{HasText};
 ghost use Rattle.pal_base.specs.View.{program_from};
 
 use apex_types::{BinaryOperator, Discipline, Service, UnaryOperator};

@@ -1,7 +1,7 @@
 -- Reading a program from its words, from left to right and without backtracking. Laws say that this finds the one
 -- program that the grammar writes with these words, and otherwise where they leave the grammar.
 use Rattle.std.specs.Prelude.{ℕ, zero, suc, ◌-◌, ◌==◌, nat_lt, true, false, if◌then◌else◌, List, [], ◌∷◌, length, Option, Some, None, Result, Ok, Err, codes}
-use Rattle.apex_types.specs.declared.limits.TheConstants.{MOST_LEVELS}
+use Rattle.apex_types.specs.Limits.{MOST_LEVELS}
 use Rattle.apex_types.specs.declared.instruction.BinaryOperator.{BinaryOperator}
 use Rattle.apex_types.specs.declared.instruction.BinaryOperator.TheVariants as binary
 use Rattle.apex_types.specs.declared.instruction.UnaryOperator.{UnaryOperator}

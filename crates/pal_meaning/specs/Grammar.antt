@@ -2,7 +2,7 @@
 -- word is the longest that begins at its place. Each line of the grammar is one way to write a thing; rest are the words that follow it.
 use Rattle.std.specs.Prelude.{ℕ, zero, suc, ◌^◌, ◌==◌, ◌&&◌, ◌||◌, nat_eq, nat_lt, nat_le, Bool, true, false, if◌then◌else◌, List, [], ◌∷◌, length, drop, Option, Some, None, codes, find, ◌≡◌, ◌≤◌, ◌-◌}
 use Rattle.std.specs.List.{prefix_len, starts_with}
-use Rattle.apex_types.specs.declared.limits.TheConstants.{MOST_LEVELS, MOST_SOURCE_BYTES}
+use Rattle.apex_types.specs.Limits.{MOST_LEVELS, MOST_SOURCE_BYTES}
 use Rattle.apex_types.specs.declared.service.Service.{Service}
 use Rattle.apex_types.specs.ServiceShape.{service_word, services}
 use Rattle.engine_meaning.specs.Digits.{decimal_value, front, is_digit, same}
@@ -260,21 +260,16 @@ process_words p rest =
 unfoldable pub program_words : tree.Program → List Word
 program_words p = all_words declaration_words p.declarations (stack_body_words (codes "init") p.init (handler_words p.handler (all_words process_words p.processes [])))
 
--- the rank of each operator
+-- the rank of each operator: the others compare
 abbrev pub rank_of : BinaryOperator → Rank
 rank_of binary.Or = Disjunction
 rank_of binary.And = Conjunction
-rank_of binary.Equal = Comparison
-rank_of binary.NotEqual = Comparison
-rank_of binary.Less = Comparison
-rank_of binary.LessOrEqual = Comparison
-rank_of binary.Greater = Comparison
-rank_of binary.GreaterOrEqual = Comparison
 rank_of binary.Add = Sum
 rank_of binary.Subtract = Sum
 rank_of binary.Multiply = Product
 rank_of binary.Divide = Product
 rank_of binary.Remainder = Product
+rank_of _ = Comparison
 
 -- how loosely a rank binds
 abbrev pub looseness : Rank → ℕ
@@ -290,16 +285,12 @@ HasLink tree.NoLink = ⊥
 HasLink (tree.MoreLinks operator operand links) = Unit {0}
 
 abbrev pub IsSingle : tree.Links → Type 0
-IsSingle tree.NoLink = Unit {0}
-IsSingle (tree.MoreLinks operator operand tree.NoLink) = Unit {0}
 IsSingle (tree.MoreLinks operator operand (tree.MoreLinks second third links)) = ⊥
+IsSingle _ = Unit {0}
 
 abbrev pub IsFew : Rank → tree.Links → Type 0
-IsFew Disjunction links = Unit {0}
-IsFew Conjunction links = Unit {0}
 IsFew Comparison links = IsSingle links
-IsFew Sum links = Unit {0}
-IsFew Product links = Unit {0}
+IsFew _ links = Unit {0}
 
 -- An expression in which this many levels may still be opened, and whose operators outside parentheses
 -- bind no more loosely than `loosest`. The operators of a chain have one rank, and its operands bind
@@ -345,13 +336,7 @@ IsBody b = IsBlock b.block (MOST_LEVELS - 1)
 
 abbrev pub IsKind : tree.Kind → Type 0
 IsKind (tree.Procedure xs b) = IsBody b
-IsKind (tree.Variable value) = Unit {0}
-IsKind (tree.Array size values) = Unit {0}
-IsKind (tree.Semaphore first maximum d) = Unit {0}
-IsKind tree.Event = Unit {0}
-IsKind (tree.Buffer words messages d) = Unit {0}
-IsKind (tree.Blackboard words) = Unit {0}
-IsKind tree.Port = Unit {0}
+IsKind _ = Unit {0}
 
 -- P holds for each of these
 abbrev pub Each : {X : Type 0} → (X → Type 0) → List X → Type 0

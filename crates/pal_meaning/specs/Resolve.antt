@@ -1,7 +1,7 @@
 -- The meanings of the names of a program, and the program with its names resolved. Every program is
 -- resolved: a part that makes a program not well formed is 0 in the result.
-use Rattle.std.specs.Prelude.{ℕ, ◌+◌, ◌-◌, ◌^◌, ℤ, pos, ◌-ℤ◌, nat_le, nat_lt, if◌then◌else◌, List, [], ◌∷◌, ◌++◌, map, length, take, replicate, flat_map, filter_map, position, Option, Some, None, option_map, unwrap_or, bytes_eq}
-use Rattle.apex_types.specs.declared.limits.TheConstants.{GREATEST_PRIORITY, MOST_DATA_WORDS, MOST_DEPTH, MOST_LOCALS, MOST_OBJECTS, MOST_PORTS, MOST_PROCEDURES, MOST_PROCESSES, MOST_SEMAPHORE_VALUE, MOST_SLOTS, MOST_STACK_WORDS, MOST_TICKS, MOST_WORDS, MOST_WORK_TICKS}
+use Rattle.std.specs.Prelude.{ℕ, ◌+◌, ◌-◌, ℤ, pos, ◌-ℤ◌, nat_le, nat_lt, if◌then◌else◌, List, [], ◌∷◌, ◌++◌, map, length, take, replicate, flat_map, filter_map, position, Option, Some, None, option_map, unwrap_or, bytes_eq}
+use Rattle.apex_types.specs.Limits.{GREATEST_PRIORITY, MOST_DATA_WORDS, MOST_DEPTH, MOST_LOCALS, MOST_OBJECTS, MOST_PORTS, MOST_PROCEDURES, MOST_PROCESSES, MOST_SEMAPHORE_VALUE, MOST_SLOTS, MOST_STACK_WORDS, MOST_TICKS, MOST_WORDS, MOST_WORK_TICKS}
 use Rattle.apex_types.specs.declared.place.Place.{Place}
 use Rattle.apex_types.specs.declared.place.Place.TheVariants.{Data, Slot}
 use Rattle.apex_types.specs.declared.denotation.Denotation.{Denotation}

@@ -1,8 +1,8 @@
 -- When a program is well formed for its partition: four clauses, judged one after the other over the
 -- whole program. The verdict is the first that does not hold, or the program with its names resolved.
-use Rattle.std.specs.Prelude.{ℕ, ◌+◌, ◌%◌, ◌^◌, Bool, true, false, not, ◌&&◌, nat_eq, nat_le, nat_lt, is_some, List, [], ◌∷◌, ◌++◌, length, Option, Some, None, Result, Ok, Err, if◌then◌else◌}
+use Rattle.std.specs.Prelude.{ℕ, ◌+◌, ◌%◌, Bool, true, false, not, ◌&&◌, nat_eq, nat_le, nat_lt, is_some, List, [], ◌∷◌, ◌++◌, length, Option, Some, None, Result, Ok, Err, if◌then◌else◌}
 use Rattle.std.specs.List.{list_all}
-use Rattle.apex_types.specs.declared.limits.TheConstants.{GREATEST_PRIORITY, LEAST_STACK_WORDS, MOST_DEPTH, MOST_LOCALS, MOST_PARAMETERS, MOST_PROCESSES, MOST_SEMAPHORE_VALUE, MOST_STACK_WORDS, MOST_TICKS, MOST_WORDS, MOST_WORK_TICKS}
+use Rattle.apex_types.specs.Limits.{GREATEST_PRIORITY, LEAST_STACK_WORDS, MOST_DEPTH, MOST_LOCALS, MOST_PARAMETERS, MOST_PROCESSES, MOST_SEMAPHORE_VALUE, MOST_STACK_WORDS, MOST_TICKS, MOST_WORDS, MOST_WORK_TICKS}
 use Rattle.apex_types.specs.NameText.{is_name}
 use Rattle.apex_types.specs.declared.denotation.Denotation.{Denotation}
 use Rattle.apex_types.specs.declared.denotation.Denotation.TheVariants as denotation
@@ -230,9 +230,8 @@ fits_frame None = true
 fits_frame (Some p) = nat_le (frame_of_procedure p) MOST_STACK_WORDS
 
 abbrev pub value_at_most : Option ℕ → Option ℕ → Bool
-value_at_most None most = false
-value_at_most n None = false
 value_at_most (Some n) (Some most) = nat_le n most
+value_at_most _ _ = false
 
 abbrev pub keeps_value : Option written.Integer → Bool
 keeps_value None = true
@@ -242,12 +241,11 @@ abbrev pub keeps_kind : List Entry → written.Kind → Bool
 keeps_kind declared (written.Variable value) = keeps_value value
 keeps_kind declared (written.Array size values) = value_at_most (Some (length values)) size && list_all is_word values
 keeps_kind declared (written.Semaphore first maximum discipline) = is_between 1 MOST_SEMAPHORE_VALUE maximum && value_at_most first maximum
-keeps_kind declared written.Event = true
 keeps_kind declared (written.Buffer words messages discipline) = is_between 1 MOST_WORDS words && is_between 1 MOST_DEPTH messages
 keeps_kind declared (written.Blackboard words) = is_between 1 MOST_WORDS words
-keeps_kind declared written.Port = true
 keeps_kind declared (written.Procedure parameters b) = nat_le (length parameters) MOST_PARAMETERS && list_all is_name parameters
     && keeps_body b && fits_frame (procedure_of declared (written.Procedure parameters b))
+keeps_kind declared _ = true
 
 abbrev pub keeps_declaration : List Entry → written.Declaration → Bool
 keeps_declaration declared d = is_name d.name && keeps_kind declared d.kind

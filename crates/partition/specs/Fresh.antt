@@ -1,6 +1,6 @@
 -- A partition before its first start.
 use Rattle.std.specs.Prelude.{◌≤◌, List, length, map, is_some}
-use Rattle.apex_types.specs.declared.limits.TheConstants.{MOST_OBJECTS, MOST_PROCESSES}
+use Rattle.apex_types.specs.Limits.{MOST_OBJECTS, MOST_PROCESSES}
 use Rattle.apex_types.specs.declared.row.PortRow.{PortRow}
 use Rattle.apex_types.specs.declared.row.Section.{Section}
 use Rattle.kernel_meaning.specs.Kernel.{Fixed, Kernel}

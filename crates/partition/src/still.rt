@@ -2,7 +2,7 @@
 
 ghost use Rattle.std.specs.Prelude.{◌≡◌, ◌≤◌, ◌<◌, ◌+◌, ℕ, true};
 ghost use Rattle.apex_types.specs.declared.identity.PortId.{PortId};
-ghost use Rattle.apex_types.specs.declared.limits.TheConstants.{MOST_OBJECTS};
+ghost use Rattle.apex_types.specs.Limits.{MOST_OBJECTS};
 ghost use Rattle.kernel_meaning.specs.PortServices as arrival;
 ghost use Rattle.kernel_meaning.specs.Kernel.{with_ports};
 ghost use Rattle.kernel_meaning.specs.Step.{nothing};

@@ -1,7 +1,7 @@
 //! A partition, tick by tick.
 
 ghost use Rattle.std.specs.Prelude.{◌≡◌, ◌≤◌, ◌+◌, ◌++◌, [], length, true};
-ghost use Rattle.apex_types.specs.declared.limits.TheConstants.{MOST_WORDS};
+ghost use Rattle.apex_types.specs.Limits.{MOST_WORDS};
 ghost use Rattle.apex_types.specs.Room.{IsEmpty};
 ghost use Rattle.kernel_meaning.specs.Partition as meaning;
 ghost use Rattle.kernel_meaning.specs.Made.{IsMade};

@@ -1,4 +1,4 @@
--- Bursts of slots.
+-- Ticks and bursts of slots.
 use Rattle.std.proofs.Common.{◌≡◌, ℕ, zero, suc, ◌+◌, ◌≤◌, ℤ, Bool, true, false, cond, List, length, refl, ap, sym, ◌∙◌, arith}
 use Rattle.std.specs.Prelude.{Option, Some, None, slice_set}
 use Rattle.apex_types.specs.declared.cost.Costs.{Costs}
@@ -9,7 +9,7 @@ use Rattle.machine_meaning.specs.MachineControl.{MachineControl, machine_tick}
 use Rattle.kernel_meaning.specs.Partition.{control_at, ticked}
 use Rattle.machine_laws.proofs.StackLength.{tick_keeps_stack, tick_keeps_words}
 use Rattle.kernel_laws.specs.Bursts.{Burst, later, alone, burst, machine_burst, is_nothing, told_of}
-use Rattle.partition_base.specs.Bursting.{at_place, burst_at}
+use Rattle.partition_base.specs.Bursting.{at_place, burst_at, tick_at_place, ticked_at}
 use Rattle.partition_base.specs.Slots.{controls_from}
 use Rattle.partition_base.specs.declared.slot.Slot.{Slot}
 use Rattle.partition_base.proofs.Places.{none_behind, none_past, same_behind, same_past}
@@ -61,6 +61,21 @@ burst_keeps_words costs code rs (suc n) m w =
     step (is_nothing t.asks)
 
 -- without a control, nothing changes
+no_tick : (e : Engine MachineControl) (slots : List Slot) (ks : List (List ℤ)) (p : ℕ) (w : List ℤ) → control_at (controls_from slots ks) p ≡ None
+    → ((c : Option MachineControl) → slice_set (controls_from slots ks) p c ≡ controls_from slots ks)
+    → record { control = controls_from slots ks; words = w; asks = Nothing } ≡ ticked_at e p (controls_from slots ks) w
+no_tick e slots ks p w none same =
+    let cs = controls_from slots ks in
+    ap (λ l. record { control = l; words = w; asks = Nothing }) (sym (same None)) ∙ ap (λ o. tick_at_place p cs (ticked e o w)) (sym none)
+
+pub tick_behind : (e : Engine MachineControl) (slots : List Slot) (ks : List (List ℤ)) (p : ℕ) (w : List ℤ) → length slots ≤ p
+    → record { control = controls_from slots ks; words = w; asks = Nothing } ≡ ticked_at e p (controls_from slots ks) w
+tick_behind e slots ks p w h = no_tick e slots ks p w (none_behind slots ks p h) (λ c. same_behind slots ks p c h)
+
+pub tick_past : (e : Engine MachineControl) (slots : List Slot) (ks : List (List ℤ)) (p : ℕ) (w : List ℤ) → length ks ≤ p
+    → record { control = controls_from slots ks; words = w; asks = Nothing } ≡ ticked_at e p (controls_from slots ks) w
+tick_past e slots ks p w h = no_tick e slots ks p w (none_past slots ks p h) (λ c. same_past slots ks p c h)
+
 pub no_burst : (e : Engine MachineControl) (slots : List Slot) (ks : List (List ℤ)) (p n : ℕ) (w : List ℤ) → control_at (controls_from slots ks) p ≡ None
     → ((c : Option MachineControl) → slice_set (controls_from slots ks) p c ≡ controls_from slots ks)
     → record { control = controls_from slots ks; words = w; told = Nothing; ticks = n } ≡ burst_at e n p (controls_from slots ks) w

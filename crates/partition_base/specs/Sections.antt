@@ -4,7 +4,7 @@ use Rattle.std.specs.Prelude.{◌≤◌, List, ◌∷◌, map, length}
 use Rattle.apex_types.specs.declared.cost.Costs.{Costs}
 use Rattle.apex_types.specs.declared.row.BodyRow.{BodyRow}
 use Rattle.apex_types.specs.declared.row.Section.{Section}
-use Rattle.apex_types.specs.declared.limits.TheConstants.{MOST_INSTRUCTIONS}
+use Rattle.apex_types.specs.Limits.{MOST_INSTRUCTIONS}
 use Rattle.engine_meaning.specs.Engine.{Engine}
 use Rattle.machine_meaning.specs.Instructions.{reading}
 use Rattle.machine_meaning.specs.MachineControl.{MachineControl, machine_engine}

@@ -1,13 +1,13 @@
 //! The processor as the kernel sees it: what runs the runners, over a partition's memory.
 
 ghost use Rattle.std.specs.Prelude.{true, ◌≡◌, ◌≤◌, ℕ, ℤ, List, Option, Some, None, map, slice_set};
-ghost use Rattle.apex_types.specs.declared.limits.TheConstants.{MOST_WORDS};
+ghost use Rattle.apex_types.specs.Limits.{MOST_WORDS};
 ghost use Rattle.apex_types.specs.Runners.{place_of};
-ghost use Rattle.engine_meaning.specs.Engine.{Engine, Ticked};
-ghost use Rattle.kernel_meaning.specs.Partition.{control_at, no_control, replied, ticked, message_from, written};
+ghost use Rattle.engine_meaning.specs.Engine.{Engine};
+ghost use Rattle.kernel_meaning.specs.Partition.{control_at, no_control, replied, message_from, written};
 ghost use Rattle.kernel_laws.specs.Bursts.{is_nothing};
 ghost use Rattle.processor.specs.Views.{asks_of};
-ghost use Rattle.partition_base.specs.Bursting.{burst_at};
+ghost use Rattle.partition_base.specs.Bursting.{burst_at, ticked_at};
 
 use apex_types::Runner;
 use processor::{Burst, Outcome};
@@ -68,14 +68,13 @@ pub trait Executor {
         ensures fits { laid mem.new ≡ layout self.new }
         ensures engine { engine self.new ≡ engine self.old }
         ensures initial { initial self.new ≡ initial self.old }
-        ensures controls { controls self.new mem.new
-            ≡ slice_set (controls self.old mem.old) (place_of runner)
-            (ticked (engine self.old) (control_at (controls self.old mem.old) (place_of runner))
-            (words mem.old)).control }
-        ensures words { words mem.new
-            ≡ (ticked (engine self.old) (control_at (controls self.old mem.old) (place_of runner))
-            (words mem.old)).words }
-        ensures asks { asks_of result ≡ (ticked (engine self.old) (control_at (controls self.old mem.old) (place_of runner)) (words mem.old)).asks };
+        ensures ticked { record {
+          control = controls self.new mem.new;
+          words = words mem.new;
+          asks = asks_of result;
+        }
+            ≡ ticked_at (engine self.old) (place_of runner) (controls self.old mem.old)
+            (words mem.old) };
 
     /// Executes `k` ticks of the runner, or those up to the first that makes a request: a service
     /// call, a fault, or the end of the body. Returns the number of ticks and the outcome of the

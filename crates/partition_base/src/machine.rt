@@ -1,7 +1,7 @@
 //! The processor of one partition.
 
 ghost use Rattle.std.specs.Prelude.{◌≡◌, ◌≤◌, ◌<◌, ◌+◌, ◌^◌, ◌∷◌, false, length, map, replicate, slice_get, Some, IfOk};
-ghost use Rattle.apex_types.specs.declared.limits.TheConstants.{MOST_WORDS};
+ghost use Rattle.apex_types.specs.Limits.{MOST_WORDS};
 ghost use Rattle.apex_types.specs.Runners.{place_of};
 ghost use Rattle.kernel_meaning.specs.Partition.{message_from};
 ghost use Rattle.engine_meaning.specs.Engine.{or_init};

@@ -8,7 +8,7 @@ ghost use Rattle.kernel_meaning.specs.Partition.{control_at, no_control, replied
 ghost use Rattle.kernel_laws.specs.Bursts.{burst, is_nothing};
 ghost use Rattle.processor.specs.Views.{asks_of};
 ghost use Rattle.regions.specs.Space.{put, stacks_of, zeros};
-ghost use Rattle.partition_base.specs.Bursting.{burst_at};
+ghost use Rattle.partition_base.specs.Bursting.{burst_at, ticked_at};
 ghost use Rattle.partition_base.specs.Slots.{alone, control_of_slot, controls_from, stack_lengths};
 
 use apex_types::BodyRow;
@@ -53,25 +53,17 @@ impl Slot {
 
     /// If something is left to do, executes one tick on the own stack.
     fn tick(&mut self, memory: &mut PartitionMem, code: &Code) -> Outcome
-        ensures control { (bodies : Runner → BodyRow)
-            → control_of_slot self.new memory.new.stack
-            ≡ (ticked
+        ensures ticked { (bodies : Runner → BodyRow)
+            → record {
+              control = control_of_slot self.new memory.new.stack;
+              words = memory.new.words;
+              asks = asks_of result;
+            }
+            ≡ ticked
             (machine_engine code.now.costs code.now.instructions.items
             code.now.routines.items bodies)
-            (control_of_slot self.old memory.old.stack) memory.old.words).control }
+            (control_of_slot self.old memory.old.stack) memory.old.words }
         ensures memory { memory.new ≡ put memory.old memory.new.stack memory.new.words }
-        ensures words { (bodies : Runner → BodyRow)
-            → memory.new.words
-            ≡ (ticked
-            (machine_engine code.now.costs code.now.instructions.items
-            code.now.routines.items bodies)
-            (control_of_slot self.old memory.old.stack) memory.old.words).words }
-        ensures asks { (bodies : Runner → BodyRow)
-            → asks_of result
-            ≡ (ticked
-            (machine_engine code.now.costs code.now.instructions.items
-            code.now.routines.items bodies)
-            (control_of_slot self.old memory.old.stack) memory.old.words).asks }
         ensures stack { length memory.new.stack ≡ length memory.old.stack }
         ensures length { length memory.new.words ≡ length memory.old.words }
     {
@@ -186,28 +178,16 @@ pub(crate) fn tick_at(
     memory: &mut PartitionMem,
     code: &Code,
 ) -> Outcome
-    ensures controls { (bodies : Runner → BodyRow)
-        → controls_from slots.new.items (stacks_of memory.new)
-        ≡ slice_set (controls_from slots.old.items (stacks_of memory.old)) place
-        (ticked
+    ensures ticked { (bodies : Runner → BodyRow)
+        → record {
+          control = controls_from slots.new.items (stacks_of memory.new);
+          words = memory.new.words;
+          asks = asks_of result;
+        }
+        ≡ ticked_at
         (machine_engine code.now.costs code.now.instructions.items
         code.now.routines.items bodies)
-        (control_at (controls_from slots.old.items (stacks_of memory.old)) place)
-        memory.old.words).control }
-    ensures words { (bodies : Runner → BodyRow)
-        → memory.new.words
-        ≡ (ticked
-        (machine_engine code.now.costs code.now.instructions.items
-        code.now.routines.items bodies)
-        (control_at (controls_from slots.old.items (stacks_of memory.old)) place)
-        memory.old.words).words }
-    ensures asks { (bodies : Runner → BodyRow)
-        → asks_of result
-        ≡ (ticked
-        (machine_engine code.now.costs code.now.instructions.items
-        code.now.routines.items bodies)
-        (control_at (controls_from slots.old.items (stacks_of memory.old)) place)
-        memory.old.words).asks }
+        place (controls_from slots.old.items (stacks_of memory.old)) memory.old.words }
     ensures stacks { stack_lengths memory.new ≡ stack_lengths memory.old }
     ensures length { length memory.new.words ≡ length memory.old.words }
 {

@@ -1,6 +1,6 @@
 -- Bounds of the rows of ports.
-use Rattle.std.specs.Prelude.{◌≡◌, ◌≤◌, ◌^◌, ℕ, List, Some, slice_get}
-use Rattle.apex_types.specs.declared.limits.TheConstants.{MOST_TICKS}
+use Rattle.std.specs.Prelude.{◌≡◌, ◌≤◌, ℕ, List, Some, slice_get}
+use Rattle.apex_types.specs.Limits.{MOST_TICKS}
 use Rattle.apex_types.specs.declared.row.PortRow.{PortRow}
 use Rattle.kernel_meaning.specs.Objects.{refresh_of}
 

@@ -1,6 +1,6 @@
 -- The view of the fields of ports, and their invariants.
-use Rattle.std.specs.Prelude.{◌≤◌, ◌^◌, length}
-use Rattle.apex_types.specs.declared.limits.TheConstants.{MOST_OBJECTS, MOST_TICKS}
+use Rattle.std.specs.Prelude.{◌≤◌, length}
+use Rattle.apex_types.specs.Limits.{MOST_OBJECTS, MOST_TICKS}
 use Rattle.kernel_meaning.specs.Objects as meaning
 use Rattle.ports.specs.declared.port.Port.TheInside as port
 use Rattle.ports.specs.declared.ports.Ports.TheInside as ports

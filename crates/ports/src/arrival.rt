@@ -2,7 +2,7 @@
 
 ghost use Rattle.std.specs.Prelude.{◌≡◌, ◌<◌, ◌*◌, length, true, None, Some};
 ghost use Rattle.apex_types.specs.Room.{HasRoom, Grows};
-ghost use Rattle.apex_types.specs.declared.limits.TheConstants.{MOST_OBJECTS};
+ghost use Rattle.apex_types.specs.Limits.{MOST_OBJECTS};
 ghost use Rattle.kernel_meaning.specs.PortServices as meaning;
 ghost use Rattle.kernel_meaning.specs.Objects.{is_sampling, port_at};
 ghost use Rattle.kernel_meaning.specs.PortServices.{list};

@@ -1,7 +1,7 @@
 //! One port, with its messages.
 
 ghost use Rattle.std.specs.Prelude.{◌≡◌, ◌<◌, ◌≤◌, ◌^◌, [], length, nat_le, pos, slice_get, IfOk, IsNone, if◌then◌else◌, true};
-ghost use Rattle.apex_types.specs.declared.limits.TheConstants.{MOST_TICKS};
+ghost use Rattle.apex_types.specs.Limits.{MOST_TICKS};
 ghost use Rattle.kernel_meaning.specs.Objects as meaning;
 ghost use Rattle.kernel_meaning.specs.PortServices as services;
 ghost use Rattle.ports.specs.Status.{port_status, without_first};

@@ -2,7 +2,7 @@
 
 ghost use Rattle.std.specs.Prelude.{◌≡◌, ◌<◌, ◌≤◌, ◌^◌, [], length, map, option_map, slice_get, true, false, IfOk, IfSome, IsNone, OnSome, None, Some};
 ghost use Rattle.apex_types.specs.Room.{HasRoom, Grows};
-ghost use Rattle.apex_types.specs.declared.limits.TheConstants.{MOST_OBJECTS, MOST_TICKS};
+ghost use Rattle.apex_types.specs.Limits.{MOST_OBJECTS, MOST_TICKS};
 ghost use Rattle.kernel_meaning.specs.Objects.{numbered_in};
 ghost use Rattle.kernel_meaning.specs.Objects as meaning;
 ghost use Rattle.kernel_meaning.specs.PortServices as services;

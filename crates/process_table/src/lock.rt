@@ -1,7 +1,7 @@
 //! The preemption lock, and the number of the caller.
 
 ghost use Rattle.std.specs.Prelude.{◌≡◌, ◌<◌, ◌≤◌, ◌+◌, length};
-ghost use Rattle.apex_types.specs.declared.limits.TheConstants.{MOST_LOCK_LEVEL};
+ghost use Rattle.apex_types.specs.Limits.{MOST_LOCK_LEVEL};
 ghost use Rattle.apex_types.specs.Room.{HasRoom, Grows};
 ghost use Rattle.kernel_meaning.specs.ProcessServices as meaning;
 ghost use Rattle.kernel_meaning.specs.Made.{IsMade, IsTold};

@@ -1,6 +1,7 @@
 -- How great the ticks in a record are at most, so that no sum of them is too great for a word.
 use Rattle.std.specs.Prelude.{◌≤◌, ℕ, List, [], ◌∷◌, Option, IfSome}
-use Rattle.apex_types.specs.declared.limits.TheConstants.{LATEST_RELEASE_POINT, MOST_TICKS}
+use Rattle.apex_types.specs.Limits.{MOST_TICKS}
+use Rattle.apex_types.specs.declared.limits.TheConstants.{LATEST_RELEASE_POINT}
 use Rattle.apex_types.specs.declared.identity.Ticks.{Ticks}
 use Rattle.apex_types.specs.declared.process.ProcessStatus.{ProcessStatus}
 use Rattle.apex_types.specs.declared.process.Wait.{Wait}

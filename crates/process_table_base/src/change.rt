@@ -5,9 +5,10 @@ ghost use Rattle.apex_types.specs.Runners as action;
 ghost use Rattle.apex_types.specs.declared.event.EventKind.TheVariants as event;
 ghost use Rattle.apex_types.specs.Room.{HasRoom, Grows};
 ghost use Rattle.apex_types.specs.Runners.{place_of};
+ghost use Rattle.apex_types.specs.CodeWords.{return_code_number};
 ghost use Rattle.kernel_meaning.specs.Processes as meaning;
 ghost use Rattle.kernel_meaning.specs.Made.{IsMade, IsTold};
-ghost use Rattle.kernel_meaning.specs.Step.{code_number, message};
+ghost use Rattle.kernel_meaning.specs.Step.{message};
 ghost use Rattle.kernel_meaning.specs.Step as step;
 ghost use Rattle.process_table_base.specs.Bounds.{IsBounded, IsDelayed};
 
@@ -32,7 +33,7 @@ pub fn answer(
         ≡ out.old.lines ++ event.Return who service code ∷ [] }
     ensures actions { out.new.actions
         ≡ out.old.actions
-        ++ action.Reply runner (message (pos (code_number code) ∷ outputs.now))
+        ++ action.Reply runner (message (pos (return_code_number code) ∷ outputs.now))
         ∷ [] }
 {
     out.tell(LineKind::Return(who, service, code), &[]);
@@ -46,7 +47,7 @@ pub fn refuse(runner: Runner, who: Subject, service: Service, code: ReturnCode, 
         ≡ out.old.lines ++ event.Return who service code ∷ [] }
     ensures actions { out.new.actions
         ≡ out.old.actions
-        ++ action.Reply runner (message (pos (code_number code) ∷ step.zeros service))
+        ++ action.Reply runner (message (pos (return_code_number code) ∷ step.zeros service))
         ∷ [] }
 {
     answer(runner, who, service, code, zeros(service), out);

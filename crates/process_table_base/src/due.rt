@@ -1,7 +1,8 @@
 //! What is due in a tick: for each process in number order its due time, then its deadline.
 
 ghost use Rattle.std.specs.Prelude.{◌≡◌, ◌<◌, ◌≤◌, ◌+◌, ◌-◌, ◌*◌, ◌^◌};
-ghost use Rattle.apex_types.specs.declared.limits.TheConstants.{MOST_RUNNERS, MOST_TICKS};
+ghost use Rattle.apex_types.specs.Limits.{MOST_TICKS};
+ghost use Rattle.apex_types.specs.declared.limits.TheConstants.{MOST_RUNNERS};
 ghost use Rattle.apex_types.specs.Room.{HasRoom, Grows};
 ghost use Rattle.apex_types.specs.Runners.{place_of};
 ghost use Rattle.kernel_meaning.specs.Times as meaning;

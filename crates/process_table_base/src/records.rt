@@ -7,7 +7,7 @@ ghost use Rattle.kernel_meaning.specs.Fresh.{fresh_row, handler_row, init_row};
 ghost use Rattle.machine_meaning.specs.MachineMeaning.{machine_row};
 ghost use Rattle.kernel_meaning.specs.Times.{ticks};
 ghost use Rattle.links.specs.Timers.{IsDueMask, IsNextDue, number_of};
-ghost use Rattle.apex_types.specs.declared.limits.TheConstants.{MOST_PROCESSES};
+ghost use Rattle.apex_types.specs.Limits.{MOST_PROCESSES};
 ghost use Rattle.process_table_base.specs.Bounds.{AreShort, IsBounded};
 ghost use Rattle.process_table_base.specs.ShortFact.{shorts_prop};
 ghost use Rattle.process_table_base.specs.States.{put_state};

@@ -1,7 +1,8 @@
 //! The start of a process, its release, and the normal start of the processes that wait for it.
 
 ghost use Rattle.std.specs.Prelude.{◌≡◌, ◌<◌, ◌≤◌, ◌+◌, ◌-◌, length, IfSome};
-ghost use Rattle.apex_types.specs.declared.limits.TheConstants.{LATEST_RELEASE_POINT, MOST_TICKS};
+ghost use Rattle.apex_types.specs.Limits.{MOST_PROCESSES, MOST_TICKS};
+ghost use Rattle.apex_types.specs.declared.limits.TheConstants.{LATEST_RELEASE_POINT};
 ghost use Rattle.apex_types.specs.Room.{HasRoom, Grows};
 ghost use Rattle.apex_types.specs.Runners.{place_of};
 ghost use Rattle.kernel_meaning.specs.Processes.{row_of};

@@ -239,7 +239,7 @@ impl ProcessTable {
             ≡ record self.old { ready = meaning.goes_last runner priority self.old.ready } }
     {
         if let Runner::Process(process) = runner {
-            self.ready.push_back(Entry { process, priority });
+            self.ready.move_back(Entry { process, priority });
         }
     }
 

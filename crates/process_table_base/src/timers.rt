@@ -1,6 +1,7 @@
 //! The timers of the processes: their due times and their deadlines.
 
 ghost use Rattle.std.specs.Prelude.{◌≡◌, ◌<◌, ℕ, List, Option, Some, true, [], slice_get, slice_set};
+ghost use Rattle.apex_types.specs.Limits.{MOST_PROCESSES};
 ghost use Rattle.apex_types.specs.Runners.{place_of};
 ghost use Rattle.apex_types.specs.declared.process.ProcessStatus.{ProcessStatus as Row};
 ghost use Rattle.links.specs.Timers.{IsDueMask, IsExact, IsNextDue, number_of, ticks_with};

@@ -119,7 +119,7 @@ impl ProcessTable {
                 process,
                 priority: row.current_priority,
             };
-            self.queues.join(waiting.list, waiting.discipline, entry);
+            self.queues.move_to(waiting.list, waiting.discipline, entry);
             put_message(&mut self.handed, process, message);
         }
     }

@@ -2,7 +2,7 @@
 
 ghost use Rattle.std.specs.Prelude.{◌≡◌, ℤ, pos, List, ℕ, ◌<◌, ◌++◌, length, option_map, map, nat_eq, slice_get, if◌then◌else◌, None, ◌-◌, Some};
 ghost use Rattle.std.specs.Int.{w32, w64, to_le_bytes, from_le_bytes, cast_unsigned, cast_signed};
-ghost use Rattle.apex_types.specs.declared.limits.TheConstants.{INSTRUCTION_BYTES};
+ghost use Rattle.apex_types.specs.Limits.{INSTRUCTION_BYTES};
 ghost use Rattle.apex_types.specs.declared.instruction.Instr.{Instr};
 ghost use Rattle.machine_meaning.specs.Instructions.{opcode_of_binary, opcode_of_unary, opcode_of, x_of, v_of, bytes_of, reading, opcode_in, x_in, v_in, fields, instruction_of, operator_of, operator_reading, uses_x, uses_v, uses_none, name_of_opcode, HasBytes, AreBytes};
 

@@ -1,7 +1,7 @@
 //! The last tick of an instruction: operators, jumps, and the instruction table.
 
 ghost use Rattle.std.specs.Prelude.{◌≡◌, ◌≤◌, pos};
-ghost use Rattle.apex_types.specs.declared.limits.TheConstants.{MOST_WORK_TICKS};
+ghost use Rattle.apex_types.specs.Limits.{MOST_WORK_TICKS};
 ghost use Rattle.machine_meaning.specs.Instructions.{cost_of, cost_of_work, cost_of_service_call, is_work};
 ghost use Rattle.apex_types.specs.ServiceShape.{service_of};
 

@@ -1,7 +1,7 @@
 //! The load of a module table.
 
 ghost use Rattle.std.specs.Prelude.{◌≡◌, ◌≤◌, ◌++◌, length, map, IfOk};
-ghost use Rattle.apex_types.specs.declared.limits.TheConstants.{MOST_PARTITIONS};
+ghost use Rattle.apex_types.specs.Limits.{MOST_PARTITIONS};
 ghost use Rattle.window_table.specs.Schedules.{schedule_of};
 ghost use Rattle.window_table.specs.Views.{partition_view, table_of};
 ghost use Rattle.schedule_load.specs.Load.{IsLoadOf, partition_load, partition_loads};

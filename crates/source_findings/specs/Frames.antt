@@ -1,7 +1,7 @@
 -- The words of stack that a body needs, computed from the program as it is written. A number beyond 64 bits becomes the greatest of 64 bits.
 use Rattle.std.specs.Prelude.{ℕ, ◌+◌, max, min, List, ◌∷◌, length}
 use Rattle.apex_types.specs.ServiceShape.{answer_words, arguments_of}
-use Rattle.apex_types.specs.declared.limits.TheConstants.{MOST_LOCALS, MOST_PARAMETERS}
+use Rattle.apex_types.specs.Limits.{MOST_LOCALS, MOST_PARAMETERS}
 use Rattle.apex_types.specs.declared.service.Service.{Service}
 use Rattle.apex_types.specs.declared.shape.ArgumentKind.{ArgumentKind}
 use Rattle.apex_types.specs.declared.shape.ArgumentKind.TheVariants as argument

@@ -2,7 +2,7 @@
 use Rattle.std.specs.Prelude.{ℕ, ◌%◌, Bool, not, ◌&&◌, nat_eq, nat_le, nat_lt, if◌then◌else◌, List, ◌++◌, length, map, Option, Some, None}
 use Rattle.apex_types.specs.NameText.{is_name}
 use Rattle.apex_types.specs.ServiceShape.{arguments_of, answer_words}
-use Rattle.apex_types.specs.declared.limits.TheConstants.{MOST_TICKS}
+use Rattle.apex_types.specs.Limits.{MOST_TICKS}
 use Rattle.apex_types.specs.declared.service.Service.{Service}
 use Rattle.pal_base.specs.declared.fault.Refusal.{Refusal}
 use Rattle.pal_base.specs.declared.fault.Refusal.TheVariants as rule

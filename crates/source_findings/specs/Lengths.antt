@@ -1,6 +1,6 @@
 -- The body with which a program has more instructions than it may have, and the word at which it begins.
 use Rattle.std.specs.Prelude.{ℕ, zero, suc, ◌+◌, ◌-◌, Bool, ◌&&◌, nat_lt, if◌then◌else◌, List, [], ◌∷◌, codes, length, Option, Some, None}
-use Rattle.apex_types.specs.declared.limits.TheConstants.{MOST_INSTRUCTIONS}
+use Rattle.apex_types.specs.Limits.{MOST_INSTRUCTIONS}
 use Rattle.engine_meaning.specs.Digits.{same}
 use Rattle.pal.specs.declared.report.BodyCost.{BodyCost}
 use Rattle.pal.specs.declared.report.BodyName.{BodyName}

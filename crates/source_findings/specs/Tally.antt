@@ -1,6 +1,6 @@
 -- How many words of data and how many declarations of each kind a program has up to a declaration.
 use Rattle.std.specs.Prelude.{ℕ, ◌+◌, Option}
-use Rattle.apex_types.specs.declared.limits.TheConstants.{MOST_DATA_WORDS, MOST_OBJECTS, MOST_PORTS, MOST_PROCEDURES}
+use Rattle.apex_types.specs.Limits.{MOST_DATA_WORDS, MOST_OBJECTS, MOST_PORTS, MOST_PROCEDURES}
 use Rattle.pal_meaning.specs.Resolve.{value_or_zero}
 use Rattle.pal_meaning.specs.Syntax as written
 use Rattle.source_findings.specs.Frames.{held}

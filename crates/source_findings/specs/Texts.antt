@@ -1,6 +1,6 @@
 -- What is wrong with a text that is no source: its bytes above 127, or else its length.
 use Rattle.std.specs.Prelude.{ℕ, ◌-◌, Bool, false, not, ◌&&◌, nat_lt, if◌then◌else◌, List, [], ◌∷◌, length, Option, Some, None}
-use Rattle.apex_types.specs.declared.limits.TheConstants.{MOST_SOURCE_BYTES}
+use Rattle.apex_types.specs.Limits.{MOST_SOURCE_BYTES}
 use Rattle.source_findings.specs.What.{NoAscii, TooLong, What, Wrong, noted}
 
 abbrev pub is_above : ℕ → Bool

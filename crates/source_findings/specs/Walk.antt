@@ -1,7 +1,7 @@
 -- The walk through the words of expressions and statements. The tree says what each word is.
 use Rattle.std.specs.Prelude.{ℕ, Bool, true, false, List, [], ◌∷◌, length, Option}
 use Rattle.apex_types.specs.ServiceShape.{arguments_of}
-use Rattle.apex_types.specs.declared.limits.TheConstants.{MOST_WORK_TICKS}
+use Rattle.apex_types.specs.Limits.{MOST_WORK_TICKS}
 use Rattle.apex_types.specs.declared.service.Service.{Service}
 use Rattle.apex_types.specs.declared.shape.ArgumentKind.{ArgumentKind}
 use Rattle.apex_types.specs.declared.shape.ArgumentKind.TheVariants as argument

@@ -1,7 +1,7 @@
 //! How many words of data and how many declarations of each kind a program has up to a declaration.
 
 ghost use Rattle.std.specs.Prelude.{◌≡◌, ◌+◌, List, ℕ, option_map};
-ghost use Rattle.apex_types.specs.declared.limits.TheConstants.{MOST_OBJECTS};
+ghost use Rattle.apex_types.specs.Limits.{MOST_OBJECTS};
 ghost use Rattle.pal_base.specs.View.{declared_of, number_of};
 ghost use Rattle.pal_meaning.specs.Resolve.{value_or_zero};
 ghost use Rattle.source_findings.specs.Frames.{held};

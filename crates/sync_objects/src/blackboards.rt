@@ -2,7 +2,7 @@
 
 ghost use Rattle.std.specs.Prelude.{◌≡◌, ◌<◌, ◌+◌, [], length, pos, true};
 ghost use Rattle.apex_types.specs.Room.{HasRoom, Grows};
-ghost use Rattle.apex_types.specs.declared.limits.TheConstants.{MOST_OBJECTS};
+ghost use Rattle.apex_types.specs.Limits.{MOST_OBJECTS};
 ghost use Rattle.kernel_meaning.specs.BlackboardServices as meaning;
 ghost use Rattle.kernel_meaning.specs.Times as durations;
 ghost use Rattle.kernel_meaning.specs.Made.{IsMade};

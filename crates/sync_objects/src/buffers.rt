@@ -2,7 +2,7 @@
 
 ghost use Rattle.std.specs.Prelude.{◌≡◌, ◌<◌, ◌+◌, length, true};
 ghost use Rattle.apex_types.specs.Room.{HasRoom, Grows};
-ghost use Rattle.apex_types.specs.declared.limits.TheConstants.{MOST_OBJECTS};
+ghost use Rattle.apex_types.specs.Limits.{MOST_OBJECTS};
 ghost use Rattle.kernel_meaning.specs.BufferServices as meaning;
 ghost use Rattle.kernel_meaning.specs.Times as durations;
 ghost use Rattle.kernel_meaning.specs.Made.{IsMade};

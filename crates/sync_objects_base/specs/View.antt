@@ -1,6 +1,6 @@
 -- The view of the fields of the objects, and their invariants.
 use Rattle.std.specs.Prelude.{◌≤◌, length}
-use Rattle.apex_types.specs.declared.limits.TheConstants.{MOST_OBJECTS}
+use Rattle.apex_types.specs.Limits.{MOST_OBJECTS}
 use Rattle.kernel_meaning.specs.Objects as meaning
 use Rattle.sync_objects_base.specs.declared.semaphore.Semaphore.TheInside as semaphore
 use Rattle.sync_objects_base.specs.declared.event.ApexEvent.TheInside as event

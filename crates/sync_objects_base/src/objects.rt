@@ -1,7 +1,7 @@
 //! The objects of a partition, and the few ways to change them.
 
 ghost use Rattle.std.specs.Prelude.{◌≡◌, ◌<◌, ◌≤◌, ◌++◌, [], ◌∷◌, drop, length, map, replicate, slice_get, IfOk, IfSome, IsNone, OnSome, true};
-ghost use Rattle.apex_types.specs.declared.limits.TheConstants.{MOST_OBJECTS};
+ghost use Rattle.apex_types.specs.Limits.{MOST_OBJECTS};
 ghost use Rattle.kernel_meaning.specs.Objects as meaning;
 ghost use Rattle.sync_objects_base.specs.Status.{buffer_at, buffer_of_status, buffer_status, blackboard_at, blackboard_of_status, blackboard_status, event_at, semaphore_at, without_first};
 

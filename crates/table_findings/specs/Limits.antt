@@ -1,7 +1,7 @@
 -- What is outside its limits in a table whose keys and types are right.
 use Rattle.std.specs.Prelude.{ℕ, ℤ, pos, ◌+◌, ◌||◌, int_lt, nat_lt, if◌then◌else◌, List, [], ◌∷◌, ◌++◌, codes, length, Option, Some, None}
 use Rattle.apex_types.specs.NameText.{is_name}
-use Rattle.apex_types.specs.declared.limits.TheConstants.{MOST_CHANNELS, MOST_COST, MOST_DEPTH, MOST_DESTINATIONS, MOST_FRAME_TICKS, MOST_PARTITIONS, MOST_PORTS, MOST_TICKS, MOST_WINDOWS, MOST_WORDS}
+use Rattle.apex_types.specs.Limits.{MOST_CHANNELS, MOST_COST, MOST_DEPTH, MOST_DESTINATIONS, MOST_FRAME_TICKS, MOST_PARTITIONS, MOST_PORTS, MOST_TICKS, MOST_WINDOWS, MOST_WORDS}
 use Rattle.module_meaning.specs.TableRules.{ChannelText, KindText, PartitionText, PortText, Queuing, Sampling, TableText, WindowText, cost_keys, is_outside}
 use Rattle.table_findings.specs.Findings.{Below, Count, Finding, NoName, Outside}
 use Rattle.table_findings.specs.Schedule.{partition_at, window_at}

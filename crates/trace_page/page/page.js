@@ -15,6 +15,11 @@ const MESSAGE_KINDS = ["MOVE", "ARRIVE", "LOST", "OUT"];
 /** Whether a message leaves by a line. */
 const isSent = (line) => line.kind === "MOVE" || line.kind === "OUT";
 
+/** Whether the processes of a partition are gone with an error of it, and before the work of its tick. */
+function isCleared([error, , level, action]) {
+  return (error === "DEADLINE_MISSED" || error === "HARDWARE_FAULT") && level === "PARTITION" && action !== "IGNORE";
+}
+
 /** The kinds of marks, in the order in which they are drawn: errors last, and so above all others. */
 const SIGNS = ["message", "lost", "report", "flag"];
 
@@ -111,6 +116,11 @@ class Stays {
   }
 }
 
+/** The stays of all these processes end before a tick. */
+function endAll(processes, tick) {
+  for (const { stays } of processes.values()) stays.end(tick);
+}
+
 /** What a trace shows: the lanes in the order of their first lines, the marks on them, and the messages. */
 class Story {
   constructor(lines, windows, ticks) {
@@ -160,7 +170,7 @@ class Story {
     if (partition === "-") this.takeModule(line);
     else if (kind === "STATE") this.takeState(line);
     else if (kind === "MODE") this.takeMode(line);
-    else if (kind === "HM") this.mark(this.marked(partition, words[1]), line, "flag");
+    else if (kind === "HM") this.takeError(line);
     else if (kind === "REPORT") this.mark(this.process(partition, words[0]), line, "report");
     else if (MESSAGE_KINDS.includes(kind)) this.takeMessage(line);
   }
@@ -176,7 +186,7 @@ class Story {
     this.module ??= this.lane("module", "-", "the module");
     this.mark(this.module, line, "flag");
     const action = line.words[line.words.length - 1];
-    if (action === "RESET") this.origins.push(line.tick);
+    if (action === "RESET") this.reset(line.tick);
     if (action !== "SHUTDOWN") return;
     this.down = Math.min(this.down, line.tick);
     this.module.stays.begin(line.tick, "SHUTDOWN", false);
@@ -186,6 +196,18 @@ class Story {
     const { stays } = this.process(partition, name);
     const gaveUp = stays.open === "RUNNING" && (state === "WAITING" || state === "DORMANT");
     stays.begin(tick, state, gaveUp);
+  }
+
+  /** With a reset the frames begin anew, and the processes of all partitions are gone before the work of the tick. */
+  reset(tick) {
+    this.origins.push(tick);
+    for (const { processes } of this.byPartition.values()) endAll(processes, tick);
+  }
+
+  takeError(line) {
+    const { tick, partition, words } = line;
+    this.mark(this.marked(partition, words[1]), line, "flag");
+    if (isCleared(words)) endAll(this.partition(partition).processes, tick);
   }
 
   /** A mode other than NORMAL ends all processes; a tick in which one ran still counts. */

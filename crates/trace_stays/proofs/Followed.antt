@@ -1,16 +1,19 @@
 -- The lanes of a trace after one more line.
 use Rattle.std.proofs.Common.{◌≡◌, ◌⊎◌, inl, inr, ℕ, zero, suc, ◌+◌, ◌<◌, ◌≤◌, Bool, true, false, List, [], ◌∷◌, ◌++◌, map, length, Option, Some, None, Result, Ok, Err, refl, sym, ap, subst, ◌∙◌, arith, append-nil, append_assoc}
-use Rattle.std.specs.Prelude.{◌==◌, if◌then◌else◌, IfOk, OnErr, slice_get, slice_set}
+use Rattle.std.specs.Prelude.{◌==◌, if◌then◌else◌, IfOk, OnErr, OnOk, slice_get, slice_set}
 use Rattle.std.proofs.lemmas.Bool.{and_from, and_parts, eq-eqb, eqb-true, false≢true}
 use Rattle.apex_types.specs.Line.{subject_text}
+use Rattle.apex_types.specs.declared.codes.ErrorKind.{ErrorKind}
 use Rattle.apex_types.specs.declared.codes.Mode.{Mode}
 use Rattle.apex_types.specs.declared.codes.Mode.TheVariants as mode
 use Rattle.apex_types.specs.declared.codes.ProcessState.{ProcessState}
+use Rattle.apex_types.specs.declared.codes.Response.{Response}
 use Rattle.apex_types.specs.declared.event.EventKind.{EventKind}
 use Rattle.apex_types.specs.declared.event.EventKind.TheVariants as event
 use Rattle.apex_types.specs.declared.event.Subject.{Subject}
 use Rattle.engine_meaning.specs.Digits.{same}
-use Rattle.trace_stays.specs.Following.{AreInPlace, AreKept, AreThere, HasPartition, HasProcess, HasRead, KeepsPlace, and_one, change_at, entered, gone_from, has_name, held_at, held_by, held_in, if_at, if_in, is_of, is_process, mode_after, mode_at, mode_by, mode_held, mode_in, mode_over, mode_over_at, mode_stay_in, mode_stay_over, mode_stays_at, mode_stays_of, new_partition, new_process, over_at, over_with, partition_at, place_from, process_at, process_in, starts_again, state_behind, state_in, state_left, state_over, stay_in, stay_left_by, stay_over, stays_at, stays_of, turned}
+use Rattle.trace_stays.specs.Clearing.{clears, resets, starts_again}
+use Rattle.trace_stays.specs.Following.{AreInPlace, AreKept, AreThere, HasPartition, HasProcess, HasRead, KeepsPlace, and_one, change_at, entered, gone_from, has_name, held_at, held_by, held_in, held_with, if_at, if_in, is_among, is_process, mode_after, mode_at, mode_by, mode_held, mode_in, mode_over, mode_over_at, mode_stay_in, mode_stay_over, mode_stays_at, mode_stays_of, new_partition, new_process, next_by, next_if, next_in, next_of_all, over_at, over_with, partition_at, place_from, process_at, process_in, state_behind, state_over, stay_over, stay_with, stays_at, stays_of, turned}
 use Rattle.trace_stays.specs.Within.{AreWithin}
 use Rattle.trace_stays.specs.Stays.{held_behind, mode_behind, mode_ended, stay_ended}
 use Rattle.trace_stays.specs.declared.fault.MemoryFull.{MemoryFull}
@@ -22,7 +25,14 @@ use Rattle.trace_stays.specs.declared.lanes.ProcessLane.{ProcessLane}
 use Rattle.trace_stays.specs.declared.stay.Held.{Held}
 use Rattle.trace_stays.specs.declared.stay.HeldMode.{HeldMode}
 use Rattle.trace_stays.specs.declared.stay.ModeStay.{ModeStay}
+use Rattle.trace_stays.specs.declared.next.Next.{Next}
+use Rattle.trace_stays.specs.declared.next.Next.TheVariants.{Enters, Gone, Cleared}
 use Rattle.trace_stays.specs.declared.stay.Stay.{Stay}
+
+-- what holds after a call that is done, from two facts about it
+pub both_ok : {T E P Q R : Type 0} (r : Result T E) → (P → Q → R) → OnOk r P → OnOk r Q → OnOk r R
+both_ok (Ok x) f p q = f p q
+both_ok (Err e) f p q = tt
 
 -- ---- texts
 
@@ -545,10 +555,10 @@ if_alike : {A : Type 0} (b : Bool) (x : A) → x ≡ (if b then x else x)
 if_alike true x = refl
 if_alike false x = refl
 
-blind_turn : (q : ℕ) (w : List ℕ) (next : Option ProcessState) (t : ℕ) (lane : ProcessLane) → is_process q w (turned next t lane) ≡ is_process q w lane
+blind_turn : (q : ℕ) (w : List ℕ) (next : Next) (t : ℕ) (lane : ProcessLane) → is_process q w (turned next t lane) ≡ is_process q w lane
 blind_turn q w next t lane = refl
 
-blind_turns : (k : ℕ) (next : Option ProcessState) (t : ℕ) (o : Option ℕ) (w : List ℕ) (qs : List ProcessLane) → process_in o w (change_at k (turned next t) qs) ≡ process_in o w qs
+blind_turns : (k : ℕ) (next : Next) (t : ℕ) (o : Option ℕ) (w : List ℕ) (qs : List ProcessLane) → process_in o w (change_at k (turned next t) qs) ≡ process_in o w qs
 blind_turns k next t None w qs = refl
 blind_turns k next t (Some q) w qs = change_place 0 (is_process q w) (turned next t) k qs (blind_turn q w next t)
 
@@ -560,10 +570,10 @@ module _ (mid : Lanes) (name word : List ℕ) (who : Subject) (s : ProcessState)
   qs = mid.processes.items
 
   abbrev later : List ProcessLane
-  later = change_at k (turned (Some s) t) qs
+  later = change_at k (turned (Enters s) t) qs
 
   abbrev over : List Ended
-  over = over_at k (Some s) t (slice_get qs k)
+  over = over_at k (Enters s) t (slice_get qs k)
 
   lane_there : (lane : ProcessLane) × (slice_get qs k ≡ Some lane)
   lane_there = by (partition_at name ps) at
@@ -573,32 +583,32 @@ module _ (mid : Lanes) (name word : List ℕ) (who : Subject) (s : ProcessState)
       by (Some q) h = let x = found (is_process q word) qs k h in (x.0, x.1)
 
   -- the process itself
-  own_state : (o : Option ℕ) → o ≡ Some k → held_at o later ≡ held_behind (held_at o qs) (Some s) t
+  own_state : (o : Option ℕ) → o ≡ Some k → held_at o later ≡ held_behind (held_at o qs) (Enters s) t
   own_state o e =
       let lane = lane_there in
       ap (λ (p : Option ℕ). held_at p later) e
-      ∙ (ap held_in (get_same k (turned (Some s) t) qs lane.0 lane.1)
-      ∙ ap (λ (h : Option Held). held_behind h (Some s) t) (ap held_in (sym lane.1) ∙ ap (λ (p : Option ℕ). held_at p qs) (sym e)))
+      ∙ (ap held_in (get_same k (turned (Enters s) t) qs lane.0 lane.1)
+      ∙ ap (λ (h : Option Held). held_behind h (Enters s) t) (ap held_in (sym lane.1) ∙ ap (λ (p : Option ℕ). held_at p qs) (sym e)))
 
-  own_over : (o : Option ℕ) → o ≡ Some k → stays_of o over ≡ and_one (stay_ended (held_at o qs) (Some s) t)
+  own_over : (o : Option ℕ) → o ≡ Some k → stays_of o over ≡ and_one (stay_ended (held_at o qs) (Enters s) t)
   own_over o e =
       let lane = lane_there in
       ap (λ (p : Option ℕ). stays_of p over) e
-      ∙ (ap (λ (p : Option ProcessLane). stays_at k (over_at k (Some s) t p)) lane.1
-      ∙ (one_over k (stay_ended lane.0.watch.held (Some s) t)
-      ∙ ap (λ (h : Option Held). and_one (stay_ended h (Some s) t)) (ap held_in (sym lane.1) ∙ ap (λ (p : Option ℕ). held_at p qs) (sym e))))
+      ∙ (ap (λ (p : Option ProcessLane). stays_at k (over_at k (Enters s) t p)) lane.1
+      ∙ (one_over k (stay_ended lane.0.watch.held (Enters s) t)
+      ∙ ap (λ (h : Option Held). and_one (stay_ended h (Enters s) t)) (ap held_in (sym lane.1) ∙ ap (λ (p : Option ℕ). held_at p qs) (sym e))))
 
   -- another one
   other_state : (o : Option ℕ) → (o ≡ Some k → ⊥) → held_at o later ≡ held_at o qs
   other_state None apart = refl
-  other_state (Some j) apart = ap held_in (get_other k (turned (Some s) t) qs j (λ e. apart (ap Some e)))
+  other_state (Some j) apart = ap held_in (get_other k (turned (Enters s) t) qs j (λ e. apart (ap Some e)))
 
   other_over : (o : Option ℕ) → (o ≡ Some k → ⊥) → stays_of o over ≡ []
   other_over None apart = refl
   other_over (Some j) apart =
       let lane = lane_there in
-      ap (λ (p : Option ProcessLane). stays_at j (over_at k (Some s) t p)) lane.1
-      ∙ none_over j k (stay_ended lane.0.watch.held (Some s) t) (λ e. apart (ap Some e))
+      ap (λ (p : Option ProcessLane). stays_at j (over_at k (Enters s) t p)) lane.1
+      ∙ none_over j k (stay_ended lane.0.watch.held (Enters s) t) (λ e. apart (ap Some e))
 
   abbrev place_of : List ℕ → List ℕ → Option ℕ
   place_of m w = process_at m w mid
@@ -609,7 +619,7 @@ module _ (mid : Lanes) (name word : List ℕ) (who : Subject) (s : ProcessState)
       held : Option Held
       held = held_at (place_of m w) qs
 
-      by : (b : Bool) → same name m ≡ b → (c : Bool) → same (subject_text who) w ≡ c → held_at (place_of m w) later ≡ (if b then (if c then held_behind held (Some s) t else held) else held)
+      by : (b : Bool) → same name m ≡ b → (c : Bool) → same (subject_text who) w ≡ c → held_at (place_of m w) later ≡ held_with (if b then next_if c (Enters s) else None) t held
       by true e true f =
           let named = same_is name m e in
           let worded : word ≡ w = sym is ∙ same_is (subject_text who) w f in
@@ -623,7 +633,7 @@ module _ (mid : Lanes) (name word : List ℕ) (who : Subject) (s : ProcessState)
       held : Option Held
       held = held_at (place_of m w) qs
 
-      by : (b : Bool) → same name m ≡ b → (c : Bool) → same (subject_text who) w ≡ c → stays_of (place_of m w) over ≡ and_one (if b then (if c then stay_ended held (Some s) t else None) else None)
+      by : (b : Bool) → same name m ≡ b → (c : Bool) → same (subject_text who) w ≡ c → stays_of (place_of m w) over ≡ and_one (stay_with (if b then next_if c (Enters s) else None) t held)
       by true e true f =
           let named = same_is name m e in
           let worded : word ≡ w = sym is ∙ same_is (subject_text who) w f in
@@ -631,26 +641,26 @@ module _ (mid : Lanes) (name word : List ℕ) (who : Subject) (s : ProcessState)
       by true e false f = other_over (place_of m w) (λ g. false≢true (sym f ∙ (ap (λ (v : List ℕ). same (subject_text who) v) ((one_process mid m w name word k g at).1 ∙ sym is) ∙ same_text (subject_text who))))
       by false e c f = other_over (place_of m w) (λ g. false≢true (sym e ∙ (ap (λ (n : List ℕ). same name n) ((one_process mid m w name word k g at).0) ∙ same_text name)))
 
-over_there : (k : ℕ) (s : ProcessState) (t partitions : ℕ) (qs : List ProcessLane) (o : Option ProcessLane) → slice_get qs k ≡ o → AreThereIn (length qs) partitions (over_at k (Some s) t o)
+over_there : (k : ℕ) (s : ProcessState) (t partitions : ℕ) (qs : List ProcessLane) (o : Option ProcessLane) → slice_get qs k ≡ o → AreThereIn (length qs) partitions (over_at k (Enters s) t o)
 unfolding stays_at mode_stays_at
 over_there k s t partitions qs None e = (λ j past. refl, λ j past. refl)
 over_there k s t partitions qs (Some lane) e =
     let low = get_below qs k lane e in
-    (λ j past. none_over j k (stay_ended lane.watch.held (Some s) t) (λ same. omega (arith, low, past, same)), λ j past. no_states_at j k (stay_ended lane.watch.held (Some s) t))
+    (λ j past. none_over j k (stay_ended lane.watch.held (Enters s) t) (λ same. omega (arith, low, past, same)), λ j past. no_states_at j k (stay_ended lane.watch.held (Enters s) t))
 
-over_no_mode : (o : Option ℕ) (k : ℕ) (s : ProcessState) (t : ℕ) (p : Option ProcessLane) → mode_stays_of o (over_at k (Some s) t p) ≡ []
+over_no_mode : (o : Option ℕ) (k : ℕ) (s : ProcessState) (t : ℕ) (p : Option ProcessLane) → mode_stays_of o (over_at k (Enters s) t p) ≡ []
 unfolding mode_stays_at
 over_no_mode None k s t p = refl
 over_no_mode (Some j) k s t None = refl
-over_no_mode (Some j) k s t (Some lane) = no_states_at j k (stay_ended lane.watch.held (Some s) t)
+over_no_mode (Some j) k s t (Some lane) = no_states_at j k (stay_ended lane.watch.held (Enters s) t)
 
 -- nothing is added
 and_none : {A : Type 0} (xs : List A) (o : Option A) → o ≡ None → xs ≡ xs ++ and_one o
 and_none xs o none = sym (append-nil xs) ∙ ap (λ p. xs ++ and_one p) (sym none)
 
 pub has_turned : (old mid new : Lanes) (name : List ℕ) (who : Subject) (s : ProcessState) (t k : ℕ) (before after : List Ended) → AreKept old mid → AreInPlace old mid → process_at name (subject_text who) mid ≡ Some k
-    → new.partitions.items ≡ mid.partitions.items → new.processes.items ≡ change_at k (turned (Some s) t) mid.processes.items
-    → after ≡ before ++ over_at k (Some s) t (slice_get mid.processes.items k)
+    → new.partitions.items ≡ mid.partitions.items → new.processes.items ≡ change_at k (turned (Enters s) t) mid.processes.items
+    → after ≡ before ++ over_at k (Enters s) t (slice_get mid.processes.items k)
     → HasRead (Some name) (event.State who s) t old new before after
 has_turned old mid new name who s t k before after kept in_place at same_partitions same_processes more = record {
   held = λ m w. ap (λ (o : Option ℕ). held_at o new.processes.items) (place m w)
@@ -659,9 +669,9 @@ has_turned old mid new name who s t k before after kept in_place at same_partiti
       ∙ ap (λ (h : Option Held). state_behind (Some name) (event.State who s) t m w h) (kept.held m w)));
   mode = λ m. ap (λ (l : List PartitionLane). mode_at (partition_at m l) l) same_partitions ∙ (kept.mode m ∙ if_alike (same name m) (mode_by m old));
   ended = λ m w. ap (stays_of (process_at m w new)) more
-      ∙ (stays_two (process_at m w new) before (over_at k (Some s) t (slice_get mid.processes.items k))
+      ∙ (stays_two (process_at m w new) before (over_at k (Enters s) t (slice_get mid.processes.items k))
       ∙ ap (λ (ss : List Stay). stays_of (process_at m w new) before ++ ss)
-      (ap (λ (o : Option ℕ). stays_of o (over_at k (Some s) t (slice_get mid.processes.items k))) (place m w)
+      (ap (λ (o : Option ℕ). stays_of o (over_at k (Enters s) t (slice_get mid.processes.items k))) (place m w)
       ∙ (over_turned mid name (subject_text who) who s t k refl at m w
       ∙ ap (λ (h : Option Held). and_one (stay_over (Some name) (event.State who s) t m w h)) (kept.held m w))));
   left = λ m. without_modes (partition_at m new.partitions.items) before over after more (over_no_mode (partition_at m new.partitions.items) k s t (slice_get mid.processes.items k))
@@ -672,21 +682,21 @@ has_turned old mid new name who s t k before after kept in_place at same_partiti
 }
   where
     over : List Ended
-    over = over_at k (Some s) t (slice_get mid.processes.items k)
+    over = over_at k (Enters s) t (slice_get mid.processes.items k)
 
     count : length new.processes.items ≡ length mid.processes.items
-    count = ap length same_processes ∙ length_changed k (turned (Some s) t) mid.processes.items
+    count = ap length same_processes ∙ length_changed k (turned (Enters s) t) mid.processes.items
 
     place : (m w : List ℕ) → process_at m w new ≡ process_at m w mid
     place m w =
         ap (λ (l : List PartitionLane). process_in (partition_at m l) w new.processes.items) same_partitions
         ∙ (ap (λ (l : List ProcessLane). process_in (partition_at m mid.partitions.items) w l) same_processes
-        ∙ blind_turns k (Some s) t (partition_at m mid.partitions.items) w mid.processes.items)
+        ∙ blind_turns k (Enters s) t (partition_at m mid.partitions.items) w mid.processes.items)
 
     places : AreInPlace old new
     places = both_in_place old mid new in_place (in_same_place mid new place (λ m. ap (partition_at m) same_partitions) count (ap length same_partitions))
 
-pub within_turned : (count k : ℕ) (next : Option ProcessState) (t : ℕ) (lanes : List ProcessLane) → AreWithin count lanes → AreWithin count (change_at k (turned next t) lanes)
+pub within_turned : (count k : ℕ) (next : Next) (t : ℕ) (lanes : List ProcessLane) → AreWithin count lanes → AreWithin count (change_at k (turned next t) lanes)
 within_turned count k next t lanes within place lane at =
     let y = get_changed k (turned next t) lanes place lane at in
     let low = within place y.0 y.1 in
@@ -695,35 +705,28 @@ within_turned count k next t lanes within place lane at =
       | inr is ↦ subst (λ (p : ProcessLane). p.partition < count) (sym is) low
     ]
 
--- ---- a line that is neither of a state nor of a mode
+-- ---- a line that changes no state and no mode
 
 abbrev pub IsOther : EventKind → Type 0
 IsOther (event.State who s) = ⊥
 IsOther (event.Mode m) = ⊥
+IsOther (event.Error error who answer) = clears error answer ≡ false
 IsOther _ = Unit {0}
 
--- it changes no state and no mode
-other_state_in : (kind : EventKind) (t : ℕ) (w : List ℕ) (h : Option Held) → IsOther kind → state_in kind t w h ≡ h
-other_state_in (event.State who s) t w h other = absurd other
-other_state_in (event.Mode m) t w h other = absurd other
-other_state_in (event.Return who service code) t w h other = refl
-other_state_in (event.Error error who answer) t w h other = refl
-other_state_in (event.Report who words) t w h other = refl
-other_state_in (event.Move port words) t w h other = refl
-other_state_in (event.Arrive port words) t w h other = refl
-other_state_in (event.Lost port words) t w h other = refl
-other_state_in (event.Out channel words) t w h other = refl
+other_next : (kind : EventKind) (w : List ℕ) → IsOther kind → next_in kind w ≡ None
+other_next (event.State who s) w other = absurd other
+other_next (event.Mode m) w other = absurd other
+other_next (event.Return who service code) w other = refl
+other_next (event.Error error who answer) w other = ap (λ (b : Bool). next_if b Cleared) other
+other_next (event.Report who words) w other = refl
+other_next (event.Move port words) w other = refl
+other_next (event.Arrive port words) w other = refl
+other_next (event.Lost port words) w other = refl
+other_next (event.Out channel words) w other = refl
 
-other_stay_in : (kind : EventKind) (t : ℕ) (w : List ℕ) (h : Option Held) → IsOther kind → stay_in kind t w h ≡ None
-other_stay_in (event.State who s) t w h other = absurd other
-other_stay_in (event.Mode m) t w h other = absurd other
-other_stay_in (event.Return who service code) t w h other = refl
-other_stay_in (event.Error error who answer) t w h other = refl
-other_stay_in (event.Report who words) t w h other = refl
-other_stay_in (event.Move port words) t w h other = refl
-other_stay_in (event.Arrive port words) t w h other = refl
-other_stay_in (event.Lost port words) t w h other = refl
-other_stay_in (event.Out channel words) t w h other = refl
+no_next : (b : Bool) (o : Option Next) → o ≡ None → None ≡ (if b then o else None)
+no_next true o none = sym none
+no_next false o none = refl
 
 other_mode_in : (kind : EventKind) (t : ℕ) (h : Option HeldMode) → IsOther kind → mode_in kind t h ≡ h
 other_mode_in (event.State who s) t h other = absurd other
@@ -756,148 +759,253 @@ same_there : (old new : Lanes) (es : List Ended) → AreInPlace old new → AreT
 unfolding stays_at mode_stays_at
 same_there old new es places there = still_there old new es [] es places (sym (append-nil es)) (λ j past. refl, λ j past. refl) there
 
-pub has_read_other : (old new : Lanes) (partition : Option (List ℕ)) (kind : EventKind) (t : ℕ) (es : List Ended) → AreKept old new → AreInPlace old new → IsOther kind → HasRead partition kind t old new es es
-has_read_other old new partition kind t es kept places other = record {
-  held = λ m w. kept.held m w ∙ if_same_then (is_of m partition) (held_by m w old) (state_in kind t w (held_by m w old)) (other_state_in kind t w (held_by m w old) other);
-  mode = λ m. kept.mode m ∙ if_same_then (is_of m partition) (mode_by m old) (mode_in kind t (mode_by m old)) (other_mode_in kind t (mode_by m old) other);
-  ended = λ m w. sym (append-nil (stays_of (process_at m w new) es))
-      ∙ ap (λ (o : Option Stay). stays_of (process_at m w new) es ++ and_one o) (if_same_then (is_of m partition) None (stay_in kind t w (held_by m w old)) (other_stay_in kind t w (held_by m w old) other));
-  left = λ m. and_none (mode_stays_of (partition_at m new.partitions.items) es) (mode_stay_over partition kind t m (mode_by m old))
-      (sym (if_same_then (is_of m partition) None (mode_stay_in kind t (mode_by m old)) (other_mode_stay_in kind t (mode_by m old) other)));
+pub has_read_other : (old new : Lanes) (name : List ℕ) (kind : EventKind) (t : ℕ) (es : List Ended) → AreKept old new → AreInPlace old new → IsOther kind → HasRead (Some name) kind t old new es es
+has_read_other old new name kind t es kept places other = record {
+  held = λ m w. kept.held m w ∙ ap (λ (o : Option Next). held_with o t (held_by m w old)) (no_next (same name m) (next_in kind w) (other_next kind w other));
+  mode = λ m. kept.mode m ∙ if_same_then (same name m) (mode_by m old) (mode_in kind t (mode_by m old)) (other_mode_in kind t (mode_by m old) other);
+  ended = λ m w. and_none (stays_of (process_at m w new) es) (stay_over (Some name) kind t m w (held_by m w old))
+      (ap (λ (o : Option Next). stay_with o t (held_by m w old)) (sym (no_next (same name m) (next_in kind w) (other_next kind w other))));
+  left = λ m. and_none (mode_stays_of (partition_at m new.partitions.items) es) (mode_stay_over (Some name) kind t m (mode_by m old))
+      (sym (if_same_then (same name m) None (mode_stay_in kind t (mode_by m old)) (other_mode_stay_in kind t (mode_by m old) other)));
   places = places;
   there = same_there old new es places;
 }
 
 -- a line of the module
-pub has_read_none : (l : Lanes) (kind : EventKind) (t : ℕ) (es : List Ended) → HasRead None kind t l l es es
-has_read_none l kind t es = record {
-  held = λ m w. refl;
+pub has_read_none : (l : Lanes) (kind : EventKind) (t : ℕ) (es : List Ended) → next_of_all kind ≡ None → HasRead None kind t l l es es
+has_read_none l kind t es none = record {
+  held = λ m w. ap (λ (o : Option Next). held_with o t (held_by m w l)) (sym none);
   mode = λ m. refl;
-  ended = λ m w. sym (append-nil (stays_of (process_at m w l) es));
+  ended = λ m w. and_none (stays_of (process_at m w l) es) (stay_over None kind t m w (held_by m w l)) (ap (λ (o : Option Next). stay_with o t (held_by m w l)) none);
   left = λ m. sym (append-nil (mode_stays_of (partition_at m l.partitions.items) es));
   places = in_own_place l;
   there = λ there. there;
 }
 
--- ---- a partition enters a mode
+-- ---- the processes of a partition are gone
 
-blind_gone : (q : ℕ) (w : List ℕ) (p t : ℕ) (lane : ProcessLane) → is_process q w (gone_from p t lane) ≡ is_process q w lane
-blind_gone q w p t lane = by (lane.partition == p)
+blind_gone : (q : ℕ) (w : List ℕ) (among : Option ℕ) (next : Next) (t : ℕ) (lane : ProcessLane) → is_process q w (gone_from among next t lane) ≡ is_process q w lane
+blind_gone q w among next t lane = by (is_among among lane.partition)
   where
-    by : (b : Bool) → is_process q w (if b then turned None t lane else lane) ≡ is_process q w lane
+    by : (b : Bool) → is_process q w (if b then turned next t lane else lane) ≡ is_process q w lane
     by true = refl
     by false = refl
+
+blind_map : (among : Option ℕ) (next : Next) (t : ℕ) (lanes : List ProcessLane) (o : Option ℕ) (w : List ℕ) → process_in o w (map (gone_from among next t) lanes) ≡ process_in o w lanes
+blind_map among next t lanes None w = refl
+blind_map among next t lanes (Some q) w = map_place 0 (is_process q w) (gone_from among next t) lanes (blind_gone q w among next t)
 
 -- those of the partition are gone, and no others
-abbrev pub left_if : Bool → Option Held → Option Held
-left_if true held = None
-left_if false held = held
-
-abbrev pub over_if : Bool → Option Held → ℕ → Option Stay
-over_if true held t = stay_ended held None t
-over_if false held t = None
-
-held_gone : (p t : ℕ) (lane : ProcessLane) → (gone_from p t lane).watch.held ≡ left_if (lane.partition == p) lane.watch.held
-held_gone p t lane = by (lane.partition == p)
+held_gone : (among : Option ℕ) (next : Next) (t : ℕ) (lane : ProcessLane) → (gone_from among next t lane).watch.held ≡ held_with (next_if (is_among among lane.partition) next) t lane.watch.held
+held_gone among next t lane = by (is_among among lane.partition)
   where
-    by : (b : Bool) → (if b then turned None t lane else lane).watch.held ≡ left_if b lane.watch.held
+    by : (b : Bool) → (if b then turned next t lane else lane).watch.held ≡ held_with (next_if b next) t lane.watch.held
     by true = refl
     by false = refl
 
-gone_at : (p t : ℕ) (qs : List ProcessLane) (j : ℕ) (lane : ProcessLane) → slice_get qs j ≡ Some lane → held_at (Some j) (map (gone_from p t) qs) ≡ left_if (lane.partition == p) (held_at (Some j) qs)
-gone_at p t qs j lane h = ap held_in (get_map (gone_from p t) qs j lane h) ∙ (held_gone p t lane ∙ ap (λ (o : Option ProcessLane). left_if (lane.partition == p) (held_in o)) (sym h))
+gone_at : (among : Option ℕ) (next : Next) (t : ℕ) (qs : List ProcessLane) (j : ℕ) (lane : ProcessLane) → slice_get qs j ≡ Some lane
+    → held_at (Some j) (map (gone_from among next t) qs) ≡ held_with (next_if (is_among among lane.partition) next) t (held_at (Some j) qs)
+gone_at among next t qs j lane h =
+    ap held_in (get_map (gone_from among next t) qs j lane h)
+    ∙ (held_gone among next t lane ∙ ap (λ (o : Option ProcessLane). held_with (next_if (is_among among lane.partition) next) t (held_in o)) (sym h))
 
 -- the stays of the process at a place among those of all
-stays_after : (n p t : ℕ) (qs : List ProcessLane) (j : ℕ) → j < n → stays_at j (over_with n p t qs) ≡ []
-unfolding over_with stays_at
-stays_after n p t [] j low = refl
-stays_after n p t (lane ∷ qs) j low = by (lane.partition == p) (stays_after (n + 1) p t qs j (omega (arith, low)))
-  where
-    by : (b : Bool) → stays_at j (over_with (n + 1) p t qs) ≡ [] → stays_at j ((if b then state_over n (stay_ended lane.watch.held None t) else []) ++ over_with (n + 1) p t qs) ≡ []
-    by false rest = rest
-    by true rest =
-        stays_two (Some j) (state_over n (stay_ended lane.watch.held None t)) (over_with (n + 1) p t qs)
-        ∙ (ap (λ (ss : List Stay). ss ++ stays_at j (over_with (n + 1) p t qs)) (none_over j n (stay_ended lane.watch.held None t) (λ e. omega (arith, low, e))) ∙ rest)
+module _ (among : Option ℕ) (next : Next) (t : ℕ) where
+  abbrev stay_of_lane : ProcessLane → Option Stay
+  stay_of_lane lane = stay_ended lane.watch.held next t
 
-stays_among : (n p t : ℕ) (qs : List ProcessLane) (j : ℕ) (lane : ProcessLane) → slice_get qs j ≡ Some lane → stays_at (n + j) (over_with n p t qs) ≡ and_one (over_if (lane.partition == p) lane.watch.held t)
-unfolding over_with stays_at
-stays_among n p t [] j lane h = cc
-stays_among n p t (x ∷ qs) zero lane h =
-    let here : n + 0 ≡ n = omega arith in
-    ap (λ (k : ℕ). stays_at k (over_with n p t (x ∷ qs))) here ∙ (first (x.partition == p) ∙ ap (λ (l : ProcessLane). and_one (over_if (l.partition == p) l.watch.held t)) (of_some h))
-  where
-    rest : stays_at n (over_with (n + 1) p t qs) ≡ []
-    rest = stays_after (n + 1) p t qs n (omega arith)
+  abbrev over_from : ℕ → List ProcessLane → List Ended
+  over_from n qs = over_with n among next t qs
 
-    first : (b : Bool) → stays_at n ((if b then state_over n (stay_ended x.watch.held None t) else []) ++ over_with (n + 1) p t qs) ≡ and_one (over_if b x.watch.held t)
-    first false = rest
-    first true =
-        stays_two (Some n) (state_over n (stay_ended x.watch.held None t)) (over_with (n + 1) p t qs)
-        ∙ (ap (λ (ss : List Stay). ss ++ stays_at n (over_with (n + 1) p t qs)) (one_over n (stay_ended x.watch.held None t))
-        ∙ (ap (λ (ss : List Stay). and_one (stay_ended x.watch.held None t) ++ ss) rest ∙ append-nil (and_one (stay_ended x.watch.held None t))))
-stays_among n p t (x ∷ qs) (suc j) lane h =
-    let there : n + suc j ≡ n + 1 + j = omega arith in
-    ap (λ (k : ℕ). stays_at k (over_with n p t (x ∷ qs))) there ∙ (behind (x.partition == p) ∙ stays_among (n + 1) p t qs j lane h)
-  where
-    behind : (b : Bool) → stays_at (n + 1 + j) ((if b then state_over n (stay_ended x.watch.held None t) else []) ++ over_with (n + 1) p t qs) ≡ stays_at (n + 1 + j) (over_with (n + 1) p t qs)
-    behind false = refl
-    behind true =
-        stays_two (Some (n + 1 + j)) (state_over n (stay_ended x.watch.held None t)) (over_with (n + 1) p t qs)
-        ∙ ap (λ (ss : List Stay). ss ++ stays_at (n + 1 + j) (over_with (n + 1) p t qs)) (none_over (n + 1 + j) n (stay_ended x.watch.held None t) (λ e. omega (arith, e)))
+  stays_after : (n : ℕ) (qs : List ProcessLane) (j : ℕ) → j < n → stays_at j (over_from n qs) ≡ []
+  unfolding over_with stays_at
+  stays_after n [] j low = refl
+  stays_after n (lane ∷ qs) j low = by (is_among among lane.partition) (stays_after (n + 1) qs j (omega (arith, low)))
+    where
+      by : (b : Bool) → stays_at j (over_from (n + 1) qs) ≡ [] → stays_at j ((if b then state_over n (stay_of_lane lane) else []) ++ over_from (n + 1) qs) ≡ []
+      by false rest = rest
+      by true rest =
+          stays_two (Some j) (state_over n (stay_of_lane lane)) (over_from (n + 1) qs)
+          ∙ (ap (λ (ss : List Stay). ss ++ stays_at j (over_from (n + 1) qs)) (none_over j n (stay_of_lane lane) (λ e. omega (arith, low, e))) ∙ rest)
 
-module _ (mid : Lanes) (name : List ℕ) (m : Mode) (t p : ℕ) (at : partition_at name mid.partitions.items ≡ Some p) where
-  -- a process is of this partition if its partition has this name
-  abbrev pub IsOwn : List ℕ → List ℕ → Bool → Type 0
-  IsOwn n w b =
-      (held_at (process_at n w mid) (map (gone_from p t) mid.processes.items) ≡ left_if b (held_at (process_at n w mid) mid.processes.items))
-      × (stays_of (process_at n w mid) (over_with 0 p t mid.processes.items) ≡ and_one (over_if b (held_at (process_at n w mid) mid.processes.items) t))
+  stays_among : (n : ℕ) (qs : List ProcessLane) (j : ℕ) (lane : ProcessLane) → slice_get qs j ≡ Some lane
+      → stays_at (n + j) (over_from n qs) ≡ and_one (stay_with (next_if (is_among among lane.partition) next) t lane.watch.held)
+  unfolding over_with stays_at
+  stays_among n [] j lane h = cc
+  stays_among n (x ∷ qs) zero lane h =
+      let here : n + 0 ≡ n = omega arith in
+      ap (λ (k : ℕ). stays_at k (over_from n (x ∷ qs))) here
+      ∙ (first (is_among among x.partition) ∙ ap (λ (l : ProcessLane). and_one (stay_with (next_if (is_among among l.partition) next) t l.watch.held)) (of_some h))
+    where
+      rest : stays_at n (over_from (n + 1) qs) ≡ []
+      rest = stays_after (n + 1) qs n (omega arith)
 
-  none_left : (b : Bool) → None ≡ left_if b None
-  none_left true = refl
+      first : (b : Bool) → stays_at n ((if b then state_over n (stay_of_lane x) else []) ++ over_from (n + 1) qs) ≡ and_one (stay_with (next_if b next) t x.watch.held)
+      first false = rest
+      first true =
+          stays_two (Some n) (state_over n (stay_of_lane x)) (over_from (n + 1) qs)
+          ∙ (ap (λ (ss : List Stay). ss ++ stays_at n (over_from (n + 1) qs)) (one_over n (stay_of_lane x))
+          ∙ (ap (λ (ss : List Stay). and_one (stay_of_lane x) ++ ss) rest ∙ append-nil (and_one (stay_of_lane x))))
+  stays_among n (x ∷ qs) (suc j) lane h =
+      let there : n + suc j ≡ n + 1 + j = omega arith in
+      ap (λ (k : ℕ). stays_at k (over_from n (x ∷ qs))) there ∙ (behind (is_among among x.partition) ∙ stays_among (n + 1) qs j lane h)
+    where
+      behind : (b : Bool) → stays_at (n + 1 + j) ((if b then state_over n (stay_of_lane x) else []) ++ over_from (n + 1) qs) ≡ stays_at (n + 1 + j) (over_from (n + 1) qs)
+      behind false = refl
+      behind true =
+          stays_two (Some (n + 1 + j)) (state_over n (stay_of_lane x)) (over_from (n + 1) qs)
+          ∙ ap (λ (ss : List Stay). ss ++ stays_at (n + 1 + j) (over_from (n + 1) qs)) (none_over (n + 1 + j) n (stay_of_lane x) (λ e. omega (arith, e)))
+
+  -- they are of the processes that are there, and of no partition
+  none_past : (n : ℕ) (qs : List ProcessLane) (j : ℕ) → n + length qs ≤ j → stays_at j (over_from n qs) ≡ []
+  unfolding over_with stays_at
+  none_past n [] j past = refl
+  none_past n (lane ∷ qs) j past = by (is_among among lane.partition) (none_past (n + 1) qs j (omega (arith, past)))
+    where
+      by : (b : Bool) → stays_at j (over_from (n + 1) qs) ≡ [] → stays_at j ((if b then state_over n (stay_of_lane lane) else []) ++ over_from (n + 1) qs) ≡ []
+      by false rest = rest
+      by true rest =
+          stays_two_at j (state_over n (stay_of_lane lane)) (over_from (n + 1) qs)
+          ∙ (ap (λ (ss : List Stay). ss ++ stays_at j (over_from (n + 1) qs)) (none_over j n (stay_of_lane lane) (λ e. omega (arith, past, e))) ∙ rest)
+
+  no_modes_with : (n : ℕ) (qs : List ProcessLane) (j : ℕ) → mode_stays_at j (over_from n qs) ≡ []
+  unfolding over_with mode_stays_at
+  no_modes_with n [] j = refl
+  no_modes_with n (lane ∷ qs) j = by (is_among among lane.partition) (no_modes_with (n + 1) qs j)
+    where
+      by : (b : Bool) → mode_stays_at j (over_from (n + 1) qs) ≡ [] → mode_stays_at j ((if b then state_over n (stay_of_lane lane) else []) ++ over_from (n + 1) qs) ≡ []
+      by false rest = rest
+      by true rest =
+          modes_two_at j (state_over n (stay_of_lane lane)) (over_from (n + 1) qs)
+          ∙ (ap (λ (ss : List ModeStay). ss ++ mode_stays_at j (over_from (n + 1) qs)) (no_states_at j n (stay_of_lane lane)) ∙ rest)
+
+  no_modes_in : (o : Option ℕ) (lanes : List ProcessLane) → mode_stays_of o (over_from 0 lanes) ≡ []
+  no_modes_in None lanes = refl
+  no_modes_in (Some j) lanes = no_modes_with 0 lanes j
+
+  gone_there : (partitions : ℕ) (qs : List ProcessLane) → AreThereIn (length qs) partitions (over_from 0 qs)
+  gone_there partitions qs = (λ j past. none_past 0 qs j (omega (arith, past)), λ j past. no_modes_with 0 qs j)
+
+-- a process of the partition with a name, which is among them or not
+module _ (mid : Lanes) (among : Option ℕ) (next : Next) (t : ℕ) (n : List ℕ) (b : Bool) (leaves : (h : Option Held) → held_behind h next t ≡ None)
+    (tested : (q : ℕ) → partition_at n mid.partitions.items ≡ Some q → is_among among q ≡ b) where
+  abbrev all_lanes : List ProcessLane
+  all_lanes = mid.processes.items
+
+  abbrev pub IsOwn : Option ℕ → Type 0
+  IsOwn o =
+      (held_at o (map (gone_from among next t) all_lanes) ≡ held_with (next_if b next) t (held_at o all_lanes))
+      × (stays_of o (over_with 0 among next t all_lanes) ≡ and_one (stay_with (next_if b next) t (held_at o all_lanes)))
+
+  none_left : (c : Bool) → None ≡ held_with (next_if c next) t None
+  none_left true = sym (leaves None)
   none_left false = refl
 
-  none_ended : (b : Bool) → [] ≡ and_one (over_if b None t)
+  none_ended : (c : Bool) → [] ≡ and_one (stay_with (next_if c next) t None)
   none_ended true = refl
   none_ended false = refl
 
-  own_or_not : (n w : List ℕ) → IsOwn n w (same name n)
-  own_or_not n w = by (partition_at n mid.partitions.items) refl
+  own_or_not : (w : List ℕ) → IsOwn (process_at n w mid)
+  own_or_not w = by (partition_at n mid.partitions.items) refl
     where
-      qs : List ProcessLane
-      qs = mid.processes.items
-
-      not_named : (q : ℕ) → partition_at n mid.partitions.items ≡ Some q → (q ≡ p → ⊥) → (b : Bool) → same name n ≡ b → same name n ≡ false
-      not_named q e apart true f =
-          let named = same_is name n f in
-          absurd (apart (of_some (sym e ∙ (ap (λ (v : List ℕ). partition_at v mid.partitions.items) (sym named) ∙ at))))
-      not_named q e apart false f = f
-
-      tested : (q : ℕ) → partition_at n mid.partitions.items ≡ Some q → (q == p) ≡ same name n
-      tested q e = elim (same_or_not q p) [
-        | inl here ↦
-            let named : name ≡ n = one_partition mid.partitions.items name n p at (e ∙ ap Some here) in
-            eq-eqb q p here ∙ sym (ap (λ (v : List ℕ). same name v) (sym named) ∙ same_text name)
-        | inr apart ↦ apart_eqb q p apart ∙ sym (not_named q e apart (same name n) refl)
-      ]
-
-      at_place : (q : ℕ) → (q == p) ≡ same name n → (j : Option ℕ) → process_in (Some q) w qs ≡ j
-          → (held_at j (map (gone_from p t) qs) ≡ left_if (same name n) (held_at j qs)) × (stays_of j (over_with 0 p t qs) ≡ and_one (over_if (same name n) (held_at j qs) t))
-      at_place q test None f = (none_left (same name n), none_ended (same name n))
+      at_place : (q : ℕ) → is_among among q ≡ b → (j : Option ℕ) → process_in (Some q) w all_lanes ≡ j → IsOwn j
+      at_place q test None f = (none_left b, none_ended b)
       at_place q test (Some j) f =
-          let x = found (is_process q w) qs j f in
+          let x = found (is_process q w) all_lanes j f in
           let both = and_parts (x.0.partition == q) (same (subject_text x.0.who) w) x.2 in
-          let own : (x.0.partition == p) ≡ same name n = ap (λ (k : ℕ). k == p) (eqb-true x.0.partition q both.0) ∙ test in
+          let own : is_among among x.0.partition ≡ b = ap (is_among among) (eqb-true x.0.partition q both.0) ∙ test in
           let start : 0 + j ≡ j = omega arith in (
-            gone_at p t qs j x.0 x.1 ∙ ap (λ (b : Bool). left_if b (held_at (Some j) qs)) own,
-            ap (λ (k : ℕ). stays_at k (over_with 0 p t qs)) (sym start)
-                ∙ (stays_among 0 p t qs j x.0 x.1 ∙ (ap (λ (b : Bool). and_one (over_if b x.0.watch.held t)) own
-                ∙ ap (λ (o : Option ProcessLane). and_one (over_if (same name n) (held_in o) t)) (sym x.1))),
+            gone_at among next t all_lanes j x.0 x.1 ∙ ap (λ (c : Bool). held_with (next_if c next) t (held_at (Some j) all_lanes)) own,
+            ap (λ (k : ℕ). stays_at k (over_with 0 among next t all_lanes)) (sym start)
+                ∙ (stays_among among next t 0 all_lanes j x.0 x.1 ∙ (ap (λ (c : Bool). and_one (stay_with (next_if c next) t x.0.watch.held)) own
+                ∙ ap (λ (o : Option ProcessLane). and_one (stay_with (next_if b next) t (held_in o))) (sym x.1))),
           )
 
-      by : (o : Option ℕ) → partition_at n mid.partitions.items ≡ o
-          → (held_at (process_in o w qs) (map (gone_from p t) qs) ≡ left_if (same name n) (held_at (process_in o w qs) qs)) × (stays_of (process_in o w qs) (over_with 0 p t qs) ≡ and_one (over_if (same name n) (held_at (process_in o w qs) qs) t))
-      by None e = (none_left (same name n), none_ended (same name n))
-      by (Some q) e = at_place q (tested q e) (process_in (Some q) w qs) refl
+      by : (o : Option ℕ) → partition_at n mid.partitions.items ≡ o → IsOwn (process_in o w all_lanes)
+      by None e = (none_left b, none_ended b)
+      by (Some q) e = at_place q (tested q e) (process_in (Some q) w all_lanes) refl
+
+-- a partition is at a place if it has its name
+named_at : (ps : List PartitionLane) (name : List ℕ) (p : ℕ) → partition_at name ps ≡ Some p → (n : List ℕ) (q : ℕ) → partition_at n ps ≡ Some q → is_among (Some p) q ≡ same name n
+named_at ps name p at n q e = elim (same_or_not q p) [
+  | inl here ↦
+      let named : name ≡ n = one_partition ps name n p at (e ∙ ap Some here) in
+      eq-eqb q p here ∙ sym (ap (λ (v : List ℕ). same name v) (sym named) ∙ same_text name)
+  | inr apart ↦ apart_eqb q p apart ∙ sym (not_named apart (same name n) refl)
+]
+  where
+    not_named : (q ≡ p → ⊥) → (b : Bool) → same name n ≡ b → same name n ≡ false
+    not_named apart true f =
+        let named = same_is name n f in
+        absurd (apart (of_some (sym e ∙ (ap (λ (v : List ℕ). partition_at v ps) (sym named) ∙ at))))
+    not_named apart false f = f
+
+-- ---- a line with which they are gone, and which changes no mode
+
+module _ (old mid new : Lanes) (partition : Option (List ℕ)) (kind : EventKind) (among : Option ℕ) (next : Next) (t : ℕ) (chosen : List ℕ → Bool) (before after : List Ended) where
+  pub has_left : AreKept old mid → AreInPlace old mid
+      → ((h : Option Held) → held_behind h next t ≡ None) → ((n : List ℕ) (q : ℕ) → partition_at n mid.partitions.items ≡ Some q → is_among among q ≡ chosen n)
+      → ((n w : List ℕ) → next_by partition kind n w ≡ next_if (chosen n) next)
+      → ((n : List ℕ) (h : Option HeldMode) → mode_after partition kind t n h ≡ h) → ((n : List ℕ) (h : Option HeldMode) → mode_stay_over partition kind t n h ≡ None)
+      → new.partitions.items ≡ mid.partitions.items → new.processes.items ≡ map (gone_from among next t) mid.processes.items
+      → after ≡ before ++ over_with 0 among next t mid.processes.items
+      → HasRead partition kind t old new before after
+  has_left kept in_place leaves tested goes stays no_stay same_partitions left more = record {
+    held = λ n w. ap (λ (o : Option ℕ). held_at o new.processes.items) (place n w)
+        ∙ (ap (λ (l : List ProcessLane). held_at (process_at n w mid) l) left
+        ∙ ((own_or_not mid among next t n (chosen n) leaves (tested n) w).0
+        ∙ (ap (λ (o : Option Next). held_with o t (held_by n w mid)) (sym (goes n w)) ∙ ap (λ (h : Option Held). state_behind partition kind t n w h) (kept.held n w))));
+    mode = λ n. ap (λ (l : List PartitionLane). mode_at (partition_at n l) l) same_partitions ∙ (kept.mode n ∙ sym (stays n (mode_by n old)));
+    ended = λ n w. ap (stays_of (process_at n w new)) more
+        ∙ (stays_two (process_at n w new) before gone
+        ∙ ap (λ (ss : List Stay). stays_of (process_at n w new) before ++ ss)
+        (ap (λ (o : Option ℕ). stays_of o gone) (place n w)
+        ∙ ((own_or_not mid among next t n (chosen n) leaves (tested n) w).1
+        ∙ (ap (λ (o : Option Next). and_one (stay_with o t (held_by n w mid))) (sym (goes n w)) ∙ ap (λ (h : Option Held). and_one (stay_over partition kind t n w h)) (kept.held n w)))));
+    left = λ n. without_modes (partition_at n new.partitions.items) before gone after more (no_modes_in among next t (partition_at n new.partitions.items) mid.processes.items)
+        ∙ and_none (mode_stays_of (partition_at n new.partitions.items) before) (mode_stay_over partition kind t n (mode_by n old)) (no_stay n (mode_by n old));
+    places = both_in_place old mid new in_place (in_same_place mid new place (λ n. ap (partition_at n) same_partitions) mapped (ap length same_partitions));
+    there = still_there old new before gone after (both_in_place old mid new in_place (in_same_place mid new place (λ n. ap (partition_at n) same_partitions) mapped (ap length same_partitions))) more
+        (subst (λ (k : ℕ). AreThereIn k (length new.partitions.items) gone) (sym mapped) (gone_there among next t (length new.partitions.items) mid.processes.items));
+  }
+    where
+      gone : List Ended
+      gone = over_with 0 among next t mid.processes.items
+
+      mapped : length new.processes.items ≡ length mid.processes.items
+      mapped = ap length left ∙ length_mapped (gone_from among next t) mid.processes.items
+
+      place : (n w : List ℕ) → process_at n w new ≡ process_at n w mid
+      place n w =
+          ap (λ (l : List PartitionLane). process_in (partition_at n l) w new.processes.items) same_partitions
+          ∙ (ap (λ (l : List ProcessLane). process_in (partition_at n mid.partitions.items) w l) left
+          ∙ blind_map among next t mid.processes.items (partition_at n mid.partitions.items) w)
+
+-- an error with which a partition is cleared
+pub has_cleared : (old mid new : Lanes) (name : List ℕ) (error : ErrorKind) (who : Option Subject) (answer : Response) (t p : ℕ) (before after : List Ended) → clears error answer ≡ true
+    → AreKept old mid → AreInPlace old mid → partition_at name mid.partitions.items ≡ Some p
+    → new.partitions.items ≡ mid.partitions.items → new.processes.items ≡ map (gone_from (Some p) Cleared t) mid.processes.items
+    → after ≡ before ++ over_with 0 (Some p) Cleared t mid.processes.items
+    → HasRead (Some name) (event.Error error who answer) t old new before after
+has_cleared old mid new name error who answer t p before after clear kept in_place at same_partitions left more =
+    has_left old mid new (Some name) (event.Error error who answer) (Some p) Cleared t (same name) before after kept in_place (λ h. refl) (named_at mid.partitions.items name p at)
+    (λ n w. ap (λ (b : Bool). if same name n then next_if b Cleared else None) clear ∙ by (same name n)) (λ n h. sym (if_alike (same name n) h)) (λ n h. sym (if_alike (same name n) None))
+    same_partitions left more
+  where
+    by : (b : Bool) → (if b then Some Cleared else None) ≡ next_if b Cleared
+    by true = refl
+    by false = refl
+
+-- a reset of the module
+pub has_reset : (old new : Lanes) (error : ErrorKind) (who : Option Subject) (answer : Response) (t : ℕ) (before after : List Ended) → resets answer ≡ true
+    → new.partitions.items ≡ old.partitions.items → new.processes.items ≡ map (gone_from None Cleared t) old.processes.items
+    → after ≡ before ++ over_with 0 None Cleared t old.processes.items
+    → HasRead None (event.Error error who answer) t old new before after
+has_reset old new error who answer t before after reset same_partitions left more =
+    has_left old old new None (event.Error error who answer) None Cleared t (λ n. true) before after (record { held = λ m w. refl; mode = λ m. refl }) (in_own_place old) (λ h. refl) (λ n q e. refl)
+    (λ n w. ap (λ (b : Bool). next_if b Cleared) reset) (λ n h. refl) (λ n h. refl) same_partitions left more
+
+-- ---- a partition enters a mode
 
 mode_changed : (ps : List PartitionLane) (name : List ℕ) (m : Mode) (t p : ℕ) → partition_at name ps ≡ Some p → (n : List ℕ)
     → mode_at (partition_at n ps) (change_at p (entered m t) ps) ≡ (if same name n then mode_behind (mode_at (partition_at n ps) ps) m t else mode_at (partition_at n ps) ps)
@@ -953,36 +1061,6 @@ mode_there p t processes ps (Some lane) e =
     let low = get_below ps p lane e in
     (λ j past. no_modes_at j p (mode_ended lane.watch.held t), λ j past. none_mode j p (mode_ended lane.watch.held t) (λ same. omega (arith, low, past, same)))
 
--- what is over with a start is of the processes that are there, and of no partition
-none_past : (n p t : ℕ) (qs : List ProcessLane) (j : ℕ) → n + length qs ≤ j → stays_at j (over_with n p t qs) ≡ []
-unfolding over_with stays_at
-none_past n p t [] j past = refl
-none_past n p t (lane ∷ qs) j past = by (lane.partition == p) (none_past (n + 1) p t qs j (omega (arith, past)))
-  where
-    by : (b : Bool) → stays_at j (over_with (n + 1) p t qs) ≡ [] → stays_at j ((if b then state_over n (stay_ended lane.watch.held None t) else []) ++ over_with (n + 1) p t qs) ≡ []
-    by false rest = rest
-    by true rest =
-        stays_two_at j (state_over n (stay_ended lane.watch.held None t)) (over_with (n + 1) p t qs)
-        ∙ (ap (λ (ss : List Stay). ss ++ stays_at j (over_with (n + 1) p t qs)) (none_over j n (stay_ended lane.watch.held None t) (λ e. omega (arith, past, e))) ∙ rest)
-
-no_modes_with : (n p t : ℕ) (qs : List ProcessLane) (j : ℕ) → mode_stays_at j (over_with n p t qs) ≡ []
-unfolding over_with mode_stays_at
-no_modes_with n p t [] j = refl
-no_modes_with n p t (lane ∷ qs) j = by (lane.partition == p) (no_modes_with (n + 1) p t qs j)
-  where
-    by : (b : Bool) → mode_stays_at j (over_with (n + 1) p t qs) ≡ [] → mode_stays_at j ((if b then state_over n (stay_ended lane.watch.held None t) else []) ++ over_with (n + 1) p t qs) ≡ []
-    by false rest = rest
-    by true rest =
-        modes_two_at j (state_over n (stay_ended lane.watch.held None t)) (over_with (n + 1) p t qs)
-        ∙ (ap (λ (ss : List ModeStay). ss ++ mode_stays_at j (over_with (n + 1) p t qs)) (no_states_at j n (stay_ended lane.watch.held None t)) ∙ rest)
-
-no_modes_in : (o : Option ℕ) (p t : ℕ) (lanes : List ProcessLane) → mode_stays_of o (over_with 0 p t lanes) ≡ []
-no_modes_in None p t lanes = refl
-no_modes_in (Some j) p t lanes = no_modes_with 0 p t lanes j
-
-gone_there : (p t partitions : ℕ) (qs : List ProcessLane) → AreThereIn (length qs) partitions (over_with 0 p t qs)
-gone_there p t partitions qs = (λ j past. none_past 0 p t qs j (omega (arith, past)), λ j past. no_modes_with 0 p t qs j)
-
 both_there : (processes partitions : ℕ) (es fs : List Ended) → AreThereIn processes partitions es → AreThereIn processes partitions fs → AreThereIn processes partitions (es ++ fs)
 both_there processes partitions es fs a b = (
   λ j past. stays_two_at j es fs ∙ (ap (λ (ss : List Stay). ss ++ stays_at j fs) (a.0 j past) ∙ b.0 j past),
@@ -992,24 +1070,10 @@ both_there processes partitions es fs a b = (
 blind_entered : (p : ℕ) (m : Mode) (t : ℕ) (n : List ℕ) (ps : List PartitionLane) → partition_at n (change_at p (entered m t) ps) ≡ partition_at n ps
 blind_entered p m t n ps = change_place 0 (has_name n) (entered m t) p ps (λ lane. refl)
 
--- what is left of a state, and the stay that is over, by the mode
-state_by : (m : Mode) (b : Bool) (h : Option Held) → (m ≡ mode.Normal → ⊥) → left_if b h ≡ (if b then state_left m h else h)
-state_by mode.Normal b h other = absurd (other refl)
-state_by mode.Idle true h other = refl
-state_by mode.Idle false h other = refl
-state_by mode.ColdStart true h other = refl
-state_by mode.ColdStart false h other = refl
-state_by mode.WarmStart true h other = refl
-state_by mode.WarmStart false h other = refl
-
-stay_by : (m : Mode) (b : Bool) (h : Option Held) (t : ℕ) → (m ≡ mode.Normal → ⊥) → over_if b h t ≡ (if b then stay_left_by m h t else None)
-stay_by mode.Normal b h t other = absurd (other refl)
-stay_by mode.Idle true h t other = refl
-stay_by mode.Idle false h t other = refl
-stay_by mode.ColdStart true h t other = refl
-stay_by mode.ColdStart false h t other = refl
-stay_by mode.WarmStart true h t other = refl
-stay_by mode.WarmStart false h t other = refl
+-- where its processes go, by the mode
+gone_by : (m : Mode) (b : Bool) → starts_again m ≡ true → next_if b Gone ≡ (if b then next_if (starts_again m) Gone else None)
+gone_by m true again = sym (ap (λ (c : Bool). next_if c Gone) again)
+gone_by m false again = refl
 
 -- NORMAL: the processes go on
 pub has_entered_normal : (old mid new : Lanes) (name : List ℕ) (t p : ℕ) (before after : List Ended) → AreKept old mid → AreInPlace old mid → partition_at name mid.partitions.items ≡ Some p
@@ -1018,11 +1082,11 @@ pub has_entered_normal : (old mid new : Lanes) (name : List ℕ) (t p : ℕ) (be
     → HasRead (Some name) (event.Mode mode.Normal) t old new before after
 has_entered_normal old mid new name t p before after kept in_place at changed same_processes more = record {
   held = λ n w. ap (λ (o : Option ℕ). held_at o new.processes.items) (place n w)
-      ∙ (ap (λ (l : List ProcessLane). held_at (process_at n w mid) l) same_processes ∙ (kept.held n w ∙ if_alike (same name n) (held_by n w old)));
+      ∙ (ap (λ (l : List ProcessLane). held_at (process_at n w mid) l) same_processes ∙ (kept.held n w ∙ ap (λ (o : Option Next). held_with o t (held_by n w old)) (no_next (same name n) None refl)));
   mode = λ n. modes n;
   ended = λ n w. ap (stays_of (process_at n w new)) more
       ∙ (stays_two (process_at n w new) before (mode_over_at p t (slice_get mid.partitions.items p))
-      ∙ ap (λ (ss : List Stay). stays_of (process_at n w new) before ++ ss) (only_modes (process_at n w new) (slice_get mid.partitions.items p) ∙ ap and_one (if_alike (same name n) None)));
+      ∙ ap (λ (ss : List Stay). stays_of (process_at n w new) before ++ ss) (only_modes (process_at n w new) (slice_get mid.partitions.items p) ∙ ap (λ (o : Option Next). and_one (stay_with o t (held_by n w old))) (no_next (same name n) None refl)));
   left = λ n. ap (mode_stays_of (partition_at n new.partitions.items)) more
       ∙ (modes_two (partition_at n new.partitions.items) before over
       ∙ ap (λ (ss : List ModeStay). mode_stays_of (partition_at n new.partitions.items) before ++ ss)
@@ -1063,28 +1127,28 @@ has_entered_normal old mid new name t p before after kept in_place at changed sa
         ∙ ap (λ (h : Option HeldMode). mode_after (Some name) (event.Mode mode.Normal) t n h) (kept.mode n)))
 
 -- another mode: they are gone
-pub has_entered : (old mid new : Lanes) (name : List ℕ) (m : Mode) (t p : ℕ) (before after : List Ended) → (m ≡ mode.Normal → ⊥) → AreKept old mid → AreInPlace old mid → partition_at name mid.partitions.items ≡ Some p
-    → new.partitions.items ≡ change_at p (entered m t) mid.partitions.items → new.processes.items ≡ map (gone_from p t) mid.processes.items
-    → after ≡ (before ++ mode_over_at p t (slice_get mid.partitions.items p)) ++ over_with 0 p t mid.processes.items
+pub has_entered : (old mid new : Lanes) (name : List ℕ) (m : Mode) (t p : ℕ) (before after : List Ended) → starts_again m ≡ true → AreKept old mid → AreInPlace old mid → partition_at name mid.partitions.items ≡ Some p
+    → new.partitions.items ≡ change_at p (entered m t) mid.partitions.items → new.processes.items ≡ map (gone_from (Some p) Gone t) mid.processes.items
+    → after ≡ (before ++ mode_over_at p t (slice_get mid.partitions.items p)) ++ over_with 0 (Some p) Gone t mid.processes.items
     → HasRead (Some name) (event.Mode m) t old new before after
-has_entered old mid new name m t p before after other kept in_place at changed left more = record {
+has_entered old mid new name m t p before after again kept in_place at changed left more = record {
   held = λ n w. ap (λ (o : Option ℕ). held_at o new.processes.items) (place n w)
       ∙ (ap (λ (l : List ProcessLane). held_at (process_at n w mid) l) left
-      ∙ ((own_or_not mid name m t p at n w).0
-      ∙ (state_by m (same name n) (held_by n w mid) other
-      ∙ ap (λ (h : Option Held). if same name n then state_left m h else h) (kept.held n w))));
+      ∙ ((own n w).0
+      ∙ (ap (λ (o : Option Next). held_with o t (held_by n w mid)) (gone_by m (same name n) again)
+      ∙ ap (λ (h : Option Held). state_behind (Some name) (event.Mode m) t n w h) (kept.held n w))));
   mode = λ n. modes n;
   ended = λ n w. ap (stays_of (process_at n w new)) more
-      ∙ (stays_two (process_at n w new) (before ++ mode_over_at p t (slice_get mid.partitions.items p)) (over_with 0 p t mid.processes.items)
-      ∙ (ap (λ (ss : List Stay). ss ++ stays_of (process_at n w new) (over_with 0 p t mid.processes.items))
-      (stays_two (process_at n w new) before (mode_over_at p t (slice_get mid.partitions.items p))
+      ∙ (stays_two (process_at n w new) (before ++ over) gone
+      ∙ (ap (λ (ss : List Stay). ss ++ stays_of (process_at n w new) gone)
+      (stays_two (process_at n w new) before over
       ∙ (ap (λ (ss : List Stay). stays_of (process_at n w new) before ++ ss) (only_modes (process_at n w new) (slice_get mid.partitions.items p)) ∙ append-nil (stays_of (process_at n w new) before)))
       ∙ ap (λ (ss : List Stay). stays_of (process_at n w new) before ++ ss)
-      (ap (λ (o : Option ℕ). stays_of o (over_with 0 p t mid.processes.items)) (place n w)
-      ∙ ((own_or_not mid name m t p at n w).1
-      ∙ (ap and_one (stay_by m (same name n) (held_by n w mid) t other)
-      ∙ ap (λ (h : Option Held). and_one (if same name n then stay_left_by m h t else None)) (kept.held n w))))));
-  left = λ n. without_modes (partition_at n new.partitions.items) (before ++ over) gone after more (no_modes_in (partition_at n new.partitions.items) p t mid.processes.items)
+      (ap (λ (o : Option ℕ). stays_of o gone) (place n w)
+      ∙ ((own n w).1
+      ∙ (ap (λ (o : Option Next). and_one (stay_with o t (held_by n w mid))) (gone_by m (same name n) again)
+      ∙ ap (λ (h : Option Held). and_one (stay_over (Some name) (event.Mode m) t n w h)) (kept.held n w))))));
+  left = λ n. without_modes (partition_at n new.partitions.items) (before ++ over) gone after more (no_modes_in (Some p) Gone t (partition_at n new.partitions.items) mid.processes.items)
       ∙ (modes_two (partition_at n new.partitions.items) before over
       ∙ ap (λ (ss : List ModeStay). mode_stays_of (partition_at n new.partitions.items) before ++ ss)
       (ap (λ (o : Option ℕ). mode_stays_of o over) (same_partition n)
@@ -1093,20 +1157,23 @@ has_entered old mid new name m t p before after other kept in_place at changed l
   there = still_there old new before (over ++ gone) after places (more ∙ append_assoc before over gone)
       (both_there (length new.processes.items) (length new.partitions.items) over gone
       (subst (λ (k : ℕ). AreThereIn (length new.processes.items) k over) (sym count) (mode_there p t (length new.processes.items) mid.partitions.items (slice_get mid.partitions.items p) refl))
-      (subst (λ (k : ℕ). AreThereIn k (length new.partitions.items) gone) (sym mapped) (gone_there p t (length new.partitions.items) mid.processes.items)));
+      (subst (λ (k : ℕ). AreThereIn k (length new.partitions.items) gone) (sym mapped) (gone_there (Some p) Gone t (length new.partitions.items) mid.processes.items)));
 }
   where
     over : List Ended
     over = mode_over_at p t (slice_get mid.partitions.items p)
 
     gone : List Ended
-    gone = over_with 0 p t mid.processes.items
+    gone = over_with 0 (Some p) Gone t mid.processes.items
+
+    own : (n w : List ℕ) → IsOwn mid (Some p) Gone t n (same name n) (λ h. refl) (named_at mid.partitions.items name p at n) (process_at n w mid)
+    own n w = own_or_not mid (Some p) Gone t n (same name n) (λ h. refl) (named_at mid.partitions.items name p at n) w
 
     count : length new.partitions.items ≡ length mid.partitions.items
     count = ap length changed ∙ length_changed p (entered m t) mid.partitions.items
 
     mapped : length new.processes.items ≡ length mid.processes.items
-    mapped = ap length left ∙ length_mapped (gone_from p t) mid.processes.items
+    mapped = ap length left ∙ length_mapped (gone_from (Some p) Gone t) mid.processes.items
 
     same_partition : (n : List ℕ) → partition_at n new.partitions.items ≡ partition_at n mid.partitions.items
     same_partition n = ap (partition_at n) changed ∙ blind_entered p m t n mid.partitions.items
@@ -1115,16 +1182,12 @@ has_entered old mid new name m t p before after other kept in_place at changed l
     only_modes o None = no_modes o p None
     only_modes o (Some lane) = no_modes o p (mode_ended lane.watch.held t)
 
-    blind_map : (o : Option ℕ) (w : List ℕ) → process_in o w (map (gone_from p t) mid.processes.items) ≡ process_in o w mid.processes.items
-    blind_map None w = refl
-    blind_map (Some q) w = map_place 0 (is_process q w) (gone_from p t) mid.processes.items (blind_gone q w p t)
-
     place : (n w : List ℕ) → process_at n w new ≡ process_at n w mid
     place n w =
         ap (λ (l : List PartitionLane). process_in (partition_at n l) w new.processes.items) changed
         ∙ (ap (λ (o : Option ℕ). process_in o w new.processes.items) (blind_entered p m t n mid.partitions.items)
         ∙ (ap (λ (l : List ProcessLane). process_in (partition_at n mid.partitions.items) w l) left
-        ∙ blind_map (partition_at n mid.partitions.items) w))
+        ∙ blind_map (Some p) Gone t mid.processes.items (partition_at n mid.partitions.items) w))
 
     places : AreInPlace old new
     places = both_in_place old mid new in_place (in_same_place mid new place same_partition mapped count)
@@ -1139,18 +1202,18 @@ has_entered old mid new name m t p before after other kept in_place at changed l
 pub within_entered : (k : ℕ) (m : Mode) (t : ℕ) (ps new : List PartitionLane) (qs : List ProcessLane) → new ≡ change_at k (entered m t) ps → AreWithin (length ps) qs → AreWithin (length new) qs
 within_entered k m t ps new qs changed within = subst (λ (n : ℕ). AreWithin n qs) (sym (ap length changed ∙ length_changed k (entered m t) ps)) within
 
-among_gone : (count p t : ℕ) (qs : List ProcessLane) → AreWithin count qs → AreWithin count (map (gone_from p t) qs)
-among_gone count p t qs within place lane at =
-    let y = get_mapped (gone_from p t) qs place lane at in
+among_gone : (count : ℕ) (among : Option ℕ) (next : Next) (t : ℕ) (qs : List ProcessLane) → AreWithin count qs → AreWithin count (map (gone_from among next t) qs)
+among_gone count among next t qs within place lane at =
+    let y = get_mapped (gone_from among next t) qs place lane at in
     let low = within place y.0 y.1 in
-    subst (λ (l : ProcessLane). l.partition < count) (sym y.2) (by (y.0.partition == p) y.0 low)
+    subst (λ (l : ProcessLane). l.partition < count) (sym y.2) (by (is_among among y.0.partition) y.0 low)
   where
-    by : (b : Bool) (l : ProcessLane) → l.partition < count → (if b then turned None t l else l).partition < count
+    by : (b : Bool) (l : ProcessLane) → l.partition < count → (if b then turned next t l else l).partition < count
     by true l low = low
     by false l low = low
 
-pub within_gone : (count p t : ℕ) (qs new : List ProcessLane) → new ≡ map (gone_from p t) qs → AreWithin count qs → AreWithin count new
-within_gone count p t qs new left within = subst (AreWithin count) (sym left) (among_gone count p t qs within)
+pub within_gone : (count : ℕ) (among : Option ℕ) (next : Next) (t : ℕ) (qs new : List ProcessLane) → new ≡ map (gone_from among next t) qs → AreWithin count qs → AreWithin count new
+within_gone count among next t qs new left within = subst (AreWithin count) (sym left) (among_gone count among next t qs within)
 
 -- as the code meets them
 pub has_gone_on : (old mid new : Lanes) (name : List ℕ) (m : Mode) (t p : ℕ) (before after : List Ended) → starts_again m ≡ false → AreKept old mid → AreInPlace old mid → partition_at name mid.partitions.items ≡ Some p
@@ -1161,9 +1224,6 @@ has_gone_on old mid new name mode.Normal t p before after on kept in_place at ch
 has_gone_on old mid new name mode.Idle t p before after on kept in_place at changed same_processes more = absurd (false≢true (sym on))
 has_gone_on old mid new name mode.ColdStart t p before after on kept in_place at changed same_processes more = absurd (false≢true (sym on))
 has_gone_on old mid new name mode.WarmStart t p before after on kept in_place at changed same_processes more = absurd (false≢true (sym on))
-
-pub is_another : (m : Mode) → starts_again m ≡ true → m ≡ mode.Normal → ⊥
-is_another m h e = false≢true (sym (ap starts_again e) ∙ h)
 
 pub ruleset lanes_left = (within_entered, within_gone)
 

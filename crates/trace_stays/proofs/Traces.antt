@@ -13,7 +13,7 @@ use Rattle.trace_stays.specs.declared.stay.Held.{Held}
 use Rattle.trace_stays.specs.declared.stay.HeldMode.{HeldMode}
 use Rattle.trace_stays.specs.declared.stay.ModeStay.{ModeStay}
 use Rattle.trace_stays.specs.declared.stay.Stay.{Stay}
-use Rattle.trace_stays.proofs.Followed.{modes_two, modes_two_at, no_modes_at, no_states_at, none_mode, none_over, one_mode, one_over, stays_two, stays_two_at}
+use Rattle.trace_stays.proofs.Followed.{modes_two_at, no_modes_at, no_states_at, none_mode, none_over, one_mode, one_over, stays_two_at}
 
 -- What was read and what the lines that are left will say is all.
 pub record WillBe (events : List Event) (until : ℕ) (l : Lanes) (left : List Event) (ended : List Ended) : Type 0 where

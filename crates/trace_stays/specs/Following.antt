@@ -2,13 +2,12 @@
 use Rattle.std.specs.Prelude.{◌≡◌, ◌⊎◌, ℕ, zero, suc, ◌+◌, ◌≤◌, Bool, true, false, ◌==◌, ◌&&◌, if◌then◌else◌, List, [], ◌∷◌, ◌++◌, length, Option, Some, None, slice_get}
 use Rattle.apex_types.specs.Line.{subject_text}
 use Rattle.apex_types.specs.declared.codes.Mode.{Mode}
-use Rattle.apex_types.specs.declared.codes.Mode.TheVariants as mode
-use Rattle.apex_types.specs.declared.codes.ProcessState.{ProcessState}
 use Rattle.apex_types.specs.declared.event.Event.{Event}
 use Rattle.apex_types.specs.declared.event.EventKind.{EventKind}
 use Rattle.apex_types.specs.declared.event.EventKind.TheVariants as event
 use Rattle.apex_types.specs.declared.event.Subject.{Subject}
 use Rattle.engine_meaning.specs.Digits.{same}
+use Rattle.trace_stays.specs.Clearing.{clears, resets, starts_again}
 use Rattle.trace_stays.specs.Stays.{held_behind, mode_behind, mode_ended, stay_ended, stay_left}
 use Rattle.trace_stays.specs.declared.lanes.Ended.{Ended}
 use Rattle.trace_stays.specs.declared.lanes.Ended.TheVariants as ended
@@ -18,6 +17,8 @@ use Rattle.trace_stays.specs.declared.lanes.ProcessLane.{ProcessLane}
 use Rattle.trace_stays.specs.declared.stay.Held.{Held}
 use Rattle.trace_stays.specs.declared.stay.HeldMode.{HeldMode}
 use Rattle.trace_stays.specs.declared.stay.ModeStay.{ModeStay}
+use Rattle.trace_stays.specs.declared.next.Next.{Next}
+use Rattle.trace_stays.specs.declared.next.Next.TheVariants.{Enters, Gone, Cleared}
 use Rattle.trace_stays.specs.declared.stay.Stay.{Stay}
 
 -- ---- what a line changes. A process is named by its partition's name and its own word.
@@ -26,44 +27,40 @@ abbrev pub is_of : List ℕ → Option (List ℕ) → Bool
 is_of name None = false
 is_of name (Some partition) = same partition name
 
--- with any mode but NORMAL the partition starts again
-abbrev pub starts_again : Mode → Bool
-starts_again mode.Normal = false
-starts_again mode.Idle = true
-starts_again mode.ColdStart = true
-starts_again mode.WarmStart = true
+abbrev pub next_if : Bool → Next → Option Next
+next_if true next = Some next
+next_if false next = None
 
--- so its processes are gone
-abbrev pub state_left : Mode → Option Held → Option Held
-state_left mode.Normal held = held
-state_left mode.Idle held = None
-state_left mode.ColdStart held = None
-state_left mode.WarmStart held = None
+-- where a line of its partition says that a process goes
+abbrev pub next_in : EventKind → List ℕ → Option Next
+next_in (event.State who state) word = next_if (same (subject_text who) word) (Enters state)
+next_in (event.Mode m) word = next_if (starts_again m) Gone
+next_in (event.Error error who answer) word = next_if (clears error answer) Cleared
+next_in _ word = None
 
-abbrev pub stay_left_by : Mode → Option Held → ℕ → Option Stay
-stay_left_by mode.Normal held t = None
-stay_left_by mode.Idle held t = stay_ended held None t
-stay_left_by mode.ColdStart held t = stay_ended held None t
-stay_left_by mode.WarmStart held t = stay_ended held None t
+-- where a line of the module says that all processes go
+abbrev pub next_of_all : EventKind → Option Next
+next_of_all (event.Error error who answer) = next_if (resets answer) Cleared
+next_of_all _ = None
 
--- the state that a process holds after a line of its partition
-abbrev pub state_in : EventKind → ℕ → List ℕ → Option Held → Option Held
-state_in (event.State who state) t word held = if same (subject_text who) word then held_behind held (Some state) t else held
-state_in (event.Mode m) t word held = state_left m held
-state_in _ t word held = held
+abbrev pub next_by : Option (List ℕ) → EventKind → (name word : List ℕ) → Option Next
+next_by None kind name word = next_of_all kind
+next_by (Some partition) kind name word = if same partition name then next_in kind word else None
 
--- the stay that such a line ends
-abbrev pub stay_in : EventKind → ℕ → List ℕ → Option Held → Option Stay
-stay_in (event.State who state) t word held = if same (subject_text who) word then stay_ended held (Some state) t else None
-stay_in (event.Mode m) t word held = stay_left_by m held t
-stay_in _ t word held = None
+-- the state that a process holds behind such a line, and the stay that the line ends
+abbrev pub held_with : Option Next → ℕ → Option Held → Option Held
+held_with None t held = held
+held_with (Some next) t held = held_behind held next t
 
--- the state that a process holds after a line of this partition, and the stay that the line ends
+abbrev pub stay_with : Option Next → ℕ → Option Held → Option Stay
+stay_with None t held = None
+stay_with (Some next) t held = stay_ended held next t
+
 abbrev pub state_behind : Option (List ℕ) → EventKind → ℕ → List ℕ → List ℕ → Option Held → Option Held
-state_behind partition kind t name word held = if is_of name partition then state_in kind t word held else held
+state_behind partition kind t name word held = held_with (next_by partition kind name word) t held
 
 abbrev pub stay_over : Option (List ℕ) → EventKind → ℕ → List ℕ → List ℕ → Option Held → Option Stay
-stay_over partition kind t name word held = if is_of name partition then stay_in kind t word held else None
+stay_over partition kind t name word held = stay_with (next_by partition kind name word) t held
 
 -- the mode of a partition after a line
 abbrev pub mode_in : EventKind → ℕ → Option HeldMode → Option HeldMode
@@ -223,8 +220,8 @@ change_at place f [] = []
 change_at zero f (x ∷ xs) = f x ∷ xs
 change_at (suc place) f (x ∷ xs) = x ∷ change_at place f xs
 
--- such a line of a process
-abbrev pub turned : Option ProcessState → ℕ → ProcessLane → ProcessLane
+-- a line says where a process goes
+abbrev pub turned : Next → ℕ → ProcessLane → ProcessLane
 turned next t lane = record lane { watch = record { held = held_behind lane.watch.held next t } }
 
 abbrev pub entered : Mode → ℕ → PartitionLane → PartitionLane
@@ -238,12 +235,17 @@ abbrev pub mode_over : ℕ → Option ModeStay → List Ended
 mode_over place None = []
 mode_over place (Some stay) = ended.Mode place stay ∷ []
 
--- a partition starts again: its processes are gone
-abbrev pub gone_from : ℕ → ℕ → ProcessLane → ProcessLane
-gone_from partition t lane = if lane.partition == partition then turned None t lane else lane
+-- the partition at a place, or each
+abbrev pub is_among : Option ℕ → ℕ → Bool
+is_among None partition = true
+is_among (Some one) partition = partition == one
+
+-- the processes of this partition, or of all, go there
+abbrev pub gone_from : Option ℕ → Next → ℕ → ProcessLane → ProcessLane
+gone_from among next t lane = if is_among among lane.partition then turned next t lane else lane
 
 -- the stay of the process at a place that such a line ends
-abbrev pub over_at : ℕ → Option ProcessState → ℕ → Option ProcessLane → List Ended
+abbrev pub over_at : ℕ → Next → ℕ → Option ProcessLane → List Ended
 over_at place next t None = []
 over_at place next t (Some lane) = state_over place (stay_ended lane.watch.held next t)
 
@@ -251,9 +253,9 @@ abbrev pub mode_over_at : ℕ → ℕ → Option PartitionLane → List Ended
 mode_over_at place t None = []
 mode_over_at place t (Some lane) = mode_over place (mode_ended lane.watch.held t)
 
-unfoldable pub over_with : ℕ → (partition t : ℕ) → List ProcessLane → List Ended
-over_with n partition t [] = []
-over_with n partition t (lane ∷ lanes) = (if lane.partition == partition then state_over n (stay_ended lane.watch.held None t) else []) ++ over_with (n + 1) partition t lanes
+unfoldable pub over_with : ℕ → Option ℕ → Next → (t : ℕ) → List ProcessLane → List Ended
+over_with n among next t [] = []
+over_with n among next t (lane ∷ lanes) = (if is_among among lane.partition then state_over n (stay_ended lane.watch.held next t) else []) ++ over_with (n + 1) among next t lanes
 
 -- ---- where a trace ends
 

@@ -1,16 +1,19 @@
 //! The lines of a trace, one after another.
 
-ghost use Rattle.std.specs.Prelude.{◌≡◌, ◌≤◌, ◌++◌, length, map, slice_get, IfOk, OnErr, OnOk, Some};
+ghost use Rattle.std.specs.Prelude.{◌≡◌, ◌≤◌, ◌++◌, length, map, slice_get, IfOk, None, OnErr, OnOk, Option, Some};
 ghost use Rattle.apex_types.specs.Line.{subject_text};
 ghost use Rattle.apex_types.specs.declared.event.EventKind.TheVariants as event;
-ghost use Rattle.trace_stays.specs.Following.{AreInPlace, AreKept, HasFollowed, HasPartition, HasProcess, HasRead, change_at, entered, gone_from, mode_over, mode_over_at, modes_left, over_at, over_with, partition_at, process_at, process_in, starts_again, state_over, states_left, turned};
+ghost use Rattle.trace_stays.specs.Following.{AreInPlace, AreKept, HasFollowed, HasPartition, HasProcess, HasRead, change_at, entered, gone_from, is_among, mode_over, mode_over_at, modes_left, over_at, over_with, partition_at, process_at, process_in, state_over, states_left, turned};
 ghost use Rattle.trace_stays.specs.Stays.{mode_ended, stay_ended};
+ghost use Rattle.trace_stays.specs.declared.next.Next.TheVariants.{Enters};
 
+use crate::clearing::{clears, resets, starts_again};
 use crate::fault::MemoryFull;
 use crate::lanes::{Ended, Lanes, PartitionLane, ProcessLane};
+use crate::next::Next;
 use crate::same::is_same_subject;
 use crate::stay::{ModeStay, ModeWatch, StateWatch, Stay};
-use apex_types::{Event, EventKind, Mode, Name, ProcessState, Subject, Ticks};
+use apex_types::{ErrorKind, Event, EventKind, Mode, Name, ProcessState, Response, Subject, Ticks};
 
 impl Lanes {
     /// The place of the partition with this name, which gets one if it has none.
@@ -55,11 +58,14 @@ impl Lanes {
             (HasFollowed event.now self.old self.new ended.old.items ended.new.items) }
     {
         let Some(name) = &event.partition else {
-            return Ok(());
+            return self.read_module(&event.kind, event.tick, ended);
         };
         match &event.kind {
             EventKind::State(who, state) => self.turn(name, who, *state, event.tick, ended),
             EventKind::Mode(mode) => self.enter(name, *mode, event.tick, ended),
+            EventKind::Error(error, _, response) => {
+                self.fail(name, *error, *response, event.tick, ended)
+            }
             _ => {
                 self.partition_place(name)?;
                 Ok(())
@@ -117,19 +123,71 @@ impl Lanes {
         if !starts_again(mode) {
             return Ok(());
         }
-        end_all(self.processes.as_slice(), place, tick, ended)?;
-        leave_all(&mut self.processes, place, tick);
-        Ok(())
+        self.leave(Some(place), Next::Gone, tick, ended)
     }
-}
 
-/// Returns true if a partition starts again with this mode: with any but NORMAL.
-fn starts_again(mode: Mode) -> bool
-    ensures { result ≡ starts_again mode }
-{
-    match mode {
-        Mode::Normal => false,
-        Mode::Idle | Mode::ColdStart | Mode::WarmStart => true,
+    /// An error of a partition. If it clears the partition, its processes are gone.
+    fn fail(
+        &mut self,
+        partition: &Name,
+        error: ErrorKind,
+        response: Response,
+        tick: Ticks,
+        ended: &mut Vec<Ended>,
+    ) -> Result<(), MemoryFull>
+        ensures { OnOk result
+            ((who : Option Subject)
+            → HasRead (Some partition.now) (event.Error error who response) tick.0 self.old
+            self.new ended.old.items ended.new.items) }
+    {
+        let place = self.partition_place(partition)?;
+        if !clears(error, response) {
+            return Ok(());
+        }
+        self.leave(Some(place), Next::Cleared, tick, ended)
+    }
+
+    /// Reads a line of the module. With its reset the processes of all partitions are gone.
+    fn read_module(
+        &mut self,
+        kind: &EventKind,
+        tick: Ticks,
+        ended: &mut Vec<Ended>,
+    ) -> Result<(), MemoryFull>
+        ensures { OnOk result
+            (HasRead None kind.now tick.0 self.old self.new ended.old.items ended.new.items) }
+    {
+        match kind {
+            EventKind::Error(_, _, response) => {
+                if resets(*response) {
+                    self.leave(None, Next::Cleared, tick, ended)
+                } else {
+                    Ok(())
+                }
+            }
+            _ => Ok(()),
+        }
+    }
+
+    /// The processes of the partition at this place go there; without a place those of all do.
+    fn leave(
+        &mut self,
+        partition: Option<usize>,
+        next: Next,
+        tick: Ticks,
+        ended: &mut Vec<Ended>,
+    ) -> Result<(), MemoryFull>
+        ensures partitions { self.new.partitions ≡ self.old.partitions }
+        ensures processes { OnOk result
+            (self.new.processes.items
+            ≡ map (gone_from partition next tick.0) self.old.processes.items) }
+        ensures ended { OnOk result
+            (ended.new.items
+            ≡ ended.old.items ++ over_with 0 partition next tick.0 self.old.processes.items) }
+    {
+        end_all(self.processes.as_slice(), partition, next, tick, ended)?;
+        leave_all(&mut self.processes, partition, next, tick);
+        Ok(())
     }
 }
 
@@ -233,14 +291,14 @@ fn turn_at(
     ended: &mut Vec<Ended>,
 ) -> Result<(), MemoryFull>
     ensures lanes { lanes.new.items
-        ≡ change_at place (turned (Some state) tick.0) lanes.old.items }
+        ≡ change_at place (turned (Enters state) tick.0) lanes.old.items }
     ensures ended { OnOk result
         (ended.new.items
         ≡ ended.old.items
-        ++ over_at place (Some state) tick.0 (slice_get lanes.old.items place)) }
+        ++ over_at place (Enters state) tick.0 (slice_get lanes.old.items place)) }
 {
     match lanes.get_mut(place) {
-        Some(lane) => add_stay(ended, place, lane.turn(Some(state), tick)),
+        Some(lane) => add_stay(ended, place, lane.turn(Next::Enters(state), tick)),
         None => Ok(()),
     }
 }
@@ -264,21 +322,22 @@ fn enter_at(
     }
 }
 
-/// Adds the stays of the processes of the partition at this place, which are gone with this tick.
+/// Adds the stays that are over where the processes of the partition at this place, or of all, go.
 #[tactic(auto, using(std::proofs::lemmas::List::drop_more), unfolding(crate::specs::Following::over_with))]
 fn end_all(
     lanes: &[ProcessLane],
-    partition: usize,
+    partition: Option<usize>,
+    next: Next,
     tick: Ticks,
     ended: &mut Vec<Ended>,
 ) -> Result<(), MemoryFull>
     ensures { OnOk result
-        (ended.new.items ≡ ended.old.items ++ over_with 0 partition tick.0 lanes.now) }
+        (ended.new.items ≡ ended.old.items ++ over_with 0 partition next tick.0 lanes.now) }
 {
     for (place, lane) in lanes.iter().enumerate() {
-        if lane.partition == partition {
+        if is_among(partition, lane.partition) {
             let mut watch = lane.watch;
-            add_stay(ended, place, watch.turn(None, tick))?;
+            add_stay(ended, place, watch.turn(next, tick))?;
         }
     }
     Ok(())
@@ -310,13 +369,23 @@ fn end_states(lanes: &[ProcessLane], until: Ticks, ended: &mut Vec<Ended>) -> Re
     Ok(())
 }
 
-/// The processes of the partition at this place are gone.
+/// The processes of the partition at this place, or of all, go there.
 #[tactic(auto, using(std::proofs::lemmas::List::drop_more))]
-fn leave_all(lanes: &mut Vec<ProcessLane>, partition: usize, tick: Ticks)
-    ensures { lanes.new.items ≡ map (gone_from partition tick.0) lanes.old.items }
+fn leave_all(lanes: &mut Vec<ProcessLane>, partition: Option<usize>, next: Next, tick: Ticks)
+    ensures { lanes.new.items ≡ map (gone_from partition next tick.0) lanes.old.items }
 {
     for lane in lanes.iter_mut() {
-        lane.leave(partition, tick);
+        lane.leave(partition, next, tick);
+    }
+}
+
+/// Returns true if the partition at a place is this one; without one, each is.
+fn is_among(one: Option<usize>, partition: usize) -> bool
+    ensures { result ≡ is_among one partition }
+{
+    match one {
+        Some(one) => partition == one,
+        None => true,
     }
 }
 
@@ -331,20 +400,20 @@ impl PartitionLane {
 }
 
 impl ProcessLane {
-    /// The process enters the next state, or it is gone. Returns the stay that is over.
-    fn turn(&mut self, next: Option<ProcessState>, tick: Ticks) -> Option<Stay>
+    /// The process goes there. Returns the stay that is over.
+    fn turn(&mut self, next: Next, tick: Ticks) -> Option<Stay>
         ensures lane { self.new ≡ turned next tick.0 self.old }
         ensures ended { result ≡ stay_ended self.old.watch.held next tick.0 }
     {
         self.watch.turn(next, tick)
     }
 
-    /// The process is gone, if it is one of the partition at this place.
-    fn leave(&mut self, partition: usize, tick: Ticks)
-        ensures { self.new ≡ gone_from partition tick.0 self.old }
+    /// The process goes there, if it is one of the partition at this place, or of any.
+    fn leave(&mut self, partition: Option<usize>, next: Next, tick: Ticks)
+        ensures { self.new ≡ gone_from partition next tick.0 self.old }
     {
-        if self.partition == partition {
-            self.turn(None, tick);
+        if is_among(partition, self.partition) {
+            self.turn(next, tick);
         }
     }
 }

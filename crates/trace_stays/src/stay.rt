@@ -3,6 +3,7 @@
 ghost use Rattle.std.specs.Prelude.{◌≡◌, None, option_map};
 ghost use Rattle.trace_stays.specs.Stays.{left_at, running_left_at};
 
+use crate::next::Next;
 use crate::span::Span;
 use apex_types::{Mode, ProcessState, Ticks};
 
@@ -32,7 +33,7 @@ impl Held {
 
     /// The first tick that no longer counts for the state, if a line of this tick ends it. A tick
     /// counts once, so a stay ends where it began, at the earliest.
-    fn until(self, next: Option<ProcessState>, tick: Ticks) -> Ticks
+    fn until(self, next: Next, tick: Ticks) -> Ticks
         ensures { result.0 ≡ stay_until self next tick.0 }
     {
         Ticks(self.since.0.max(left_at(self.state, next, tick).0))
@@ -51,23 +52,23 @@ impl Held {
     }
 }
 
-/// The first tick that no longer counts for RUNNING, if a line of this tick says that the process
-/// enters the next state, or that it is gone.
+/// The first tick that no longer counts for RUNNING, if a line of this tick says where the process
+/// goes.
 ///
-/// The process has done its last work in this tick, unless it becomes READY: then another one was
-/// chosen before the tick's work.
-fn running_left_at(next: Option<ProcessState>, tick: Ticks) -> Ticks
+/// The process has done its last work in this tick, unless it becomes READY, since then another one
+/// was chosen before the tick's work, or is gone before this work.
+fn running_left_at(next: Next, tick: Ticks) -> Ticks
     ensures { result.0 ≡ running_left_at next tick.0 }
 {
     match next {
-        Some(ProcessState::Ready) => tick,
+        Next::Enters(ProcessState::Ready) | Next::Cleared => tick,
         _ => Ticks(tick.0.saturating_add(1)),
     }
 }
 
-/// The first tick that no longer counts for a state, if a line of this tick says that the process
-/// enters the next one, or that it is gone.
-fn left_at(state: ProcessState, next: Option<ProcessState>, tick: Ticks) -> Ticks
+/// The first tick that no longer counts for a state, if a line of this tick says where the process
+/// goes.
+fn left_at(state: ProcessState, next: Next, tick: Ticks) -> Ticks
     ensures { result.0 ≡ left_at state next tick.0 }
 {
     match state {
@@ -103,9 +104,8 @@ impl StateWatch {
         }
     }
 
-    /// A line of this tick says that the process enters the next state, or, with `None`, that it is
-    /// gone. Returns the stay that is over.
-    pub fn turn(&mut self, next: Option<ProcessState>, tick: Ticks) -> Option<Stay>
+    /// A line of this tick says where the process goes. Returns the stay that is over.
+    pub fn turn(&mut self, next: Next, tick: Ticks) -> Option<Stay>
         ensures ended { result ≡ stay_ended self.old.held next tick.0 }
         ensures held { self.new.held ≡ held_behind self.old.held next tick.0 }
     {
@@ -117,8 +117,8 @@ impl StateWatch {
             None => (tick, None),
         };
         self.held = match next {
-            Some(state) => Some(Held { state, since }),
-            None => None,
+            Next::Enters(state) => Some(Held { state, since }),
+            Next::Gone | Next::Cleared => None,
         };
         ended
     }

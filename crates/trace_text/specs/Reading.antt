@@ -24,7 +24,7 @@ use Rattle.apex_types.specs.declared.event.EventKind.TheVariants as event
 use Rattle.apex_types.specs.declared.event.Subject.{Subject}
 use Rattle.apex_types.specs.declared.event.Subject.TheVariants as subject
 use Rattle.apex_types.specs.declared.identity.Ticks.{Ticks}
-use Rattle.apex_types.specs.declared.limits.TheConstants.{MOST_WORDS}
+use Rattle.apex_types.specs.Limits.{MOST_WORDS}
 use Rattle.apex_types.specs.declared.service.Service.{Service}
 use Rattle.arrayvec.specs.ArrayVec.{ArrayVec}
 use Rattle.module_meaning.specs.DeviceText.{pieces, plain_number, if_at_most, words}

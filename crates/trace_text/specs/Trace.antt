@@ -1,6 +1,6 @@
 -- Which events a run can write, and which lists of events are a trace.
 use Rattle.std.specs.Prelude.{◌≡◌, ℕ, ◌+◌, ◌^◌, ◌<◌, ◌≤◌, ℤ, Bool, false, true, ◌&&◌, List, [], ◌∷◌, ◌++◌, length, Option, Some, None, is_some, is_none, IsTrue}
-use Rattle.apex_types.specs.declared.limits.TheConstants.{MOST_WORDS}
+use Rattle.apex_types.specs.Limits.{MOST_WORDS}
 use Rattle.apex_types.specs.Line.{line_of, text_of}
 use Rattle.apex_types.specs.NameText.{is_name}
 use Rattle.apex_types.specs.declared.codes.Response.{Response}

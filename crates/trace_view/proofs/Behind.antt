@@ -29,6 +29,7 @@ use Rattle.trace_view.specs.declared.report.ProcessTotal.{ProcessTotal}
 use Rattle.trace_view.specs.declared.times.Percentile.{Percentile}
 use Rattle.trace_view.specs.declared.times.Percentile.TheVariants as percentile
 use Rattle.trace_view.specs.declared.told.Told.{Told}
+use Rattle.trace_view.proofs.Known.{quiet_line}
 use Rattle.trace_view.proofs.Percentiles.{no_percentile, percentile_is}
 
 -- ---- lines that are read, and others
@@ -260,11 +261,11 @@ no_lines window (e ∷ es) name word none =
     ap (process_in window es name word) (by (is_read window e.tick.0) (or_left_is (is_read window e.tick.0 && is_of name e.partition) (has_line window name es) none))
     ∙ no_lines window es name word (or_is (is_read window e.tick.0 && is_of name e.partition) (has_line window name es) none)
   where
-    other : (b : Bool) (x : Process) → b ≡ false → (if b then x else no_process) ≡ no_process
-    other b x e = ap (λ (c : Bool). if c then x else no_process) e
+    quiet : (b : Bool) (c : Bool) → b ≡ false → (b && c) ≡ false
+    quiet b c none = ap (λ (x : Bool). x && c) none
 
     by : (b : Bool) → (b && is_of name e.partition) ≡ false → (if b then process_behind window e name word no_process else no_process) ≡ no_process
-    by true none = other (is_of name e.partition) _ none
+    by true none = quiet_line window e name word (quiet (is_of name e.partition) (is_word word (maker (has_tick window e.tick.0) e.kind)) none)
     by false none = refl
 
 -- nor a row

@@ -3,6 +3,7 @@ use Rattle.std.proofs.Common.{◌≡◌, ◌≤◌, ℕ, ◌+◌, ◌-◌, max, 
 use Rattle.apex_types.specs.declared.codes.ProcessState.{ProcessState}
 use Rattle.apex_types.specs.declared.codes.ProcessState.TheVariants as state
 use Rattle.trace_stays.specs.Stays.{left_at, span, stay_until, tick}
+use Rattle.trace_stays.specs.declared.next.Next.TheVariants.{Enters}
 use Rattle.trace_stays.specs.declared.span.Span.{Span}
 use Rattle.trace_stays.specs.declared.stay.Held.{Held}
 use Rattle.trace_stays.specs.declared.stay.Stay.{Stay}
@@ -49,4 +50,4 @@ max_ge a b = omega arith
 pub follow : (held : Held) (lines : List StateLine) (until : ℕ) → AreContiguous held.since.0 (stays_in (Some held) lines until) (stays_until held lines until)
 follow held [] until = (refl, max_ge held.since.0 until, refl)
 follow held (line ∷ lines) until =
-    (refl, max_ge held.since.0 (left_at held.state (Some line.state) line.tick), follow (record { state = line.state; since = tick (stay_until held (Some line.state) line.tick) }) lines until)
+    (refl, max_ge held.since.0 (left_at held.state (Enters line.state) line.tick), follow (record { state = line.state; since = tick (stay_until held (Enters line.state) line.tick) }) lines until)

@@ -1,6 +1,6 @@
 -- What the rows of processes show after one more line.
-use Rattle.std.proofs.Common.{◌≡◌, ◌≤◌, ℕ, zero, suc, ◌+◌, Bool, true, false, List, [], ◌∷◌, ◌++◌, length, Option, Some, None, Result, Ok, Err, refl, sym, take, ap, subst, ◌∙◌, arith}
-use Rattle.std.specs.Prelude.{◌==◌, ◌&&◌, ◌||◌, if◌then◌else◌, OnOk, slice_get, slice_set}
+use Rattle.std.proofs.Common.{◌≡◌, ◌≤◌, ℕ, zero, suc, ◌+◌, Bool, true, false, List, [], ◌∷◌, ◌++◌, length, Option, Some, None, refl, sym, take, ap, subst, ◌∙◌, arith}
+use Rattle.std.specs.Prelude.{◌==◌, ◌&&◌, ◌||◌, if◌then◌else◌, slice_get, slice_set}
 use Rattle.std.proofs.lemmas.Bool.{and_from, and_parts, eq-eqb, false≢true}
 use Rattle.std.proofs.lemmas.Option.{same_Some}
 use Rattle.apex_types.specs.Line.{subject_text}
@@ -12,13 +12,16 @@ use Rattle.apex_types.specs.declared.event.EventKind.TheVariants as event
 use Rattle.apex_types.specs.declared.event.Subject.{Subject}
 use Rattle.apex_types.specs.declared.identity.Ticks.{Ticks}
 use Rattle.engine_meaning.specs.Digits.{same}
-use Rattle.trace_stays.specs.Following.{is_of}
-use Rattle.trace_stays.specs.Stays.{held_behind}
+use Rattle.trace_stays.specs.Clearing.{clears, resets}
+use Rattle.trace_stays.specs.Following.{is_of, next_by, next_if, next_in, next_of_all}
+use Rattle.trace_stays.specs.Stays.{held_behind, state_entered}
+use Rattle.trace_stays.specs.declared.next.Next.{Next}
+use Rattle.trace_stays.specs.declared.next.Next.TheVariants.{Enters, Cleared}
 use Rattle.trace_stays.specs.declared.span.Span.{Span}
 use Rattle.trace_stays.specs.declared.stay.Held.{Held}
 use Rattle.trace_stays.proofs.Followed.{same_is}
 use Rattle.trace_view.specs.Percentiles.{AreTimes, with_end, with_running}
-use Rattle.trace_view.specs.Processes.{AllRead, AreKept, HasRead, HasAdded, HasMade, HaveRead, IsRowOf, IsShown, Process, counted_for, has_names, is_there, is_word, maker, makes_row, no_process, process_behind, read_by, row_at, turn_of, with_turn}
+use Rattle.trace_view.specs.Processes.{AllRead, AreKept, HasRead, HasAdded, HasMade, HaveRead, IsRowOf, IsShown, Process, counted, counted_for, counts, has_names, is_there, is_word, maker, makes_row, no_process, process_behind, row_at, turn_of, turned_if, with_one, with_turn}
 use Rattle.trace_view.specs.Tallies.{has_tick, measured, turned}
 use Rattle.trace_view.specs.Turns.{and_measured, end_times, running_times}
 use Rattle.trace_view.specs.declared.processes.ProcessRow.{ProcessRow}
@@ -26,27 +29,23 @@ use Rattle.trace_view.specs.declared.tally.Measured.{Measured}
 use Rattle.trace_view.specs.declared.tally.Measured.TheVariants as measure
 use Rattle.trace_view.specs.declared.tally.Tally.{Tally}
 
--- what holds after a call that is done, from two facts about it
-pub both_ok : {T E P Q R : Type 0} (r : Result T E) → (P → Q → R) → OnOk r P → OnOk r Q → OnOk r R
-both_ok (Ok x) f p q = f p q
-both_ok (Err e) f p q = tt
-
 -- ---- one row
 
 -- a turn
 
-held_turned : (next : Option ProcessState) (t : Ticks) (p : Process) (old new : ProcessRow) → IsRowOf p old → new.watch.held ≡ held_behind old.watch.held next t.0 → new.watch.held ≡ held_behind p.held next t.0
+held_turned : (next : Next) (t : Ticks) (p : Process) (old new : ProcessRow) → IsRowOf p old → new.watch.held ≡ held_behind old.watch.held next t.0 → new.watch.held ≡ held_behind p.held next t.0
 held_turned next t p old new is held = held ∙ ap (λ (h : Option Held). held_behind h next t.0) is.held
 
-tally_turned : (window : Span) (next : Option ProcessState) (t : Ticks) (p : Process) (old new : ProcessRow) → IsRowOf p old → new.tally ≡ turned window (turn_of old.watch.held next t) old.tally
+tally_turned : (window : Span) (next : Next) (t : Ticks) (p : Process) (old new : ProcessRow) → IsRowOf p old → new.tally ≡ turned window (turn_of old.watch.held next t) old.tally
     → new.tally ≡ turned window (turn_of p.held next t) p.tally
 tally_turned window next t p old new is tally =
     tally ∙ (ap (λ (h : Option Held). turned window (turn_of h next t) old.tally) is.held ∙ ap (λ (y : Tally). turned window (turn_of p.held next t) y) is.tally)
 
-measured_turned : (next : Option ProcessState) (t : Ticks) (p : Process) (old : ProcessRow) (o : Option Measured) → IsRowOf p old → measured next (turn_of old.watch.held next t) old.tally.activation ≡ o
-    → o ≡ measured next (turn_of p.held next t) p.tally.activation
+measured_turned : (next : Next) (t : Ticks) (p : Process) (old : ProcessRow) (o : Option Measured) → IsRowOf p old → measured (state_entered next) (turn_of old.watch.held next t) old.tally.activation ≡ o
+    → o ≡ measured (state_entered next) (turn_of p.held next t) p.tally.activation
 measured_turned next t p old o is times =
-    sym times ∙ (ap (λ (h : Option Held). measured next (turn_of h next t) old.tally.activation) is.held ∙ ap (λ (y : Tally). measured next (turn_of p.held next t) y.activation) is.tally)
+    sym times
+    ∙ (ap (λ (h : Option Held). measured (state_entered next) (turn_of h next t) old.tally.activation) is.held ∙ ap (λ (y : Tally). measured (state_entered next) (turn_of p.held next t) y.activation) is.tally)
 
 running_more : (m : Measured) (times : List Measured) (entries : List (ℕ × ℕ)) → AreTimes (with_running m (running_times times)) entries → AreTimes (running_times (m ∷ times)) entries
 running_more (measure.ToRunning time) times entries are = are
@@ -57,10 +56,10 @@ end_more (measure.ToRunning time) times entries are = are
 end_more (measure.ToEnd time) times entries are = are
 
 -- with a time that is taken
-pub turn_taken : (window : Span) (next : Option ProcessState) (t : Ticks) (old new : ProcessRow) (m : Measured) → new.partition ≡ old.partition → new.who ≡ old.who
+pub turn_taken : (window : Span) (next : Next) (t : Ticks) (old new : ProcessRow) (m : Measured) → new.partition ≡ old.partition → new.who ≡ old.who
     → new.watch.held ≡ held_behind old.watch.held next t.0
     → new.tally ≡ turned window (turn_of old.watch.held next t) old.tally
-    → measured next (turn_of old.watch.held next t) old.tally.activation ≡ Some m
+    → measured (state_entered next) (turn_of old.watch.held next t) old.tally.activation ≡ Some m
     → ((times : List ℕ) → AreTimes times old.responses.to_running.counts.entries → AreTimes (with_running m times) new.responses.to_running.counts.entries)
     → ((times : List ℕ) → AreTimes times old.responses.to_end.counts.entries → AreTimes (with_end m times) new.responses.to_end.counts.entries)
     → HasRead (with_turn window next t) old new
@@ -76,6 +75,46 @@ turn_taken window next t old new m partition who held tally times to_running to_
         (end_more m p.times new.responses.to_end.counts.entries (to_end (end_times p.times) is.to_end));
   };
 }
+
+-- one change behind another
+pub both_read : (f g : Process → Process) (old mid new : ProcessRow) → HasRead f old mid → HasRead g mid new → HasRead (λ p. g (f p)) old new
+both_read f g old mid new one other = record {
+  partition = other.partition ∙ one.partition;
+  who = other.who ∙ one.who;
+  numbers = λ p is. other.numbers (f p) (one.numbers p is);
+}
+
+-- a line that counts, or does not
+pub has_counted : (b : Bool) (kind : EventKind) (old new : ProcessRow) → new ≡ (if b then record old { tally = with_one kind old.tally } else old)
+    → HasRead (λ p. if b then record p { tally = with_one kind p.tally } else p) old new
+has_counted true kind old new is = record {
+  partition = ap (λ (r : ProcessRow). r.partition) is;
+  who = ap (λ (r : ProcessRow). r.who) is;
+  numbers = λ p row. subst (IsRowOf (record p { tally = with_one kind p.tally })) (sym is)
+      (record { held = row.held; tally = ap (with_one kind) row.tally; to_running = row.to_running; to_end = row.to_end });
+}
+has_counted false kind old new is = record {
+  partition = ap (λ (r : ProcessRow). r.partition) is;
+  who = ap (λ (r : ProcessRow). r.who) is;
+  numbers = λ p row. subst (IsRowOf p) (sym is) row;
+}
+
+-- it reads a line
+pub has_read : (window : Span) (e : Event) (old mid new : ProcessRow) (b : Bool) (next : Option Next) → b ≡ counts window e old.partition (subject_text old.who)
+    → mid ≡ (if b then record old { tally = with_one e.kind old.tally } else old) → next ≡ next_by e.partition e.kind mid.partition (subject_text mid.who)
+    → HasRead (turned_if window next e.tick) mid new → HasRead (process_behind window e old.partition (subject_text old.who)) old new
+has_read window e old mid new b next counts_so is goes turn =
+    both_read (counted window e old.partition (subject_text old.who)) (turned_if window (next_by e.partition e.kind old.partition (subject_text old.who)) e.tick) old mid new
+    (subst (λ (x : Bool). HasRead (λ p. if x then record p { tally = with_one e.kind p.tally } else p) old mid) counts_so one)
+    (subst (λ (n : Option Next). HasRead (turned_if window n e.tick) mid new) there turn)
+  where
+    one : HasRead (λ p. if b then record p { tally = with_one e.kind p.tally } else p) old mid
+    one = has_counted b e.kind old mid is
+
+    there : next ≡ next_by e.partition e.kind old.partition (subject_text old.who)
+    there =
+        goes
+        ∙ (ap (λ (n : List ℕ). next_by e.partition e.kind n (subject_text mid.who)) one.partition ∙ ap (λ (w : Subject). next_by e.partition e.kind old.partition (subject_text w)) one.who)
 
 -- ---- a row more
 
@@ -168,33 +207,67 @@ or_is false b e = e
 
 -- any other line says nothing of a process that has no row
 
-quiet_state : (b : Bool) (x : Process) → b ≡ false → (if b then x else no_process) ≡ no_process
-quiet_state b x other = ap (λ (c : Bool). if c then x else no_process) other
+quiet_state : (b : Bool) (window : Span) (state : ProcessState) (t : Ticks) → b ≡ false → turned_if window (next_if b (Enters state)) t no_process ≡ no_process
+quiet_state b window state t other = ap (λ (c : Bool). turned_if window (next_if c (Enters state)) t no_process) other
 
-quiet_counted : (b : Bool) (word : List ℕ) (o : Option Subject) (x : Process) → is_word word (if b then o else None) ≡ false → (if b && is_word word o then x else no_process) ≡ no_process
-quiet_counted true word o x other = ap (λ (c : Bool). if c then x else no_process) other
-quiet_counted false word o x other = refl
+quiet_clear : (b : Bool) (window : Span) (t : Ticks) → turned_if window (next_if b Cleared) t no_process ≡ no_process
+quiet_clear true window t = refl
+quiet_clear false window t = refl
 
-quiet_own : (window : Span) (t : Ticks) (kind : EventKind) (word : List ℕ) → is_word word (maker (has_tick window t.0) kind) ≡ false → read_by window t kind word no_process ≡ no_process
-quiet_own window t (event.State who state) word other = quiet_state (same (subject_text who) word) _ other
+quiet_counted : (b : Bool) (word : List ℕ) (o : Option Subject) (x : Process) → is_word word (if b then o else None) ≡ false → (if is_word word o && b then x else no_process) ≡ no_process
+quiet_counted true word o x other = ap (λ (c : Bool). if c && true then x else no_process) other
+quiet_counted false word o x other = by (is_word word o)
+  where
+    by : (c : Bool) → (if c && false then x else no_process) ≡ no_process
+    by true = refl
+    by false = refl
+
+-- a line of its partition
+abbrev pub own_behind : Span → Ticks → EventKind → List ℕ → Process
+own_behind window t kind word = turned_if window (next_in kind word) t (if is_word word (counted_for kind) && has_tick window t.0 then record no_process { tally = with_one kind no_process.tally } else no_process)
+
+quiet_own : (window : Span) (t : Ticks) (kind : EventKind) (word : List ℕ) → is_word word (maker (has_tick window t.0) kind) ≡ false → own_behind window t kind word ≡ no_process
+quiet_own window t (event.State who state) word other = quiet_state (same (subject_text who) word) window state t other
 quiet_own window t (event.Mode mode.Normal) word other = refl
 quiet_own window t (event.Mode mode.Idle) word other = refl
 quiet_own window t (event.Mode mode.ColdStart) word other = refl
 quiet_own window t (event.Mode mode.WarmStart) word other = refl
 quiet_own window t (event.Return who service code) word other = quiet_counted (has_tick window t.0) word (Some who) _ other
-quiet_own window t (event.Error e who response) word other = quiet_counted (has_tick window t.0) word (counted_for (event.Error e who response)) _ other
+quiet_own window t (event.Error e who response) word other =
+    ap (turned_if window (next_if (clears e response) Cleared) t) (quiet_counted (has_tick window t.0) word (counted_for (event.Error e who response)) _ other) ∙ quiet_clear (clears e response) window t
 quiet_own window t (event.Report who words) word other = quiet_counted (has_tick window t.0) word (Some who) _ other
-quiet_own window t (event.Move port words) word other = quiet_counted (has_tick window t.0) word None _ other
-quiet_own window t (event.Arrive port words) word other = quiet_counted (has_tick window t.0) word None _ other
-quiet_own window t (event.Lost port words) word other = quiet_counted (has_tick window t.0) word None _ other
-quiet_own window t (event.Out channel words) word other = quiet_counted (has_tick window t.0) word None _ other
+quiet_own window t (event.Move port words) word other = refl
+quiet_own window t (event.Arrive port words) word other = refl
+quiet_own window t (event.Lost port words) word other = refl
+quiet_own window t (event.Out channel words) word other = refl
 
-quiet_line : (window : Span) (e : Event) (name word : List ℕ) → (is_of name e.partition && is_word word (maker (has_tick window e.tick.0) e.kind)) ≡ false → process_behind window e name word no_process ≡ no_process
-quiet_line window e name word other = by (is_of name e.partition) other
+quiet_all : (window : Span) (t : Ticks) (kind : EventKind) → turned_if window (next_of_all kind) t no_process ≡ no_process
+quiet_all window t (event.State who state) = refl
+quiet_all window t (event.Mode m) = refl
+quiet_all window t (event.Return who service code) = refl
+quiet_all window t (event.Error e who response) = quiet_clear (resets response) window t
+quiet_all window t (event.Report who words) = refl
+quiet_all window t (event.Move port words) = refl
+quiet_all window t (event.Arrive port words) = refl
+quiet_all window t (event.Lost port words) = refl
+quiet_all window t (event.Out channel words) = refl
+
+pub quiet_line : (window : Span) (e : Event) (name word : List ℕ) → (is_of name e.partition && is_word word (maker (has_tick window e.tick.0) e.kind)) ≡ false → process_behind window e name word no_process ≡ no_process
+quiet_line window e name word other = by e.partition other
   where
-    by : (b : Bool) → (b && is_word word (maker (has_tick window e.tick.0) e.kind)) ≡ false → (if b then read_by window e.tick e.kind word no_process else no_process) ≡ no_process
-    by true other = quiet_own window e.tick e.kind word other
-    by false other = refl
+    behind : Option (List ℕ) → Process
+    behind o = turned_if window (next_by o e.kind name word) e.tick
+        (if is_of name o && is_word word (counted_for e.kind) && has_tick window e.tick.0 then record no_process { tally = with_one e.kind no_process.tally } else no_process)
+
+    own : (b : Bool) → (b && is_word word (maker (has_tick window e.tick.0) e.kind)) ≡ false
+        → turned_if window (if b then next_in e.kind word else None) e.tick
+        (if b && is_word word (counted_for e.kind) && has_tick window e.tick.0 then record no_process { tally = with_one e.kind no_process.tally } else no_process) ≡ no_process
+    own true other = quiet_own window e.tick e.kind word other
+    own false other = refl
+
+    by : (o : Option (List ℕ)) → (is_of name o && is_word word (maker (has_tick window e.tick.0) e.kind)) ≡ false → behind o ≡ no_process
+    by None other = quiet_all window e.tick e.kind
+    by (Some p) other = own (same p name) other
 
 -- ---- all rows
 

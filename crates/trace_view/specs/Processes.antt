@@ -3,15 +3,15 @@ use Rattle.std.specs.Prelude.{◌≡◌, ℕ, ◌+◌, Bool, false, ◌&&◌, �
 use Rattle.apex_types.specs.Line.{subject_text}
 use Rattle.apex_types.specs.declared.codes.ErrorKind.{ErrorKind}
 use Rattle.apex_types.specs.declared.codes.ErrorKind.TheVariants as error
-use Rattle.apex_types.specs.declared.codes.ProcessState.{ProcessState}
 use Rattle.apex_types.specs.declared.event.Event.{Event}
 use Rattle.apex_types.specs.declared.event.EventKind.{EventKind}
 use Rattle.apex_types.specs.declared.event.EventKind.TheVariants as event
 use Rattle.apex_types.specs.declared.event.Subject.{Subject}
 use Rattle.apex_types.specs.declared.identity.Ticks.{Ticks}
 use Rattle.engine_meaning.specs.Digits.{same}
-use Rattle.trace_stays.specs.Following.{is_of, starts_again}
-use Rattle.trace_stays.specs.Stays.{held_behind, stay_ended, stay_left}
+use Rattle.trace_stays.specs.Following.{is_of, next_by}
+use Rattle.trace_stays.specs.Stays.{held_behind, state_entered, stay_ended, stay_left}
+use Rattle.trace_stays.specs.declared.next.Next.{Next}
 use Rattle.trace_stays.specs.declared.span.Span.{Span}
 use Rattle.trace_stays.specs.declared.stay.Held.{Held}
 use Rattle.trace_view.specs.Counting.{capped, with_answer}
@@ -41,15 +41,19 @@ no_process = record { held = None; tally = nothing_counted; times = [] }
 -- ---- a line
 
 -- the process enters a state, or is gone
-abbrev pub turn_of : Option Held → Option ProcessState → Ticks → Turn
-turn_of held next t = record { tick = t; ended = stay_ended held next t.0; next = next }
+abbrev pub turn_of : Option Held → Next → Ticks → Turn
+turn_of held next t = record { tick = t; ended = stay_ended held next t.0; next = state_entered next }
 
-abbrev pub with_turn : Span → Option ProcessState → Ticks → Process → Process
+abbrev pub with_turn : Span → Next → Ticks → Process → Process
 with_turn window next t p = record {
   held = held_behind p.held next t.0;
   tally = turned window (turn_of p.held next t) p.tally;
-  times = and_measured (measured next (turn_of p.held next t) p.tally.activation) p.times;
+  times = and_measured (measured (state_entered next) (turn_of p.held next t) p.tally.activation) p.times;
 }
+
+abbrev pub turned_if : Span → Option Next → Ticks → Process → Process
+turned_if window None t p = p
+turned_if window (Some next) t p = with_turn window next t p
 
 -- the subject of an answer, a missed deadline or an application message in such a line
 abbrev pub missed_by : ErrorKind → Option Subject → Option Subject
@@ -72,16 +76,16 @@ with_one (event.Error e who response) t = record t { deadlines_missed = capped (
 with_one (event.Report who words) t = record t { reports = capped (t.reports + 1) }
 with_one _ t = t
 
--- After a line of its partition. States are read in all lines; the rest counts in the window. With any mode but NORMAL the partition starts again, and its
--- processes are gone.
-abbrev pub read_by : Span → Ticks → EventKind → List ℕ → Process → Process
-read_by window t (event.State who state) word p = if same (subject_text who) word then with_turn window (Some state) t p else p
-read_by window t (event.Mode m) word p = if starts_again m then with_turn window None t p else p
-read_by window t kind word p = if has_tick window t.0 && is_word word (counted_for kind) then record p { tally = with_one kind p.tally } else p
+-- whether such a line of its partition counts for the process
+abbrev pub counts : Span → Event → (name word : List ℕ) → Bool
+counts window e name word = is_of name e.partition && is_word word (counted_for e.kind) && has_tick window e.tick.0
 
--- after a line that is read
+abbrev pub counted : Span → Event → (name word : List ℕ) → Process → Process
+counted window e name word p = if counts window e name word then record p { tally = with_one e.kind p.tally } else p
+
+-- After a line that is read. Where it goes is read in all lines; the rest counts in the window.
 abbrev pub process_behind : Span → Event → (name word : List ℕ) → Process → Process
-process_behind window e name word p = if is_of name e.partition then read_by window e.tick e.kind word p else p
+process_behind window e name word p = turned_if window (next_by e.partition e.kind name word) e.tick (counted window e name word p)
 
 -- after a line
 abbrev pub process_after : Span → Event → (name word : List ℕ) → Process → Process

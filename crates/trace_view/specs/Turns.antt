@@ -3,6 +3,7 @@ use Rattle.std.specs.Prelude.{◌≡◌, ◌≤◌, ℕ, ◌+◌, ◌-◌, max, 
 use Rattle.apex_types.specs.declared.codes.ProcessState.{ProcessState}
 use Rattle.apex_types.specs.declared.codes.ProcessState.TheVariants as state
 use Rattle.trace_stays.specs.Stays.{held_behind, stay_ended, stay_left, stay_until, tick}
+use Rattle.trace_stays.specs.declared.next.Next.TheVariants.{Enters}
 use Rattle.trace_stays.specs.declared.span.Span.{Span}
 use Rattle.trace_stays.specs.declared.stay.Held.{Held}
 use Rattle.trace_stays.specs.declared.stay.Stay.{Stay}
@@ -148,12 +149,12 @@ pub record StateLine : Type 0 where
 -- the stays of a process in such lines, and the stay that is not over where the trace ends
 abbrev pub stays_in : Option Held → List StateLine → ℕ → List Stay
 stays_in held [] until = and_stay (stay_left held until) []
-stays_in held (line ∷ lines) until = and_stay (stay_ended held (Some line.state) line.tick) (stays_in (held_behind held (Some line.state) line.tick) lines until)
+stays_in held (line ∷ lines) until = and_stay (stay_ended held (Enters line.state) line.tick) (stays_in (held_behind held (Enters line.state) line.tick) lines until)
 
 -- the tick where the last of them ends
 abbrev pub stays_until : Held → List StateLine → ℕ → ℕ
 stays_until held [] until = max held.since.0 until
-stays_until held (line ∷ lines) until = stays_until (record { state = line.state; since = tick (stay_until held (Some line.state) line.tick) }) lines until
+stays_until held (line ∷ lines) until = stays_until (record { state = line.state; since = tick (stay_until held (Enters line.state) line.tick) }) lines until
 
 -- the first of these stays begins at this tick, each other one where the one before ends, and the last ends there
 abbrev pub AreContiguous : ℕ → List Stay → ℕ → Type 0

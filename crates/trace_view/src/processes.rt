@@ -1,20 +1,20 @@
 //! The numbers of processes, line by line.
 
-ghost use Rattle.std.specs.Prelude.{◌≡◌, ◌&&◌, ◌++◌, [], ℕ, List, true, IfOk, OnOk};
+ghost use Rattle.std.specs.Prelude.{◌≡◌, ◌&&◌, if◌then◌else◌, ◌++◌, [], ℕ, List, true, IfOk, OnOk};
 ghost use Rattle.apex_types.specs.Line.{subject_text};
 ghost use Rattle.engine_meaning.specs.Digits.{same};
-ghost use Rattle.trace_stays.specs.Following.{is_of, starts_again};
+ghost use Rattle.trace_stays.specs.Following.{is_of, next_by};
 ghost use Rattle.trace_stays.specs.Stays.{stay_left};
-ghost use Rattle.trace_view.specs.Processes.{AllRead, AreKept, HasAdded, HasMade, HasRead, HaveRead, counted_for, is_there, is_word, maker, process_behind, read_by, totals_at, totals_from, with_one, with_turn};
+ghost use Rattle.trace_view.specs.Processes.{AllRead, AreKept, HasAdded, HasMade, HasRead, HaveRead, counted_for, counts, is_there, is_word, maker, process_behind, totals_at, totals_from, turned_if, with_one, with_turn};
 ghost use Rattle.trace_view.specs.Tallies.{has_tick, with_ended};
 
 use crate::extent::has_tick;
 use crate::report::{PartitionTotal, ProcessTotal};
 use crate::responses::Responses;
 use crate::tally::{Tally, Turn};
-use apex_types::{ErrorKind, Event, EventKind, Mode, Name, ProcessState, Subject, Ticks};
+use apex_types::{ErrorKind, Event, EventKind, Name, Subject, Ticks};
 use std::alloc::Global;
-use trace_stays::{MemoryFull, Span, StateWatch, is_same_subject};
+use trace_stays::{MemoryFull, Next, Span, StateWatch, is_same_subject, next_by};
 
 /// What the lines so far say of a process, of INIT or of an error handler.
 #[derive(Drop)]
@@ -34,11 +34,27 @@ impl ProcessRow {
             (process_behind window event.now self.old.partition (subject_text self.old.who))
             self.old self.new) }
     {
-        if self.is_of(&event.partition) {
-            self.read_own(&event.kind, event.tick, window)
-        } else {
-            Ok(())
-        }
+        self.count_if(self.counts(event, window), &event.kind);
+        self.turn_if(self.next_in(event), event.tick, window)
+    }
+
+    /// Where a line says that the process goes.
+    fn next_in(&self, event: &Event) -> Option<Next>
+        ensures { result
+            ≡ next_by event.now.partition event.now.kind self.now.partition
+            (subject_text self.now.who) }
+    {
+        next_by(event, &self.partition, &self.who)
+    }
+
+    /// Returns true if a line of its partition counts for the process.
+    fn counts(&self, event: &Event, window: Span) -> bool
+        ensures { result
+            ≡ counts window event.now self.now.partition (subject_text self.now.who) }
+    {
+        self.is_of(&event.partition)
+            && self.is_word(&counted_for(&event.kind))
+            && has_tick(window, event.tick)
     }
 
     /// Returns true if a line is of the partition of this process.
@@ -48,36 +64,6 @@ impl ProcessRow {
         match partition {
             Some(name) => name.as_bytes() == self.partition.as_bytes(),
             None => false,
-        }
-    }
-
-    /// Reads a line of its partition.
-    fn read_own(&mut self, kind: &EventKind, tick: Ticks, window: Span) -> Result<(), MemoryFull>
-        ensures { OnOk result
-            (HasRead (read_by window tick kind.now (subject_text self.old.who)) self.old
-            self.new) }
-    {
-        match kind {
-            EventKind::State(who, state) => {
-                if is_same_subject(who, &self.who) {
-                    self.turn(Some(*state), tick, window)
-                } else {
-                    Ok(())
-                }
-            }
-            EventKind::Mode(mode) => {
-                if starts_again(*mode) {
-                    self.turn(None, tick, window)
-                } else {
-                    Ok(())
-                }
-            }
-            kind => {
-                if has_tick(window, tick) && self.is_word(&counted_for(kind)) {
-                    self.count(kind);
-                }
-                Ok(())
-            }
         }
     }
 
@@ -91,20 +77,38 @@ impl ProcessRow {
         }
     }
 
+    /// The process enters a state or is gone, if a line says so.
+    fn turn_if(&mut self, next: Option<Next>, tick: Ticks, window: Span) -> Result<(), MemoryFull>
+        ensures { OnOk result (HasRead (turned_if window next tick) self.old self.new) }
+    {
+        match next {
+            Some(next) => self.turn(next, tick, window),
+            None => Ok(()),
+        }
+    }
+
     /// The process enters a state, or it is gone.
-    fn turn(
-        &mut self,
-        next: Option<ProcessState>,
-        tick: Ticks,
-        window: Span,
-    ) -> Result<(), MemoryFull>
+    fn turn(&mut self, next: Next, tick: Ticks, window: Span) -> Result<(), MemoryFull>
         ensures { OnOk result (HasRead (with_turn window next tick) self.old self.new) }
     {
         let ended = self.watch.turn(next, tick);
-        let turn = Turn { tick, ended, next };
+        let turn = Turn {
+            tick,
+            ended,
+            next: next.state(),
+        };
         match self.tally.turn(turn, window) {
             Some(measured) => self.responses.take(measured),
             None => Ok(()),
+        }
+    }
+
+    /// Counts a return code, a missed deadline or an application message, if it counts.
+    fn count_if(&mut self, counts: bool, kind: &EventKind)
+        ensures { self.new ≡ (if counts then record self.old { tally = with_one kind.now self.old.tally } else self.old) }
+    {
+        if counts {
+            self.count(kind);
         }
     }
 
@@ -244,16 +248,6 @@ impl Processes {
             }
         }
         Ok(())
-    }
-}
-
-/// Returns true if a partition starts again with this mode: with any but NORMAL.
-fn starts_again(mode: Mode) -> bool
-    ensures { result ≡ starts_again mode }
-{
-    match mode {
-        Mode::Normal => false,
-        Mode::Idle | Mode::ColdStart | Mode::WarmStart => true,
     }
 }
 

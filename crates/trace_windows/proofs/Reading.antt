@@ -17,7 +17,8 @@ use Rattle.apex_types.specs.declared.event.EventKind.{EventKind}
 use Rattle.apex_types.specs.declared.event.EventKind.TheVariants as event
 use Rattle.apex_types.specs.declared.event.Subject.{Subject}
 use Rattle.apex_types.specs.declared.identity.Ticks.{Ticks}
-use Rattle.trace_windows.specs.Standings.{Standing, acted, at_first, entered, in_run, is_running, left_if, passed, passed_if, place_in, running_at, stopped, turned, with_kind, with_line, with_module, with_own, with_place}
+use Rattle.trace_stays.specs.Clearing.{clears}
+use Rattle.trace_windows.specs.Standings.{Standing, acted, at_first, cleared_if, entered, in_run, is_running, left_if, passed, passed_if, place_in, running_at, stopped, turned, with_kind, with_line, with_module, with_own, with_place}
 use Rattle.trace_windows.specs.Uses.{ticks_used, use_from, use_of}
 use Rattle.trace_windows.specs.declared.counted.Row.{Row}
 use Rattle.trace_windows.specs.declared.usage.Use.{Use}
@@ -62,11 +63,15 @@ entered_now mode.Idle place s = stopped_now place (running_at place s.owners) s
 entered_now mode.ColdStart place s = stopped_now place (running_at place s.owners) s
 entered_now mode.WarmStart place s = stopped_now place (running_at place s.owners) s
 
+cleared_now : (b : Bool) (place : ℕ) (s : Standing) → (cleared_if b place s).now ≡ s.now
+cleared_now true place s = refl
+cleared_now false place s = refl
+
 own_now : (kind : EventKind) (place : ℕ) (s : Standing) → (with_own kind place s).now ≡ s.now
 own_now (event.State who next) place s = turned_now next place who s
 own_now (event.Mode m) place s = entered_now m place s
 own_now (event.Return who service code) place s = refl
-own_now (event.Error error who answer) place s = refl
+own_now (event.Error error who answer) place s = cleared_now (clears error answer) place s
 own_now (event.Report who words) place s = refl
 own_now (event.Move port words) place s = refl
 own_now (event.Arrive port words) place s = refl

@@ -12,8 +12,9 @@ use Rattle.apex_types.specs.declared.event.Event.{Event}
 use Rattle.apex_types.specs.declared.event.EventKind.{EventKind}
 use Rattle.apex_types.specs.declared.event.EventKind.TheVariants as event
 use Rattle.apex_types.specs.declared.event.Subject.{Subject}
-use Rattle.apex_types.specs.declared.limits.TheConstants.{MOST_TICKS}
+use Rattle.apex_types.specs.Limits.{MOST_TICKS}
 use Rattle.engine_meaning.specs.Digits.{same}
+use Rattle.trace_stays.specs.Clearing.{clears}
 use Rattle.trace_windows.specs.declared.owner.Owner.{Owner}
 use Rattle.trace_windows.specs.declared.owner.Stop.{Stop}
 use Rattle.trace_windows.specs.declared.shares.Shares.{Shares}
@@ -107,15 +108,26 @@ entered mode.Idle place s = stopped place (running_at place s.owners) s
 entered mode.ColdStart place s = stopped place (running_at place s.owners) s
 entered mode.WarmStart place s = stopped place (running_at place s.owners) s
 
+-- With an error that is treated before the tick's work they are gone too, and none of them has worked in this tick.
+abbrev pub cleared_if : Bool → ℕ → Standing → Standing
+cleared_if true place s = without_running place s
+cleared_if false place s = s
+
 -- a line of the partition at this place
 abbrev pub with_own : EventKind → ℕ → Standing → Standing
 with_own (event.State who next) place s = turned next place who s
 with_own (event.Mode m) place s = entered m place s
+with_own (event.Error error who answer) place s = cleared_if (clears error answer) place s
 with_own _ place s = s
 
--- the action on a fault of the module; frames begin with the tick of a reset
+-- nobody is RUNNING
+abbrev pub halted : Owner → Owner
+halted o = record o { running = None }
+
+-- The action on a fault of the module. Frames begin with the tick of a reset, before whose work the processes of all
+-- partitions are gone.
 abbrev pub acted : Response → Standing → Standing
-acted (response.Module action.Reset) s = record s { origin = s.now }
+acted (response.Module action.Reset) s = record s { owners = map halted s.owners; origin = s.now }
 acted (response.Module action.Shutdown) s = record s { is_down = true }
 acted _ s = s
 

@@ -3,7 +3,7 @@
 ghost use Rattle.std.specs.Prelude.{◌≡◌, ◌-◌, [], map, OnOk, IfOk};
 ghost use Rattle.trace_windows.specs.Counts.{HasTotal};
 ghost use Rattle.trace_windows.specs.Runs.{HasPassed, first};
-ghost use Rattle.trace_windows.specs.Standings.{at_first, entered, in_run, is_running, left, place_in, running_at, standing_of, stopped, turned, with_line, with_module, with_own, with_running, without_process};
+ghost use Rattle.trace_windows.specs.Standings.{at_first, cleared_if, entered, halted, in_run, is_running, left, place_in, running_at, standing_of, stopped, turned, with_line, with_module, with_own, with_running, without_process};
 ghost use Rattle.window_table.specs.Schedules.{schedule_of};
 
 use crate::counted::Counted;
@@ -14,7 +14,7 @@ use apex_types::{
     Event, EventKind, Mode, ModuleAction, Name, ProcessState, Response, Subject, Ticks,
 };
 use std::alloc::Global;
-use trace_stays::is_same_subject;
+use trace_stays::{clears, is_same_subject};
 use window_table::Schedule;
 
 impl Shares {
@@ -100,7 +100,8 @@ impl Shares {
         None
     }
 
-    /// Reads a line of the module: frames begin with the tick of a reset.
+    /// Reads a line of the module: frames begin with the tick of a reset, before whose work the
+    /// processes of all partitions are gone.
     fn read_module(&mut self, kind: &EventKind)
         ensures kept { self.new.schedule ≡ self.old.schedule }
         ensures from { self.new.from ≡ self.old.from }
@@ -111,7 +112,10 @@ impl Shares {
             match action {
                 ModuleAction::Ignore => {}
                 ModuleAction::Shutdown => self.is_down = true,
-                ModuleAction::Reset => self.origin = self.tick,
+                ModuleAction::Reset => {
+                    halt_all(&mut self.owners);
+                    self.origin = self.tick;
+                }
             }
         }
     }
@@ -127,7 +131,22 @@ impl Shares {
         match kind {
             EventKind::State(who, state) => self.turn(*state, place, who),
             EventKind::Mode(mode) => self.enter(*mode, place),
+            EventKind::Error(error, _, response) => {
+                self.clear_if(clears(*error, *response), place);
+                Ok(())
+            }
             _ => Ok(()),
+        }
+    }
+
+    /// If an error is treated before the tick's work, the processes of the partition at this place are
+    /// gone, and none of them has worked in this tick.
+    fn clear_if(&mut self, clears: bool, place: usize)
+        ensures others { self.new ≡ record self.old { owners = self.new.owners } }
+        ensures standing { standing_of self.new ≡ cleared_if clears place (standing_of self.old) }
+    {
+        if clears {
+            self.set_running(place, None);
         }
     }
 
@@ -221,6 +240,16 @@ fn owners(alloc: Global, names: &[Name]) -> Result<Vec<Owner>, SharesFault>
         })?;
     }
     Ok(owners)
+}
+
+/// Nobody is RUNNING in any partition.
+#[tactic(auto, using(std::proofs::lemmas::List::drop_more))]
+fn halt_all(owners: &mut Vec<Owner>)
+    ensures { owners.new.items ≡ map halted owners.old.items }
+{
+    for owner in owners.iter_mut() {
+        owner.running = None;
+    }
 }
 
 /// Returns true if this is the process that is RUNNING.

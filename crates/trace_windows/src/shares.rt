@@ -1,7 +1,7 @@
 //! The shares of a run: what its module does, and the ticks that are counted.
 
 ghost use Rattle.std.specs.Prelude.{◌≡◌, ◌≤◌};
-ghost use Rattle.apex_types.specs.declared.limits.TheConstants.{MOST_TICKS};
+ghost use Rattle.apex_types.specs.Limits.{MOST_TICKS};
 
 use crate::counted::Counted;
 use crate::owner::{Owner, Stop};

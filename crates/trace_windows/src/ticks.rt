@@ -1,7 +1,7 @@
 //! The ticks of a run are counted while its lines are read.
 
 ghost use Rattle.std.specs.Prelude.{◌≡◌, ◌≤◌, ◌<◌, ◌-◌, ◌*◌, [], None, OnOk, IfOk};
-ghost use Rattle.apex_types.specs.declared.limits.TheConstants.{MOST_TICKS};
+ghost use Rattle.apex_types.specs.Limits.{MOST_TICKS};
 ghost use Rattle.trace_windows.specs.Counts.{HasTotal};
 ghost use Rattle.trace_windows.specs.Runs.{Adds, AddsTimes, HasPassed, first};
 ghost use Rattle.trace_windows.specs.Standings.{in_run, passed, standing_of};

@@ -2,7 +2,7 @@
 
 ghost use Rattle.std.specs.Prelude.{◌≡◌, ◌≤◌, ◌<◌, ◌&&◌, ◌==◌, ◌+◌, ℕ, [], min, IfOk, OnOk};
 ghost use Rattle.std.specs.List.{list_any};
-ghost use Rattle.apex_types.specs.declared.limits.TheConstants.{MOST_TICKS};
+ghost use Rattle.apex_types.specs.Limits.{MOST_TICKS};
 ghost use Rattle.trace_windows.specs.Stretches.{AreStretches, owner_of};
 ghost use Rattle.window_table.specs.Schedules.{schedule_of};
 

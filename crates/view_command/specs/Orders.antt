@@ -4,7 +4,7 @@ use Rattle.std.specs.Str.Parse.{IsNumeral}
 use Rattle.std.specs.declared.alloc.Global.{Global}
 use Rattle.std.specs.declared.string.String.{String}
 use Rattle.apex_types.specs.declared.identity.Ticks.{Ticks}
-use Rattle.apex_types.specs.declared.limits.TheConstants.{MOST_TICKS}
+use Rattle.apex_types.specs.Limits.{MOST_TICKS}
 use Rattle.clap.specs.Walk.{Row, first_of}
 use Rattle.command_words.specs.Found.{Entered, word_at, words_at}
 use Rattle.command_words.specs.Numbers.{number_in}

@@ -2,7 +2,7 @@
 
 ghost use Rattle.std.specs.Prelude.{◌≡◌, ◌≤◌, length, map, false};
 ghost use Rattle.std.specs.List.{list_any};
-ghost use Rattle.apex_types.specs.declared.limits.TheConstants.{MOST_PARTITIONS};
+ghost use Rattle.apex_types.specs.Limits.{MOST_PARTITIONS};
 ghost use Rattle.module_meaning.specs.TableRules.{has_many_ports};
 ghost use Rattle.window_table.specs.Views.{partition_text};
 

@@ -240,10 +240,11 @@ pub fn table_costs(alloc: Global, costs: &Option<Vec<i64>>) -> Result<Costs, Tab
     ensures refused { RefusesLimit result
         (has_costs_outside (option_map (λ v. v.items) costs.now)) }
 {
-    match costs {
-        None => Ok(Costs::written()),
-        Some(numbers) => Ok(Costs::from_order(&cost_rows(alloc, numbers)?)),
-    }
+    let costs = match costs {
+        None => None,
+        Some(numbers) => Costs::from_order(&cost_rows(alloc, numbers)?),
+    };
+    Ok(costs.unwrap_or(Costs::written()))
 }
 
 /// Whether the frame or a count of the whole table is outside its limits.

@@ -2,7 +2,7 @@
 
 ghost use Rattle.std.specs.Prelude.{◌≡◌, ◌≤◌, ◌||◌, ◌++◌, ◌∷◌, map, option_map, length, is_none};
 ghost use Rattle.std.specs.List.{list_any};
-ghost use Rattle.apex_types.specs.declared.limits.TheConstants.{MOST_PORTS};
+ghost use Rattle.apex_types.specs.Limits.{MOST_PORTS};
 ghost use Rattle.module_meaning.specs.TableRules.{same};
 ghost use Rattle.module_meaning.specs.Table.{has_twice};
 ghost use Rattle.module_meaning.specs.TableRules.{has_same_names, has_unknown_name, partition_number, port_number, end_of, number_from, is_unknown_window, has_unknown_end};

@@ -2,7 +2,7 @@
 
 ghost use Rattle.std.specs.Prelude.{◌<◌, ◌≡◌, ◌||◌, ◌==◌, false, IfOk, map, is_none, pos, nat_abs};
 ghost use Rattle.std.specs.List.{list_any};
-ghost use Rattle.apex_types.specs.declared.limits.TheConstants.{MOST_FRAME_TICKS};
+ghost use Rattle.apex_types.specs.Limits.{MOST_FRAME_TICKS};
 ghost use Rattle.module_meaning.specs.TableRules.{is_outside, exceeds_counts, exceeds_rows, exceeds_limits, exceeds_partition, has_same_names, has_unknown_name, overlaps, numbered, costs_or_written, has_costs_outside, partition_row, has_unknown_action, judge_table, judge_text};
 ghost use Rattle.window_table.specs.Answers.{Judges, AnswersText, RefusesLimit, RefusesOverlap};
 ghost use Rattle.window_table.specs.Views.{table_of, table_text, partition_text, partition_view};

@@ -1,7 +1,7 @@
 //! An accepted module table as a record of its rows.
 
 ghost use Rattle.std.specs.Prelude.{◌≤◌, length};
-ghost use Rattle.apex_types.specs.declared.limits.TheConstants.{MOST_PARTITIONS};
+ghost use Rattle.apex_types.specs.Limits.{MOST_PARTITIONS};
 
 use crate::schedule::Schedule;
 use apex_types::{ChannelEnd, Costs, HealthTable, ModuleAction, Name, PortRow};

@@ -15,8 +15,8 @@ tell-requires-clause-out g c =
     let at = state g.F.Files.contents g.F.Files.failed g.F.Files.reads g.O.Sink.taken g.O.Sink.failures g.O.Stream.is_flushed in
     can_take_help (fault_of mb_app words) (order_of (subcommand_of mb_app words)) (at c.args.files.now c.args.out.now) (at c.perform-outcome.new.files c.perform-outcome.new.out) c.perform-outcome.result c.perform-outcome.ensures.ended c.requires.out
 
-pub returns : goal.returns
-returns g c =
+pub returns-clause-answer : goal.returns-clause-answer
+returns-clause-answer g c =
     let words = spelled (map g.S.AsStr.text c.args.words.now) in
     let at = state g.F.Files.contents g.F.Files.failed g.F.Files.reads g.O.Sink.taken g.O.Sink.failures g.O.Stream.is_flushed in
     let err = seen g.E.Sink.taken g.E.Sink.failures g.E.Stream.is_flushed in

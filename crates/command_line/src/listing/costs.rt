@@ -1,7 +1,7 @@
 //! The costs of bodies as text.
 
 ghost use Rattle.std.specs.Prelude.{◌≡◌, ℕ, ◌+◌, ◌-◌, ◌^◌, ◌<◌, ◌≤◌, ◌++◌, flat_map};
-ghost use Rattle.apex_types.specs.declared.limits.TheConstants.{MOST_NAME_BYTES};
+ghost use Rattle.apex_types.specs.Limits.{MOST_NAME_BYTES};
 ghost use Rattle.arrayvec.specs.ArrayVec.{array_vec_len};
 ghost use Rattle.command_line.specs.declared.listing.line.TheConstants.{LONGEST_LINE};
 ghost use Rattle.command_line.specs.Costs.{body_text, cost_line, costs_text};

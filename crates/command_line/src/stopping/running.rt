@@ -1,9 +1,10 @@
 //! A run that waits for a line.
 
 ghost use Rattle.std.specs.Prelude.{◌≡◌, ◌≢◌, ◌≤◌, ◌<◌, ◌+◌, ◌-◌, ◌^◌, map, IfErr, OnOk, IsErrOf};
-ghost use Rattle.apex_types.specs.declared.limits.TheConstants.{MOST_TICKS};
+ghost use Rattle.apex_types.specs.Limits.{MOST_TICKS};
 ghost use Rattle.machine_meaning.specs.ImageReading.{image_at};
 ghost use Rattle.module.specs.Machines.{fresh_machine, machine_of};
+ghost use Rattle.module.specs.Watched.{IsToldMade, IsToldRun};
 ghost use Rattle.module.specs.Written.{AreFrom};
 ghost use Rattle.command_line.specs.Stops.{EndsImage, RunsUntil};
 
@@ -26,12 +27,14 @@ pub struct Wait<'a> {
 
 /// Runs the image with the device text, up to the end of the first tick with a line that it waits
 /// for. Returns whether such a line came. Writes the text of the ticks that are run into the sink,
-/// and reports to a watcher how far the run is.
+/// and reports to a watcher how far the run is, in rising order and once the sink has taken the text
+/// of these ticks.
 ///
 /// # Errors
 ///
 /// Those of [`run`](module::run). After [`RunFault::Write`] the sink has failed once. After it, and
 /// after [`RunFault::Memory`], the sink has taken a beginning of the text.
+#[tactic(auto, using(module::proofs::Watched::not_begun))]
 pub fn run_until<S: Sink, W: Watch>(
     alloc: Global,
     image: &[u8],
@@ -48,6 +51,8 @@ pub fn run_until<S: Sink, W: Watch>(
     ensures write { IsErrOf result RunFault.Write → S.failures sink.new ≡ S.failures sink.old + 1 }
     ensures quiet { IfErr result
         (λ fault. fault ≢ RunFault.Write → S.failures sink.new ≡ S.failures sink.old) }
+    ensures followed { IsToldRun (image_at image.now) devices.now wait.entry.ticks
+        (S.taken sink.old) (S.taken sink.new) (W.told watch.old) (W.told watch.new) }
 {
     if wait.ticks > MOST_TICKS {
         return Err(RunFault::Ticks);
@@ -85,6 +90,8 @@ fn ticks_until<S: Sink, W: Watch>(
     ensures write { IsErrOf result RunFault.Write → S.failures sink.new ≡ S.failures sink.old + 1 }
     ensures quiet { IfErr result
         (λ fault. fault ≢ RunFault.Write → S.failures sink.new ≡ S.failures sink.old) }
+    ensures followed { IsToldMade (machine_of machine.old).image devices.now wait.entry.ticks
+        (S.taken sink.old) (S.taken sink.new) (W.told watch.old) (W.told watch.new) }
 {
     let mut left = wait.ticks;
     let mut lines = devices;

@@ -3,10 +3,10 @@
 ghost use Rattle.std.specs.Prelude.{◌≡◌, ◌≤◌, ◌<◌, ◌+◌, ◌-◌, ◌^◌, [], false, IfErr, IfOk, OnErr, OnOk};
 ghost use Rattle.std.specs.Io.KnownBytes.{Appends, Keeps};
 ghost use Rattle.apex_types.specs.Line.{TakesBeginning};
-ghost use Rattle.apex_types.specs.declared.limits.TheConstants.{MOST_TICKS};
+ghost use Rattle.apex_types.specs.Limits.{MOST_TICKS};
 ghost use Rattle.module.specs.Machines.{machine_of};
 ghost use Rattle.module.specs.Written.{AreFrom};
-ghost use Rattle.command_line.specs.StopSteps.{IsHeld};
+ghost use Rattle.command_line.specs.StopSteps.{IsHeld, IsReported};
 
 use apex_types::{DeviceLine, Sink, WriterSink, put_all};
 use module::{Machine, RunFault, Watch, split_tick};
@@ -94,6 +94,7 @@ pub const MOST_UNTOLD: u64 = 1 << 20;
 /// # Errors
 ///
 /// [`RunFault::Write`] if the sink fails.
+#[tactic(auto, using(crate::proofs::Watched::not_reported))]
 pub fn tell<S: Sink, W: Watch>(
     told: u64,
     made: u64,
@@ -106,6 +107,9 @@ pub fn tell<S: Sink, W: Watch>(
     ensures quiet { OnOk result (S.failures sink.new ≡ S.failures sink.old) }
     ensures failed { OnErr result (S.failures sink.new ≡ S.failures sink.old + 1) }
     ensures write { IfErr result (λ fault. fault ≡ RunFault.Write) }
+    ensures told { IfOk result
+        (λ last. IsReported told made ticks last (W.told watch.old) (W.told watch.new)) }
+    ensures untold { OnErr result (W.told watch.new ≡ W.told watch.old) }
 {
     if made.saturating_sub(told) < MOST_UNTOLD {
         return Ok(told);

@@ -2,7 +2,7 @@
 
 ghost use Rattle.std.specs.Prelude.{◌≡◌, ◌<◌, [], nat_lt};
 ghost use Rattle.std.specs.List.{list_all};
-ghost use Rattle.apex_types.specs.declared.limits.TheConstants.{INSTRUCTION_BYTES, MOST_PROCESSES};
+ghost use Rattle.apex_types.specs.Limits.{INSTRUCTION_BYTES, MOST_PROCESSES};
 ghost use Rattle.machine_meaning.specs.ImageReading.{is_process, fresh_name_at, duration_at, period_at, duration_of, is_infinite_or_multiple, routine_at, body_at, process_at, items_at, list_at, handler_at, bodies_at, enter_within, handler_enters, code_at, bytes_at};
 ghost use Rattle.image.specs.Views.{Gives, bodies_of};
 
@@ -13,10 +13,10 @@ use crate::reading::numbers::{
 };
 use crate::reading::rows::{Row, list_at, rows_at};
 use apex_types::limits::{
-    GREATEST_PRIORITY, INSTRUCTION_BYTES, LEAST_STACK_WORDS, Limits, MOST_INSTRUCTIONS,
-    MOST_PARAMETERS, MOST_PROCEDURES, MOST_SLOTS, MOST_STACK_WORDS, MOST_TICKS,
+    GREATEST_PRIORITY, INSTRUCTION_BYTES, LEAST_STACK_WORDS, MOST_INSTRUCTIONS, MOST_PARAMETERS,
+    MOST_PROCEDURES, MOST_SLOTS, MOST_STACK_WORDS, MOST_TICKS,
 };
-use apex_types::{BodyRow, Name, Priority, ProcessRow, RoutineRow};
+use apex_types::{BodyRow, Limits, Name, Priority, ProcessRow, RoutineRow};
 use std::alloc::Global;
 
 /// The parts of a source that run: its procedures, processes, INIT and handler.

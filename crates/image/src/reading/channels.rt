@@ -3,7 +3,7 @@
 ghost use Rattle.std.specs.Prelude.{◌≡◌, []};
 ghost use Rattle.std.specs.List.{list_any};
 ghost use Rattle.std.specs.Str.{bytes_eq};
-ghost use Rattle.apex_types.specs.declared.limits.TheConstants.{MOST_CHANNELS};
+ghost use Rattle.apex_types.specs.Limits.{MOST_CHANNELS};
 ghost use Rattle.machine_meaning.specs.ImageReading.{is_channel, fresh_name_at, end_between, channel_end_at, channel_at, items_at, list_at};
 ghost use Rattle.image.specs.Items.{channel_of, channels_of};
 ghost use Rattle.image.specs.Views.{Gives};
@@ -12,8 +12,8 @@ use crate::fault::ImageFault;
 use crate::reading::numbers::{byte_at, name_at, same_name, u32_within};
 use crate::reading::rows;
 use crate::reading::rows::Row;
-use apex_types::limits::{Limits, MOST_CHANNELS, MOST_DESTINATIONS};
-use apex_types::{ChannelEnd, Name, PartitionId, PortId};
+use apex_types::limits::{MOST_CHANNELS, MOST_DESTINATIONS};
+use apex_types::{ChannelEnd, Limits, Name, PartitionId, PortId};
 use std::alloc::Global;
 use window_table::ChannelRow;
 

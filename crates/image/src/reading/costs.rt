@@ -7,8 +7,7 @@ ghost use Rattle.image.specs.Views.{Gives};
 use crate::fault::ImageFault;
 use crate::reading::numbers::u16_at;
 use crate::reading::rows::{Row, rows_at};
-use apex_types::limits::Limits;
-use apex_types::{COST_KEYS, Costs, FIRST_VERSION, ImageVersion, SECOND_VERSION, TickCost};
+use apex_types::{COST_KEYS, Costs, FIRST_VERSION, ImageVersion, Limits, SECOND_VERSION, TickCost};
 use std::alloc::Global;
 
 impl Row for TickCost {
@@ -37,7 +36,8 @@ fn costs_at(alloc: Global, bytes: &[u8]) -> Result<(Costs, &[u8]), ImageFault>
         COST_KEYS as u32,
         bytes,
     )?;
-    Ok((Costs::from_order(&costs), rest))
+    let costs = Costs::from_order(&costs).ok_or(ImageFault::Limit)?;
+    Ok((costs, rest))
 }
 
 /// The fields of images of the version with this number: the first has none, the others their costs.

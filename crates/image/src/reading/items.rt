@@ -11,8 +11,7 @@ use crate::reading::bodies::{bodies_at, code_at};
 use crate::reading::numbers::u32_within;
 use crate::reading::objects::objects_at;
 use crate::reading::partitions::partition_at;
-use apex_types::Section;
-use apex_types::limits::Limits;
+use apex_types::{Limits, Section};
 use std::alloc::Global;
 
 /// The section of a partition with a period of `unit` ticks.

@@ -8,8 +8,8 @@ use crate::fault::ImageFault;
 use crate::reading::choices::discipline_at;
 use crate::reading::numbers::{i64_at, u8_within, u32_within};
 use crate::reading::rows::{Row, list_at};
-use apex_types::limits::{Limits, MOST_DATA_WORDS, MOST_DEPTH, MOST_OBJECTS, MOST_SEMAPHORE_VALUE};
-use apex_types::{BlackboardRow, BufferRow, SemaphoreRow};
+use apex_types::limits::{MOST_DATA_WORDS, MOST_DEPTH, MOST_OBJECTS, MOST_SEMAPHORE_VALUE};
+use apex_types::{BlackboardRow, BufferRow, Limits, SemaphoreRow};
 use std::alloc::Global;
 
 /// The declarations of a source: its data, semaphores, events, buffers and blackboards.

@@ -12,8 +12,8 @@ use crate::item::PartitionItem;
 use crate::reading::choices::{direction_at, discipline_at, partition_action_at};
 use crate::reading::numbers::{name_at, same_name, u8_within, u32_within, u64_within};
 use crate::reading::rows::{Row, list_at};
-use apex_types::limits::{Limits, MOST_DEPTH, MOST_PORTS, MOST_TICKS};
-use apex_types::{HealthTable, Name, PortKind, PortRow};
+use apex_types::limits::{MOST_DEPTH, MOST_PORTS, MOST_TICKS};
+use apex_types::{HealthTable, Limits, Name, PortKind, PortRow};
 use std::alloc::Global;
 use window_table::PartitionRow;
 

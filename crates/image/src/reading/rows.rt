@@ -8,12 +8,12 @@ ghost use Rattle.image.specs.Views.{Gives};
 
 use crate::fault::ImageFault;
 use crate::reading::numbers::u32_within;
-use apex_types::limits::Limits;
+use apex_types::Limits;
 use std::alloc::Global;
 
 /// A row of fixed form that is in lists.
 pub trait Row: Copy + Drop {
-    ghost use Rattle.apex_types.specs.declared.limits.Limits.{Limits as Bounds};
+    ghost use Rattle.apex_types.specs.declared.version.Limits.{Limits as Bounds};
 
     /// How a row is read, within these limits, after those before it.
     ghost reads: { Bounds → List Self → List ℕ → Read Self };

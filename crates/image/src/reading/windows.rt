@@ -8,8 +8,7 @@ use crate::fault::ImageFault;
 use crate::reading::choices::truth_at;
 use crate::reading::numbers::{byte_at, u32_at, u32_within};
 use crate::reading::rows::Row;
-use apex_types::limits::Limits;
-use apex_types::{PartitionId, WindowRow};
+use apex_types::{Limits, PartitionId, WindowRow};
 
 /// The tick after the window's last one, counted from the frame's start.
 fn end_of(row: &WindowRow) -> u64

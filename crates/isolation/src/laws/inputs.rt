@@ -1,7 +1,7 @@
 //! The laws on the text of inputs.
 
 ghost use Rattle.std.specs.Prelude.{◌≡◌, ◌≤◌, ◌^◌, ℕ, List, Some, Ok, length};
-ghost use Rattle.apex_types.specs.declared.limits.TheConstants.{MOST_DEVICE_LINES, MOST_TICKS};
+ghost use Rattle.apex_types.specs.Limits.{MOST_DEVICE_LINES, MOST_TICKS};
 ghost use Rattle.apex_types.specs.declared.device.DeviceLine.{DeviceLine};
 ghost use Rattle.machine_meaning.specs.MachineMeaning.{verdict_for};
 ghost use Rattle.machine_meaning.specs.Image.{Image};

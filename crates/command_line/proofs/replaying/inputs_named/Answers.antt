@@ -1,4 +1,4 @@
-use Rattle.std.proofs.Common.{ℕ, ◌+◌, ap, ◌∙◌}
+use Rattle.std.proofs.Common.{◌≤◌, ◌-◌, ℕ, ◌+◌, ap, ◌∙◌, arith}
 use Rattle.machine_meaning.specs.ImageReading.{image_at}
 use Rattle.command_line.specs.declared.refusal.Refusal.TheVariants.{Write}
 use Rattle.command_line.specs.Ends.{EndsInputs}
@@ -9,10 +9,11 @@ use Rattle.command_line.proofs.Begun.{given_from, inputs_of_whole}
 use Rattle.command_line.specs.Done.{is_ok}
 use Rattle.std.specs.Prelude.{Err}
 use Rattle.streams.specs.States.{seen}
+use Rattle.module.proofs.Watched.{followed_within}
 use Rattle.command_line.proofs.replaying.inputs_named.Goals as goal
 
-pub returns-in-Err : goal.returns-in-Err
-returns-in-Err g c =
+pub returns-in-Err-clause-ended : goal.returns-in-Err-clause-ended
+returns-in-Err-clause-ended g c =
     let out = seen g.O.Sink.taken g.O.Sink.failures g.O.Stream.is_flushed in
     let files = g.F.Files.contents c.args.files.now in
     let given = given_from files (g.F.Files.contents c.read_as.new.files) c.args.wanted.words.image.now c.args.wanted.words.devices.now c.in_ok-image.image.items c.in_ok-devices.devices.items c.as_slice.result.now c.as_slice-2.result.now
@@ -27,8 +28,8 @@ returns-in-Err g c =
       c.in_ok-devices.ensures.noted ∙ c.in_ok-image.ensures.noted,
     )
 
-pub returns-in_err-flush : goal.returns-in_err-flush
-returns-in_err-flush g c =
+pub returns-in_err-flush-clause-ended : goal.returns-in_err-flush-clause-ended
+returns-in_err-flush-clause-ended g c =
     let taken = g.O.Sink.taken in
     let at = state g.F.Files.contents g.F.Files.failed g.F.Files.reads g.O.Sink.taken g.O.Sink.failures g.O.Stream.is_flushed in
     let files = g.F.Files.contents c.args.files.now in
@@ -47,8 +48,8 @@ returns-in_err-flush g c =
       c.in_ok-devices.ensures.noted ∙ c.in_ok-image.ensures.noted,
     )
 
-pub returns : goal.returns
-returns g c =
+pub returns-clause-ended : goal.returns-clause-ended
+returns-clause-ended g c =
     let taken = g.O.Sink.taken in
     let files = g.F.Files.contents c.args.files.now in
     let given = given_from files (g.F.Files.contents c.read_as.new.files) c.args.wanted.words.image.now c.args.wanted.words.devices.now c.in_ok-image.image.items c.in_ok-devices.devices.items c.as_slice.result.now c.as_slice-2.result.now
@@ -61,3 +62,21 @@ returns g c =
       ),
       ((c.in_ok-flush.ensures.quiet ∙ c.in_default.ensures.ok, c.in_ok-flush.ensures.flushed), c.in_ok-devices.ensures.noted ∙ c.in_ok-image.ensures.noted),
     )
+
+pub returns-in-Err-clause-followed : goal.returns-in-Err-clause-followed
+returns-in-Err-clause-followed g c =
+    let n = c.args.wanted.ticks in
+    let within : n - 1 ≤ n = omega arith in
+    followed_within n within c.inputs_watched.ensures.followed
+
+pub returns-in_err-flush-clause-followed : goal.returns-in_err-flush-clause-followed
+returns-in_err-flush-clause-followed g c =
+    let n = c.args.wanted.ticks in
+    let within : n - 1 ≤ n = omega arith in
+    followed_within n within c.inputs_watched.ensures.followed
+
+pub returns-clause-followed : goal.returns-clause-followed
+returns-clause-followed g c =
+    let n = c.args.wanted.ticks in
+    let within : n - 1 ≤ n = omega arith in
+    followed_within n within c.inputs_watched.ensures.followed

@@ -9,8 +9,8 @@ use Rattle.command_line.proofs.Begun.{given_from, run_of_whole}
 use Rattle.std.specs.Prelude.{Ok, Err}
 use Rattle.command_line.proofs.running.run_named.Goals as goal
 
-pub returns-in-Err : goal.returns-in-Err
-returns-in-Err g c =
+pub returns-in-Err-clause-ended : goal.returns-in-Err-clause-ended
+returns-in-Err-clause-ended g c =
     let files = g.F.Files.contents c.args.files.now in
     let until = map (λ w. w.now) c.args.wanted.words.until.now in
     let given = given_from files (g.F.Files.contents c.read_as.new.files) c.args.wanted.words.image.now c.args.wanted.words.devices.now c.in_ok-image.image.items c.in_ok-devices.devices.items c.as_slice.result.now c.as_slice-2.result.now
@@ -18,8 +18,8 @@ returns-in-Err g c =
     let same = c.in_ok-devices.ensures.unchanged ∙ c.in_ok-image.ensures.unchanged in
     ((c.in-Err.ensures.failed, same, given.given, run_of_whole given until c.args.wanted.ticks (g.O.Sink.taken c.args.out.now) (g.O.Sink.taken c.trace.new.out) (Err c.in-Err.fault) c.in-Err.ensures.trace), c.in_ok-devices.ensures.noted ∙ c.in_ok-image.ensures.noted)
 
-pub returns-in_err-flush : goal.returns-in_err-flush
-returns-in_err-flush g c =
+pub returns-in_err-flush-clause-ended : goal.returns-in_err-flush-clause-ended
+returns-in_err-flush-clause-ended g c =
     let taken = g.O.Sink.taken in
     let at = state g.F.Files.contents g.F.Files.failed g.F.Files.reads g.O.Sink.taken g.O.Sink.failures g.O.Stream.is_flushed in
     let files = g.F.Files.contents c.args.files.now in
@@ -41,8 +41,8 @@ returns-in_err-flush g c =
       c.in_ok-devices.ensures.noted ∙ c.in_ok-image.ensures.noted,
     )
 
-pub returns : goal.returns
-returns g c =
+pub returns-clause-ended : goal.returns-clause-ended
+returns-clause-ended g c =
     let taken = g.O.Sink.taken in
     let files = g.F.Files.contents c.args.files.now in
     let until = map (λ w. w.now) c.args.wanted.words.until.now in

@@ -5,6 +5,7 @@ use Rattle.streams.specs.States.{seen}
 use Rattle.command_line.specs.declared.outcome.Outcome.TheVariants.{Usual}
 use Rattle.std.specs.Prelude.{Ok}
 use Rattle.command_line.proofs.Ran.{failed_by, traced_whole, waited, waited_in_vain, words_some}
+use Rattle.module.proofs.Watched.{all_followed}
 use Rattle.command_line.proofs.running.trace.Goals as goal
 
 pub returns-in-Ok-clause-trace : goal.returns-in-Ok-clause-trace
@@ -34,3 +35,15 @@ pub returns-in-Err-run_until-clause-failed : goal.returns-in-Err-run_until-claus
 returns-in-Err-run_until-clause-failed g c =
     let out = seen g.O.Sink.taken g.O.Sink.failures g.O.Stream.is_flushed in
     failed_by (out c.args.out.now) (out c.run_until.new.sink) (Err c.in-Err-run_until.fault) c.in-Err-run_until.ensures.write c.in-Err-run_until.ensures.quiet
+
+pub returns-in-Ok-clause-followed : goal.returns-in-Ok-clause-followed
+returns-in-Ok-clause-followed g c = all_followed _ _ _ _ _ _ _ c.run_watched.ensures.followed
+
+pub returns-in-Err-clause-followed : goal.returns-in-Err-clause-followed
+returns-in-Err-clause-followed g c = all_followed _ _ _ _ _ _ _ c.run_watched.ensures.followed
+
+pub returns-in-Ok-run_until-clause-followed : goal.returns-in-Ok-run_until-clause-followed
+returns-in-Ok-run_until-clause-followed g c = all_followed _ _ _ _ _ _ _ c.run_until.ensures.followed
+
+pub returns-in-Err-run_until-clause-followed : goal.returns-in-Err-run_until-clause-followed
+returns-in-Err-run_until-clause-followed g c = all_followed _ _ _ _ _ _ _ c.run_until.ensures.followed

@@ -1,12 +1,12 @@
 use Rattle.lone_partition.proofs.Prelude.{◌≡◌, ◌+◌, ◌∷◌, ◌∙◌, List, Some, drop, sym, ap, rules, drop_more, takes_all, InputLine, member_of, inputs_of, next_at, sent_of}
 use Rattle.lone_partition.proofs.Taken.{inputs_end_down}
-use Rattle.lone_partition.proofs.Written.{path_starts_out, runs_on}
+use Rattle.lone_partition.proofs.Written.{course_starts_out, runs_on}
 use Rattle.lone_partition.proofs.input.take_all.Goals as goal
 
 pub loop-line-init : goal.loop-line-init
 loop-line-init g c = record {
   fits = c.requires;
-  rest = path_starts_out (takes_all c.args.fault c.args.moment.at (inputs_of c.args.lines.now) (member_of g.E.Executor c.args.partition.now c.args.mem.now)) (sent_of g.S.Sink c.args.output.now);
+  rest = course_starts_out (takes_all c.args.fault c.args.moment.at (inputs_of c.args.lines.now) (member_of g.E.Executor c.args.partition.now c.args.mem.now)) (sent_of g.S.Sink c.args.output.now);
 }
 
 pub loop-line-preserved : goal.loop-line-preserved

@@ -1,5 +1,6 @@
-use Rattle.lone_partition.proofs.Prelude.{◌≡◌, ◌≤◌, ◌+◌, Some, None, arith, rules, ended, owner, member_of, around, sent_of}
-use Rattle.lone_partition.proofs.Bursts.{from_lower, is_within, run_empty, run_fewer}
+use Rattle.lone_partition.proofs.Prelude.{◌≡◌, ◌≤◌, ◌+◌, Some, None, arith, rules, ended, owner, member_of, around, sent_of, tick_of_input}
+use Rattle.lone_partition.proofs.Bursts.{is_within, run_empty, run_fewer}
+use Rattle.lone_partition.proofs.LinesOfTicks.{from_lower}
 use Rattle.lone_partition.proofs.pieces.advance_window.Goals as goal
 
 pub returns-in-None-clause-run : goal.returns-in-None-clause-run
@@ -15,7 +16,7 @@ returns-in-None-clause-run g c = λ lines order.
     let sent = sent_of g.S.Sink c.args.output.now in
     run_fewer s lines n c.args.most n at x x sent sent few
     (run_empty s lines n at x sent
-    (is_within s lines n c.until_change.result at None c.at_most-count.ensures.ticks (from_lower (t + n) (t + c.args.most) lines (omega (arith, few)) order) over c.until_change.ensures.ended owns c.until_change.ensures.owner))
+    (is_within s lines n c.until_change.result at None c.at_most-count.ensures.ticks (from_lower tick_of_input (t + n) (t + c.args.most) lines (omega (arith, few)) order) over c.until_change.ensures.ended owns c.until_change.ensures.owner))
 
 pub returns-in-Some-clause-run : goal.returns-in-Some-clause-run
 returns-in-Some-clause-run g c = λ lines order.
@@ -30,4 +31,4 @@ returns-in-Some-clause-run g c = λ lines order.
     let owns : owner s.schedule at ≡ Some c.in-Some.field-0.0 = search rules in
     run_fewer s lines n c.args.most c.write_piece.result at x y _ _ few
     (c.write_piece.ensures.run s lines c.in-Some.field-0.0
-    (is_within s lines n c.until_change.result at (Some c.in-Some.field-0.0) c.at_most-count.ensures.ticks (from_lower (t + n) (t + c.args.most) lines (omega (arith, few)) order) over c.until_change.ensures.ended owns c.until_change.ensures.owner))
+    (is_within s lines n c.until_change.result at (Some c.in-Some.field-0.0) c.at_most-count.ensures.ticks (from_lower tick_of_input (t + n) (t + c.args.most) lines (omega (arith, few)) order) over c.until_change.ensures.ended owns c.until_change.ensures.owner))

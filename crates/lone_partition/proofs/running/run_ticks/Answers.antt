@@ -1,4 +1,4 @@
-use Rattle.lone_partition.proofs.Prelude.{rules, ◌≡◌, ℕ, suc, ◌+◌, ◌-◌, true, Some, None, sym, ap, subst, ◌∙◌, arith, text_of, At, first_tick, next_tick, at_tick, alone_from, IsIn, member_of, around, AreFrom, inputs_of, tick_of_input, next_at, sent_of}
+use Rattle.lone_partition.proofs.Prelude.{rules, ◌≡◌, ℕ, suc, ◌+◌, ◌-◌, true, Some, None, sym, ap, subst, ◌∙◌, arith, text_of, At, first_tick, next_tick, at_tick, alone_from, IsNow, member_of, around, AreFrom, inputs_of, tick_of_input, next_at, sent_of}
 use Rattle.lone_partition.proofs.Bursts.{none_made, runs_on}
 use Rattle.lone_partition.proofs.Outputs.{CompletesLines, all_lines_left, failed_sent}
 use Rattle.lone_partition.proofs.Traces.{goes_on, ends_down, nothing_left, tick_in}
@@ -69,7 +69,7 @@ loop-left-preserved g c =
     let ran = c.tick.ensures.written in
     let some : c.tick.result ≡ Some c.in-Some.last = search rules in
     let its = ap next_at (sym some) ∙ ran.at in
-    let now : last.now.0 ≡ at.now.0 = subst (IsIn at.now.0) (sym its) (tick_in s (inputs_of own) at x) in
+    let now : last.now.0 ≡ at.now.0 = subst (IsNow at.now.0) (sym its) (tick_in s (inputs_of own) at x) in
     let next : c.later-moment-in-loop-left.result.at ≡ next_tick last = c.later-moment-in-loop-left.ensures in
     let later : c.later-moment-in-loop-left.result.at.now.0 ≡ at.now.0 + 1 = ap (λ (a : At). a.now.0) next ∙ ap (λ (n : ℕ). n + 1) now in
     record {
@@ -108,7 +108,7 @@ later-moment-requires-in-loop-left g c =
     let x = member_of g.E.Executor c.advance-count.new.partition c.advance-count.new.mem in
     let some : c.tick.result ≡ Some c.in-Some.last = search rules in
     let its = ap next_at (sym some) ∙ c.tick.ensures.written.at in
-    let now : last.now.0 ≡ at.now.0 = subst (IsIn at.now.0) (sym its) (tick_in s (inputs_of c.split_tick.result.0.now) at x) in
+    let now : last.now.0 ≡ at.now.0 = subst (IsNow at.now.0) (sym its) (tick_in s (inputs_of c.split_tick.result.0.now) at x) in
     omega (arith, now, i.limit, c.requires.ticks, c.loop-left-test.true)
 
 pub returns-else-not-has_failed : goal.returns-else-not-has_failed

@@ -1,5 +1,8 @@
-use Rattle.module.proofs.Prelude.{◌≡◌, ◌≤◌, ◌+◌, ◌-◌, ◌^◌, ℕ, Bool, true, false, is_none, MOST_TICKS, IsUnderWay, text_of, machine_module, machine_trace, machine_of, lines_of, AreFrom}
+use Rattle.module.proofs.Prelude.{◌≡◌, ◌≤◌, ◌<◌, ◌+◌, ◌-◌, true, false, is_none, machine_of, AreFrom}
 use Rattle.std.specs.Prelude.{if◌then◌else◌}
+use Rattle.module.specs.Watched.{TakesAtLeast, text_to}
+use Rattle.module.proofs.Ahead.{IsGoing}
+use Rattle.module.proofs.Watched.{IsHeard}
 use Rattle.module.proofs.running.run_ticks.Given as goal
 
 abbrev pub invariant-loop-left-2 : goal.invariant-loop-left-2
@@ -7,10 +10,13 @@ invariant-loop-left-2 g l = record {
   image : (machine_of l.machine).image ≡ (machine_of l.fn.machine).image;
   failed : (machine_of l.machine).failed ≡ false;
   order : AreFrom (machine_of l.machine).standing.now l.lines;
-  limit : (machine_of l.machine).standing.now + l.left ≤ MOST_TICKS;
-  under_way : IsUnderWay (g.S.Sink.taken l.fn.sink) (g.S.Sink.taken l.sink) (text_of (machine_trace (machine_of l.fn.machine).image l.devices l.ticks)) (text_of (lines_of (machine_module (machine_of l.fn.machine).image).plan l.lines l.left (machine_of l.machine).standing));
+  count : (machine_of l.machine).standing.now + l.left ≡ l.ticks;
+  going : IsGoing (machine_of l.fn.machine).image l.devices l.lines (g.S.Sink.taken l.fn.sink) (g.S.Sink.taken l.sink) (machine_of l.machine).standing;
   quiet : g.S.Sink.failures l.sink ≡ g.S.Sink.failures l.fn.sink;
   fewer : l.left ≤ l.initial.left;
+  above : l.stop ≤ l.left;
+  some : is_none (machine_of l.machine).standing.origin ≡ true → l.left < l.initial.left;
+  kept : TakesAtLeast (g.S.Sink.taken l.fn.sink) (g.S.Sink.taken l.sink) (text_to (machine_of l.fn.machine).image l.devices (machine_of l.initial.machine).standing.now);
 }
 
 abbrev pub decreases-loop-left-2 : goal.decreases-loop-left-2
@@ -21,9 +27,10 @@ invariant-loop-left g l = record {
   image : (machine_of l.machine).image ≡ (machine_of l.fn.machine).image;
   failed : (machine_of l.machine).failed ≡ false;
   order : AreFrom (machine_of l.machine).standing.now l.lines;
-  limit : (machine_of l.machine).standing.now + l.left ≤ MOST_TICKS;
-  under_way : IsUnderWay (g.S.Sink.taken l.fn.sink) (g.S.Sink.taken l.sink) (text_of (machine_trace (machine_of l.fn.machine).image l.devices l.ticks)) (text_of (lines_of (machine_module (machine_of l.fn.machine).image).plan l.lines l.left (machine_of l.machine).standing));
+  count : (machine_of l.machine).standing.now + l.left ≡ l.ticks;
+  going : IsGoing (machine_of l.fn.machine).image l.devices l.lines (g.S.Sink.taken l.fn.sink) (g.S.Sink.taken l.sink) (machine_of l.machine).standing;
   quiet : g.S.Sink.failures l.sink ≡ g.S.Sink.failures l.fn.sink;
+  heard : IsHeard l.ticks (machine_of l.machine).standing.now (g.W.Watch.told l.fn.watch) (g.W.Watch.told l.watch);
 }
 
 -- the last turn may make no tick after which the module is still up

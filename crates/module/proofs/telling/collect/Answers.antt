@@ -1,9 +1,10 @@
-use Rattle.module.proofs.Prelude.{rules, ◌≡◌, ◌≤◌, ◌+◌, ◌-◌, ◌++◌, ℕ, suc, List, length, map, Result, Err, IfErr, refl, sym, ap, ◌∙◌, arith, Plan, machine_module, image_of, line_in, machine_inputs, InputLine, MachineControl, machine, BringsNothing, HasNoRoom, brought_next, brought_of, Standing, after, ticks, members_in, plan_of, standing_of, AreFrom, InputsFault}
+use Rattle.module.proofs.Prelude.{rules, ◌≡◌, ◌≤◌, ◌<◌, ◌+◌, ◌-◌, ◌++◌, ℕ, suc, List, length, map, Result, Err, IfErr, refl, sym, ap, ◌∙◌, arith, Plan, machine_module, image_of, line_in, machine_inputs, InputLine, MachineControl, machine, BringsNothing, HasNoRoom, brought_next, brought_of, Standing, after, ticks, members_in, plan_of, standing_of, AreFrom, InputsFault}
 use Rattle.std.proofs.Common.{[], subst}
 use Rattle.image.specs.declared.value.Image as code
 use Rattle.module.specs.declared.collected.Collected.{Collected}
 use Rattle.module.proofs.Brought.{all_came, comes_further, is_brought, no_room_for_all, none_brought, tick_brings}
 use Rattle.module.proofs.Unbrought.{brought_after, lines_ahead}
+use Rattle.module.proofs.Watched.{counted_all, counted_first, counted_told}
 use Rattle.module.proofs.telling.collect.Goals as goal
 use Rattle.module.proofs.telling.collect.Goals.{then-loop-left-test+else-is_some, else-loop-left-test}
 
@@ -17,7 +18,8 @@ loop-left-init g c =
     record {
       image = refl;
       order = subst (λ t. AreFrom t devices) (sym first) c.requires.order;
-      limit = omega (arith, first, c.requires.ticks);
+      count = omega (arith, first);
+      heard = counted_first c.args.ticks m.now.0 (g.W.Watch.told c.args.watch.now);
       so_far = is_brought meant.plan watched devices c.args.ticks meant.members
           ∙ ap (brought_of meant.plan watched devices c.args.ticks) (sym c.requires.fresh)
           ∙ ap (λ (ls : List InputLine). ls ++ brought_of meant.plan watched devices c.args.ticks (standing_of machine m)) (sym c.new-inputs.ensures);
@@ -58,7 +60,8 @@ loop-left-preserved g c =
     record {
       image = ticked.image ∙ c.skip_still-count.ensures.image ∙ i.image;
       order = subst (λ u. AreFrom u later) (sym after_it) own.later;
-      limit = omega (arith, after_it, here, none, i.limit, c.loop-left-test.true);
+      count = omega (arith, after_it, here, none, i.count, c.loop-left-test.true);
+      heard = counted_told next.now.0 c.one_more-steps.result (g.W.Watch.told c.one_more-steps.new.watch) c.requires.ticks (omega (arith, i.count, c.loop-left-test.true)) (omega (arith, after_it, here)) i.heard c.one_more-steps.ensures.quiet c.one_more-steps.ensures.told;
       so_far = comes_further _ so_far more _ rest way split ∙ ap (λ (ls : List InputLine). ls ++ rest) (sym came);
     }
 
@@ -85,7 +88,8 @@ loop-left-preserved-then-count-gt0 g c =
     record {
       image = c.skip_still-count.ensures.image ∙ i.image;
       order = order;
-      limit = omega (arith, i.limit, here, same);
+      count = omega (arith, i.count, here, same);
+      heard = counted_told m.now.0 c.one_more-steps.result (g.W.Watch.told c.one_more-steps.new.watch) c.requires.ticks (omega (arith, i.count, c.loop-left-test.true)) (omega (arith, here, c.if-count-gt0.true)) i.heard c.one_more-steps.ensures.quiet c.one_more-steps.ensures.told;
       so_far = brought_after plan watched lines _ so_far left n rest (standing_of machine m0) s same i.so_far quiet;
     }
 
@@ -131,6 +135,16 @@ returns-in_err-tick_watched-clause-refused g c =
     let answer : c.from_residual-in_err-tick_watched.result ≡ Err fault = search rules in
     subst (λ (r : Result Collected InputsFault). IfErr r (HasNoRoom (length (machine_inputs (image_of c.args.running.now.image) watched c.args.devices.now c.args.ticks)))) (sym answer) all
 
+pub returns-clause-followed : goal.returns-clause-followed
+returns-clause-followed g c = counted_all c.loop-left.invariant.heard
+
+pub returns-in_err-tick_watched-clause-followed : goal.returns-in_err-tick_watched-clause-followed
+returns-in_err-tick_watched-clause-followed g c =
+    let i = c.loop-left.invariant in
+    let now = c.loop-left.running.now.0 in
+    let next : now < now + 1 = omega arith in
+    counted_all (counted_told (now + 1) c.one_more-steps.result (g.W.Watch.told c.one_more-steps.new.watch) c.requires.ticks (omega (arith, i.count, c.loop-left-test.true)) next i.heard c.one_more-steps.ensures.quiet c.one_more-steps.ensures.told)
+
 pub overflow_sub-left : goal.overflow_sub-left
 overflow_sub-left g c =
     let within : c.skip_still-count.result ≤ c.until_line-quiet.result = c.skip_still-count.ensures.skipped.0 in
@@ -148,4 +162,4 @@ pub tick_watched-requires-clause-now : goal.tick_watched-requires-clause-now
 tick_watched-requires-clause-now g c =
     let none : c.skip_still-count.result ≡ 0 = omega (arith, c.if-count-gt0.false) in
     let here : c.skip_still-count.new.self.now.0 ≡ c.loop-left.running.now.0 + c.skip_still-count.result = c.skip_still-count.ensures.skipped.1 in
-    omega (arith, here, none, c.loop-left.invariant.limit, c.loop-left-test.true)
+    omega (arith, here, none, c.loop-left.invariant.count, c.requires.ticks, c.loop-left-test.true)

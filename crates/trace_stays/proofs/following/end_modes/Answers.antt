@@ -1,4 +1,4 @@
-use Rattle.std.proofs.Common.{List, Option, ◌+◌, ◌++◌, ◌∙◌, ap, refl}
+use Rattle.std.proofs.Common.{Option, ◌+◌, ◌++◌, ◌∙◌, ap, refl}
 use Rattle.trace_stays.specs.Following.{mode_over, modes_left}
 use Rattle.trace_stays.specs.Stays.{mode_ended}
 use Rattle.trace_stays.specs.declared.stay.ModeStay.{ModeStay}

@@ -1,4 +1,4 @@
-use Rattle.std.proofs.Common.{List, Option, ◌+◌, ◌++◌, ◌∙◌, ap, refl}
+use Rattle.std.proofs.Common.{Option, ◌+◌, ◌++◌, ◌∙◌, ap, refl}
 use Rattle.trace_stays.specs.Following.{state_over, states_left}
 use Rattle.trace_stays.specs.Stays.{stay_left}
 use Rattle.trace_stays.specs.declared.stay.Stay.{Stay}

@@ -1,5 +1,5 @@
 use Rattle.module.proofs.Prelude.{◌+◌, ◌≤◌, List, drop, length, ap, rules, drop_all, drop_more, ChannelEnd, Device, delivers_all, channel_of, members_in}
-use Rattle.module.proofs.Written.{goes_on, is_over}
+use Rattle.lone_partition.proofs.Written.{goes_on, is_over}
 use Rattle.module.proofs.member.Members.deliver_all.Goals as goal
 
 pub loop-end-preserved : goal.loop-end-preserved

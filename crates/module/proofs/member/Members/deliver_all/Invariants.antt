@@ -1,5 +1,5 @@
 use Rattle.module.proofs.Prelude.{drop, delivers_all, channel_of, sent_of, members_in}
-use Rattle.module.proofs.Written.{Completes}
+use Rattle.lone_partition.proofs.Written.{Completes}
 use Rattle.module.proofs.member.Members.deliver_all.Given as goal
 
 abbrev pub invariant-loop-end : goal.invariant-loop-end

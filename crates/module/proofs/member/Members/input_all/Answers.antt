@@ -1,6 +1,6 @@
 use Rattle.module.proofs.Prelude.{◌≡◌, ◌+◌, ◌∷◌, ◌∙◌, List, Some, drop, sym, ap, rules, drop_more, DeviceLine, inputs_all, next_at, members_in, plan_of}
 use Rattle.module.proofs.Shutdown.{lines_end_down}
-use Rattle.module.proofs.Written.{runs_on}
+use Rattle.lone_partition.proofs.Written.{runs_on}
 use Rattle.module.proofs.member.Members.input_all.Goals as goal
 
 pub loop-line-preserved : goal.loop-line-preserved

@@ -1,5 +1,5 @@
 use Rattle.module.proofs.Prelude.{drop, inputs_all, sent_of, members_in, plan_of}
-use Rattle.module.proofs.Written.{CompletesCourse}
+use Rattle.lone_partition.proofs.Written.{CompletesCourse}
 use Rattle.module.proofs.member.Members.input_all.Given as goal
 
 abbrev pub invariant-loop-line : goal.invariant-loop-line

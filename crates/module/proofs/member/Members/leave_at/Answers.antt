@@ -1,7 +1,7 @@
 use Rattle.module.proofs.Prelude.{◌≡◌, ◌≤◌, ◌<◌, length, Option, Some, None, ap, sym, ◌∙◌, arith, rules, slice_get-get_or, Member, leaves, leaving, sent_of, of_member, steps_member, member_of, members_of, IsMade}
 use Rattle.std.proofs.Common.{slice_get, slice_set, subst}
 use Rattle.module.proofs.Members.{few_set, fit_at, fit_set, get_member, set_member, no_member, same_length}
-use Rattle.module.proofs.Written.{still_made}
+use Rattle.lone_partition.proofs.Written.{still_made}
 use Rattle.module.proofs.member.Members.leave_at.Goals as goal
 
 pub lend-mem-requires : goal.lend-mem-requires
@@ -39,7 +39,7 @@ returns-clause-written g c =
     let got : slice_get members place ≡ Some (member_of e p s) = get_member e ps memory place p s here (rw c.number_at.ensures.place at c.lend-mem.ensures.lent) in
     let made = c.write_leave.ensures.written in
     rw c.number_at.ensures.place (subst (λ (o : Option (Member e.Control)). IsMade (steps_member (leaves c.args.moment.at c.args.port) members place o) (members_of e (slice_set ps place c.write_leave.new.partition) (slice_set memory place c.write_leave.new.mem)) (sent_of g.S.Sink c.args.output.now) (sent_of g.S.Sink c.write_leave.new.output)) (sym got)
-    (record { members = set_member e ps memory place c.write_leave.new.partition c.write_leave.new.mem ∙ ap (λ m. slice_set members place m) made.state; sent = made.sent }))
+    (record { state = set_member e ps memory place c.write_leave.new.partition c.write_leave.new.mem ∙ ap (λ m. slice_set members place m) made.state; sent = made.sent }))
 
 pub returns-then-place-len-clause-written : goal.returns-then-place-len-clause-written
 returns-then-place-len-clause-written g c =

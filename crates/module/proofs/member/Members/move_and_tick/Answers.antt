@@ -1,5 +1,5 @@
 use Rattle.module.proofs.Prelude.{◌≡◌, ℕ, List, Option, sym, ap, ◌∙◌, Channel, then_goes, moves_ended, ticks_owner, owner, channels_of, option_map, members_in, plan_of}
-use Rattle.module.proofs.Written.{then_made}
+use Rattle.lone_partition.proofs.Written.{then_made}
 use Rattle.module.proofs.member.Members.move_and_tick.Goals as goal
 
 pub returns : goal.returns

@@ -1,6 +1,6 @@
 use Rattle.module.proofs.Prelude.{◌≡◌, ℕ, suc, ◌+◌, ◌-◌, ap, arith, moves_messages, channels_of, sent_of, members_in}
 use Rattle.std.proofs.Common.{subst}
-use Rattle.module.proofs.Written.{Completes, goes_on, is_over, starts_out}
+use Rattle.lone_partition.proofs.Written.{Completes, goes_on, is_over, starts_out}
 use Rattle.module.proofs.member.Members.move_messages.Goals as goal
 
 pub loop-init : goal.loop-init

@@ -1,5 +1,5 @@
 use Rattle.module.proofs.Prelude.{◌-◌, moves_messages, channels_of, sent_of, members_in}
-use Rattle.module.proofs.Written.{Completes}
+use Rattle.lone_partition.proofs.Written.{Completes}
 use Rattle.module.proofs.member.Members.move_messages.Given as goal
 
 abbrev pub invariant-loop : goal.invariant-loop

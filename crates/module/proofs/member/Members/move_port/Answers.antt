@@ -1,6 +1,6 @@
 use Rattle.module.proofs.Prelude.{◌≡◌, ℕ, Option, Some, ap, rules, at_number, steps, moves_so_many, ports_from, messages_to_move, channels_of, members_in}
 use Rattle.kernel_meaning.specs.Partition.{admits}
-use Rattle.module.proofs.Written.{then_made}
+use Rattle.lone_partition.proofs.Written.{then_made}
 use Rattle.module.proofs.member.Members.move_port.Goals as goal
 
 pub returns : goal.returns

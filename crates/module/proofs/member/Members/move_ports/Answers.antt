@@ -1,5 +1,5 @@
 use Rattle.module.proofs.Prelude.{◌≡◌, ℕ, suc, ◌+◌, ◌-◌, ap, arith, moves_ports, channels_of, members_in}
-use Rattle.module.proofs.Written.{goes_on, is_over}
+use Rattle.lone_partition.proofs.Written.{goes_on, is_over}
 use Rattle.module.proofs.member.Members.move_ports.Goals as goal
 
 pub loop-place-preserved : goal.loop-place-preserved

@@ -1,6 +1,6 @@
 use Rattle.module.proofs.Prelude.{refl, as_origin, starts_all, members_in}
 use Rattle.apex_types.specs.declared.codes.StartCondition.TheVariants.{HmModuleRestart}
-use Rattle.module.proofs.Written.{then_made}
+use Rattle.lone_partition.proofs.Written.{then_made}
 use Rattle.module.proofs.member.Members.reset.Goals as goal
 
 pub returns-clause-written : goal.returns-clause-written

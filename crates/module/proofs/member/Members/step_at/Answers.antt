@@ -2,7 +2,7 @@ use Rattle.module.proofs.Prelude.{◌≡◌, ◌≤◌, ◌<◌, length, Option,
 use Rattle.std.proofs.Common.{slice_get, slice_set, subst}
 use Rattle.lone_partition.specs.Steps.{step_of}
 use Rattle.module.proofs.Members.{few_set, fit_at, fit_set, get_member, set_member, no_member, same_length}
-use Rattle.module.proofs.Written.{still_made}
+use Rattle.lone_partition.proofs.Written.{still_made}
 use Rattle.module.proofs.member.Members.step_at.Goals as goal
 
 pub lend-mem-requires : goal.lend-mem-requires
@@ -40,7 +40,7 @@ returns-clause-written g c =
     let got : slice_get members place ≡ Some (member_of e p s) = get_member e ps memory place p s here (rw c.number_at.ensures.place at c.lend-mem.ensures.lent) in
     let made = c.write_step.ensures.written in
     rw c.number_at.ensures.place (subst (λ (o : Option (Member e.Control)). IsMade (steps_member (step_of c.args.moment.at c.args.step.now) members place o) (members_of e (slice_set ps place c.write_step.new.partition) (slice_set memory place c.write_step.new.mem)) (sent_of g.S.Sink c.args.output.now) (sent_of g.S.Sink c.write_step.new.output)) (sym got)
-    (record { members = set_member e ps memory place c.write_step.new.partition c.write_step.new.mem ∙ ap (λ m. slice_set members place m) made.state; sent = made.sent }))
+    (record { state = set_member e ps memory place c.write_step.new.partition c.write_step.new.mem ∙ ap (λ m. slice_set members place m) made.state; sent = made.sent }))
 
 pub returns-then-place-len-clause-written : goal.returns-then-place-len-clause-written
 returns-then-place-len-clause-written g c =

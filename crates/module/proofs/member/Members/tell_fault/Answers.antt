@@ -8,4 +8,4 @@ pub returns : goal.returns
 returns g c =
     let one : c.tell.new.self.text ≡ text_of (fault_line c.args.moment.at c.args.action ∷ []) =
     c.tell.ensures.held ∙ ap (λ before. before ++ text_of (fault_line c.args.moment.at c.args.action ∷ [])) c.clear.ensures in
-    record { members = refl; sent = subst (λ (text : List ℕ). HasSent (sent_of g.S.Sink c.args.output.now) (sent_of g.S.Sink c.write.new.self) text) one c.write.ensures }
+    record { state = refl; sent = subst (λ (text : List ℕ). HasSent (sent_of g.S.Sink c.args.output.now) (sent_of g.S.Sink c.write.new.self) text) one c.write.ensures }

@@ -1,5 +1,5 @@
 use Rattle.module.proofs.Prelude.{List, refl, ap, DeviceLine, then_runs, inputs_all, moves_and_ticks, members_in, plan_of}
-use Rattle.module.proofs.Written.{then_runs_made}
+use Rattle.lone_partition.proofs.Written.{then_runs_made}
 use Rattle.module.proofs.member.Members.tick.Goals as goal
 
 pub returns : goal.returns

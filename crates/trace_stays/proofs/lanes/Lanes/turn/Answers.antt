@@ -1,12 +1,13 @@
-use Rattle.std.proofs.Common.{length, refl, Some}
+use Rattle.std.proofs.Common.{length, refl}
 use Rattle.std.proofs.lemmas.Result.{on_ok_weaker}
+use Rattle.trace_stays.specs.declared.next.Next.TheVariants.{Enters}
 use Rattle.trace_stays.proofs.Followed.{has_turned, within_turned}
 use Rattle.trace_stays.proofs.lanes.Lanes.turn.Goals as goal
 
 pub invariant_of-self : goal.invariant_of-self
 invariant_of-self c =
     let mid = c.process_place.new.self in
-    record { within = rw c.turn_at.ensures.lanes (within_turned (length mid.partitions.items) c.in_ok-place.place (Some c.args.state) c.args.tick.0 mid.processes.items mid.within) }
+    record { within = rw c.turn_at.ensures.lanes (within_turned (length mid.partitions.items) c.in_ok-place.place (Enters c.args.state) c.args.tick.0 mid.processes.items mid.within) }
 
 pub returns : goal.returns
 returns c =

@@ -1,0 +1,7 @@
+use Rattle.std.proofs.Common.{◌<◌, inr, refl, arith}
+use Rattle.command_line.proofs.stopping.stepping.tell.Goals as goal
+
+pub returns-clause-told : goal.returns-clause-told
+returns-clause-told g c =
+    let above : c.args.told < c.args.made = omega (arith, c.saturating_sub.ensures, c.if-saturating_sub-lt-MOST_UNTOLD.false) in
+    inr (refl, above, c.reached.ensures)
