@@ -1,10 +1,10 @@
 -- A timer list stays exact, and its first has the least tick.
-use Rattle.links.proofs.Prelude.{◌≡◌, ℕ, ◌≤◌, nat_eq, nat_lt, cond, Bool, true, false, not, List, [], ◌∷◌, Option, Some, None, slice_get, refl, sym, ap, ◌∙◌, arith, nat_tests, DueEntry, AreFrom, behind_earlier, due_at, IsExact, tick_in}
+use Rattle.links.proofs.Prelude.{◌≡◌, ℕ, ◌+◌, ◌≤◌, nat_eq, nat_lt, cond, Bool, true, false, not, List, [], ◌∷◌, Option, Some, None, slice_get, refl, sym, ap, ◌∙◌, arith, nat_tests, DueEntry, AreFrom, behind_earlier, due_at, IsExact, tick_in}
 use Rattle.std.proofs.lemmas.Bool.{eq-eqb}
 use Rattle.std.proofs.lemmas.Option.{none-some, same_Some}
 use Rattle.apex_types.specs.declared.identity.ProcessIndex.{ProcessIndex}
 use Rattle.apex_types.specs.declared.identity.Ticks.{Ticks}
-use Rattle.links.specs.DueOrder.{without}
+use Rattle.links.specs.DueOrder.{times_due, without}
 use Rattle.links.specs.Timers.{IsLeastTick, number_of, set_timer, ticks_with}
 
 gone : (p : ℕ) (dues : List DueEntry) → tick_in p (without p dues) ≡ None
@@ -40,6 +40,19 @@ exact_set ticks p (Some tick) dues h = λ q. entered (due_at p tick) q (without 
     by_test : (q : ℕ) (b : Bool) → nat_eq q p.0 ≡ b → cond (nat_eq q p.0) (Some tick.0) (tick_in q (without p.0 dues)) ≡ cond (nat_eq q p.0) (Some tick.0) (ticks q)
     by_test q true t = rw t refl
     by_test q false t = rw t (others_stay p.0 q dues t ∙ h q)
+
+-- ---- a tick of a process that has none
+
+pub exact_begun : (ticks : ℕ → Option ℕ) (p : ProcessIndex) (tick : Ticks) (dues : List DueEntry) → tick_in p.0 dues ≡ None → IsExact ticks dues → IsExact (ticks_with p.0 (Some tick.0) ticks) (behind_earlier (due_at p tick) dues)
+exact_begun ticks p tick dues none h = λ q. entered (due_at p tick) q dues none ∙ ap (λ o. cond (nat_eq q p.0) (Some tick.0) o) (h q)
+
+pub no_tick : (p : ℕ) (dues : List DueEntry) → tick_in p dues ≡ None → times_due p dues ≡ 0
+no_tick p [] none = refl
+no_tick p (e ∷ es) none = by_head (nat_eq p e.process.0) none (no_tick p es)
+  where
+    by_head : (b : Bool) → cond b (Some e.tick.0) (tick_in p es) ≡ None → (tick_in p es ≡ None → times_due p es ≡ 0) → cond b 1 0 + times_due p es ≡ 0
+    by_head true h rest = absurd (none-some e.tick.0 (sym h))
+    by_head false h rest = let none_there = rest h in omega (arith, none_there)
 
 -- ---- the least
 from_all : (tick : ℕ) (dues : List DueEntry) (q t : ℕ) → AreFrom tick dues → tick_in q dues ≡ Some t → tick ≤ t

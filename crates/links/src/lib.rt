@@ -19,5 +19,5 @@ pub use entries::Entries;
 pub use links::Links;
 pub use lists::ListId;
 pub use ready::ReadyLists;
-pub use timers::{due_mask, next_due, set_timer};
+pub use timers::{begin_timer, due_mask, next_due, set_timer};
 pub use waiting_lists::WaitingLists;

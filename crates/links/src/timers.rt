@@ -1,8 +1,9 @@
 //! A timer list, kept exact.
 
-ghost use Rattle.std.specs.Prelude.{◌≡◌, ◌<◌, ℕ, Option};
+ghost use Rattle.std.specs.Prelude.{◌≡◌, ◌<◌, ℕ, Option, Some, None};
 ghost use Rattle.apex_types.specs.Limits.{MOST_PROCESSES};
-ghost use Rattle.links.specs.Timers.{IsDueMask, IsExact, IsLeastTick, IsNextDue, number_of, earlier as earlier_of, set_timer as timer_set, ticks_with};
+ghost use Rattle.links.specs.DueOrder.{behind_earlier, due_at};
+ghost use Rattle.links.specs.Timers.{IsDueMask, IsExact, IsLeastTick, IsNextDue, number_of, earlier as earlier_of, set_timer as timer_set, tick_in, ticks_with};
 
 use crate::due_list::DueList;
 use apex_types::{MOST_PROCESSES, ProcessIndex, Ticks};
@@ -18,6 +19,17 @@ pub fn set_timer(dues: &mut DueList, process: ProcessIndex, tick: Option<Ticks>)
     if let Some(tick) = tick {
         dues.insert_by_due(process, tick);
     }
+}
+
+/// Sets the tick of a process that has none yet.
+pub fn begin_timer(dues: &mut DueList, process: ProcessIndex, due: Ticks)
+    requires below { process.0 < MOST_PROCESSES }
+    requires none { tick_in process.0 dues.old ≡ None }
+    ensures list { dues.new ≡ behind_earlier (due_at process due) dues.old }
+    ensures exact { (ticks : ℕ → Option ℕ) → IsExact ticks dues.old
+        → IsExact (ticks_with process.0 (Some due.0) ticks) dues.new }
+{
+    dues.insert_by_due(process, due);
 }
 
 /// The least tick.

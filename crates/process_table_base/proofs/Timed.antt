@@ -15,7 +15,7 @@ use Rattle.machine_meaning.specs.MachineMeaning.{machine_row}
 use Rattle.kernel_meaning.specs.Fresh.{init_row, handler_row}
 use Rattle.links.specs.declared.dues.DueEntry.{DueEntry}
 use Rattle.links.specs.Timers.{IsExact, number_of, tick_in, ticks_with}
-use Rattle.process_table_base.specs.Timed.{AreTimed, deadline_of, due_of, record_of}
+use Rattle.process_table_base.specs.Timed.{AreTimed, HasTicksOf, deadline_of, due_of, record_of}
 use Rattle.process_table_base.specs.declared.timers.Timers.{Timers}
 
 -- ---- a place of a list
@@ -81,6 +81,12 @@ pub timed_same : (rows : List ProcessStatus) (who : Runner) (new : ProcessStatus
 timed_same rows runner.Init new t other h = timed_first rows 0 new t (omega arith) h
 timed_same rows runner.Handler new t other h = timed_first rows 1 new t (omega arith) h
 timed_same rows (runner.Process p) new t other h = absurd (other tt)
+
+-- the ticks of the record that is replaced
+pub has_ticks : (rows : List ProcessStatus) (who : Runner) (old : ProcessStatus) (t : Timers) → slice_get rows (place_of who) ≡ Some old → AreTimed rows t → HasTicksOf who old t
+has_ticks rows runner.Init old t is h = tt
+has_ticks rows runner.Handler old t is h = tt
+has_ticks rows (runner.Process p) old t is h = (h.dues p.0 ∙ ap due_of is, h.missed p.0 ∙ ap deadline_of is)
 
 -- ---- nothing is due
 

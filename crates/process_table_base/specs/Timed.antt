@@ -1,9 +1,11 @@
 -- The timers of the processes: when the due time and the deadline of each come.
 use Rattle.std.specs.Prelude.{◌≡◌, ℕ, suc, false, List, Option, Some, None, slice_get}
+use Rattle.apex_types.specs.declared.identity.Runner.{Runner}
+use Rattle.apex_types.specs.declared.identity.Runner.TheVariants.{Process}
 use Rattle.apex_types.specs.declared.process.Due.{Due}
 use Rattle.apex_types.specs.declared.process.ProcessStatus.{ProcessStatus}
 use Rattle.kernel_meaning.specs.Times.{tick_of}
-use Rattle.links.specs.Timers.{IsExact, has_come, number_of}
+use Rattle.links.specs.Timers.{IsExact, has_come, number_of, tick_in}
 use Rattle.process_table_base.specs.declared.timers.Timers.{Timers}
 
 -- the tick of a due time, if any
@@ -35,6 +37,11 @@ deadlines rows p = deadline_of (record_of rows p)
 pub record AreTimed (rows : List ProcessStatus) (t : Timers) : Type 0 where
   pub dues : IsExact (due_times rows) t.dues
   pub missed : IsExact (deadlines rows) t.deadlines
+
+-- the timers have just the ticks of this record for its process; INIT and the handler have none
+abbrev pub HasTicksOf : Runner → ProcessStatus → Timers → Type 0
+HasTicksOf (Process p) r t = (tick_in p.0 t.dues ≡ due_tick r.due) × (tick_in p.0 t.deadlines ≡ number_of r.deadline)
+HasTicksOf _ r t = Unit {0}
 
 -- neither the due time nor the deadline of the record has come
 pub record IsQuiet (now : ℕ) (row : Option ProcessStatus) : Type 0 where

@@ -4,11 +4,11 @@ ghost use Rattle.std.specs.Prelude.{◌≡◌, ◌<◌, ℕ, List, Option, Some,
 ghost use Rattle.apex_types.specs.Limits.{MOST_PROCESSES};
 ghost use Rattle.apex_types.specs.Runners.{place_of};
 ghost use Rattle.apex_types.specs.declared.process.ProcessStatus.{ProcessStatus as Row};
-ghost use Rattle.links.specs.Timers.{IsDueMask, IsExact, IsNextDue, number_of, ticks_with};
-ghost use Rattle.process_table_base.specs.Timed.{AreTimed, deadlines, due_tick as tick_of_due, due_times};
+ghost use Rattle.links.specs.Timers.{IsDueMask, IsExact, IsNextDue, number_of, tick_in, ticks_with};
+ghost use Rattle.process_table_base.specs.Timed.{AreTimed, HasTicksOf, deadlines, due_tick as tick_of_due, due_times};
 
 use apex_types::{Due, MOST_PROCESSES, MOST_RUNNERS, ProcessIndex, ProcessStatus, Runner, Ticks};
-use links::{DueList, due_mask, next_due, set_timer};
+use links::{DueList, begin_timer, due_mask, next_due, set_timer};
 
 /// The due times of the processes that have one, and their deadlines.
 #[derive(Drop)]
@@ -36,16 +36,22 @@ fn are_same(one: Option<Ticks>, other: Option<Ticks>) -> bool
     }
 }
 
-/// Changes the tick of a process, or removes it.
+/// Changes the tick of a process, or removes it. Without an old one the list is not searched.
 #[tactic(auto, using(crate::proofs::Timed::unchanged))]
 #[inline(always)]
 fn renew(list: &mut DueList, process: ProcessIndex, old: Option<Ticks>, next: Option<Ticks>)
-    requires { process.0 < MOST_PROCESSES }
+    requires below { process.0 < MOST_PROCESSES }
+    requires known { tick_in process.0 list.old ≡ number_of old }
     ensures { (ticks : ℕ → Option ℕ) → ticks process.0 ≡ number_of old → IsExact ticks list.old
         → IsExact (ticks_with process.0 (number_of next) ticks) list.new }
 {
-    if !are_same(old, next) {
-        set_timer(list, process, next);
+    match (old, next) {
+        (None, Some(tick)) => begin_timer(list, process, tick),
+        _ => {
+            if !are_same(old, next) {
+                set_timer(list, process, next);
+            }
+        }
     }
 }
 
@@ -63,7 +69,8 @@ impl Timers {
 
     /// Updates the timers for a record that replaces the old one.
     pub(crate) fn renew(&mut self, runner: Runner, old: &ProcessStatus, row: &ProcessStatus)
-        requires { place_of runner < MOST_RUNNERS }
+        requires runner { place_of runner < MOST_RUNNERS }
+        requires known { HasTicksOf runner old.now self.old }
         ensures { (rows : List Row) → slice_get rows (place_of runner) ≡ Some old.now
             → AreTimed rows self.old
             → AreTimed (slice_set rows (place_of runner) row.now) self.new }
