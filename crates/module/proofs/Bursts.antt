@@ -1,5 +1,5 @@
 -- Many ticks of the module together, between two standings.
-use Rattle.module.proofs.Prelude.{◌≡◌, ◌⊎◌, inl, inr, ℕ, zero, suc, ◌+◌, ◌-◌, ◌<◌, ◌≤◌, Bool, true, false, cond, List, ◌∷◌, ◌++◌, length, Option, Some, None, refl, sym, ap, ◌∙◌, arith, slice_get, slice_set, option_map, none-some, same_Some, text_of, TakesBeginning, IsUnderWay, under_way_fails, DeviceLine, Event, At, Kernel, Plan, Member, Moved, World, tick, with_world, Schedule, tick_from, owner, ended, Engine, IsStill, AreStill, HaveNoLines, nothing_sent, Sent, LeadsTo, HasPassedSome, HasSkippedSome, IsBrokenOff, HasMoved, ticks_by, Standing, lines_of, AreFrom, Elapsed, elapse, preceded_by, Course, Stepped, of_tick, origin_of, then_runs, module_tick}
+use Rattle.module.proofs.Prelude.{still, ◌≡◌, ◌⊎◌, inl, inr, ℕ, zero, suc, ◌+◌, ◌-◌, ◌<◌, ◌≤◌, Bool, true, false, cond, List, ◌∷◌, ◌++◌, length, Option, Some, None, refl, sym, ap, ◌∙◌, arith, slice_get, slice_set, option_map, none-some, same_Some, text_of, TakesBeginning, IsUnderWay, under_way_fails, DeviceLine, Event, At, Kernel, Plan, Member, Moved, World, tick, with_world, Schedule, tick_from, owner, ended, Engine, IsStill, AreStill, HaveNoLines, nothing_sent, Sent, LeadsTo, HasPassedSome, HasSkippedSome, IsBrokenOff, HasMoved, ticks_by, Standing, lines_of, AreFrom, Elapsed, elapse, preceded_by, Course, Stepped, of_tick, origin_of, then_runs, module_tick}
 use Rattle.std.proofs.Common.{[], subst, nat_le}
 use Rattle.apex_types.specs.declared.limits.TheConstants.{MOST_EVENTS}
 use Rattle.kernel_meaning.specs.Windows.{at_tick}

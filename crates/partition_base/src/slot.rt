@@ -200,7 +200,9 @@ pub(crate) fn tick_at(
     }
 }
 
-/// Executes `k` ticks of the runner at `place`, or those up to the first that makes a request.
+/// Executes `k` ticks of the runner at `place`, or those up to the first that makes a request. It
+/// is not inlined, so that the call of a service is written once, to where the caller wants it.
+#[inline(never)]
 #[tactic(auto, using(crate::proofs::Places::views))]
 pub(crate) fn advance_at(
     slots: &mut Vec<Slot>,
