@@ -45,7 +45,7 @@ returns-in-Upgrade-clause-ended g c =
     answer_of (Upgrade a.old.now a.new.now) _ _ _ c.upgrade.result c.ended-in-Upgrade.result c.ended-in-Upgrade.ensures (search rules) c.upgrade.ensures
 
 pub returns-in-Run-clause-watched : goal.returns-in-Run-clause-watched
-returns-in-Run-clause-watched g c = watched_since (run_meant c.in-Run.words) (g.W.Watch.told c.begin_if.new.watch) _ c.begin_if.ensures c.run.ensures.watched
+returns-in-Run-clause-watched g c = rw c.in-Run.is (watched_since (run_meant c.in-Run.words) (g.W.Watch.told c.begin_if.new.watch) _ c.begin_if.ensures c.run.ensures.watched)
 
 pub returns-in-Inputs-clause-watched : goal.returns-in-Inputs-clause-watched
-returns-in-Inputs-clause-watched g c = watched_since (inputs_meant c.in-Inputs.words) (g.W.Watch.told c.begin_if-in-Inputs.new.watch) _ c.begin_if-in-Inputs.ensures c.inputs.ensures.watched
+returns-in-Inputs-clause-watched g c = rw c.in-Inputs.is (watched_since (inputs_meant c.in-Inputs.words) (g.W.Watch.told c.begin_if-in-Inputs.new.watch) _ c.begin_if-in-Inputs.ensures c.inputs.ensures.watched)
