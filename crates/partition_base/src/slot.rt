@@ -75,9 +75,6 @@ impl Slot {
 
     /// If something is left to do, executes `k` ticks on the own stack, or those up to the first
     /// that makes a request.
-    // Neither this nor `advance_at` is inlined: then a burst, with the call of a service in it, is
-    // written once, to where the partition reads it. Inlined, both copy it.
-    #[inline(never)]
     fn advance(&mut self, memory: &mut PartitionMem, code: &Code, k: u32) -> Burst
         ensures burst { (bodies : Runner → BodyRow)
             → record {
@@ -204,7 +201,6 @@ pub(crate) fn tick_at(
 }
 
 /// Executes `k` ticks of the runner at `place`, or those up to the first that makes a request.
-#[inline(never)]
 #[tactic(auto, using(crate::proofs::Places::views))]
 pub(crate) fn advance_at(
     slots: &mut Vec<Slot>,
