@@ -26,6 +26,6 @@ state_has_order {C = C} m devices n p x run e =
 pub listed_are_ready : {C : Type 0} (m : Module C) (p : ℕ) (x : Member C) → HasOrder m p x → HoldsReady x
 listed_are_ready m p x h = let order = h.1 in let agree = order.records in agree.listed
 
-pub head_is_first : (d : ListKey → Discipline) (names : ℕ → List ℕ) (n : Numbers) (k : Kernel) (list : ListKey) (e : Entry) → IsOrdered d names n k
+pub head_is_first : (d : ListKey → Discipline) (names : List (List ℕ)) (n : Numbers) (k : Kernel) (list : ListKey) (e : Entry) → IsOrdered d names n k
     → (slice_get (waiting k.processes list) 0 ≡ Some e ↔ IsReleasedFirst (d list) n.waiting (waiting k.processes list) e)
 head_is_first d names n k list e h = released_first d n.waiting n.next list e k.processes.queues h.order.queues

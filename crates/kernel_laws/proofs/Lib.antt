@@ -1,3 +1,4 @@
+pub mod Going
 pub mod Prelude
 pub mod ReadyLists
 pub mod Numbers
@@ -23,6 +24,7 @@ pub mod WaitObjects
 pub mod WaitKernel
 pub mod WaitBegins
 pub mod Primitives
+pub mod ExactTakings
 pub mod NumberSteps
 pub mod OfProcesses
 pub mod Shares

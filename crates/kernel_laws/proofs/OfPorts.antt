@@ -32,7 +32,7 @@ queuing_of (Some g) f e = by_kind (is_sampling g.1) e
     by_kind true q = absurd (none-some f q)
     by_kind false q = q
 
-module _ (d : ListKey → Discipline) (names : ℕ → List ℕ) where
+module _ (d : ListKey → Discipline) (names : List (List ℕ)) where
   abbrev Set : Sharing Ports → Type 0
   Set b = IsSet d names Ports (PortsHaveDisciplines d) b
 

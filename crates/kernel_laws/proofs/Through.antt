@@ -7,7 +7,7 @@ use Rattle.kernel_laws.proofs.Places.{get_set_same, get_set_other}
 
 -- ---- one partition
 
-module _ {C : Type 0} (d : ListKey → Discipline) (names : ℕ → List ℕ) where
+module _ {C : Type 0} (d : ListKey → Discipline) (names : List (List ℕ)) where
   pub move_goes : (n : Numbers) (move : Move) (x : Member C) → IsOrdered d names n x.world.kernel → MoveGoes d names n move x
   move_goes n (Starts at condition) x h = cold_start_goes d names n at condition x h
   move_goes n (BreaksDown at) x h = breaks_down_goes d names n at x h
@@ -41,7 +41,7 @@ same_numbers numbers p q = by_test (p == q) refl
     by_test true e = ap numbers (eqb-true p q e)
     by_test false e = refl
 
-module _ {C : Type 0} (d : ℕ → ListKey → Discipline) (names : ℕ → ℕ → List ℕ) where
+module _ {C : Type 0} (d : ℕ → ListKey → Discipline) (names : ℕ → List (List ℕ)) where
   -- a partition of other numbers or another place
   abbrev IsSo : ℕ → Numbers → Member C → Type 0
   IsSo p n x = IsOrdered (d p) (names p) n x.world.kernel

@@ -111,7 +111,7 @@ module _ {C few : Type 0} where
 
 -- ---- the moves of a module with a partition
 
-module _ {C few : Type 0} (d : ListKey → Discipline) (names : ℕ → List ℕ) (n : Numbers) where
+module _ {C few : Type 0} (d : ListKey → Discipline) (names : List (List ℕ)) (n : Numbers) where
   tick_holds : (e : Engine C) (at : At) (w : World C) → IsOrdered d names n w.kernel → KernelHolds few w.kernel → KernelHolds few (tick e at w).world.kernel
   tick_holds e at w ordered h =
       let t = tick_goes d names n e at w ordered in

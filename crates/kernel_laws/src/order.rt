@@ -35,10 +35,10 @@ ghost use Rattle.kernel_laws.specs.WhoWaits.{AreListed, HoldsWaiting};
 /// begins to wait: it is the last in the waiting list of the object or the port that its call names.
 /// No other process takes a number.
 pub fn tick_goes_on()
-    ensures machine { (disciplines : ListKey → Discipline) (names : ℕ → List ℕ) (n : Numbers)
+    ensures machine { (disciplines : ListKey → Discipline) (names : List (List ℕ)) (n : Numbers)
         (e : Engine MachineControl) (at : At) (w : World MachineControl)
         → IsOrdered disciplines names n w.kernel → TickGoes disciplines names n e at w }
-    ensures source { (disciplines : ListKey → Discipline) (names : ℕ → List ℕ) (n : Numbers)
+    ensures source { (disciplines : ListKey → Discipline) (names : List (List ℕ)) (n : Numbers)
         (e : Engine SourceControl) (at : At) (w : World SourceControl)
         → IsOrdered disciplines names n w.kernel → TickGoes disciplines names n e at w }
 {}
@@ -46,10 +46,10 @@ pub fn tick_goes_on()
 /// So does each step that a module makes of a partition: its ticks, its starts, a fault of its
 /// hardware, and the messages that arrive at its ports and leave them.
 pub fn steps_go_on()
-    ensures machine { (disciplines : ListKey → Discipline) (names : ℕ → List ℕ) (n : Numbers)
+    ensures machine { (disciplines : ListKey → Discipline) (names : List (List ℕ)) (n : Numbers)
         (step : Move) (x : Member MachineControl) → IsOrdered disciplines names n x.world.kernel
         → MoveGoes disciplines names n step x }
-    ensures source { (disciplines : ListKey → Discipline) (names : ℕ → List ℕ) (n : Numbers)
+    ensures source { (disciplines : ListKey → Discipline) (names : List (List ℕ)) (n : Numbers)
         (step : Move) (x : Member SourceControl) → IsOrdered disciplines names n x.world.kernel
         → MoveGoes disciplines names n step x }
 {}
@@ -112,7 +112,7 @@ pub fn waiting_ones_are_listed()
 /// If the lists are in order, an entry is at the head of a waiting list if and only if it is to be
 /// released first.
 pub fn head_is_released_first()
-    ensures { (disciplines : ListKey → Discipline) (names : ℕ → List ℕ) (n : Numbers) (k : Kernel)
+    ensures { (disciplines : ListKey → Discipline) (names : List (List ℕ)) (n : Numbers) (k : Kernel)
         (list : ListKey) (e : Entry)
         → IsOrdered disciplines names n k
         → (slice_get (waiting k.processes list) 0 ≡ Some e
