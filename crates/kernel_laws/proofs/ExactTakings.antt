@@ -4,7 +4,8 @@ use Rattle.std.proofs.Common.{[], ap, append-nil}
 use Rattle.std.specs.List.{cons_option}
 use Rattle.std.specs.Prelude.{bytes_eq, filter_map}
 use Rattle.std.proofs.lemmas.Slice.Eq.{bytes_eq-Decides}
-use Rattle.kernel_laws.specs.Numbers.{Taking, BecomesReady, GoesLast, BeginsToWait, HaveOwnNames, become_ready, place_of_name}
+use Rattle.kernel_laws.specs.Names.{HaveOwnNames}
+use Rattle.kernel_laws.specs.Numbers.{Taking, BecomesReady, GoesLast, BeginsToWait, become_ready, place_of_name}
 use Rattle.kernel_laws.specs.OrderLaw.{beginning_to_wait, going_last, has_to_go_last}
 use Rattle.kernel_laws.specs.WhoWaits.{WaitsForObject, waits_for_object}
 use Rattle.kernel_laws.proofs.Primitives.{those_after}

@@ -44,6 +44,8 @@ pub mod OfTick
 pub mod Runs
 pub mod Through
 pub mod Fresh
+pub mod OwnNames
+pub mod SourceNames
 pub mod WaitTick
 pub mod WaitRuns
 pub mod Law

@@ -1,7 +1,11 @@
 -- Through every history the lists of each partition keep the order of its numbers.
-use Rattle.kernel_laws.proofs.Prelude.{◌≡◌, ℕ, zero, suc, Bool, true, false, List, ◌∷◌, Option, Some, None, refl, sym, subst, ◌∙◌, eqb-true, eqb-false, none-some, same_Some, ◌==◌, if◌then◌else◌, slice_get, slice_set, Discipline, ListKey, at_number, steps_member, Member, with_world, Move, Starts, BreaksDown, Arrives, Leaves, Admits, GoesOut, Advances, makes, Happening, Moves, Tells, happens, all_happen, Numbers, IsOrdered, AreOrdered}
+use Rattle.kernel_laws.proofs.Prelude.{◌≡◌, ℕ, zero, suc, Bool, true, false, List, ◌∷◌, Option, Some, None, refl, sym, subst, ◌∙◌, eqb-true, eqb-false, none-some, same_Some, ◌==◌, if◌then◌else◌, slice_get, slice_set, Discipline, ListKey, at_number, steps_member, Member, with_world, Move, Starts, BreaksDown, Arrives, Leaves, Admits, GoesOut, Advances, makes, Happening, Moves, Tells, happens, all_happen, map, May, Moved, nobody, ready_lines, Numbers, IsOrdered, AreOrdered}
 use Rattle.std.proofs.Common.{[], ap}
-use Rattle.kernel_laws.specs.RunLaw.{MoveGoes, numbers_by, MoveGoesAt, numbers_at, with_numbers, GoThrough}
+use Rattle.kernel_laws.specs.Names.{HaveOwnNames}
+use Rattle.kernel_laws.specs.OrderLaw.{GoesOn, kind_of, may_spent, numbered_step, renumbered}
+use Rattle.kernel_laws.specs.RunLaw.{MoveGoes, numbers_by, MoveGoesAt, numbers_after, numbers_after_at, numbers_at, numbers_then, numbers_through, with_numbers, GoThrough}
+use Rattle.kernel_meaning.specs.Partition.{due_phase, prepares, spending_phase}
+use Rattle.kernel_laws.proofs.ExactTakings.{places_found}
 use Rattle.kernel_laws.proofs.OfTick.{tick_goes, cold_start_goes, breaks_down_goes, arrives_goes, leaves_goes, admits_goes, goes_out_goes}
 use Rattle.kernel_laws.proofs.Places.{get_set_same, get_set_other}
 
@@ -86,3 +90,45 @@ module _ {C : Type 0} (d : ℕ → ListKey → Discipline) (names : ℕ → List
   ends_ordered [] numbers ms h = (numbers, h)
   ends_ordered (Tells at action ∷ hs) numbers ms h = ends_ordered hs numbers ms h
   ends_ordered (Moves p move ∷ hs) numbers ms h = let rest = h.1 in ends_ordered hs _ _ rest.1
+
+-- ---- by names of their own
+
+module _ {C : Type 0} (d : ListKey → Discipline) (names : List (List ℕ)) (own : HaveOwnNames names) where
+  -- the processes that a step calls ready are those with these names
+  step_is : (may : May) (n : Numbers) (m : Moved C) (g : GoesOn d names may n m) → renumbered may g.ready m n ≡ numbered_step names may m n
+  step_is may n m g = ap (λ (places : List ℕ). renumbered may places m n) (places_found names own g.ready (ready_lines (map kind_of m.lines)) g.called)
+
+  -- so the numbers after a move are those of the definition
+  move_is : (n : Numbers) (move : Move) (x : Member C) (g : MoveGoes d names n move x) → numbers_by d names n move x g ≡ numbers_after names move x n
+  move_is n (Starts at condition) x g = step_is nobody n (makes (Starts at condition) x) g
+  move_is n (BreaksDown at) x g = step_is nobody n (makes (BreaksDown at) x) g
+  move_is n (Arrives at port message) x g = step_is nobody n (makes (Arrives at port message) x) g
+  move_is n (Leaves at port) x g = step_is nobody n (makes (Leaves at port) x) g
+  move_is n (Admits at port) x g = step_is nobody n (makes (Admits at port) x) g
+  move_is n (GoesOut at channel message) x g = step_is nobody n (makes (GoesOut at channel message) x) g
+  move_is n (Advances at) x g =
+      let chosen = (prepares x.engine at x.world).world in
+      step_is (may_spent x.engine chosen) (renumbered nobody g.due.ready (due_phase x.engine at x.world) n) (spending_phase x.engine at chosen) g.spent
+      ∙ ap (numbered_step names (may_spent x.engine chosen) (spending_phase x.engine at chosen)) (step_is nobody n (due_phase x.engine at x.world) g.due)
+
+  at_is : (n : Numbers) (move : Move) (o : Option (Member C)) (g : MoveGoesAt d names n move o) → numbers_at d names n move o g ≡ numbers_after_at names move o n
+  at_is n move None g = refl
+  at_is n move (Some x) g = move_is n move x g
+
+module _ {C : Type 0} (d : ℕ → ListKey → Discipline) (names : ℕ → List (List ℕ)) (own : (p : ℕ) → HaveOwnNames (names p)) where
+  then_ordered : (h : Happening) (numbers : ℕ → Numbers) (ms : List (Member C)) → AreOrdered d names numbers ms → AreOrdered d names (numbers_then names h ms numbers) (happens h ms).state
+  then_ordered (Tells at action) numbers ms h = h
+  then_ordered (Moves p move) numbers ms h =
+      let g = at_goes (d p) (names p) (numbers p) move (at_number ms p) (h p) in
+      subst (λ (n : Numbers). AreOrdered d names (with_numbers p n numbers) (happens (Moves p move) ms).state) (at_is (d p) (names p) (own p) (numbers p) move (at_number ms p) g)
+      (happens_ordered d names numbers move p ms h g)
+
+  -- the lists stay in the order of the numbers of the definition
+  pub ordered_through : (hs : List Happening) (numbers : ℕ → Numbers) (ms : List (Member C)) → AreOrdered d names numbers ms → AreOrdered d names (numbers_through names hs ms numbers) (all_happen hs ms).state
+  ordered_through [] numbers ms h = h
+  ordered_through (a ∷ hs) numbers ms h = ordered_through hs (numbers_then names a ms numbers) (happens a ms).state (then_ordered a numbers ms h)
+
+-- and each move continues them
+pub goes_at : {C : Type 0} (d : ℕ → ListKey → Discipline) (names : ℕ → List (List ℕ)) (numbers : ℕ → Numbers) (ms : List (Member C)) (p : ℕ) (move : Move) → AreOrdered d names numbers ms
+    → MoveGoesAt (d p) (names p) (numbers p) move (at_number ms p)
+goes_at d names numbers ms p move h = at_goes (d p) (names p) (numbers p) move (at_number ms p) (h p)

@@ -76,10 +76,6 @@ subjects names = Init ∷ Handler ∷ map Process names
 abbrev pub AreNamed : List (List ℕ) → List ProcessStatus → Type 0
 AreNamed names rows = map (λ r. r.who) rows ≡ subjects names
 
--- no two processes have the same name
-abbrev pub HaveOwnNames : List (List ℕ) → Type 0
-HaveOwnNames names = (p q : ℕ) (name : List ℕ) → slice_get names p ≡ Some name → slice_get names q ≡ Some name → p ≡ q
-
 -- the place of the first process with a name
 abbrev pub place_of_name : List (List ℕ) → List ℕ → Option ℕ
 place_of_name [] name = None

@@ -67,6 +67,12 @@ pub record GoesOn {C : Type 0} (disciplines : ListKey → Discipline) (names : L
   pub called : map (slice_get names) ready ≡ map Some (ready_lines (map kind_of m.lines))
   pub ordered : IsOrdered disciplines names (renumbered may ready m n) m.world.kernel
 
+-- the same numbers, where each process is known by its name
+abbrev pub numbered_step : {C : Type 0} → List (List ℕ) → May → Moved C → Numbers → Numbers
+numbered_step names may m n = renumbered may (places_called names (map kind_of m.lines)) m n
+
+-- ---- a tick
+
 -- who may take a number in the tick of the chosen runner
 abbrev pub may_of_chosen : {C : Type 0} → Engine C → World C → Option Runner → May
 may_of_chosen e w None = nobody
@@ -74,6 +80,12 @@ may_of_chosen e w (Some p) = let r = ticked e (control_at w.controls (place_of p
 
 abbrev pub may_spent : {C : Type 0} → Engine C → World C → May
 may_spent e w = may_of_chosen e w w.kernel.processes.running
+
+-- the numbers after a tick: by what is due, then by the tick that the chosen runner spends
+abbrev pub numbered_tick : {C : Type 0} → List (List ℕ) → Engine C → At → World C → Numbers → Numbers
+numbered_tick names e at w n =
+    let chosen = (prepares e at w).world in
+    numbered_step names (may_spent e chosen) (spending_phase e at chosen) (numbered_step names nobody (due_phase e at w) n)
 
 -- the processes from which the choice is made: the handler has started, if an error waits for it
 abbrev pub chosen_among : Kernel → Processes
@@ -100,15 +112,6 @@ abbrev pub HasBegunToWait : {C : Type 0} → (ListKey → Discipline) → May �
 HasBegunToWait disciplines may named before m =
     (p : ProcessIndex) (list : ListKey) → may.begin_to_wait ≡ Some p.0 → named ≡ Some list → has_list before list ≡ true → WaitsForObject (record_at m.world.kernel.processes.rows p)
     → IsLastUnder (disciplines list) p (list_at m.world.kernel.processes.queues list)
-
--- the numbers after a tick, if each process has a name of its own: by what is due, then by the tick that the chosen runner spends
-abbrev pub numbered_step : {C : Type 0} → List (List ℕ) → May → Moved C → Numbers → Numbers
-numbered_step names may m n = renumbered may (places_called names (map kind_of m.lines)) m n
-
-abbrev pub numbered_tick : {C : Type 0} → List (List ℕ) → Engine C → At → World C → Numbers → Numbers
-numbered_tick names e at w n =
-    let chosen = (prepares e at w).world in
-    numbered_step names (may_spent e chosen) (spending_phase e at chosen) (numbered_step names nobody (due_phase e at w) n)
 
 -- In a tick of a partition, the processes that become ready by what is due take numbers. The choice
 -- gives no process a number: it picks the only runner that `Picks` allows by these numbers. The picked

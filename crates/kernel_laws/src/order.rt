@@ -12,6 +12,7 @@ ghost use Rattle.apex_types.specs.declared.process.Entry.{Entry};
 ghost use Rattle.engine_meaning.specs.Engine.{Engine};
 ghost use Rattle.machine_meaning.specs.Image.{Image};
 ghost use Rattle.machine_meaning.specs.ImageLimits.{IsWithinLimits};
+ghost use Rattle.module_meaning.specs.Accepted.{IsModule};
 ghost use Rattle.module_meaning.specs.Table.{Table, at_number};
 ghost use Rattle.kernel_meaning.specs.Kernel.{Kernel};
 ghost use Rattle.machine_meaning.specs.MachineControl.{MachineControl};
@@ -23,9 +24,10 @@ ghost use Rattle.module_meaning.specs.SourceMeaning.{source_module};
 ghost use Rattle.kernel_meaning.specs.Sharing.{waiting};
 ghost use Rattle.kernel_laws.specs.WaitingOrder.{IsReleasedFirst};
 ghost use Rattle.kernel_laws.specs.History.{Move, members_after};
+ghost use Rattle.kernel_laws.specs.Names.{HasOwnNames};
 ghost use Rattle.kernel_laws.specs.Numbers.{Numbers};
 ghost use Rattle.kernel_laws.specs.OrderLaw.{IsOrdered, TickGoes};
-ghost use Rattle.kernel_laws.specs.RunLaw.{HasOrder, HoldsReady, MoveGoes, RunGoes};
+ghost use Rattle.kernel_laws.specs.RunLaw.{HasOrder, HoldsReady, MoveGoes, RunGoes, RunIsNumbered};
 ghost use Rattle.kernel_laws.specs.WhoWaits.{AreListed, HoldsWaiting};
 
 /// A tick of a partition whose lists are in order continues its numbers, on any engine: on the
@@ -56,12 +58,23 @@ pub fn steps_go_on()
 
 /// In every state of every run, of every image and of all sources, the ready list and the waiting
 /// lists of each partition have the order of its numbers, and each step continues them. So each
-/// tick chooses the only runner that the numbers allow.
+/// tick chooses the only runner that the numbers allow. If the processes of each partition have names
+/// of their own, as in an image within its limits and in an accepted module, these are the numbers
+/// that the moves of the run give (`numbers_in`): `numbered_tick` in a tick.
 pub fn order_in_every_run()
     ensures machine { (image : Image) (devices : List DeviceLine) (n : ℕ)
         → RunGoes (machine_module image) devices n }
     ensures source { (t : Table) (sources : List Program) (devices : List DeviceLine) (n : ℕ)
         → RunGoes (source_module t sources) devices n }
+    ensures lawful { (image : Image) (devices : List DeviceLine) (n : ℕ) → IsWithinLimits image
+        → RunIsNumbered (machine_module image) devices n }
+    ensures named { (t : Table) (programs : List Program) (devices : List DeviceLine) (n : ℕ)
+        → ((p : ℕ) (program : Program) → at_number programs p ≡ Some program
+        → HasOwnNames program) → RunIsNumbered (source_module t programs) devices n }
+    ensures accepted { (table : List ℕ) (sources : List (List ℕ)) (t : Table)
+        (programs : List Program) (devices : List DeviceLine) (n : ℕ)
+        → IsModule table sources t programs
+        → RunIsNumbered (source_module t programs) devices n }
 {}
 
 /// So in the state after any number of ticks there are numbers by which the lists of each partition
