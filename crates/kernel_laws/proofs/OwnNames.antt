@@ -30,9 +30,7 @@ module _ {A : Type 0} (called : A → List ℕ) (xs : List A) where
   own_of apart i j n e f =
       let a = mapped called xs i n e in
       let b = mapped called xs j n f in
-      let c = a.1 in
-      let d = b.1 in
-      apart i j a.0 b.0 c.0 d.0 (c.1 ∙ sym d.1)
+      apart i j a.0 b.0 a.1 b.1 (a.2 ∙ sym b.2)
 
   pub apart_of : HaveOwnNames (map called xs) → AreApart
   apart_of own i j x y e f same =
@@ -43,13 +41,9 @@ module _ {A : Type 0} (called : A → List ℕ) (xs : List A) where
   records_own row is own i j n e f =
       let a = mapped name (map row xs) i n e in
       let b = mapped name (map row xs) j n f in
-      let c = a.1 in
-      let d = b.1 in
-      let v = mapped row xs i a.0 c.0 in
-      let w = mapped row xs j b.0 d.0 in
-      let s = v.1 in
-      let t = w.1 in
-      apart_of own i j v.0 w.0 s.0 t.0 (sym (is v.0) ∙ (ap name s.1 ∙ (c.1 ∙ (sym d.1 ∙ (sym (ap name t.1) ∙ is w.0)))))
+      let v = mapped row xs i a.0 a.1 in
+      let w = mapped row xs j b.0 b.1 in
+      apart_of own i j v.0 w.0 v.1 w.1 (sym (is v.0) ∙ (ap name v.2 ∙ (a.2 ∙ (sym b.2 ∙ (sym (ap name w.2) ∙ is w.0)))))
 
 -- ---- rows beside those before them
 

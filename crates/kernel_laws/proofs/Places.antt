@@ -28,7 +28,7 @@ some_map f (x ∷ xs) zero h = refl
 some_map f (x ∷ xs) (suc i) h = some_map f xs i h
 
 -- each item of a list to which a function is applied comes from one at its place
-pub mapped : {A B : Type 0} (f : A → B) (xs : List A) (i : ℕ) (y : B) → slice_get (map f xs) i ≡ Some y → (x : A) × ((slice_get xs i ≡ Some x) × (f x ≡ y))
+pub mapped : {A B : Type 0} (f : A → B) (xs : List A) (i : ℕ) (y : B) → slice_get (map f xs) i ≡ Some y → (x : A) × (slice_get xs i ≡ Some x) × (f x ≡ y)
 mapped f [] i y e = absurd (none-some y e)
-mapped f (x ∷ xs) zero y e = (x, (refl, same_Some (f x) y e))
+mapped f (x ∷ xs) zero y e = (x, refl, same_Some (f x) y e)
 mapped f (x ∷ xs) (suc i) y e = mapped f xs i y e

@@ -100,9 +100,7 @@ resolved_names ports tree h = own_of (λ (p : Process). p.name) (map (resolve_pr
         let those = new_behind [] (declaration_entries ports no_counts tree.declarations) (process_entries 0 tree.processes) new in
         let a = mapped (resolve_process declared) tree.processes i p e in
         let b = mapped (resolve_process declared) tree.processes j q f in
-        let c = a.1 in
-        let d = b.1 in
-        own_names those.0 0 tree.processes those.1 i j a.0 b.0 c.0 d.0 (ap (λ (y : Process). y.name) c.1 ∙ same ∙ sym (ap (λ (y : Process). y.name) d.1))
+        own_names those.0 0 tree.processes those.1 i j a.0 b.0 a.1 b.1 (ap (λ (y : Process). y.name) a.2 ∙ same ∙ sym (ap (λ (y : Process). y.name) b.2))
 
 -- ---- accepted sources
 

@@ -22,7 +22,7 @@ module _ {C : Type 0} (d : ListKey → Discipline) (names : List (List ℕ)) whe
   move_goes n (Advances at) x h = tick_goes d names n x.engine at x.world h
 
   -- after it the lists are in order again
-  ordered_by : (n : Numbers) (move : Move) (x : Member C) (g : MoveGoes d names n move x) → IsOrdered d names (numbers_by d names n move x g) (makes move x).world.kernel
+  pub ordered_by : (n : Numbers) (move : Move) (x : Member C) (g : MoveGoes d names n move x) → IsOrdered d names (numbers_by d names n move x g) (makes move x).world.kernel
   ordered_by n (Starts at condition) x g = g.ordered
   ordered_by n (BreaksDown at) x g = g.ordered
   ordered_by n (Arrives at port message) x g = g.ordered
