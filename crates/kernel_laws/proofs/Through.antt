@@ -111,6 +111,11 @@ module _ {C : Type 0} (d : ListKey → Discipline) (names : List (List ℕ)) (ow
       step_is (may_spent x.engine chosen) (renumbered nobody g.due.ready (due_phase x.engine at x.world) n) (spending_phase x.engine at chosen) g.spent
       ∙ ap (numbered_step names (may_spent x.engine chosen) (spending_phase x.engine at chosen)) (step_is nobody n (due_phase x.engine at x.world) g.due)
 
+  pub move_ordered : (n : Numbers) (move : Move) (x : Member C) → IsOrdered d names n x.world.kernel → IsOrdered d names (numbers_after names move x n) (makes move x).world.kernel
+  move_ordered n move x h =
+      let g = move_goes d names n move x h in
+      subst (λ (k : Numbers). IsOrdered d names k (makes move x).world.kernel) (move_is n move x g) (ordered_by d names n move x g)
+
   at_is : (n : Numbers) (move : Move) (o : Option (Member C)) (g : MoveGoesAt d names n move o) → numbers_at d names n move o g ≡ numbers_after_at names move o n
   at_is n move None g = refl
   at_is n move (Some x) g = move_is n move x g
