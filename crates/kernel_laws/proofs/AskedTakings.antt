@@ -1,5 +1,5 @@
 -- In a step of a partition who may take a number by its call does so exactly if it has to.
-use Rattle.kernel_laws.proofs.Prelude.{◌≡◌, ◌↔◌, ◌&&◌, ℕ, zero, suc, ℤ, true, List, Some, None, refl, sym, subst, ◌∙◌, none-some, same_Some, pos, negsuc, Discipline, At, ListKey, ProcessIndex, Runner, Call, Asks, Nothing, Calls, Faults, Ends, Kernel, of_processes, with_objects, with_ports, serves, treats_asked, BeginsToWait, May, itself, may_asked, nobody, only_last, is_ready, priority_of, set_priority, Processes, row_of, index, numbered, timed_wait, Step, record_at}
+use Rattle.kernel_laws.proofs.Prelude.{◌≡◌, ℕ, zero, suc, ℤ, List, Some, None, refl, pos, negsuc, Discipline, At, ListKey, ProcessIndex, Runner, Call, Asks, Nothing, Calls, Faults, Ends, Kernel, of_processes, with_objects, with_ports, serves, treats_asked, May, itself, may_asked, nobody, only_last, priority_of, set_priority, Processes, row_of, index, numbered, timed_wait, Step, record_at}
 use Rattle.std.proofs.Common.{ap}
 use Rattle.apex_types.specs.declared.identity.Runner.TheVariants as runner
 use Rattle.apex_types.specs.declared.service.Call.TheVariants as call
@@ -7,7 +7,7 @@ use Rattle.apex_types.specs.declared.service.ObjectCall.{ObjectCall}
 use Rattle.apex_types.specs.declared.service.ObjectCall.TheVariants as object
 use Rattle.apex_types.specs.declared.service.PortCall.{PortCall}
 use Rattle.apex_types.specs.declared.service.PortCall.TheVariants as port
-use Rattle.kernel_laws.specs.Numbers.{GoesLast, waits_by}
+use Rattle.kernel_laws.specs.Numbers.{waits_by}
 use Rattle.kernel_laws.specs.WhoWaits.{WaitsForObject}
 use Rattle.kernel_laws.proofs.ExactTakings.{IsExact, exact_alone, none_may, none_others}
 use Rattle.kernel_laws.proofs.LastTakings.{Takes, sets, takes, timed_wait_takes}

@@ -1,5 +1,5 @@
 -- Who goes last takes a number for it, and no other does.
-use Rattle.kernel_laws.proofs.Prelude.{◌≡◌, ◌↔◌, ◌&&◌, inl, inr, ℕ, zero, suc, ◌+◌, ℤ, Bool, true, false, List, ◌∷◌, ◌++◌, Option, Some, None, refl, sym, subst, ◌∙◌, none-some, if◌then◌else◌, not, pos, negsuc, place_of, Discipline, At, ListKey, Priority, ProcessIndex, Runner, ProcessStatus, ReturnCode, Service, AreAllowed, BeginsToWait, Goes, May, nobody, only_last, is_delay, is_ready, is_ready_state, is_priority, priority_of, set_priority, takes_priority, Processes, row_of, numbered, process_at, on, is_busy, is_dormant, is_unknown, answers, put_ready, put_row, timed_wait, delays, yields, waits_until, Step, after, nothing, record_at}
+use Rattle.kernel_laws.proofs.Prelude.{◌≡◌, ◌&&◌, ℕ, zero, suc, ◌+◌, ℤ, Bool, true, false, List, ◌∷◌, ◌++◌, Option, Some, None, refl, sym, subst, ◌∙◌, none-some, if◌then◌else◌, not, pos, negsuc, place_of, Discipline, At, ListKey, Priority, ProcessIndex, Runner, ProcessStatus, ReturnCode, Service, AreAllowed, BeginsToWait, Goes, May, nobody, only_last, is_delay, is_ready, is_ready_state, is_priority, priority_of, set_priority, takes_priority, Processes, row_of, numbered, process_at, on, is_busy, is_dormant, is_unknown, answers, put_ready, put_row, timed_wait, delays, yields, waits_until, Step, after, nothing, record_at}
 use Rattle.std.proofs.Common.{[], ap}
 use Rattle.std.proofs.lemmas.Bool.{false≢true}
 use Rattle.apex_types.specs.declared.codes.ReturnCode.TheVariants as code

@@ -1,5 +1,5 @@
 -- Steps of the processes continue the numbers.
-use Rattle.kernel_laws.proofs.Prelude.{Bool, List, None, Option, Some, false, refl, subst, suc, sym, true, zero, ℕ, ℤ, ◌++◌, ◌∙◌, ◌∷◌, ◌≡◌, none-some, same_Some, if◌then◌else◌, negsuc, pos, ArrayVec, place_of, Discipline, ProcessState, Ready, Running, Dormant, Waiting, ReturnCode, EventKind, Subject, At, ListKey, ProcessIndex, Runner, Action, Due, Entry, Lock, ProcessStatus, Wait, Place, Service, entry, is_zero, time_out, with_lock, Processes, index, is_busy, numbered, process_at, put_ready, put_row, put_unready, rests, row_of, wakes, waits, answers, released, zeros_of_wait, no_longer_waits, on, joins, Step, after, nothing, row, fills, first_waiting, waiting, writes, enters, waits_at, blocks, releases_found, releases_all, gives, gives_found, gives_all, found_first, AreAllowed, AreNamed, BeginsToWait, Follows, Goes, IsInOrder, itself, process_of, ready_lines, take_one, those_ready, called, May, only_last}
+use Rattle.kernel_laws.proofs.Prelude.{Bool, List, None, Option, Some, false, refl, subst, suc, sym, true, zero, ℕ, ℤ, ◌++◌, ◌∙◌, ◌∷◌, ◌≡◌, none-some, same_Some, if◌then◌else◌, negsuc, pos, ArrayVec, place_of, Discipline, ProcessState, Ready, Running, Dormant, Waiting, ReturnCode, EventKind, Subject, At, ListKey, ProcessIndex, Runner, Action, Due, Entry, Lock, ProcessStatus, Wait, Place, Service, entry, is_zero, time_out, with_lock, Processes, index, is_busy, numbered, process_at, put_ready, put_row, put_unready, rests, row_of, wakes, waits, answers, released, zeros_of_wait, no_longer_waits, on, joins, Step, after, nothing, row, fills, first_waiting, waiting, writes, enters, waits_at, blocks, releases_found, releases_all, gives, gives_found, gives_all, found_first, AreAllowed, AreNamed, BeginsToWait, Follows, Goes, IsInOrder, itself, process_of, take_one, those_ready, called, May, only_last}
 use Rattle.std.proofs.Common.{[], ap}
 use Rattle.apex_types.specs.declared.event.Subject.TheVariants.{Init, Handler, Process}
 use Rattle.std.proofs.lemmas.Option.{slice_get-map}

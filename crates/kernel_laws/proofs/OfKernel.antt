@@ -1,5 +1,5 @@
 -- Steps of a partition continue the numbers.
-use Rattle.kernel_laws.proofs.Prelude.{Bool, List, None, Option, Some, false, refl, suc, true, zero, ℕ, ℤ, ◌∷◌, ◌≡◌, if◌then◌else◌, is_some, nat_le, not, pos, slice_get, ◌&&◌, Discipline, ErrorKind, Mode, PartitionAction, Ready, ReturnCode, StartCondition, At, ListKey, ProcessIndex, Runner, Due, ProcessStatus, Wait, ArrayPlace, Treated, due_from, ends_wait, is_past, misses, mode_of_action, tick_of, timed_out, treated_after, treats, treats_deadline, breaks, is_message_length, acts_on_error, faults, is_fault, then_clears, raises_application_error, raises, action_of, raise_application_error, Kernel, of_objects, of_ports, with_objects, with_ports, of_processes, with_errors, Objects, treats_due, clears, next_release_of, ends_body, enters_mode, forgotten, is_cold, is_warm, mode_of, ready_init, set_partition_mode, started_rows, starts_normally, wants, Ports, discipline_of, Processes, index, is_normal, rests_found, row_of, Sharing, released_at, start_from, starts_if_waiting, starts_waiting, Step, after, lifted, nothing, row, first_words, AreNamed, Goes, called, HaveDisciplines, PortsHaveDisciplines, ready_lines, May, nobody}
+use Rattle.kernel_laws.proofs.Prelude.{Bool, List, None, Option, Some, false, refl, suc, true, zero, ℕ, ℤ, ◌∷◌, ◌≡◌, if◌then◌else◌, is_some, nat_le, not, pos, slice_get, ◌&&◌, Discipline, ErrorKind, Mode, PartitionAction, Ready, ReturnCode, StartCondition, At, ListKey, ProcessIndex, Runner, Due, ProcessStatus, Wait, ArrayPlace, Treated, due_from, ends_wait, is_past, misses, mode_of_action, tick_of, timed_out, treated_after, treats, treats_deadline, breaks, is_message_length, acts_on_error, faults, is_fault, then_clears, raises_application_error, raises, action_of, raise_application_error, Kernel, of_objects, of_ports, with_objects, with_ports, of_processes, with_errors, Objects, treats_due, clears, next_release_of, ends_body, enters_mode, forgotten, is_cold, is_warm, mode_of, ready_init, set_partition_mode, started_rows, starts_normally, wants, Ports, discipline_of, Processes, index, is_normal, rests_found, row_of, Sharing, released_at, start_from, starts_if_waiting, starts_waiting, Step, after, lifted, nothing, row, first_words, AreNamed, Goes, called, HaveDisciplines, PortsHaveDisciplines, May, nobody}
 use Rattle.std.proofs.Common.{[]}
 use Rattle.std.specs.Ordering.{int_eq}
 use Rattle.std.specs.Prelude.{length, map, ◌+◌}

@@ -1,5 +1,5 @@
 -- The services on objects continue the numbers.
-use Rattle.kernel_laws.proofs.Prelude.{List, ℕ, ℤ, refl, Discipline, Mode, At, ListKey, Runner, Call, serves_objects, Objects, Sharing, HaveDisciplines, may_by}
+use Rattle.kernel_laws.proofs.Prelude.{List, ℕ, ℤ, refl, Discipline, Mode, At, ListKey, Runner, serves_objects, Objects, Sharing, HaveDisciplines, may_by}
 use Rattle.apex_types.specs.declared.service.Call.TheVariants as call
 use Rattle.apex_types.specs.declared.service.ObjectCall.{ObjectCall}
 use Rattle.apex_types.specs.declared.service.ObjectCall.TheVariants as object

@@ -1,5 +1,5 @@
 -- The services and the choice continue the numbers.
-use Rattle.kernel_laws.proofs.Prelude.{Bool, List, None, Option, Some, false, refl, true, ℕ, ℤ, ◌∙◌, ◌∷◌, ◌≡◌, if◌then◌else◌, not, ◌&&◌, place_of, Discipline, Mode, Ready, Running, At, ListKey, Runner, ProcessStatus, WaitingError, ArrayPlace, Call, Asks, Nothing, Calls, Faults, Ends, Errors, begins_if_dormant, create_error_handler, creates_found, get_error_status, is_message_length, is_waiting, starts_handler, takes_error, Kernel, of_objects, of_ports, with_errors, with_objects, with_ports, chooses_with_handler, pick, treats_asked, are_same, chooses, leaves_processor, preempts, runs, serves, takes_processor, next_release_of, number_of, Processes, is_dormant, is_normal, put_ready, put_unready, row_of, is_same, Sharing, is_large_enough, begins, Step, after, lifted, nothing, Goes, May, nobody, may_by, may_asked}
+use Rattle.kernel_laws.proofs.Prelude.{Bool, List, None, Option, Some, false, refl, true, ℕ, ℤ, ◌∙◌, ◌∷◌, ◌≡◌, if◌then◌else◌, not, ◌&&◌, place_of, Discipline, Mode, Ready, Running, At, ListKey, Runner, ProcessStatus, WaitingError, ArrayPlace, Call, Asks, Nothing, Calls, Faults, Ends, Errors, begins_if_dormant, create_error_handler, creates_found, get_error_status, is_message_length, is_waiting, starts_handler, takes_error, Kernel, with_errors, with_objects, with_ports, chooses_with_handler, pick, treats_asked, are_same, chooses, leaves_processor, preempts, runs, serves, takes_processor, next_release_of, number_of, Processes, is_dormant, is_normal, put_ready, put_unready, row_of, is_same, Sharing, is_large_enough, begins, Step, after, lifted, nothing, Goes, May, nobody, may_by, may_asked}
 use Rattle.std.proofs.Common.{[]}
 use Rattle.std.specs.Prelude.{length}
 use Rattle.apex_types.specs.declared.limits.TheConstants.{MOST_REPORT_WORDS}

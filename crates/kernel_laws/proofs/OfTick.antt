@@ -1,5 +1,5 @@
 -- Each step of a partition continues the numbers.
-use Rattle.kernel_laws.proofs.Prelude.{List, None, none-some, true, is_ready, ◌&&◌, ProcessIndex, record_at, Option, Some, refl, subst, sym, ℕ, ℤ, ◌∙◌, ◌∷◌, ◌≡◌, ◌↔◌, ◌++◌, slice_set, ArrayVec, place_of, Discipline, Mode, StartCondition, EventKind, At, ListKey, PortId, Runner, Action, Entry, IsNumbered, Picks, Engine, breaks, then_clears, Kernel, of_ports, with_errors, with_ports, of_processes, chooses_with_handler, pick, treats_asked, treats_due, World, Member, act, act_all, admits, choice_phase, control_at, given, moved, place_of_port, spends_chosen, ticked, Moved, followed_by, clearing_phase, clears, Port, discipline_of, port_at, list_at, Processes, Queues, nothing, Step, RecordsAgree, Goes, IsInOrder, Numbers, called, ready_lines, take_all, May, nobody, may_asked, IsOrdered, chosen_among}
+use Rattle.kernel_laws.proofs.Prelude.{List, None, none-some, ProcessIndex, record_at, Option, Some, refl, subst, sym, ℕ, ℤ, ◌∙◌, ◌∷◌, ◌≡◌, ◌↔◌, ◌++◌, slice_set, ArrayVec, place_of, Discipline, Mode, StartCondition, EventKind, At, ListKey, PortId, Runner, Action, Entry, IsNumbered, Picks, Engine, breaks, then_clears, Kernel, of_ports, with_errors, with_ports, of_processes, chooses_with_handler, pick, treats_asked, treats_due, World, Member, act, act_all, admits, choice_phase, control_at, given, moved, place_of_port, spends_chosen, ticked, Moved, followed_by, clearing_phase, clears, Port, discipline_of, port_at, list_at, Processes, Queues, nothing, Step, RecordsAgree, Goes, IsInOrder, Numbers, called, take_all, May, nobody, may_asked, IsOrdered, chosen_among}
 use Rattle.std.proofs.Common.{[], ap, append-nil}
 use Rattle.std.proofs.lemmas.List.{map-append}
 use Rattle.std.specs.Prelude.{map, slice_get}

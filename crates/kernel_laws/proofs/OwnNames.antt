@@ -1,5 +1,5 @@
 -- The processes of an image within its limits have names of their own.
-use Rattle.kernel_laws.proofs.Prelude.{◌≡◌, ℕ, zero, suc, ◌+◌, Bool, true, false, List, ◌∷◌, ◌++◌, length, map, Option, Some, None, refl, sym, subst, ◌∙◌, none-some, same_Some, option_map, slice_get, ◌||◌, ProcessStatus, Schedule, Member, at_number, names_of, of_member}
+use Rattle.kernel_laws.proofs.Prelude.{◌≡◌, ℕ, zero, suc, ◌+◌, Bool, true, false, List, ◌∷◌, ◌++◌, length, map, Option, Some, None, refl, sym, subst, ◌∙◌, none-some, same_Some, option_map, slice_get, ◌||◌, ProcessStatus, Schedule, Member, names_of, of_member}
 use Rattle.std.proofs.Common.{[], ap}
 use Rattle.std.proofs.lemmas.Bool.{false≢true}
 use Rattle.std.proofs.lemmas.Option.{slice_get-map}

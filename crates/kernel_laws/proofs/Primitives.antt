@@ -1,5 +1,5 @@
 -- The effect of each primitive on the numbers.
-use Rattle.kernel_laws.proofs.Prelude.{List, Option, Some, refl, subst, suc, sym, zero, ℕ, ◌++◌, ◌∙◌, ◌∷◌, ◌≡◌, ◌+◌, arith, append_assoc, same_Some, slice_get, slice_set, Discipline, EventKind, Subject, ListKey, Priority, Runner, Entry, ProcessStatus, IsNumbered, AreNumbersBelow, entry, Processes, goes_last, leaves, joins, list_at, emptied, Queues, AreQueues, AreAllowed, AreNamed, BeginsToWait, Follows, IsInOrder, Numbers, ready_lines, take_all, take_one, those_ready, called, May}
+use Rattle.kernel_laws.proofs.Prelude.{List, Some, refl, subst, suc, sym, zero, ℕ, ◌++◌, ◌∙◌, ◌∷◌, ◌≡◌, ◌+◌, arith, append_assoc, same_Some, slice_get, slice_set, Discipline, EventKind, Subject, ListKey, Priority, Runner, Entry, ProcessStatus, IsNumbered, AreNumbersBelow, entry, Processes, goes_last, leaves, joins, list_at, emptied, Queues, AreQueues, AreAllowed, AreNamed, BeginsToWait, Follows, IsInOrder, Numbers, ready_lines, take_all, take_one, those_ready, called, May}
 use Rattle.std.proofs.Common.{[], ap}
 use Rattle.std.proofs.lemmas.List.{map-append, map-set}
 use Rattle.std.proofs.lemmas.Option.{slice_get-map}

@@ -1,5 +1,5 @@
 -- A caller that begins to wait takes a number for it, and no other does.
-use Rattle.kernel_laws.proofs.Prelude.{◌≡◌, ◌↔◌, inl, inr, ℕ, ◌-◌, ℤ, Bool, true, false, List, ◌∷◌, length, Option, Some, None, refl, sym, subst, none-some, nat_lt, if◌then◌else◌, pos, ArrayVec, place_of, Waiting, Discipline, Mode, ReturnCode, At, ListKey, ProcessIndex, Runner, Due, Place, ProcessStatus, ArrayPlace, Service, serves_objects, Objects, Blackboard, Buffer, Semaphore, ApexEvent, Port, Ports, discipline_of, is_full, AreAllowed, BeginsToWait, Follows, Goes, HaveDisciplines, IsInOrder, May, PortsHaveDisciplines, nobody, take_one, Processes, row_of, entry, is_busy, is_zero, joins, waits, Sharing, Step, message, blocks, enters, first_waiting, time_out, waits_at, zeros_of_wait, record_at}
+use Rattle.kernel_laws.proofs.Prelude.{◌≡◌, ℕ, ◌-◌, ℤ, Bool, true, false, List, ◌∷◌, length, Option, Some, None, refl, sym, subst, none-some, nat_lt, if◌then◌else◌, pos, ArrayVec, place_of, Waiting, Discipline, Mode, ReturnCode, At, ListKey, ProcessIndex, Runner, Due, Place, ProcessStatus, ArrayPlace, Service, serves_objects, Objects, Blackboard, Buffer, Semaphore, ApexEvent, Port, Ports, discipline_of, is_full, BeginsToWait, Follows, Goes, HaveDisciplines, IsInOrder, May, PortsHaveDisciplines, nobody, take_one, Processes, row_of, entry, is_busy, is_zero, joins, waits, Sharing, Step, message, blocks, enters, first_waiting, time_out, waits_at, zeros_of_wait, record_at}
 use Rattle.std.proofs.Common.{[], ap, ◌∙◌}
 use Rattle.std.specs.Prelude.{slice_set}
 use Rattle.apex_types.specs.declared.codes.Discipline.TheVariants as discipline
@@ -21,7 +21,7 @@ use Rattle.kernel_meaning.specs.Processes.{refuses as refuses_alone}
 use Rattle.kernel_meaning.specs.SemaphoreServices as semaphores
 use Rattle.kernel_meaning.specs.Sharing.{answers, of_processes, on, refuses}
 use Rattle.kernel_meaning.specs.Step.{nothing}
-use Rattle.kernel_laws.specs.Numbers.{Taking, BecomesReady, GoesLast, waits_by}
+use Rattle.kernel_laws.specs.Numbers.{Taking, waits_by}
 use Rattle.kernel_laws.specs.WhoWaits.{WaitsForObject}
 use Rattle.kernel_laws.proofs.ExactTakings.{IsExact, exact_alone, none_ready, not_waiting}
 use Rattle.kernel_laws.proofs.LastTakings.{all_may}

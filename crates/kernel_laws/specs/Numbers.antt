@@ -1,6 +1,6 @@
 -- The numbers of a partition, by which its ready list and its waiting lists are in order, and how a
 -- step continues them. The state of a partition stores no number: its lists have their order.
-use Rattle.std.specs.Prelude.{◌≡◌, ℕ, zero, suc, ◌+◌, ℤ, pos, bytes_eq, List, [], ◌∷◌, ◌++◌, filter_map, map, Option, Some, None, option_map, if◌then◌else◌, slice_get}
+use Rattle.std.specs.Prelude.{◌≡◌, ℕ, suc, ◌+◌, ℤ, pos, bytes_eq, List, [], ◌∷◌, ◌++◌, filter_map, map, Option, Some, None, option_map, if◌then◌else◌, slice_get}
 use Rattle.apex_types.specs.declared.codes.Discipline.{Discipline}
 use Rattle.apex_types.specs.declared.codes.Discipline.TheVariants as discipline
 use Rattle.apex_types.specs.declared.codes.ProcessState.{ProcessState}
