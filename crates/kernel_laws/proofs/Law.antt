@@ -30,7 +30,7 @@ run_is_numbered {C = C} m devices n own h =
       members = ap (λ (a : Stepped (List (Member C))). a.state) r.same;
       lines = ap (λ (a : Stepped (List (Member C))). a.lines) r.same;
       order = λ before after e. order before;
-      moves = λ before after p move e. goes_at (disciplines_of m.members) (names_of m.members) (numbers_in m before) (all_happen before m.members).state p move (order before);
+      moves = λ before after p move e. goes_at (disciplines_of m.members) (names_of m.members) own (numbers_in m before) (all_happen before m.members).state p move (order before);
     }
 
 -- the states after n ticks

@@ -13,7 +13,7 @@ use Rattle.kernel_meaning.specs.Partition.{arrives, breaks_down, cold_start, due
 use Rattle.kernel_laws.proofs.Choosing as choosing
 use Rattle.kernel_laws.specs.Numbers.{Taking, BecomesReady, become_ready}
 use Rattle.kernel_laws.specs.GoingLast.{IsLastUnder}
-use Rattle.kernel_laws.specs.OrderLaw.{GoesOn, HasBegunToWait, HasGoneLast, TickGoes, kind_of, list_of_chosen, may_of_chosen, renumbered, takings_by}
+use Rattle.kernel_laws.specs.OrderLaw.{GoesOn, HasBegunToWait, HasGoneLast, ReadyPlaces, TickGoes, kind_of, kinds, list_of_chosen, may_of_chosen, renumbered, takings_by}
 use Rattle.kernel_laws.specs.WhoWaits.{WaitsForObject}
 use Rattle.kernel_laws.proofs.OfKernel.{IsReady, Moves, breaks_moves, clears_moves, due_moves, of_ports_moves, then_clears_moves}
 use Rattle.kernel_laws.proofs.LastOfEquals.{IsPutLast, asked_last}
@@ -88,52 +88,57 @@ module _ {C : Type 0} (d : ListKey → Discipline) (names : List (List ℕ)) whe
   all_keep n e [] w h = h
   all_keep n e (a ∷ rest) w h = all_keep n e rest (act e a w) (act_keeps n e a w h)
 
+  -- a step that continues the numbers, with the places of those that become ready in it
+  abbrev pub Going : May → Numbers → Moved C → Type 0
+  Going may n m = (ready : List ℕ) × GoesOn d names may n ready m
+
   moved_goes : (at : At) (e : Engine C) (may : May) (n : Numbers) (s : Step Kernel) (w : World C) → IsOrdered d names n w.kernel → TakesIn d names may w.kernel s
-      → RecordsAgree s.part.processes → GoesOn d names may n (moved at e s w)
+      → RecordsAgree s.part.processes → Going may n (moved at e s w)
   moved_goes at e may n s w h g agree =
       let m : Moved C = moved at e s w in
       let goes = g.moves.goes in
       let places : List ℕ = g.exact.0 in
-      let told : s.lines ≡ map kind_of m.lines = kinds_told w.kernel.fixed.name at s.lines in
+      let told : s.lines ≡ kinds m = kinds_told w.kernel.fixed.name at s.lines in
       let takings : goes.takings ≡ takings_by may places m =
       g.exact.1 ∙ (ap (λ (ls : List EventKind). become_ready places ++ others_by may ls s.part.processes) told
-      ∙ ap (λ (t : Processes). become_ready places ++ others_by may (map kind_of m.lines) t) (sym (acts_same e s.actions (record w { kernel = s.part })))) in
-      record {
-        ready = places;
-        called = called_by names may s.lines s.part.processes goes.takings g.exact goes.told ∙ ap called told;
-        ordered = subst (λ (ts : List Taking). IsOrdered d names (take_all ts n) m.world.kernel) takings
-            (all_keep (take_all goes.takings n) e s.actions (record w { kernel = s.part })
-            (record { order = goes.follows n h.order; records = agree; named = goes.named; objects = g.moves.objects; ports = g.moves.ports }));
-      }
+      ∙ ap (λ (t : Processes). become_ready places ++ others_by may (kinds m) t) (sym (acts_same e s.actions (record w { kernel = s.part })))) in (
+        places,
+        record {
+          called = called_by names may s.lines s.part.processes goes.takings g.exact goes.told ∙ ap called told;
+          ordered = subst (λ (ts : List Taking). IsOrdered d names (take_all ts n) m.world.kernel) takings
+              (all_keep (take_all goes.takings n) e s.actions (record w { kernel = s.part })
+              (record { order = goes.follows n h.order; records = agree; named = goes.named; objects = g.moves.objects; ports = g.moves.ports }));
+        },
+      )
 
   -- nobody goes last or begins to wait
   quietly_goes : (at : At) (e : Engine C) (n : Numbers) (s : Step Kernel) (w : World C) → IsOrdered d names n w.kernel → Moves d names nobody w.kernel s
-      → RecordsAgree s.part.processes → GoesOn d names nobody n (moved at e s w)
+      → RecordsAgree s.part.processes → Going nobody n (moved at e s w)
   quietly_goes at e n s w h g agree = moved_goes at e nobody n s w h (none_takes d names at w.kernel (ready_of d names n w.kernel h) nobody s refl refl g) agree
 
   -- one step, then another from the world after it
-  followed_goes : (n : Numbers) (m : Moved C) (rest : World C → Moved C) → (g : GoesOn d names nobody n m) → GoesOn d names nobody (renumbered nobody g.ready m n) (rest m.world)
-      → GoesOn d names nobody n (followed_by m rest)
-  followed_goes n m rest g h = record {
-    ready = g.ready ++ h.ready;
-    called = map-append (slice_get names) g.ready h.ready
-        ∙ (ap (λ xs. xs ++ map (slice_get names) h.ready) g.called
-        ∙ (ap (λ xs. called (map kind_of m.lines) ++ xs) h.called
-        ∙ (sym (called_after (map kind_of m.lines) (map kind_of (rest m.world).lines)) ∙ ap called (sym (map-append kind_of m.lines (rest m.world).lines)))));
-    ordered = subst (λ (k : Numbers). IsOrdered d names k (rest m.world).world.kernel) (sym (ready_after g.ready h.ready n)) h.ordered;
+  followed_goes : (n : Numbers) (m : Moved C) (rest : World C → Moved C) (ps qs : List ℕ) → GoesOn d names nobody n ps m → GoesOn d names nobody (renumbered nobody ps m n) qs (rest m.world)
+      → GoesOn d names nobody n (ps ++ qs) (followed_by m rest)
+  followed_goes n m rest ps qs g h = record {
+    called = map-append (slice_get names) ps qs
+        ∙ (ap (λ xs. xs ++ map (slice_get names) qs) g.called
+        ∙ (ap (λ xs. called (kinds m) ++ xs) h.called
+        ∙ (sym (called_after (kinds m) (kinds (rest m.world))) ∙ ap called (sym (map-append kind_of m.lines (rest m.world).lines)))));
+    ordered = subst (λ (k : Numbers). IsOrdered d names k (rest m.world).world.kernel) (sym (ready_after ps qs n)) h.ordered;
   }
 
-  treating_goes : (e : Engine C) (at : At) (n : Numbers) (w : World C) → IsOrdered d names n w.kernel → GoesOn d names nobody n (treating_phase e at w)
+  treating_goes : (e : Engine C) (at : At) (n : Numbers) (w : World C) → IsOrdered d names n w.kernel → Going nobody n (treating_phase e at w)
   treating_goes e at n w h = quietly_goes at e n (of_processes w.kernel (treats_due at w.kernel).step) w h (due_moves d names at w.kernel (ready_of d names n w.kernel h)) (due_agrees at w.kernel h.records)
 
-  clearing_goes : (e : Engine C) (at : At) (clears : Option Mode) (n : Numbers) (w : World C) → IsOrdered d names n w.kernel → GoesOn d names nobody n (clearing_phase e at clears w)
+  clearing_goes : (e : Engine C) (at : At) (clears : Option Mode) (n : Numbers) (w : World C) → IsOrdered d names n w.kernel → Going nobody n (clearing_phase e at clears w)
   clearing_goes e at clears n w h = quietly_goes at e n (then_clears w.kernel clears) w h (then_clears_moves d names nobody w.kernel clears (ready_of d names n w.kernel h)) (then_clears_agrees w.kernel clears h.records)
 
-  due_goes : (e : Engine C) (at : At) (n : Numbers) (w : World C) → IsOrdered d names n w.kernel → GoesOn d names nobody n (due_phase e at w)
+  due_goes : (e : Engine C) (at : At) (n : Numbers) (w : World C) → IsOrdered d names n w.kernel → Going nobody n (due_phase e at w)
   due_goes e at n w h =
-      let g = treating_goes e at n w h in
-      followed_goes n (treating_phase e at w) (clearing_phase e at (treats_due at w.kernel).clears) g
-      (clearing_goes e at (treats_due at w.kernel).clears (renumbered nobody g.ready (treating_phase e at w) n) (treating_phase e at w).world g.ordered)
+      let t = treating_goes e at n w h in
+      let g = t.1 in
+      let c = clearing_goes e at (treats_due at w.kernel).clears (renumbered nobody t.0 (treating_phase e at w) n) (treating_phase e at w).world g.ordered in
+      (t.0 ++ c.0, followed_goes n (treating_phase e at w) (clearing_phase e at (treats_due at w.kernel).clears) t.0 c.0 g c.1)
 
   choice_keeps : (e : Engine C) (at : At) (n : Numbers) (w : World C) → IsOrdered d names n w.kernel → IsOrdered d names n (choice_phase e at w).world.kernel
   choice_keeps e at n w h =
@@ -155,8 +160,8 @@ module _ {C : Type 0} (d : ListKey → Discipline) (names : List (List ℕ)) whe
       ap (λ (t : Processes). t.running) (acts_same e s.actions (record w { kernel = s.part })) ∙ choice_runs w.kernel h
 
   -- the tick of a runner continues the numbers
-  spends_goes : (e : Engine C) (at : At) (n : Numbers) (w : World C) (o : Option Runner) → w.kernel.processes.running ≡ o → IsOrdered d names n w.kernel → GoesOn d names (may_of_chosen e w o) n (spends_chosen e at o w)
-  spends_goes e at n w None is h = record { ready = []; called = refl; ordered = h }
+  spends_goes : (e : Engine C) (at : At) (n : Numbers) (w : World C) (o : Option Runner) → w.kernel.processes.running ≡ o → IsOrdered d names n w.kernel → Going (may_of_chosen e w o) n (spends_chosen e at o w)
+  spends_goes e at n w None is h = ([], record { called = refl; ordered = h })
   spends_goes e at n w (Some p) is h =
       let r : Ticked (Option C) = ticked e (control_at w.controls (place_of p)) w.words in
       let t : Step Kernel = treats_asked at w.kernel p r.asks (given r.asks r.words) in
@@ -199,48 +204,52 @@ module _ {C : Type 0} (d : ListKey → Discipline) (names : List (List ℕ)) whe
       (asked_behind d n.waiting n.next at w.kernel h.objects h.ports h.order.queues q
       (caller_waits_not w.kernel.processes h.records p (runs_ready w.kernel.processes h.records p is) q (asked_caller p r.asks q own)) list there p r.asks (given r.asks r.words) own named)
 
-  pub tick_goes : (n : Numbers) (e : Engine C) (at : At) (w : World C) → IsOrdered d names n w.kernel → TickGoes d names n e at w
+  pub tick_goes : (n : Numbers) (e : Engine C) (at : At) (w : World C) → IsOrdered d names n w.kernel → (places : ReadyPlaces) × TickGoes d names n places e at w
   tick_goes n e at w h =
-      let g = due_goes e at n w h in
-      let then : Numbers = renumbered nobody g.ready (due_phase e at w) n in
+      let due = due_goes e at n w h in
+      let g = due.1 in
+      let then : Numbers = renumbered nobody due.0 (due_phase e at w) n in
       let k = choice_keeps e at then (due_phase e at w).world g.ordered in
-      record {
-        due = g;
-        picks = picks_allowed d names then (due_phase e at w).world.kernel g.ordered;
-        runs = chosen_runs e at (due_phase e at w).world g.ordered.records;
-        prepared = k;
-        spent = spends_goes e at then (prepares e at w).world (prepares e at w).world.kernel.processes.running refl k;
-        last = spends_last e at then (prepares e at w).world (prepares e at w).world.kernel.processes.running refl k;
-        begun = spends_begun e at then (prepares e at w).world (prepares e at w).world.kernel.processes.running refl k;
-      }
+      let rest = spends_goes e at then (prepares e at w).world (prepares e at w).world.kernel.processes.running refl k in (
+        record { due = due.0; rest = rest.0 },
+        record {
+          due = g;
+          picks = picks_allowed d names then (due_phase e at w).world.kernel g.ordered;
+          runs = chosen_runs e at (due_phase e at w).world g.ordered.records;
+          prepared = k;
+          spent = rest.1;
+          last = spends_last e at then (prepares e at w).world (prepares e at w).world.kernel.processes.running refl k;
+          begun = spends_begun e at then (prepares e at w).world (prepares e at w).world.kernel.processes.running refl k;
+        },
+      )
 
-  pub cold_start_goes : (n : Numbers) (at : At) (c : StartCondition) (x : Member C) → IsOrdered d names n x.world.kernel → GoesOn d names nobody n (cold_start at c x)
+  pub cold_start_goes : (n : Numbers) (at : At) (c : StartCondition) (x : Member C) → IsOrdered d names n x.world.kernel → Going nobody n (cold_start at c x)
   cold_start_goes n at c x h =
       quietly_goes at x.engine n (clears x.world.kernel mode.ColdStart c) x.world h (clears_moves d names nobody x.world.kernel mode.ColdStart c (ready_of d names n x.world.kernel h))
       (clears_agrees x.world.kernel mode.ColdStart c h.records)
 
-  pub breaks_down_goes : (n : Numbers) (at : At) (x : Member C) → IsOrdered d names n x.world.kernel → GoesOn d names nobody n (breaks_down at x)
+  pub breaks_down_goes : (n : Numbers) (at : At) (x : Member C) → IsOrdered d names n x.world.kernel → Going nobody n (breaks_down at x)
   breaks_down_goes n at x h = quietly_goes at x.engine n (breaks x.world.kernel) x.world h (breaks_moves d names nobody x.world.kernel (ready_of d names n x.world.kernel h)) (breaks_agrees x.world.kernel h.records)
 
-  pub arrives_goes : (n : Numbers) (at : At) (port : PortId) (m : ArrayVec ℤ) (x : Member C) → IsOrdered d names n x.world.kernel → GoesOn d names nobody n (arrives at port m x)
+  pub arrives_goes : (n : Numbers) (at : At) (port : PortId) (m : ArrayVec ℤ) (x : Member C) → IsOrdered d names n x.world.kernel → Going nobody n (arrives at port m x)
   arrives_goes n at port m x h =
       quietly_goes at x.engine n (of_ports x.world.kernel (arrival.arrives at (with_ports x.world.kernel) (place_of_port port) m)) x.world h
       (of_ports_moves d names nobody x.world.kernel _ (ready_of d names n x.world.kernel h)
       (arrives_shares d names nobody at (with_ports x.world.kernel) (place_of_port port) m (record { named = h.named; fit = h.ports })))
       (arrives_agrees (with_ports x.world.kernel) h.records at (place_of_port port) m)
 
-  pub admits_goes : (n : Numbers) (at : At) (port : PortId) (x : Member C) → IsOrdered d names n x.world.kernel → GoesOn d names nobody n (admits at port x)
+  pub admits_goes : (n : Numbers) (at : At) (port : PortId) (x : Member C) → IsOrdered d names n x.world.kernel → Going nobody n (admits at port x)
   admits_goes n at port x h =
       quietly_goes at x.engine n (of_ports x.world.kernel (arrival.admits (with_ports x.world.kernel) (place_of_port port))) x.world h
       (of_ports_moves d names nobody x.world.kernel _ (ready_of d names n x.world.kernel h)
       (admits_shares d names nobody (with_ports x.world.kernel) (place_of_port port) (record { named = h.named; fit = h.ports })))
       (admits_agree (with_ports x.world.kernel) (place_of_port port) h.records)
 
-  pub leaves_goes : (n : Numbers) (at : At) (port : PortId) (x : Member C) → IsOrdered d names n x.world.kernel → GoesOn d names nobody n (leaves at port x)
+  pub leaves_goes : (n : Numbers) (at : At) (port : PortId) (x : Member C) → IsOrdered d names n x.world.kernel → Going nobody n (leaves at port x)
   leaves_goes n at port x h =
       quietly_goes at x.engine n (of_ports_alone x.world.kernel (arrival.leaves x.world.kernel.ports (place_of_port port))) x.world h
       (leaves_moves d names x.world.kernel (place_of_port port) (ready_of d names n x.world.kernel h)) h.records
 
   -- a message that goes out by a channel changes nothing
-  pub goes_out_goes : (n : Numbers) (at : At) (channel : List ℕ) (m : ArrayVec ℤ) (x : Member C) → IsOrdered d names n x.world.kernel → GoesOn d names nobody n (goes_out at channel m x)
-  goes_out_goes n at channel m x h = record { ready = []; called = refl; ordered = h }
+  pub goes_out_goes : (n : Numbers) (at : At) (channel : List ℕ) (m : ArrayVec ℤ) (x : Member C) → IsOrdered d names n x.world.kernel → Going nobody n (goes_out at channel m x)
+  goes_out_goes n at channel m x h = ([], record { called = refl; ordered = h })

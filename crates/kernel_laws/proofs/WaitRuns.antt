@@ -62,7 +62,7 @@ module _ {C : Type 0} (few : ℕ → Type 0) where
     ends_hold : (hs : List Happening) (numbers : ℕ → Numbers) (ms : List (Member C)) → GoThrough d names hs numbers ms → AllHold ms → AllHold (all_happen hs ms).state
     ends_hold [] numbers ms g h = h
     ends_hold (Tells at action ∷ hs) numbers ms g h = ends_hold hs numbers ms g h
-    ends_hold (Moves p move ∷ hs) numbers ms g h = let rest = g.1 in ends_hold hs _ _ rest.1 (happens_hold numbers move p ms g.0 h)
+    ends_hold (Moves p move ∷ hs) numbers ms g h = let rest = g.1 in let after = rest.1 in ends_hold hs _ _ after.1 (happens_hold numbers move p ms g.0 h)
 
 -- ---- before the first start
 

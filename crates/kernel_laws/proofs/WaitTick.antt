@@ -114,7 +114,8 @@ module _ {C few : Type 0} where
 module _ {C few : Type 0} (d : ListKey → Discipline) (names : List (List ℕ)) (n : Numbers) where
   tick_holds : (e : Engine C) (at : At) (w : World C) → IsOrdered d names n w.kernel → KernelHolds few w.kernel → KernelHolds few (tick e at w).world.kernel
   tick_holds e at w ordered h =
-      let t = tick_goes d names n e at w ordered in
+      let ticked = tick_goes d names n e at w ordered in
+      let t = ticked.1 in
       let g = choice_holds e at (due_phase e at w).world t.due.ordered.records (due_holds e at w h) in
       spends_holds e at (prepares e at w).world (prepares e at w).world.kernel.processes.running refl t.prepared.records g
 

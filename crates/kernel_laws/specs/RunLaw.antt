@@ -16,9 +16,9 @@ use Rattle.kernel_meaning.specs.Objects.{Semaphore, Buffer}
 use Rattle.kernel_meaning.specs.Partition.{Member, due_phase, prepares, spending_phase}
 use Rattle.kernel_meaning.specs.Objects.{Port, discipline_of}
 use Rattle.kernel_laws.specs.Agreement.{IsReadyAt, record_at}
-use Rattle.kernel_laws.specs.History.{Move, Starts, BreaksDown, Arrives, Leaves, Admits, GoesOut, Advances, makes, Happening, Moves, Tells, happens, all_happen, members_after}
-use Rattle.kernel_laws.specs.Numbers.{Numbers, first_numbers, nobody}
-use Rattle.kernel_laws.specs.OrderLaw.{IsOrdered, GoesOn, TickGoes, may_spent, numbered_step, numbered_tick, renumbered}
+use Rattle.kernel_laws.specs.History.{Move, Advances, makes, Happening, Moves, Tells, happens, all_happen, members_after}
+use Rattle.kernel_laws.specs.Numbers.{Numbers, first_numbers, nobody, places_called}
+use Rattle.kernel_laws.specs.OrderLaw.{IsOrdered, GoesOn, ReadyPlaces, TickGoes, kinds, numbered_tick, renumbered}
 
 -- ---- the names and the disciplines of a partition
 
@@ -64,35 +64,32 @@ disciplines_of members p = of_member no_disciplines (λ x. disciplines_in x.worl
 
 -- A move continues the numbers of its partition; only in a tick may anybody go last or begin to
 -- wait.
-abbrev pub MoveGoes : {C : Type 0} → (ListKey → Discipline) → List (List ℕ) → Numbers → Move → Member C → Type 0
-MoveGoes d names n (Starts at condition) x = GoesOn d names nobody n (makes (Starts at condition) x)
-MoveGoes d names n (BreaksDown at) x = GoesOn d names nobody n (makes (BreaksDown at) x)
-MoveGoes d names n (Arrives at port message) x = GoesOn d names nobody n (makes (Arrives at port message) x)
-MoveGoes d names n (Leaves at port) x = GoesOn d names nobody n (makes (Leaves at port) x)
-MoveGoes d names n (Admits at port) x = GoesOn d names nobody n (makes (Admits at port) x)
-MoveGoes d names n (GoesOut at channel message) x = GoesOn d names nobody n (makes (GoesOut at channel message) x)
-MoveGoes d names n (Advances at) x = TickGoes d names n x.engine at x.world
+abbrev pub MoveGoes : {C : Type 0} → (ListKey → Discipline) → List (List ℕ) → Numbers → ReadyPlaces → Move → Member C → Type 0
+MoveGoes d names n places (Advances at) x = TickGoes d names n places x.engine at x.world
+MoveGoes d names n places move x = GoesOn d names nobody n places.rest (makes move x)
 
 -- the numbers after it
-abbrev pub numbers_by : {C : Type 0} (d : ListKey → Discipline) (names : List (List ℕ)) (n : Numbers) (move : Move) (x : Member C) → MoveGoes d names n move x → Numbers
-numbers_by d names n (Starts at condition) x g = renumbered nobody g.ready (makes (Starts at condition) x) n
-numbers_by d names n (BreaksDown at) x g = renumbered nobody g.ready (makes (BreaksDown at) x) n
-numbers_by d names n (Arrives at port message) x g = renumbered nobody g.ready (makes (Arrives at port message) x) n
-numbers_by d names n (Leaves at port) x g = renumbered nobody g.ready (makes (Leaves at port) x) n
-numbers_by d names n (Admits at port) x g = renumbered nobody g.ready (makes (Admits at port) x) n
-numbers_by d names n (GoesOut at channel message) x g = renumbered nobody g.ready (makes (GoesOut at channel message) x) n
-numbers_by d names n (Advances at) x g =
-    let chosen = (prepares x.engine at x.world).world in
-    renumbered (may_spent x.engine chosen) g.spent.ready (spending_phase x.engine at chosen) (renumbered nobody g.due.ready (due_phase x.engine at x.world) n)
+abbrev pub numbers_by : {C : Type 0} → ReadyPlaces → Move → Member C → Numbers → Numbers
+numbers_by places (Advances at) x n = numbered_tick places x.engine at x.world n
+numbers_by places move x n = renumbered nobody places.rest (makes move x) n
+
+-- the places of the processes that its lines call ready, if each has a name of its own
+abbrev pub places_by : {C : Type 0} → List (List ℕ) → Move → Member C → ReadyPlaces
+places_by names (Advances at) x = record { due = places_called names (kinds (due_phase x.engine at x.world)); rest = places_called names (kinds (spending_phase x.engine at (prepares x.engine at x.world).world)) }
+places_by names move x = record { due = []; rest = places_called names (kinds (makes move x)) }
 
 -- the same for the member with a number, if there is such a member
-abbrev pub MoveGoesAt : {C : Type 0} → (ListKey → Discipline) → List (List ℕ) → Numbers → Move → Option (Member C) → Type 0
-MoveGoesAt d names n move None = Unit {0}
-MoveGoesAt d names n move (Some x) = MoveGoes d names n move x
+abbrev pub MoveGoesAt : {C : Type 0} → (ListKey → Discipline) → List (List ℕ) → Numbers → ReadyPlaces → Move → Option (Member C) → Type 0
+MoveGoesAt d names n places move None = Unit {0}
+MoveGoesAt d names n places move (Some x) = MoveGoes d names n places move x
 
-abbrev pub numbers_at : {C : Type 0} (d : ListKey → Discipline) (names : List (List ℕ)) (n : Numbers) (move : Move) (o : Option (Member C)) → MoveGoesAt d names n move o → Numbers
-numbers_at d names n move None g = n
-numbers_at d names n move (Some x) g = numbers_by d names n move x g
+abbrev pub numbers_at : {C : Type 0} → ReadyPlaces → Move → Option (Member C) → Numbers → Numbers
+numbers_at places move None n = n
+numbers_at places move (Some x) n = numbers_by places move x n
+
+abbrev pub places_at : {C : Type 0} → List (List ℕ) → Move → Option (Member C) → ReadyPlaces
+places_at names move None = record { due = []; rest = [] }
+places_at names move (Some x) = places_by names move x
 
 -- ---- the partitions of a module
 
@@ -105,30 +102,24 @@ abbrev pub with_numbers : ℕ → Numbers → (ℕ → Numbers) → ℕ → Numb
 with_numbers p n numbers q = if p == q then n else numbers q
 
 -- In each state of a history the lists of each partition have the order of its numbers, and each
--- move continues those of its partition.
+-- move continues those of its partition: some processes become ready in it, and take numbers.
 abbrev pub GoThrough : {C : Type 0} → (ℕ → ListKey → Discipline) → (ℕ → List (List ℕ)) → List Happening → (ℕ → Numbers) → List (Member C) → Type 0
 GoThrough d names [] numbers members = AreOrdered d names numbers members
 GoThrough d names (Tells at action ∷ hs) numbers members = GoThrough d names hs numbers members
 GoThrough d names (Moves p move ∷ hs) numbers members =
     AreOrdered d names numbers members
-    × ((g : MoveGoesAt (d p) (names p) (numbers p) move (at_number members p))
-    × GoThrough d names hs (with_numbers p (numbers_at (d p) (names p) (numbers p) move (at_number members p) g) numbers) (happens (Moves p move) members).state)
+    × ((places : ReadyPlaces)
+    × (MoveGoesAt (d p) (names p) (numbers p) places move (at_number members p)
+    × GoThrough d names hs (with_numbers p (numbers_at places move (at_number members p) (numbers p)) numbers) (happens (Moves p move) members).state))
 
 -- ---- the numbers that moves give
-
--- the numbers after a move, in which these processes take numbers
-abbrev pub numbers_after : {C : Type 0} → List (List ℕ) → Move → Member C → Numbers → Numbers
-numbers_after names (Advances at) x n = numbered_tick names x.engine at x.world n
-numbers_after names move x n = numbered_step names nobody (makes move x) n
-
-abbrev pub numbers_after_at : {C : Type 0} → List (List ℕ) → Move → Option (Member C) → Numbers → Numbers
-numbers_after_at names move None n = n
-numbers_after_at names move (Some x) n = numbers_after names move x n
 
 -- the numbers of all partitions after what happens
 abbrev pub numbers_then : {C : Type 0} → (ℕ → List (List ℕ)) → Happening → List (Member C) → (ℕ → Numbers) → ℕ → Numbers
 numbers_then names (Tells at action) members numbers = numbers
-numbers_then names (Moves p move) members numbers = with_numbers p (numbers_after_at (names p) move (at_number members p) (numbers p)) numbers
+numbers_then names (Moves p move) members numbers =
+    let x = at_number members p in
+    with_numbers p (numbers_at (places_at (names p) move x) move x (numbers p)) numbers
 
 -- each in turn
 abbrev pub numbers_through : {C : Type 0} → (ℕ → List (List ℕ)) → List Happening → List (Member C) → (ℕ → Numbers) → ℕ → Numbers
@@ -149,14 +140,15 @@ pub record RunGoes {C : Type 0} (m : Module C) (devices : List DeviceLine) (n : 
   pub order : GoThrough (disciplines_of m.members) (names_of m.members) history (λ p. first_numbers) m.members
 
 -- A run of n ticks is a history, with these states and these lines. In each state of it the lists of each partition have the order of
--- the numbers that the moves up to there give, and the next move continues these.
+-- the numbers that the moves up to there give, and the next move continues these: those that its lines call ready take numbers.
 pub record RunIsNumbered {C : Type 0} (m : Module C) (devices : List DeviceLine) (n : ℕ) : Type 0 where
   pub history : List Happening
   pub members : members_after m devices n ≡ (all_happen history m.members).state
   pub lines : trace m devices n ≡ (all_happen history m.members).lines
   pub order : (before after : List Happening) → history ≡ before ++ after → AreOrdered (disciplines_of m.members) (names_of m.members) (numbers_in m before) (all_happen before m.members).state
   pub moves : (before after : List Happening) (p : ℕ) (move : Move) → history ≡ before ++ Moves p move ∷ after
-      → MoveGoesAt (disciplines_of m.members p) (names_of m.members p) (numbers_in m before p) move (at_number (all_happen before m.members).state p)
+      → let x = at_number (all_happen before m.members).state p in
+      MoveGoesAt (disciplines_of m.members p) (names_of m.members p) (numbers_in m before p) (places_at (names_of m.members p) move x) move x
 
 -- There are numbers by which the lists of the partition with a number are in order, in this state.
 abbrev pub HasOrder : {C : Type 0} → Module C → ℕ → Member C → Type 0

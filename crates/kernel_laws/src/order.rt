@@ -23,11 +23,11 @@ ghost use Rattle.machine_meaning.specs.MachineMeaning.{machine_module};
 ghost use Rattle.module_meaning.specs.SourceMeaning.{source_module};
 ghost use Rattle.kernel_meaning.specs.Sharing.{waiting};
 ghost use Rattle.kernel_laws.specs.WaitingOrder.{IsReleasedFirst};
-ghost use Rattle.kernel_laws.specs.History.{Move, makes, members_after};
+ghost use Rattle.kernel_laws.specs.History.{Move, members_after};
 ghost use Rattle.kernel_laws.specs.Names.{HasOwnNames, HaveOwnNames};
 ghost use Rattle.kernel_laws.specs.Numbers.{Numbers};
-ghost use Rattle.kernel_laws.specs.OrderLaw.{IsOrdered, TickGoes};
-ghost use Rattle.kernel_laws.specs.RunLaw.{HasOrder, HoldsReady, MoveGoes, RunGoes, RunIsNumbered, numbers_after};
+ghost use Rattle.kernel_laws.specs.OrderLaw.{IsOrdered, ReadyPlaces, TickGoes};
+ghost use Rattle.kernel_laws.specs.RunLaw.{HasOrder, HoldsReady, MoveGoes, RunGoes, RunIsNumbered, places_by};
 ghost use Rattle.kernel_laws.specs.WhoWaits.{AreListed, HoldsWaiting};
 
 /// A tick of a partition whose lists are in order continues its numbers, on any engine: on the
@@ -39,30 +39,33 @@ ghost use Rattle.kernel_laws.specs.WhoWaits.{AreListed, HoldsWaiting};
 pub fn tick_goes_on()
     ensures machine { (disciplines : ListKey → Discipline) (names : List (List ℕ)) (n : Numbers)
         (e : Engine MachineControl) (at : At) (w : World MachineControl)
-        → IsOrdered disciplines names n w.kernel → TickGoes disciplines names n e at w }
+        → IsOrdered disciplines names n w.kernel
+        → (places : ReadyPlaces) × TickGoes disciplines names n places e at w }
     ensures source { (disciplines : ListKey → Discipline) (names : List (List ℕ)) (n : Numbers)
         (e : Engine SourceControl) (at : At) (w : World SourceControl)
-        → IsOrdered disciplines names n w.kernel → TickGoes disciplines names n e at w }
+        → IsOrdered disciplines names n w.kernel
+        → (places : ReadyPlaces) × TickGoes disciplines names n places e at w }
 {}
 
 /// So does each step that a module makes of a partition: its ticks, its starts, a fault of its
 /// hardware, and the messages that arrive at its ports and leave them. If the processes have names of
-/// their own, the lists have the order of the numbers that the step gives (`numbers_after`).
+/// their own, those that become ready are those with the names that its lines call ready, and so the
+/// numbers after the step are a function of it (`numbers_by`).
 pub fn steps_go_on()
     ensures machine { (disciplines : ListKey → Discipline) (names : List (List ℕ)) (n : Numbers)
         (step : Move) (x : Member MachineControl) → IsOrdered disciplines names n x.world.kernel
-        → MoveGoes disciplines names n step x }
+        → (places : ReadyPlaces) × MoveGoes disciplines names n places step x }
     ensures source { (disciplines : ListKey → Discipline) (names : List (List ℕ)) (n : Numbers)
         (step : Move) (x : Member SourceControl) → IsOrdered disciplines names n x.world.kernel
-        → MoveGoes disciplines names n step x }
-    ensures machine_numbers { (disciplines : ListKey → Discipline) (names : List (List ℕ))
+        → (places : ReadyPlaces) × MoveGoes disciplines names n places step x }
+    ensures machine_named { (disciplines : ListKey → Discipline) (names : List (List ℕ))
         (n : Numbers) (step : Move) (x : Member MachineControl) → HaveOwnNames names
         → IsOrdered disciplines names n x.world.kernel
-        → IsOrdered disciplines names (numbers_after names step x n) (makes step x).world.kernel }
-    ensures source_numbers { (disciplines : ListKey → Discipline) (names : List (List ℕ))
+        → MoveGoes disciplines names n (places_by names step x) step x }
+    ensures source_named { (disciplines : ListKey → Discipline) (names : List (List ℕ))
         (n : Numbers) (step : Move) (x : Member SourceControl) → HaveOwnNames names
         → IsOrdered disciplines names n x.world.kernel
-        → IsOrdered disciplines names (numbers_after names step x n) (makes step x).world.kernel }
+        → MoveGoes disciplines names n (places_by names step x) step x }
 {}
 
 /// In every state of every run, of every image and of all sources, the ready list and the waiting

@@ -87,10 +87,10 @@ module _ (name : List ℕ) (Says : Event → Type 0) (Holds : Member SourceContr
     run_says : (hs : List Happening) (numbers : ℕ → Numbers) (ms : List (Member SourceControl)) → GoThrough d called hs numbers ms → Stands ms → NoLine Says (all_happen hs ms).lines
     run_says [] numbers ms g h = tt
     run_says (Tells at action ∷ hs) numbers ms g h = ((λ says. absurd (none-some name (unsaid.own _ says))), run_says hs numbers ms g h)
-    run_says (Moves zero move ∷ hs) numbers ms g h = run_says hs _ ms g.1.1 h
+    run_says (Moves zero move ∷ hs) numbers ms g h = run_says hs _ ms g.1.1.1 h
     run_says (Moves (suc q) move ∷ hs) numbers ms g h =
         let k = step_goes numbers move ms q (slice_get ms q) refl g.0 h in
-        no_line_both Says (happens (Moves (suc q) move) ms).lines _ k.1 (run_says hs _ _ g.1.1 k.0)
+        no_line_both Says (happens (Moves (suc q) move) ms).lines _ k.1 (run_says hs _ _ g.1.1.1 k.0)
 
 -- No line of a run says so, if it holds at first.
 pub no_line_in_run : (Says : Event → Type 0) (Holds : Member SourceControl → Type 0) (t : Table) (programs : List Program) (devices : List DeviceLine) (n place : ℕ) (row : Partition) (program : Program) → IsJudged t

@@ -148,7 +148,8 @@ module _ (e : Engine SourceControl) (safe : KeepsOut e) (start : NeverAsksNormal
 
   tick_out : (d : ListKey → Discipline) (names : List (List ℕ)) (n : Numbers) (at : At) (w : World SourceControl) → IsOrdered d names n w.kernel → IsKeptOut w → MovesOut (tick e at w)
   tick_out d names n at w ordered h =
-      let g = tick_goes d names n e at w ordered in
+      let ticked = tick_goes d names n e at w ordered in
+      let g = ticked.1 in
       let k = (due_phase e at w).world.kernel in
       let d = due_out at w h in
       followed_out (prepares e at w) (spending_phase e at) (prepares_out at w h)

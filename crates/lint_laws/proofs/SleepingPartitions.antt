@@ -172,7 +172,8 @@ module _ (q : ℕ) where
 
       tick_quietly : (d : ListKey → Discipline) (called : List (List ℕ)) (n : Numbers) (at : At) (w : World SourceControl) → IsOrdered d called n w.kernel → IsQuiet w → MovesQuietly (tick e at w)
       tick_quietly d called n at w ordered h =
-          let g = tick_goes d called n e at w ordered in
+          let ticked = tick_goes d called n e at w ordered in
+          let g = ticked.1 in
           followed_quietly (prepares e at w) (spending_phase e at) (prepares_quietly at w h g.due.ordered.records)
           (λ k. let s = (prepares e at w).world.kernel.processes in
           spends_quietly at (prepares e at w).world s.running (λ p is. caller_is_other q process s k.asleep p (runs_ready s g.prepared.records p is)) k)

@@ -87,7 +87,7 @@ module _ {C : Type 0} (d : ListKey → Discipline) (called : List (List ℕ)) wh
   well_after t u move x h agrees =
       let g = move_goes d called h.numbers move x h.ordered in
       let k = makes_hold d called h.numbers move x h.ordered (record { holds = h.holds; objects = λ few. absurd few; ports = λ few. absurd few }) in
-      record { numbers = numbers_by d called h.numbers move x g; ordered = ordered_by d called h.numbers move x g; holds = k.holds; agrees = agrees }
+      record { numbers = numbers_by g.0 move x h.numbers; ordered = ordered_by d called h.numbers g.0 move x g.1; holds = k.holds; agrees = agrees }
 
   module _ (name : List ℕ) (place : ℕ) (names : List (List ℕ)) (apart : IsApart name place names) where
     -- the partition at the place is well, and all have their names
