@@ -72,7 +72,7 @@ pub fn steps_go_on()
 /// lists of each partition have the order of its numbers, and each step continues them. So each
 /// tick chooses the only runner that the numbers allow. If the processes of each partition have names
 /// of their own, as in an image within its limits and in an accepted module, these are the numbers
-/// that the moves of the run give (`numbers_in`): `numbered_tick` in a tick.
+/// that the moves of the run give (`numbers_in`).
 pub fn order_in_every_run()
     ensures machine { (image : Image) (devices : List DeviceLine) (n : ℕ)
         → RunGoes (machine_module image) devices n }
