@@ -1,6 +1,6 @@
 -- Where it is found that nothing creates a process, no call of the program creates it.
 use Rattle.std.proofs.Common.{◌≡◌, ◌≢◌, ℕ, zero, suc, ◌+◌, ◌<◌, pos, Bool, true, false, nat_abs, nat_le, List, [], ◌∷◌, ◌++◌, map, Option, Some, None, refl, sym, ap, ◌∙◌, subst, arith, inl, inr}
-use Rattle.std.specs.Prelude.{◌&&◌, bytes_eq, if◌then◌else◌, is_some, not, option_map, slice_get, unwrap_or}
+use Rattle.std.specs.Prelude.{◌&&◌, bytes_eq, if◌then◌else◌, is_some, option_map, slice_get, unwrap_or}
 use Rattle.std.specs.List.{list_all, list_any, AllByRecursion}
 use Rattle.std.proofs.lemmas.Bool.{and_parts, cases_lt, false≢true}
 use Rattle.std.proofs.lemmas.Option.{none-some, same_Some, slice_get-map}

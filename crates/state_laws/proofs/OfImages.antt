@@ -1,9 +1,7 @@
 -- In every run of a lawful image the lines tell of a partition what it is.
-use Rattle.std.proofs.Common.{◌≡◌, ℕ, zero, suc, Bool, true, false, List, [], ◌∷◌, ◌++◌, length, map, Some, refl, sym, ap, ◌∙◌, subst}
-use Rattle.std.specs.Prelude.{◌+◌, ◌||◌, bytes_eq, slice_get}
-use Rattle.std.proofs.lemmas.Bool.{false≢true}
+use Rattle.std.proofs.Common.{◌≡◌, ℕ, zero, suc, List, [], ◌∷◌, ◌++◌, map, Some, refl, sym, ◌∙◌, subst}
+use Rattle.std.specs.Prelude.{◌+◌, slice_get}
 use Rattle.std.proofs.lemmas.Option.{none-some, same_Some}
-use Rattle.std.proofs.lemmas.Slice.Eq.{bytes_eq-Decides}
 use Rattle.apex_types.specs.Versions.{costs_of}
 use Rattle.apex_types.specs.declared.device.DeviceLine.{DeviceLine}
 use Rattle.apex_types.specs.declared.row.ProcessRow.{ProcessRow}
@@ -17,8 +15,7 @@ use Rattle.kernel_laws.proofs.OwnNames.{rows_apart}
 use Rattle.kernel_laws.proofs.WaitRuns.{machine_holds}
 use Rattle.kernel_meaning.specs.Partition.{Member}
 use Rattle.machine_meaning.specs.Image.{Image, Item}
-use Rattle.machine_meaning.specs.ImageLimits.{EachBeside, IsLawful, IsProcess}
-use Rattle.machine_meaning.specs.ImageReading.{is_process}
+use Rattle.machine_meaning.specs.ImageLimits.{EachBeside, IsLawful}
 use Rattle.machine_meaning.specs.MachineControl.{MachineControl}
 use Rattle.machine_meaning.specs.MachineMeaning.{machine_members, machine_module, machine_row, machine_trace}
 use Rattle.module_meaning.specs.Table.{at_number}
