@@ -9,6 +9,7 @@ use Rattle.apex_types.specs.declared.event.EventKind.TheVariants as event
 use Rattle.apex_types.specs.declared.identity.Runner.TheVariants as runner
 use Rattle.apex_types.specs.Runners as action
 use Rattle.apex_types.specs.declared.service.Call.TheVariants as call
+use Rattle.kernel_laws.specs.History.{Move, Starts, BreaksDown, Arrives, Leaves, Admits, GoesOut, Advances, makes}
 use Rattle.kernel_meaning.specs.HealthServices.{handles}
 use Rattle.kernel_meaning.specs.PortServices as arrival
 use Rattle.kernel_meaning.specs.Processes.{refuses, answers}
@@ -165,3 +166,12 @@ module _ {C : Type 0} where
 
   pub goes_out_keeps : (at : At) (channel : List ℕ) (m : ArrayVec ℤ) → StepKeeps (goes_out at channel m)
   goes_out_keeps at channel m x = record { fixed = refl; own = told_own x.world.kernel.fixed.name at (event.Out channel m ∷ []) }
+
+  pub move_keeps : (move : Move) → StepKeeps (makes move)
+  move_keeps (Starts at c) = cold_start_keeps at c
+  move_keeps (BreaksDown at) = breaks_down_keeps at
+  move_keeps (Arrives at port m) = arrives_keeps at port m
+  move_keeps (Leaves at port) = leaves_keeps at port
+  move_keeps (Admits at port) = admits_keeps at port
+  move_keeps (GoesOut at channel m) = goes_out_keeps at channel m
+  move_keeps (Advances at) = advances_keeps at

@@ -1,5 +1,5 @@
 -- In a step of a partition who may take a number by its call does so exactly if it has to.
-use Rattle.kernel_laws.proofs.Prelude.{◌≡◌, ◌↔◌, ◌&&◌, ℕ, zero, suc, ℤ, true, List, Some, None, refl, sym, subst, ◌∙◌, none-some, same_Some, pos, negsuc, Discipline, At, ListKey, ProcessIndex, Runner, Call, Asks, Nothing, Calls, Faults, Ends, Kernel, of_processes, with_objects, with_ports, serves, treats_asked, BeginsToWait, May, itself, may_asked, nobody, only_last, is_ready, priority_of, set_priority, Processes, row_of, index, numbered, timed_wait, Step, record_at}
+use Rattle.kernel_laws.proofs.Prelude.{◌≡◌, ℕ, zero, suc, ℤ, List, Some, None, refl, pos, negsuc, Discipline, At, ListKey, ProcessIndex, Runner, Call, Asks, Nothing, Calls, Faults, Ends, Kernel, of_processes, with_objects, with_ports, serves, treats_asked, May, itself, may_asked, nobody, only_last, priority_of, set_priority, Processes, row_of, index, numbered, timed_wait, Step, record_at}
 use Rattle.std.proofs.Common.{ap}
 use Rattle.apex_types.specs.declared.identity.Runner.TheVariants as runner
 use Rattle.apex_types.specs.declared.service.Call.TheVariants as call
@@ -7,11 +7,10 @@ use Rattle.apex_types.specs.declared.service.ObjectCall.{ObjectCall}
 use Rattle.apex_types.specs.declared.service.ObjectCall.TheVariants as object
 use Rattle.apex_types.specs.declared.service.PortCall.{PortCall}
 use Rattle.apex_types.specs.declared.service.PortCall.TheVariants as port
-use Rattle.kernel_laws.specs.GoingLast.{has_success}
-use Rattle.kernel_laws.specs.Numbers.{GoesLast, waits_by}
-use Rattle.kernel_laws.specs.OrderLaw.{HasTaken}
+use Rattle.kernel_laws.specs.Numbers.{waits_by}
 use Rattle.kernel_laws.specs.WhoWaits.{WaitsForObject}
-use Rattle.kernel_laws.proofs.LastTakings.{Takes, sets, succeeds, takes, timed_wait_takes}
+use Rattle.kernel_laws.proofs.ExactTakings.{IsExact, exact_alone, none_may, none_others}
+use Rattle.kernel_laws.proofs.LastTakings.{Takes, sets, takes, timed_wait_takes}
 use Rattle.kernel_laws.proofs.OfKernel.{IsReady, Moves}
 use Rattle.kernel_laws.proofs.OfServices.{asked_moves}
 use Rattle.kernel_laws.proofs.RecordRows.{IsCaller}
@@ -28,34 +27,24 @@ never_waits p (call.Port (port.SendQueuingMessage id array size limit)) e = e
 never_waits p (call.Port (port.ReceiveQueuingMessage id array limit)) e = e
 never_waits p _ e = refl
 
-module _ (d : ListKey → Discipline) (names : ℕ → List ℕ) where
-  -- A step of a partition that continues the numbers. Who may go last takes a number exactly if it has to, and who may begin to wait
-  -- exactly if it waits for an object then.
+module _ (d : ListKey → Discipline) (names : List (List ℕ)) where
+  -- a step of a partition that continues the numbers, by the takings that its lines and its processes give
   pub record TakesIn (may : May) (k : Kernel) (t : Step Kernel) : Type 0 where
     pub moves : Moves d names may k t
-    pub last : (q : ProcessIndex) → may.go_last ≡ Some q.0 → (HasTaken (GoesLast q.0) moves.goes.takings ↔ ((has_success t.lines && is_ready (record_at t.part.processes.rows q)) ≡ true))
-    pub begins : (q : ProcessIndex) → may.begin_to_wait ≡ Some q.0 → (HasTaken (BeginsToWait q.0) moves.goes.takings ↔ WaitsForObject (record_at t.part.processes.rows q))
+    pub exact : IsExact may t.lines t.part.processes moves.goes.takings
 
   module _ (at : At) (k : Kernel) (h : IsReady d names k) where
     abbrev In : May → Step Kernel → Type 0
     In may t = TakesIn may k t
 
-    one_takes : (i : ProcessIndex) (t : Step Processes) → Takes d names (only_last (Some i.0)) i k.processes t → In (only_last (Some i.0)) (of_processes k t)
-    one_takes i t g = record {
-      moves = record { goes = g.goes; objects = h.objects; ports = h.ports };
-      last = λ q own. subst (λ (j : ProcessIndex). HasTaken (GoesLast j.0) g.goes.takings ↔ (succeeds j t ≡ true)) (ap index (same_Some i.0 q.0 own)) g.last;
-      begins = λ q own. absurd (none-some q.0 own);
-    }
+    one_takes : (i : ProcessIndex) (t : Step Processes) → Takes d names i k.processes t → In (only_last (Some i.0)) (of_processes k t)
+    one_takes i t g = record { moves = record { goes = g.goes; objects = h.objects; ports = h.ports }; exact = g.exact }
 
-    one_begins : (i : ProcessIndex) (t : Step Kernel) (moves : Moves d names (only_waits i) k t) → (HasTaken (BeginsToWait i.0) moves.goes.takings ↔ WaitsForObject (record_at t.part.processes.rows i)) → In (only_waits i) t
-    one_begins i t moves begins = record {
-      moves = moves;
-      last = λ q own. absurd (none-some q.0 own);
-      begins = λ q own. subst (λ (j : ProcessIndex). HasTaken (BeginsToWait j.0) moves.goes.takings ↔ WaitsForObject (record_at t.part.processes.rows j)) (ap index (same_Some i.0 q.0 own)) begins;
+    pub none_takes : (may : May) (t : Step Kernel) → may.go_last ≡ None → may.begin_to_wait ≡ None → Moves d names may k t → In may t
+    none_takes may t none never g = record {
+      moves = g;
+      exact = exact_alone may t.lines t.part.processes g.goes.takings (none_others may t.lines t.part.processes none never) (none_may may none never g.goes.takings g.goes.allowed);
     }
-
-    none_takes : (may : May) (t : Step Kernel) → may.go_last ≡ None → may.begin_to_wait ≡ None → Moves d names may k t → In may t
-    none_takes may t none never g = record { moves = g; last = λ q own. absurd (none-some q.0 (sym none ∙ own)); begins = λ q own. absurd (none-some q.0 (sym never ∙ own)) }
 
     moves_by : (p : Runner) (c : Call) (words : List ℤ) → Moves d names (may_asked p (Calls c)) k (serves at k p c words)
     moves_by p c words = asked_moves d names at k p (Calls c) words h
@@ -78,13 +67,13 @@ module _ (d : ListKey → Discipline) (names : ℕ → List ℕ) where
         → In (only_waits q) (serves at k (runner.Process q) (call.Object c) words)
     object_begins q idle c words own =
         let g = objects_begin d names (with_objects k) (record { named = h.named; fit = h.objects }) q idle k.mode at c words (ap (λ (m : May). m.begin_to_wait) own) in
-        one_begins q _ (record { goes = g.shares.goes; objects = g.shares.fit; ports = h.ports }) g.begins
+        record { moves = record { goes = g.shares.goes; objects = g.shares.fit; ports = h.ports }; exact = g.exact }
 
     port_begins : (q : ProcessIndex) → (WaitsForObject (record_at k.processes.rows q) → ⊥) → (c : PortCall) (words : List ℤ) → may_asked (runner.Process q) (Calls (call.Port c)) ≡ only_waits q
         → In (only_waits q) (serves at k (runner.Process q) (call.Port c) words)
     port_begins q idle c words own =
         let g = ports_begin d names (with_ports k) (record { named = h.named; fit = h.ports }) q idle k.mode at c words (ap (λ (m : May). m.begin_to_wait) own) in
-        one_begins q _ (record { goes = g.shares.goes; objects = h.objects; ports = g.shares.fit }) g.begins
+        record { moves = record { goes = g.shares.goes; objects = h.objects; ports = g.shares.fit }; exact = g.exact }
 
     object_takes : (p : Runner) → ((q : ProcessIndex) → p ≡ runner.Process q → WaitsForObject (record_at k.processes.rows q) → ⊥) → (c : ObjectCall) (words : List ℤ)
         → In (may_asked p (Calls (call.Object c))) (serves at k p (call.Object c) words)

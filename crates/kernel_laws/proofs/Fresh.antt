@@ -1,11 +1,12 @@
 -- Before the first start the lists of each partition have the order of its first numbers.
-use Rattle.kernel_laws.proofs.Prelude.{◌≡◌, ℕ, zero, suc, ◌+◌, Bool, List, ◌∷◌, map, Option, Some, None, refl, sym, subst, ◌∙◌, false, none-some, same_Some, slice_get, ListKey, Priority, Entry, ProcessStatus, Kernel, of_member, Objects, Member, Ports, is_ready_state, list_in, list_at, IsQueue, Schedule, RecordsAgree, IsReadyAt, AreNamed, HaveDisciplines, PortsHaveDisciplines, first_numbers, subject_at, IsOrdered, disciplines_of, names_of, AreOrdered}
+use Rattle.kernel_laws.proofs.Prelude.{◌≡◌, ℕ, zero, suc, ◌+◌, Bool, List, ◌∷◌, map, Option, Some, None, refl, sym, subst, ◌∙◌, false, none-some, same_Some, slice_get, ListKey, Priority, Entry, ProcessStatus, Kernel, of_member, Objects, Member, Ports, is_ready_state, list_in, list_at, IsQueue, Schedule, RecordsAgree, IsReadyAt, AreNamed, HaveDisciplines, PortsHaveDisciplines, first_numbers, IsOrdered, disciplines_of, names_of, AreOrdered}
 use Rattle.std.proofs.Common.{[], ap}
 use Rattle.std.proofs.lemmas.Bool.{false≢true}
 use Rattle.std.specs.Prelude.{replicate}
 use Rattle.apex_types.specs.Versions.{costs_of}
 use Rattle.apex_types.specs.declared.cost.Costs.{Costs}
-use Rattle.apex_types.specs.declared.event.Subject.TheVariants.{Process}
+use Rattle.apex_types.specs.declared.event.Subject.{Subject}
+use Rattle.apex_types.specs.declared.event.Subject.TheVariants.{Init, Handler, Process}
 use Rattle.apex_types.specs.declared.identity.ListKey.TheVariants as key
 use Rattle.apex_types.specs.declared.identity.Runner.TheVariants as runner
 use Rattle.apex_types.specs.declared.limits.TheConstants.{MOST_OBJECTS}
@@ -17,7 +18,8 @@ use Rattle.kernel_meaning.specs.Fresh.{init_row, handler_row, fresh_kernel, fres
 use Rattle.machine_meaning.specs.MachineMeaning.{machine_row, machine_member, machine_members}
 use Rattle.module_meaning.specs.SourceMeaning.{source_row, source_member, source_members}
 use Rattle.module_meaning.specs.Table.{fixed_of}
-use Rattle.kernel_laws.specs.RunLaw.{name_of_subject, name_of_row, names_in, semaphore_discipline, buffer_discipline, port_discipline, disciplines_in, no_names, no_disciplines}
+use Rattle.kernel_laws.specs.RunLaw.{name_of_subject, names_in, semaphore_discipline, buffer_discipline, port_discipline, disciplines_in, no_disciplines}
+use Rattle.kernel_laws.proofs.Primitives.{who}
 use Rattle.kernel_laws.proofs.Records.{not_ready_plain, not_free}
 
 -- ---- lists
@@ -36,6 +38,9 @@ none_at (key.Port place) = none_in MOST_OBJECTS place
 
 -- ---- records
 
+abbrev pub name : ProcessStatus → List ℕ
+name r = name_of_subject r.who
+
 -- a record of a process that is DORMANT, or waits
 abbrev IsAtRest : ProcessStatus → Type 0
 IsAtRest r = (r.who ≡ Process (name_of_subject r.who)) × (is_ready_state r.state ≡ false)
@@ -48,6 +53,13 @@ at_rest f is [] place r e = absurd (none-some r e)
 at_rest f is (x ∷ xs) zero r e = subst IsAtRest (same_Some (f x) r e) (is x)
 at_rest f is (x ∷ xs) (suc place) r e = at_rest f is xs place r e
 
+-- their subjects are those of their names
+at_rest_named : (rows : List ProcessStatus) → AreAtRest rows → map who rows ≡ map Process (map name rows)
+at_rest_named [] h = refl
+at_rest_named (r ∷ rows) h =
+    let first = h 0 r refl in
+    ap (λ (s : Subject). s ∷ map who rows) first.0 ∙ ap (λ (ss : List Subject). Process (name r) ∷ ss) (at_rest_named rows (λ place. h (suc place)))
+
 none_ready : (rows : List ProcessStatus) → AreAtRest rows → (place : ℕ) (priority : Priority) (o : Option ProcessStatus) → slice_get rows place ≡ o → IsReadyAt o priority → ⊥
 none_ready rows h place priority None e k = k
 none_ready rows h place priority (Some r) e k = let g = h place r e in false≢true (sym g.1 ∙ k.0)
@@ -56,10 +68,8 @@ module _ (fixed : Fixed) (rows : List ProcessStatus) (objects : Objects) (ports 
   abbrev fresh : Kernel
   fresh = fresh_kernel fixed rows objects ports has_handler
 
-  fresh_named : AreAtRest rows → AreNamed (subject_at (names_in fresh)) (init_row ∷ handler_row ∷ rows)
-  fresh_named h zero r e = sym (ap (λ (s : ProcessStatus). s.who) (same_Some init_row r e))
-  fresh_named h (suc zero) r e = sym (ap (λ (s : ProcessStatus). s.who) (same_Some handler_row r e))
-  fresh_named h (suc (suc p)) r e = let g = h p r e in g.0 ∙ ap (λ (o : Option ProcessStatus). Process (name_of_row o)) (sym e)
+  fresh_named : AreAtRest rows → AreNamed (names_in fresh) (init_row ∷ handler_row ∷ rows)
+  fresh_named h = ap (λ (ss : List Subject). Init ∷ Handler ∷ ss) (at_rest_named rows h)
 
   fresh_objects : HaveDisciplines (disciplines_in fresh) objects
   fresh_objects = record {
@@ -122,7 +132,7 @@ module _ {C : Type 0} where
   pub ordered_at_first : (ms : List (Member C)) → AreFresh ms → AreOrdered (disciplines_of ms) (names_of ms) (λ p. first_numbers) ms
   ordered_at_first ms h zero x e = absurd (none-some x e)
   ordered_at_first ms h (suc place) x e =
-      subst (λ (o : Option (Member C)). IsOrdered (of_member no_disciplines (λ y. disciplines_in y.world.kernel) o) (of_member no_names (λ y. names_in y.world.kernel) o) first_numbers x.world.kernel)
+      subst (λ (o : Option (Member C)). IsOrdered (of_member no_disciplines (λ y. disciplines_in y.world.kernel) o) (of_member [] (λ y. names_in y.world.kernel) o) first_numbers x.world.kernel)
       (sym e) (h place x e)
 
 pub machine_ordered : (i : Image) → AreOrdered (disciplines_of (machine_members (costs_of i.version) i.schedule 1 i.items)) (names_of (machine_members (costs_of i.version) i.schedule 1 i.items)) (λ p. first_numbers) (machine_members (costs_of i.version) i.schedule 1 i.items)

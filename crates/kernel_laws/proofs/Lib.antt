@@ -1,3 +1,4 @@
+pub mod Going
 pub mod Prelude
 pub mod ReadyLists
 pub mod Numbers
@@ -23,6 +24,7 @@ pub mod WaitObjects
 pub mod WaitKernel
 pub mod WaitBegins
 pub mod Primitives
+pub mod ExactTakings
 pub mod NumberSteps
 pub mod OfProcesses
 pub mod Shares
@@ -42,6 +44,8 @@ pub mod OfTick
 pub mod Runs
 pub mod Through
 pub mod Fresh
+pub mod OwnNames
+pub mod SourceNames
 pub mod WaitTick
 pub mod WaitRuns
 pub mod Law

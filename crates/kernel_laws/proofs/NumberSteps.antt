@@ -1,7 +1,9 @@
 -- Steps of the processes continue the numbers.
-use Rattle.kernel_laws.proofs.Prelude.{Bool, List, None, Option, Some, false, refl, subst, suc, sym, true, zero, ℕ, ℤ, ◌++◌, ◌∷◌, ◌≡◌, none-some, same_Some, if◌then◌else◌, negsuc, pos, ArrayVec, place_of, Discipline, ProcessState, Ready, Running, Dormant, Waiting, ReturnCode, EventKind, Subject, At, ListKey, ProcessIndex, Runner, Action, Due, Entry, Lock, ProcessStatus, Wait, Place, Service, entry, is_zero, time_out, with_lock, Processes, index, is_busy, numbered, process_at, put_ready, put_row, put_unready, rests, row_of, wakes, waits, answers, released, zeros_of_wait, no_longer_waits, on, joins, Step, after, nothing, row, fills, first_waiting, waiting, writes, enters, waits_at, blocks, releases_found, releases_all, gives, gives_found, gives_all, found_first, AreAllowed, AreNamed, BeginsToWait, Follows, Goes, IsInOrder, itself, process_of, ready_lines, subject_at, take_one, those_ready, May, only_last}
+use Rattle.kernel_laws.proofs.Prelude.{Bool, List, None, Option, Some, false, refl, subst, suc, sym, true, zero, ℕ, ℤ, ◌++◌, ◌∙◌, ◌∷◌, ◌≡◌, none-some, same_Some, if◌then◌else◌, negsuc, pos, ArrayVec, place_of, Discipline, ProcessState, Ready, Running, Dormant, Waiting, ReturnCode, EventKind, Subject, At, ListKey, ProcessIndex, Runner, Action, Due, Entry, Lock, ProcessStatus, Wait, Place, Service, entry, is_zero, time_out, with_lock, Processes, index, is_busy, numbered, process_at, put_ready, put_row, put_unready, rests, row_of, wakes, waits, answers, released, zeros_of_wait, no_longer_waits, on, joins, Step, after, nothing, row, fills, first_waiting, waiting, writes, enters, waits_at, blocks, releases_found, releases_all, gives, gives_found, gives_all, found_first, AreAllowed, AreNamed, BeginsToWait, Follows, Goes, IsInOrder, itself, process_of, take_one, those_ready, called, May, only_last}
 use Rattle.std.proofs.Common.{[], ap}
-use Rattle.std.specs.Prelude.{length}
+use Rattle.apex_types.specs.declared.event.Subject.TheVariants.{Init, Handler, Process}
+use Rattle.std.proofs.lemmas.Option.{slice_get-map}
+use Rattle.std.specs.Prelude.{length, map, option_map, slice_get}
 use Rattle.apex_types.specs.declared.codes.ReturnCode.TheVariants as code
 use Rattle.apex_types.specs.declared.event.EventKind.TheVariants as event
 use Rattle.apex_types.specs.declared.identity.Runner.TheVariants as runner
@@ -9,17 +11,21 @@ use Rattle.apex_types.specs.declared.process.Wait.TheVariants as wait
 use Rattle.kernel_meaning.specs.Processes.{waiting_lines, refuses, answers_wait}
 use Rattle.kernel_meaning.specs.Step.{answered}
 use Rattle.kernel_meaning.specs.Sharing.{array_of_wait}
-use Rattle.kernel_laws.specs.Numbers.{called_ready}
-use Rattle.kernel_laws.proofs.Primitives.{readied, lasted, in_order_ready, in_order_last, in_order_unready, in_order_released, in_order_enters, follows_after, told_after, allowed_after, named_set}
+use Rattle.kernel_laws.specs.Numbers.{called_ready, subjects}
+use Rattle.kernel_laws.proofs.Primitives.{readied, lasted, in_order_ready, in_order_last, in_order_unready, in_order_released, in_order_enters, follows_after, told_after, allowed_after, named_at, named_set}
 
 -- ---- lines
 
-told_wakes : (names : ℕ → List ℕ) (p : Runner) → those_ready names (readied p) ≡ called_ready Ready (subject_at names (place_of p)) ++ []
-told_wakes names runner.Init = refl
-told_wakes names runner.Handler = refl
-told_wakes names (runner.Process p) = refl
+told_wakes : (names : List (List ℕ)) (p : Runner) (who : Subject) → slice_get (subjects names) (place_of p) ≡ Some who → those_ready names (readied p) ≡ map Some (called_ready Ready who ++ [])
+told_wakes names runner.Init who e = ap (λ (s : Subject). map Some (called_ready Ready s ++ [])) (same_Some Init who e)
+told_wakes names runner.Handler who e = ap (λ (s : Subject). map Some (called_ready Ready s ++ [])) (same_Some Handler who e)
+told_wakes names (runner.Process p) who e = by_name (slice_get names p.0) (sym (slice_get-map Process names p.0) ∙ e)
+  where
+    by_name : (o : Option (List ℕ)) → option_map Process o ≡ Some who → o ∷ [] ≡ map Some (called_ready Ready who ++ [])
+    by_name None k = absurd (none-some who k)
+    by_name (Some name) k = ap (λ (s : Subject). map Some (called_ready Ready s ++ [])) (same_Some (Process name) who k)
 
-told_lasted : (names : ℕ → List ℕ) (p : Runner) → those_ready names (lasted p) ≡ []
+told_lasted : (names : List (List ℕ)) (p : Runner) → those_ready names (lasted p) ≡ []
 told_lasted names runner.Init = refl
 told_lasted names runner.Handler = refl
 told_lasted names (runner.Process p) = refl
@@ -34,19 +40,19 @@ allowed_lasted runner.Init = tt
 allowed_lasted runner.Handler = tt
 allowed_lasted (runner.Process p) = (refl, tt)
 
-waiting_told : (who : Subject) (state : ProcessState) → [] ≡ ready_lines (waiting_lines who state)
+pub waiting_told : (who : Subject) (state : ProcessState) → [] ≡ called (waiting_lines who state)
 waiting_told who Dormant = refl
 waiting_told who Ready = refl
 waiting_told who Running = refl
 waiting_told who Waiting = refl
 
-module _ (d : ListKey → Discipline) (names : ℕ → List ℕ) where
+module _ (d : ListKey → Discipline) (names : List (List ℕ)) where
   abbrev pub Named : Processes → Type 0
-  Named s = AreNamed (subject_at names) s.rows
+  Named s = AreNamed names s.rows
 
   -- the record names runner p
   abbrev pub IsOf : Runner → ProcessStatus → Type 0
-  IsOf p r = r.who ≡ subject_at names (place_of p)
+  IsOf p r = slice_get (subjects names) (place_of p) ≡ Some r.who
 
   -- ---- how steps are put together
 
@@ -83,24 +89,24 @@ module _ (d : ListKey → Discipline) (names : ℕ → List ℕ) where
   -- ---- records
 
   pub put_goes : (may : May) (s : Processes) (p : Runner) (x : ProcessStatus) → Named s → IsOf p x → Goes d names may s (nothing (put_row s p x))
-  put_goes may s p x h e = record { takings = []; follows = λ n o. o; named = named_set (subject_at names) s.rows (place_of p) x h e; told = refl; allowed = tt }
+  put_goes may s p x h e = record { takings = []; follows = λ n o. o; named = named_set names s.rows (place_of p) x h e; told = refl; allowed = tt }
 
-  unready_goes : (may : May) (s : Processes) (p : Runner) (x : ProcessStatus) (ls : List EventKind) (asked : List Action) → Named s → IsOf p x → [] ≡ ready_lines ls
+  unready_goes : (may : May) (s : Processes) (p : Runner) (x : ProcessStatus) (ls : List EventKind) (asked : List Action) → Named s → IsOf p x → [] ≡ called ls
       → Goes d names may s (record { part = put_unready s p x; lines = ls; actions = asked })
   unready_goes may s p x ls asked h e told = record {
     takings = [];
     follows = λ n o. in_order_unready d n p s.ready s.queues o;
-    named = named_set (subject_at names) s.rows (place_of p) x h e;
+    named = named_set names s.rows (place_of p) x h e;
     told = told;
     allowed = tt;
   }
 
-  ready_goes : (may : May) (s : Processes) (p : Runner) (x : ProcessStatus) (ls : List EventKind) (asked : List Action) → Named s → IsOf p x → those_ready names (readied p) ≡ ready_lines ls
+  ready_goes : (may : May) (s : Processes) (p : Runner) (x : ProcessStatus) (ls : List EventKind) (asked : List Action) → Named s → IsOf p x → those_ready names (readied p) ≡ called ls
       → Goes d names may s (record { part = put_ready s p x; lines = ls; actions = asked })
   ready_goes may s p x ls asked h e told = record {
     takings = readied p;
     follows = λ n o. in_order_ready d n p x.current_priority s.ready s.queues o;
-    named = named_set (subject_at names) s.rows (place_of p) x h e;
+    named = named_set names s.rows (place_of p) x h e;
     told = told;
     allowed = allowed_readied may p;
   }
@@ -110,7 +116,7 @@ module _ (d : ListKey → Discipline) (names : ℕ → List ℕ) where
   last_goes s p x h e = record {
     takings = lasted p;
     follows = λ n o. in_order_last d n p x.current_priority s.ready s.queues o;
-    named = named_set (subject_at names) s.rows (place_of p) x h e;
+    named = named_set names s.rows (place_of p) x h e;
     told = told_lasted names p;
     allowed = allowed_lasted p;
   }
@@ -119,7 +125,7 @@ module _ (d : ListKey → Discipline) (names : ℕ → List ℕ) where
   wakes_goes may s p r h e =
       either_goes may s r.suspended _ _ (unready_goes may s p (record r { wait = wait.Nothing; due = None }) [] [] h e refl)
       (ready_goes may s p (record r { state = Ready; wait = wait.Nothing; due = None }) (event.State r.who Ready ∷ []) [] h e
-      (subst (λ (who : Subject). those_ready names (readied p) ≡ called_ready Ready who ++ []) (sym e) (told_wakes names p)))
+      (told_wakes names p r.who e))
 
   pub waits_goes : (may : May) (s : Processes) (p : Runner) (r : ProcessStatus) (reason : Wait) (due : Option Due) → Named s → IsOf p r → Goes d names may s (waits s p r reason due)
   waits_goes may s p r reason due h e = unready_goes may s p (record r { state = Waiting; wait = reason; due = due }) (waiting_lines r.who r.state) [] h e (waiting_told r.who r.state)
@@ -128,7 +134,7 @@ module _ (d : ListKey → Discipline) (names : ℕ → List ℕ) where
   rests_goes may s p r h e = record {
     takings = [];
     follows = λ n o. in_order_released d n p _ s.queues (in_order_unready d n p s.ready s.queues o);
-    named = named_set (subject_at names) s.rows (place_of p) _ h e;
+    named = named_set names s.rows (place_of p) _ h e;
     told = refl;
     allowed = tt;
   }
@@ -166,10 +172,10 @@ module _ (d : ListKey → Discipline) (names : ℕ → List ℕ) where
       → (f.0 ≡ runner.Process p) × IsOf f.0 f.1
   found_of s p None f h e g = absurd (none-some f g)
   found_of s p (Some r) f h e g =
-      subst (λ (x : Runner × ProcessStatus). (x.0 ≡ runner.Process p) × IsOf x.0 x.1) (same_Some (runner.Process p, r) f g) (refl, h (place_of (runner.Process p)) r e)
+      subst (λ (x : Runner × ProcessStatus). (x.0 ≡ runner.Process p) × IsOf x.0 x.1) (same_Some (runner.Process p, r) f g) (refl, named_at names s.rows (place_of (runner.Process p)) r h e)
 
   pub row_is_of : (s : Processes) (p : Runner) (r : ProcessStatus) → Named s → row_of s p ≡ Some r → IsOf p r
-  row_is_of s p r h e = h (place_of p) r e
+  row_is_of s p r h e = named_at names s.rows (place_of p) r h e
 
   pub on_goes : (may : May) (s : Processes) (o : Option (Runner × ProcessStatus)) (step : Runner → ProcessStatus → Step Processes) → Named s
       → ((f : Runner × ProcessStatus) → o ≡ Some f → Goes d names may s (step f.0 f.1)) → Goes d names may s (on o s step)

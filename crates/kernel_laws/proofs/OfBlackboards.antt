@@ -10,7 +10,7 @@ use Rattle.kernel_meaning.specs.Objects.{blackboard, put_blackboard}
 use Rattle.kernel_laws.proofs.Shares.{Shares, IsSet, of_shares, becomes_shares, fills_shares, answers_shares, refuses_shares, row_shares, after_shares, on_shares, create_shares, each_put, numbered_is}
 use Rattle.kernel_laws.proofs.NumberSteps.{blocks_goes, give_all_goes}
 
-module _ (d : ListKey → Discipline) (names : ℕ → List ℕ) where
+module _ (d : ListKey → Discipline) (names : List (List ℕ)) where
   abbrev Set : Sharing Objects → Type 0
   Set b = IsSet d names Objects (HaveDisciplines d) b
 

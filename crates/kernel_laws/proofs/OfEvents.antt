@@ -9,7 +9,7 @@ use Rattle.kernel_meaning.specs.Objects.{event, put_event}
 use Rattle.kernel_laws.proofs.Shares.{Shares, IsSet, of_shares, becomes_shares, answers_shares, refuses_shares, either_shares, row_shares, after_shares, on_shares, create_shares, each_put, numbered_is}
 use Rattle.kernel_laws.proofs.NumberSteps.{blocks_goes, releases_goes}
 
-module _ (d : ListKey → Discipline) (names : ℕ → List ℕ) where
+module _ (d : ListKey → Discipline) (names : List (List ℕ)) where
   abbrev Set : Sharing Objects → Type 0
   Set b = IsSet d names Objects (HaveDisciplines d) b
 

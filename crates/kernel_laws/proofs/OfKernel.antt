@@ -1,5 +1,5 @@
 -- Steps of a partition continue the numbers.
-use Rattle.kernel_laws.proofs.Prelude.{Bool, List, None, Option, Some, false, refl, suc, true, zero, ℕ, ℤ, ◌∷◌, ◌≡◌, if◌then◌else◌, is_some, nat_le, not, pos, slice_get, ◌&&◌, Discipline, ErrorKind, Mode, PartitionAction, Ready, ReturnCode, StartCondition, At, ListKey, ProcessIndex, Runner, Due, ProcessStatus, Wait, ArrayPlace, Treated, due_from, ends_wait, is_past, misses, mode_of_action, tick_of, timed_out, treated_after, treats, treats_deadline, breaks, is_message_length, acts_on_error, faults, is_fault, then_clears, raises_application_error, raises, action_of, raise_application_error, Kernel, of_objects, of_ports, with_objects, with_ports, of_processes, with_errors, Objects, treats_due, clears, next_release_of, ends_body, enters_mode, forgotten, is_cold, is_warm, mode_of, ready_init, set_partition_mode, started_rows, starts_normally, wants, Ports, discipline_of, Processes, index, is_normal, rests_found, row_of, Sharing, released_at, start_from, starts_if_waiting, starts_waiting, Step, after, lifted, nothing, row, first_words, AreNamed, Goes, HaveDisciplines, PortsHaveDisciplines, ready_lines, subject_at, May, nobody}
+use Rattle.kernel_laws.proofs.Prelude.{Bool, List, None, Option, Some, false, refl, suc, true, zero, ℕ, ℤ, ◌∷◌, ◌≡◌, if◌then◌else◌, is_some, nat_le, not, pos, slice_get, ◌&&◌, Discipline, ErrorKind, Mode, PartitionAction, Ready, ReturnCode, StartCondition, At, ListKey, ProcessIndex, Runner, Due, ProcessStatus, Wait, ArrayPlace, Treated, due_from, ends_wait, is_past, misses, mode_of_action, tick_of, timed_out, treated_after, treats, treats_deadline, breaks, is_message_length, acts_on_error, faults, is_fault, then_clears, raises_application_error, raises, action_of, raise_application_error, Kernel, of_objects, of_ports, with_objects, with_ports, of_processes, with_errors, Objects, treats_due, clears, next_release_of, ends_body, enters_mode, forgotten, is_cold, is_warm, mode_of, ready_init, set_partition_mode, started_rows, starts_normally, wants, Ports, discipline_of, Processes, index, is_normal, rests_found, row_of, Sharing, released_at, start_from, starts_if_waiting, starts_waiting, Step, after, lifted, nothing, row, first_words, AreNamed, Goes, called, HaveDisciplines, PortsHaveDisciplines, May, nobody}
 use Rattle.std.proofs.Common.{[]}
 use Rattle.std.specs.Ordering.{int_eq}
 use Rattle.std.specs.Prelude.{length, map, ◌+◌}
@@ -24,11 +24,11 @@ use Rattle.kernel_meaning.specs.Objects.{cleared_port}
 use Rattle.kernel_meaning.specs.Processes.{refuses}
 use Rattle.kernel_meaning.specs.Sharing as sharing
 use Rattle.kernel_laws.proofs.OfProcesses.{normal_goes}
-use Rattle.kernel_laws.proofs.Primitives.{in_order_cleared, named_map, named_set}
+use Rattle.kernel_laws.proofs.Primitives.{in_order_cleared, named_at, named_map, named_set}
 use Rattle.kernel_laws.proofs.Shares.{Shares, each_map}
 use Rattle.kernel_laws.proofs.NumberSteps.{Named, IsOf, nothing_goes, either_goes, after_goes, put_goes, rests_goes, release_goes, row_is_of, refuse_goes, answer_goes}
 
-module _ (d : ListKey → Discipline) (names : ℕ → List ℕ) where
+module _ (d : ListKey → Discipline) (names : List (List ℕ)) where
   -- a step of a partition's kernel, and what it needs
   pub record Moves (may : May) (k : Kernel) (t : Step Kernel) : Type 0 where
     pub goes : Goes d names may k.processes (lifted (λ (x : Kernel). x.processes) t)
@@ -63,20 +63,20 @@ module _ (d : ListKey → Discipline) (names : ℕ → List ℕ) where
 
   -- ---- Clear
 
-  started_named : (m : Mode) (rows : List ProcessStatus) → AreNamed (subject_at names) rows → AreNamed (subject_at names) (started_rows m rows)
+  started_named : (m : Mode) (rows : List ProcessStatus) → AreNamed names rows → AreNamed names (started_rows m rows)
   started_named m rows h = by_mode m
     where
-      first : (o : Option ProcessStatus) → slice_get rows 0 ≡ o → AreNamed (subject_at names) (ready_init o rows)
+      first : (o : Option ProcessStatus) → slice_get rows 0 ≡ o → AreNamed names (ready_init o rows)
       first None e = h
-      first (Some r) e = named_set (subject_at names) rows 0 (record r { state = Ready }) h (h 0 r e)
+      first (Some r) e = named_set names rows 0 (record r { state = Ready }) h (named_at names rows 0 r h e)
 
-      by_mode : (m : Mode) → AreNamed (subject_at names) (started_rows m rows)
+      by_mode : (m : Mode) → AreNamed names (started_rows m rows)
       by_mode mode.Idle = h
       by_mode mode.ColdStart = first (slice_get rows 0) refl
       by_mode mode.WarmStart = first (slice_get rows 0) refl
       by_mode mode.Normal = first (slice_get rows 0) refl
 
-  clear_told : (m : Mode) → [] ≡ ready_lines (clear_lines m)
+  clear_told : (m : Mode) → [] ≡ called (clear_lines m)
   clear_told mode.Idle = refl
   clear_told mode.ColdStart = refl
   clear_told mode.WarmStart = refl
@@ -87,7 +87,7 @@ module _ (d : ListKey → Discipline) (names : ℕ → List ℕ) where
     goes = record {
       takings = [];
       follows = λ n o. in_order_cleared d n k.processes.queues;
-      named = started_named m (map forgotten k.processes.rows) (named_map (subject_at names) forgotten (λ r. refl) k.processes.rows h.named);
+      named = started_named m (map forgotten k.processes.rows) (named_map names forgotten (λ r. refl) k.processes.rows h.named);
       told = clear_told m;
       allowed = tt;
     };
@@ -170,19 +170,19 @@ module _ (d : ListKey → Discipline) (names : ℕ → List ℕ) where
   acts_moves may k p e (Some action) h = enters_moves may k p e (mode_of_action action) h
 
   -- an error reports no process as ready
-  queues_told : (p : Runner) (e : ErrorKind) (words : List ℤ) → [] ≡ ready_lines (queues p e words).lines
+  queues_told : (p : Runner) (e : ErrorKind) (words : List ℤ) → [] ≡ called (queues p e words).lines
   queues_told runner.Init e words = refl
   queues_told runner.Handler e words = refl
   queues_told (runner.Process p) e words = refl
 
-  waits_told : (p : Runner) (e : ErrorKind) (words : List ℤ) (r : Response) → [] ≡ ready_lines (waits_or_leaves p e words r).lines
+  waits_told : (p : Runner) (e : ErrorKind) (words : List ℤ) (r : Response) → [] ≡ called (waits_or_leaves p e words r).lines
   waits_told p e words response.Handler = queues_told p e words
   waits_told p e words (response.Partition action) = refl
   waits_told p e words (response.Module action) = refl
 
   -- a step that leaves the partition unchanged and reports no process as ready, then the action that remains
   -- to be done
-  then_acts_moves : (may : May) (k : Kernel) (p : Runner) (e : ErrorKind) (s : Step (Option PartitionAction)) → IsReady k → [] ≡ ready_lines s.lines → Moves may k (then_acts k p e s)
+  then_acts_moves : (may : May) (k : Kernel) (p : Runner) (e : ErrorKind) (s : Step (Option PartitionAction)) → IsReady k → [] ≡ called s.lines → Moves may k (then_acts k p e s)
   then_acts_moves may k p e s h told =
       after_moves may k _ _ (record { goes = record { takings = []; follows = λ n o. o; named = h.named; told = told; allowed = tt }; objects = h.objects; ports = h.ports }) (λ j. acts_moves may k p e s.part j)
 
@@ -201,12 +201,12 @@ module _ (d : ListKey → Discipline) (names : ℕ → List ℕ) where
       after_moves may k (tells_error k error.HardwareFault None (response.Partition (action_of k.fixed.health error.HardwareFault))) _
       (record { goes = record { takings = []; follows = λ n o. o; named = h.named; told = refl; allowed = tt }; objects = h.objects; ports = h.ports }) (λ j. then_clears_moves may k _ j)
 
-  row_told : {P : Type 0} (refused : ReturnCode → Step P) (checks : List (Bool × ReturnCode)) (effect : Step P) → ((c : ReturnCode) → [] ≡ ready_lines (refused c).lines) → [] ≡ ready_lines effect.lines
-      → [] ≡ ready_lines (row refused checks effect).lines
+  row_told : {P : Type 0} (refused : ReturnCode → Step P) (checks : List (Bool × ReturnCode)) (effect : Step P) → ((c : ReturnCode) → [] ≡ called (refused c).lines) → [] ≡ called effect.lines
+      → [] ≡ called (row refused checks effect).lines
   row_told refused [] effect h g = g
   row_told refused (check ∷ checks) effect h g = either check.0 (row_told refused checks effect h g)
     where
-      either : (b : Bool) → [] ≡ ready_lines (row refused checks effect).lines → [] ≡ ready_lines (if b then refused check.1 else row refused checks effect).lines
+      either : (b : Bool) → [] ≡ called (row refused checks effect).lines → [] ≡ called (if b then refused check.1 else row refused checks effect).lines
       either true later = h check.1
       either false later = later
 

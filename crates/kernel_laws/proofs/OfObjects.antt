@@ -1,5 +1,5 @@
 -- The services on objects continue the numbers.
-use Rattle.kernel_laws.proofs.Prelude.{List, ℕ, ℤ, refl, Discipline, Mode, At, ListKey, Runner, Call, serves_objects, Objects, Sharing, HaveDisciplines, may_by}
+use Rattle.kernel_laws.proofs.Prelude.{List, ℕ, ℤ, refl, Discipline, Mode, At, ListKey, Runner, serves_objects, Objects, Sharing, HaveDisciplines, may_by}
 use Rattle.apex_types.specs.declared.service.Call.TheVariants as call
 use Rattle.apex_types.specs.declared.service.ObjectCall.{ObjectCall}
 use Rattle.apex_types.specs.declared.service.ObjectCall.TheVariants as object
@@ -9,7 +9,7 @@ use Rattle.kernel_laws.proofs.OfEvents.{create_event_shares, set_event_shares, r
 use Rattle.kernel_laws.proofs.OfSemaphores.{create_semaphore_shares, wait_semaphore_shares, signal_semaphore_shares}
 use Rattle.kernel_laws.proofs.Shares.{Shares, IsSet, get_id_shares, get_status_shares, nothing_shares}
 
-module _ (d : ListKey → Discipline) (names : ℕ → List ℕ) where
+module _ (d : ListKey → Discipline) (names : List (List ℕ)) where
   -- The last clause is for services that only write lines.
   pub serves_objects_shares : (m : Mode) (at : At) (b : Sharing Objects) (p : Runner) (c : ObjectCall) (words : List ℤ) → IsSet d names Objects (HaveDisciplines d) b
       → Shares d names Objects (HaveDisciplines d) (may_by p (call.Object c)) b (serves_objects m at b p c words)

@@ -1,5 +1,5 @@
 -- The services on ports, arrivals and senders that enter continue the numbers.
-use Rattle.kernel_laws.proofs.Prelude.{Bool, List, None, Option, Some, false, refl, subst, true, ℕ, ℤ, ◌∷◌, ◌≡◌, none-some, same_Some, not, pos, ArrayVec, Discipline, Mode, At, ListKey, Runner, Entry, ProcessStatus, ArrayPlace, Call, is_duration, numbered_in, Ports, discipline_of, Port, is_full, is_sampling, port_at, numbered, row_of, Sharing, is_large_enough, is_length, has, refuses, Step, first_words, message, first_waiting, handed_by, waiting, PortsHaveDisciplines, May, may_by, itself}
+use Rattle.kernel_laws.proofs.Prelude.{Bool, List, None, Option, Some, false, refl, subst, true, ℕ, ℤ, ◌∷◌, ◌≡◌, none-some, same_Some, not, pos, ArrayVec, Discipline, Mode, At, ListKey, Runner, Entry, ProcessStatus, ArrayPlace, is_duration, numbered_in, Ports, discipline_of, Port, is_full, is_sampling, port_at, numbered, row_of, Sharing, is_large_enough, is_length, has, refuses, Step, first_words, message, first_waiting, handed_by, waiting, PortsHaveDisciplines, May, may_by, itself}
 use Rattle.std.proofs.Common.{[]}
 use Rattle.std.specs.Prelude.{length}
 use Rattle.apex_types.specs.declared.codes.ReturnCode.TheVariants as code
@@ -32,7 +32,7 @@ queuing_of (Some g) f e = by_kind (is_sampling g.1) e
     by_kind true q = absurd (none-some f q)
     by_kind false q = q
 
-module _ (d : ListKey → Discipline) (names : ℕ → List ℕ) where
+module _ (d : ListKey → Discipline) (names : List (List ℕ)) where
   abbrev Set : Sharing Ports → Type 0
   Set b = IsSet d names Ports (PortsHaveDisciplines d) b
 

@@ -10,7 +10,7 @@ use Rattle.kernel_meaning.specs.Processes.{has, refuses}
 use Rattle.kernel_meaning.specs.ProcessServices.{get_time}
 use Rattle.kernel_laws.proofs.NumberSteps.{Named, IsOf, nothing_goes, either_goes, row_goes, after_goes, put_goes, last_goes, wakes_goes, waits_goes, rests_goes, release_goes, fills_goes, on_at, row_is_of, refuse_goes, answer_goes, lock_goes}
 
-module _ (d : ListKey → Discipline) (names : ℕ → List ℕ) where
+module _ (d : ListKey → Discipline) (names : List (List ℕ)) where
   pub get_process_id_goes : (may : May) (s : Processes) (p : Runner) (name : ℤ) → Named d names s → Goes d names may s (get_process_id s p name)
   get_process_id_goes may s p name h =
       row_goes d names may s (refuses s p service.GetProcessId) ((is_unknown s name, code.InvalidConfig) ∷ []) (answers s p service.GetProcessId code.NoError (name ∷ []))

@@ -1,5 +1,5 @@
 -- The services and the choice continue the numbers.
-use Rattle.kernel_laws.proofs.Prelude.{Bool, List, None, Option, Some, false, refl, true, ℕ, ℤ, ◌∙◌, ◌∷◌, ◌≡◌, if◌then◌else◌, not, ◌&&◌, place_of, Discipline, Mode, Ready, Running, At, ListKey, Runner, ProcessStatus, WaitingError, ArrayPlace, Call, Asks, Nothing, Calls, Faults, Ends, Errors, begins_if_dormant, create_error_handler, creates_found, get_error_status, is_message_length, is_waiting, starts_handler, takes_error, Kernel, of_objects, of_ports, with_errors, with_objects, with_ports, chooses_with_handler, pick, treats_asked, are_same, chooses, leaves_processor, preempts, runs, serves, takes_processor, next_release_of, number_of, Processes, is_dormant, is_normal, put_ready, put_unready, row_of, is_same, Sharing, is_large_enough, begins, Step, after, lifted, nothing, Goes, subject_at, May, nobody, may_by, may_asked}
+use Rattle.kernel_laws.proofs.Prelude.{Bool, List, None, Option, Some, false, refl, true, ℕ, ℤ, ◌∙◌, ◌∷◌, ◌≡◌, if◌then◌else◌, not, ◌&&◌, place_of, Discipline, Mode, Ready, Running, At, ListKey, Runner, ProcessStatus, WaitingError, ArrayPlace, Call, Asks, Nothing, Calls, Faults, Ends, Errors, begins_if_dormant, create_error_handler, creates_found, get_error_status, is_message_length, is_waiting, starts_handler, takes_error, Kernel, with_errors, with_objects, with_ports, chooses_with_handler, pick, treats_asked, are_same, chooses, leaves_processor, preempts, runs, serves, takes_processor, next_release_of, number_of, Processes, is_dormant, is_normal, put_ready, put_unready, row_of, is_same, Sharing, is_large_enough, begins, Step, after, lifted, nothing, Goes, May, nobody, may_by, may_asked}
 use Rattle.std.proofs.Common.{[]}
 use Rattle.std.specs.Prelude.{length}
 use Rattle.apex_types.specs.declared.limits.TheConstants.{MOST_REPORT_WORDS}
@@ -22,7 +22,7 @@ use Rattle.kernel_laws.proofs.Primitives.{named_set}
 use Rattle.kernel_laws.proofs.Shares.{Shares, IsSet, row_shares, after_shares, becomes_shares, answers_shares, refuses_shares, fills_shares, of_shares}
 use Rattle.kernel_laws.proofs.NumberSteps.{Named, nothing_goes, after_goes, put_goes, row_is_of, refuse_goes, answer_goes, row_goes}
 
-module _ (d : ListKey → Discipline) (names : ℕ → List ℕ) where
+module _ (d : ListKey → Discipline) (names : List (List ℕ)) where
   -- ---- errors
 
   abbrev ToErrors : May → sharing.Sharing Errors → Step (sharing.Sharing Errors) → Type 0
@@ -134,14 +134,14 @@ module _ (d : ListKey → Discipline) (names : ℕ → List ℕ) where
     where
       by_row : (o : Option ProcessStatus) → row_of s p ≡ o → Stays s (preempts s p o)
       by_row None e = stays_here s h
-      by_row (Some r) e = record { ready = refl; queues = refl; named = named_set (subject_at names) s.rows (place_of p) (record r { state = Ready }) h (row_is_of d names s p r h e) }
+      by_row (Some r) e = record { ready = refl; queues = refl; named = named_set names s.rows (place_of p) (record r { state = Ready }) h (row_is_of d names s p r h e) }
 
   runs_stays : (s : Processes) (p : Runner) → Named d names s → Stays s (runs s p (row_of s p))
   runs_stays s p h = by_row (row_of s p) refl
     where
       by_row : (o : Option ProcessStatus) → row_of s p ≡ o → Stays s (runs s p o)
       by_row None e = stays_here s h
-      by_row (Some r) e = record { ready = refl; queues = refl; named = named_set (subject_at names) s.rows (place_of p) (record r { state = Running }) h (row_is_of d names s p r h e) }
+      by_row (Some r) e = record { ready = refl; queues = refl; named = named_set names s.rows (place_of p) (record r { state = Running }) h (row_is_of d names s p r h e) }
 
   leaves_stays : (s : Processes) (o : Option Runner) → Named d names s → Stays s (leaves_processor s o)
   leaves_stays s None h = stays_here s h
@@ -157,8 +157,8 @@ module _ (d : ListKey → Discipline) (names : ℕ → List ℕ) where
 
   wakes_handler : (s : Processes) (r : ProcessStatus) → Named d names s → row_of s runner.Handler ≡ Some r → (b : Bool)
       → Stays s (if b then nothing (put_unready s runner.Handler (record r { wait = wait.Nothing; due = None })) else record { part = put_ready s runner.Handler (record r { state = Ready; wait = wait.Nothing; due = None }); lines = event.State r.who Ready ∷ []; actions = [] })
-  wakes_handler s r h e true = record { ready = refl; queues = refl; named = named_set (subject_at names) s.rows 1 _ h (row_is_of d names s runner.Handler r h e) }
-  wakes_handler s r h e false = record { ready = refl; queues = refl; named = named_set (subject_at names) s.rows 1 _ h (row_is_of d names s runner.Handler r h e) }
+  wakes_handler s r h e true = record { ready = refl; queues = refl; named = named_set names s.rows 1 _ h (row_is_of d names s runner.Handler r h e) }
+  wakes_handler s r h e false = record { ready = refl; queues = refl; named = named_set names s.rows 1 _ h (row_is_of d names s runner.Handler r h e) }
 
   begins_stays : (s : Processes) → Named d names s → Stays s (begins_if_dormant s (row_of s runner.Handler))
   begins_stays s h = by_row (row_of s runner.Handler) refl

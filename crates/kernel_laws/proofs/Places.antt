@@ -1,5 +1,5 @@
 -- The items of a list after one of them, or each, is replaced.
-use Rattle.kernel_laws.proofs.Prelude.{◌≡◌, ◌≢◌, ℕ, zero, suc, true, List, ◌∷◌, Some, refl, none-some, is_some, map, slice_get, slice_set}
+use Rattle.kernel_laws.proofs.Prelude.{◌≡◌, ◌≢◌, ℕ, zero, suc, true, List, ◌∷◌, Some, refl, none-some, same_Some, is_some, map, slice_get, slice_set}
 use Rattle.std.proofs.Common.{[], ap}
 
 pub get_set_same : {A : Type 0} (xs : List A) (i : ℕ) (x y : A) → slice_get xs i ≡ Some x → slice_get (slice_set xs i y) i ≡ Some y
@@ -26,3 +26,9 @@ pub some_map : {A B : Type 0} (f : A → B) (xs : List A) (i : ℕ) → is_some 
 some_map f [] i h = h
 some_map f (x ∷ xs) zero h = refl
 some_map f (x ∷ xs) (suc i) h = some_map f xs i h
+
+-- each item of a list to which a function is applied comes from one at its place
+pub mapped : {A B : Type 0} (f : A → B) (xs : List A) (i : ℕ) (y : B) → slice_get (map f xs) i ≡ Some y → (x : A) × (slice_get xs i ≡ Some x) × (f x ≡ y)
+mapped f [] i y e = absurd (none-some y e)
+mapped f (x ∷ xs) zero y e = (x, refl, same_Some (f x) y e)
+mapped f (x ∷ xs) (suc i) y e = mapped f xs i y e

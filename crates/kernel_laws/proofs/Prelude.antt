@@ -39,7 +39,8 @@ pub use Rattle.kernel_laws.specs.Agreement.{IsPlain, IsReadyAt, RecordsAgree, re
 pub use Rattle.kernel_laws.specs.Bursts.{Burst, alone}
 pub use Rattle.kernel_laws.specs.Choice.{AreNumbersBelow, IsAmong, IsBeforeEach, IsNumbered, Picks, takes}
 pub use Rattle.kernel_laws.specs.History.{Admits, Advances, Arrives, BreaksDown, GoesOut, Happening, Leaves, Move, Moves, Starts, Tells, all_happen, happens, makes, members_after}
-pub use Rattle.kernel_laws.specs.Numbers.{AreAllowed, AreNamed, BeginsToWait, Follows, Goes, HaveDisciplines, IsInOrder, May, Numbers, PortsHaveDisciplines, first_numbers, itself, may_asked, may_by, nobody, only_last, process_of, ready_lines, subject_at, take_all, take_one, those_ready}
+pub use Rattle.kernel_laws.proofs.Going.{AreAllowed, Follows, Goes, called, those_ready}
+pub use Rattle.kernel_laws.specs.Numbers.{AreNamed, BeginsToWait, HaveDisciplines, IsInOrder, May, Numbers, PortsHaveDisciplines, first_numbers, itself, may_asked, may_by, nobody, only_last, process_of, ready_lines, take_all, take_one}
 pub use Rattle.kernel_laws.specs.OrderLaw.{IsOrdered, chosen_among}
 pub use Rattle.kernel_laws.specs.Quiet.{HasNothingDue}
 pub use Rattle.kernel_laws.specs.RunLaw.{AreOrdered, disciplines_of, names_of}

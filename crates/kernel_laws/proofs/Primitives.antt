@@ -1,12 +1,15 @@
 -- The effect of each primitive on the numbers.
-use Rattle.kernel_laws.proofs.Prelude.{List, Some, refl, subst, suc, sym, zero, ℕ, ◌++◌, ◌∙◌, ◌∷◌, ◌≡◌, ◌+◌, arith, append_assoc, same_Some, slice_get, slice_set, Discipline, EventKind, Subject, ListKey, Priority, Runner, Entry, ProcessStatus, IsNumbered, AreNumbersBelow, entry, Processes, goes_last, leaves, joins, list_at, emptied, Queues, AreQueues, AreAllowed, AreNamed, BeginsToWait, Follows, IsInOrder, Numbers, ready_lines, take_all, take_one, those_ready, May}
+use Rattle.kernel_laws.proofs.Prelude.{List, Some, refl, subst, suc, sym, zero, ℕ, ◌++◌, ◌∙◌, ◌∷◌, ◌≡◌, ◌+◌, arith, append_assoc, same_Some, slice_get, slice_set, Discipline, EventKind, Subject, ListKey, Priority, Runner, Entry, ProcessStatus, IsNumbered, AreNumbersBelow, entry, Processes, goes_last, leaves, joins, list_at, emptied, Queues, AreQueues, AreAllowed, AreNamed, BeginsToWait, Follows, IsInOrder, Numbers, ready_lines, take_all, take_one, those_ready, called, May}
 use Rattle.std.proofs.Common.{[], ap}
-use Rattle.std.specs.Prelude.{map}
+use Rattle.std.proofs.lemmas.List.{map-append, map-set}
+use Rattle.std.proofs.lemmas.Option.{slice_get-map}
+use Rattle.std.specs.Prelude.{map, option_map}
 use Rattle.apex_types.specs.declared.identity.Runner.TheVariants as runner
 use Rattle.kernel_meaning.specs.Processes.{leaves_queues}
 use Rattle.kernel_laws.proofs.Choosing as choosing
 use Rattle.kernel_laws.proofs.WaitingOrder as waiting
-use Rattle.kernel_laws.specs.Numbers.{Taking, BecomesReady, GoesLast, ready_line, taken_ready}
+use Rattle.kernel_laws.specs.Numbers.{Taking, BecomesReady, GoesLast, ready_line, subjects}
+use Rattle.kernel_laws.proofs.Going.{taken_ready}
 
 -- ---- the next number grows
 
@@ -79,14 +82,17 @@ pub lines_after : (ls ms : List EventKind) → ready_lines (ls ++ ms) ≡ ready_
 lines_after [] ms = refl
 lines_after (l ∷ ls) ms = ap (λ rest. ready_line l ++ rest) (lines_after ls ms) ∙ sym (append_assoc (ready_line l) (ready_lines ls) (ready_lines ms))
 
-pub those_after : (names : ℕ → List ℕ) (ts us : List Taking) → those_ready names (ts ++ us) ≡ those_ready names ts ++ those_ready names us
+pub those_after : (names : List (List ℕ)) (ts us : List Taking) → those_ready names (ts ++ us) ≡ those_ready names ts ++ those_ready names us
 those_after names [] us = refl
 those_after names (t ∷ ts) us = ap (λ rest. taken_ready names t ++ rest) (those_after names ts us) ∙ sym (append_assoc (taken_ready names t) (those_ready names ts) (those_ready names us))
 
-pub told_after : (names : ℕ → List ℕ) (ts us : List Taking) (ls ms : List EventKind) → those_ready names ts ≡ ready_lines ls → those_ready names us ≡ ready_lines ms
-    → those_ready names (ts ++ us) ≡ ready_lines (ls ++ ms)
+pub called_after : (ls ms : List EventKind) → called (ls ++ ms) ≡ called ls ++ called ms
+called_after ls ms = ap (λ (xs : List (List ℕ)). map Some xs) (lines_after ls ms) ∙ map-append Some (ready_lines ls) (ready_lines ms)
+
+pub told_after : (names : List (List ℕ)) (ts us : List Taking) (ls ms : List EventKind) → those_ready names ts ≡ called ls → those_ready names us ≡ called ms
+    → those_ready names (ts ++ us) ≡ called (ls ++ ms)
 told_after names ts us ls ms h k =
-    those_after names ts us ∙ (ap (λ xs. xs ++ those_ready names us) h ∙ (ap (λ ys. ready_lines ls ++ ys) k ∙ sym (lines_after ls ms)))
+    those_after names ts us ∙ (ap (λ xs. xs ++ those_ready names us) h ∙ (ap (λ ys. called ls ++ ys) k ∙ sym (called_after ls ms)))
 
 pub allowed_after : (may : May) (ts us : List Taking) → AreAllowed may ts → AreAllowed may us → AreAllowed may (ts ++ us)
 allowed_after may [] us h k = k
@@ -94,25 +100,26 @@ allowed_after may (t ∷ ts) us h k = (h.0, allowed_after may ts us h.1 k)
 
 -- ---- names
 
-pub named_set : (who : ℕ → Subject) (rows : List ProcessStatus) (i : ℕ) (x : ProcessStatus) → AreNamed who rows → x.who ≡ who i → AreNamed who (slice_set rows i x)
-named_set who [] zero x h e = h
-named_set who [] (suc i) x h e = h
-named_set who (r ∷ rows) zero x h e = first
-  where
-    first : (place : ℕ) (y : ProcessStatus) → slice_get (x ∷ rows) place ≡ Some y → y.who ≡ who place
-    first zero y is = subst (λ (z : ProcessStatus). z.who ≡ who 0) (same_Some x y is) e
-    first (suc place) y is = h (suc place) y is
-named_set who (r ∷ rows) (suc i) x h e = later (named_set (λ k. who (suc k)) rows i x (λ k. h (suc k)) e)
-  where
-    later : AreNamed (λ k. who (suc k)) (slice_set rows i x) → (place : ℕ) (y : ProcessStatus) → slice_get (r ∷ slice_set rows i x) place ≡ Some y → y.who ≡ who place
-    later rest zero y is = h 0 y is
-    later rest (suc place) y is = rest place y is
+set_same_at : {A : Type 0} (xs : List A) (i : ℕ) (x : A) → slice_get xs i ≡ Some x → slice_set xs i x ≡ xs
+set_same_at [] i x e = refl
+set_same_at {A = A} (a ∷ xs) zero x e = ap (λ (b : A). b ∷ xs) (sym (same_Some a x e))
+set_same_at (a ∷ xs) (suc i) x e = ap (λ rest. a ∷ rest) (set_same_at xs i x e)
 
-pub named_map : (who : ℕ → Subject) (f : ProcessStatus → ProcessStatus) → ((r : ProcessStatus) → (f r).who ≡ r.who) → (rows : List ProcessStatus) → AreNamed who rows
-    → AreNamed who (map f rows)
-named_map who f same [] h = h
-named_map who f same (r ∷ rows) h = at (named_map (λ k. who (suc k)) f same rows (λ k. h (suc k)))
-  where
-    at : AreNamed (λ k. who (suc k)) (map f rows) → (place : ℕ) (y : ProcessStatus) → slice_get (map f (r ∷ rows)) place ≡ Some y → y.who ≡ who place
-    at rest zero y is = subst (λ (z : ProcessStatus). z.who ≡ who 0) (same_Some (f r) y is) (same r ∙ h 0 r refl)
-    at rest (suc place) y is = rest place y is
+-- the subject of a record
+abbrev pub who : ProcessStatus → Subject
+who r = r.who
+
+-- the record at a place names the runner there
+pub named_at : (names : List (List ℕ)) (rows : List ProcessStatus) (i : ℕ) (r : ProcessStatus) → AreNamed names rows → slice_get rows i ≡ Some r → slice_get (subjects names) i ≡ Some r.who
+named_at names rows i r h e = ap (λ (xs : List Subject). slice_get xs i) (sym h) ∙ (slice_get-map who rows i ∙ ap (option_map who) e)
+
+pub named_set : (names : List (List ℕ)) (rows : List ProcessStatus) (i : ℕ) (x : ProcessStatus) → AreNamed names rows → slice_get (subjects names) i ≡ Some x.who → AreNamed names (slice_set rows i x)
+named_set names rows i x h e = map-set who rows i x ∙ (ap (λ (xs : List Subject). slice_set xs i x.who) h ∙ set_same_at (subjects names) i x.who e)
+
+map_same : (f : ProcessStatus → ProcessStatus) → ((r : ProcessStatus) → (f r).who ≡ r.who) → (rows : List ProcessStatus) → map who (map f rows) ≡ map who rows
+map_same f same [] = refl
+map_same f same (r ∷ rows) = ap (λ (s : Subject). s ∷ map who (map f rows)) (same r) ∙ ap (λ (ss : List Subject). r.who ∷ ss) (map_same f same rows)
+
+pub named_map : (names : List (List ℕ)) (f : ProcessStatus → ProcessStatus) → ((r : ProcessStatus) → (f r).who ≡ r.who) → (rows : List ProcessStatus) → AreNamed names rows
+    → AreNamed names (map f rows)
+named_map names f same rows h = map_same f same rows ∙ h

@@ -31,7 +31,7 @@ pub not_handler : (q : ProcessIndex) → runner.Handler ≡ runner.Process q →
 unfolding is_process
 not_handler q e = false≢true (ap is_process e)
 
-same_runner : (p q : Runner) → is_same p q ≡ true → p ≡ q
+pub same_runner : (p q : Runner) → is_same p q ≡ true → p ≡ q
 same_runner runner.Init runner.Init e = refl
 same_runner runner.Init runner.Handler e = absurd (false≢true e)
 same_runner runner.Init (runner.Process q) e = absurd (false≢true e)

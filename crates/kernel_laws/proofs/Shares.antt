@@ -46,7 +46,7 @@ numbered_is is xs (negsuc n) f h e = absurd (none-some f e)
 
 -- ---- steps
 
-module _ (d : ListKey → Discipline) (names : ℕ → List ℕ) (O : Type 0) (Fit : O → Type 0) where
+module _ (d : ListKey → Discipline) (names : List (List ℕ)) (O : Type 0) (Fit : O → Type 0) where
   pub record Shares (may : May) (b : Sharing O) (t : Step (Sharing O)) : Type 0 where
     pub goes : Goes d names may b.processes (lifted (λ (x : Sharing O). x.processes) t)
     pub fit : Fit t.part.shared

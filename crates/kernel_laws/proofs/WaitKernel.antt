@@ -26,7 +26,7 @@ use Rattle.kernel_laws.proofs.WaitingCounts.{lists_emptied, none_emptied}
 
 -- no record that is forgotten waits
 forgotten_waits : (rows : List ProcessStatus) (place : ℕ) → WaitsForObject (slice_get (map forgotten rows) place) → ⊥
-forgotten_waits [] place a = a
+forgotten_waits [] place a = false≢true a
 forgotten_waits (x ∷ xs) zero a = false≢true a
 forgotten_waits (x ∷ xs) (suc place) a = forgotten_waits xs place a
 

@@ -30,7 +30,7 @@ pub caller_waits_not : (s : Processes) → RecordsAgree s → (p : Runner) → I
 caller_waits_not s h p caller q is = by_row (record_at s.rows q) refl
   where
     by_row : (o : Option ProcessStatus) → record_at s.rows q ≡ o → WaitsForObject o → ⊥
-    by_row None e a = a
+    by_row None e a = false≢true a
     by_row (Some r) e a = false≢true (sym (caller_idle s h p caller r (subst (λ (o : Runner). row_of s o ≡ Some r) (sym is) e) q is) ∙ a)
 
 module _ {few : Type 0} (s : Processes) (h : Hold few s) where

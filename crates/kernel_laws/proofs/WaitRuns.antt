@@ -48,7 +48,7 @@ module _ {C : Type 0} (few : ℕ → Type 0) where
           subst (λ (p : ℕ). KernelHolds (few p) z.world.kernel) same (subst (λ (w : Member C). KernelHolds (few (suc place)) w.world.kernel) is own)
       by_test false q = h (suc j) z (sym (get_set_other ms place j y (λ k. eqb-false (suc place) (suc j) q (ap suc k))) ∙ e)
 
-  module _ (d : ℕ → ListKey → Discipline) (names : ℕ → ℕ → List ℕ) where
+  module _ (d : ℕ → ListKey → Discipline) (names : ℕ → List (List ℕ)) where
     happens_hold : (numbers : ℕ → Numbers) (move : Move) (p : ℕ) (ms : List (Member C)) → AreOrdered d names numbers ms → AllHold ms → AllHold (happens (Moves p move) ms).state
     happens_hold numbers move zero ms ordered h = h
     happens_hold numbers move (suc place) ms ordered h = by_member (slice_get ms place) refl
@@ -62,7 +62,7 @@ module _ {C : Type 0} (few : ℕ → Type 0) where
     ends_hold : (hs : List Happening) (numbers : ℕ → Numbers) (ms : List (Member C)) → GoThrough d names hs numbers ms → AllHold ms → AllHold (all_happen hs ms).state
     ends_hold [] numbers ms g h = h
     ends_hold (Tells at action ∷ hs) numbers ms g h = ends_hold hs numbers ms g h
-    ends_hold (Moves p move ∷ hs) numbers ms g h = let rest = g.1 in ends_hold hs _ _ rest.1 (happens_hold numbers move p ms g.0 h)
+    ends_hold (Moves p move ∷ hs) numbers ms g h = let rest = g.1 in let after = rest.1 in ends_hold hs _ _ after.1 (happens_hold numbers move p ms g.0 h)
 
 -- ---- before the first start
 
@@ -86,7 +86,7 @@ abbrev AreIdle : List ProcessStatus → Type 0
 AreIdle rows = (place : ℕ) → WaitsForObject (slice_get rows place) → ⊥
 
 idle_rows : {A : Type 0} (f : A → ProcessStatus) → ((x : A) → is_at_object (f x).wait ≡ false) → (xs : List A) → AreIdle (map f xs)
-idle_rows f idle [] place a = a
+idle_rows f idle [] place a = false≢true a
 idle_rows f idle (x ∷ xs) zero a = false≢true (sym (idle x) ∙ a)
 idle_rows f idle (x ∷ xs) (suc place) a = idle_rows f idle xs place a
 

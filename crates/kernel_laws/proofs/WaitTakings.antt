@@ -1,6 +1,7 @@
 -- A caller that begins to wait takes a number for it, and no other does.
-use Rattle.kernel_laws.proofs.Prelude.{◌≡◌, ◌↔◌, inl, inr, ℕ, ◌-◌, ℤ, Bool, true, false, List, ◌∷◌, length, Option, Some, None, refl, sym, subst, none-some, nat_lt, if◌then◌else◌, pos, ArrayVec, place_of, Waiting, Discipline, Mode, ReturnCode, At, ListKey, ProcessIndex, Runner, Due, Place, ProcessStatus, ArrayPlace, Service, serves_objects, Objects, Blackboard, Buffer, Semaphore, ApexEvent, Port, Ports, discipline_of, is_full, AreAllowed, BeginsToWait, Follows, Goes, HaveDisciplines, IsInOrder, May, PortsHaveDisciplines, nobody, take_one, Processes, row_of, entry, is_busy, is_zero, joins, waits, Sharing, Step, message, blocks, enters, first_waiting, time_out, waits_at, zeros_of_wait, record_at}
-use Rattle.std.proofs.Common.{[]}
+use Rattle.kernel_laws.proofs.Prelude.{◌≡◌, ℕ, ◌-◌, ℤ, Bool, true, false, List, ◌∷◌, length, Option, Some, None, refl, sym, subst, none-some, nat_lt, if◌then◌else◌, pos, ArrayVec, place_of, Waiting, Discipline, Mode, ReturnCode, At, ListKey, ProcessIndex, Runner, Due, Place, ProcessStatus, ArrayPlace, Service, serves_objects, Objects, Blackboard, Buffer, Semaphore, ApexEvent, Port, Ports, discipline_of, is_full, BeginsToWait, Follows, Goes, HaveDisciplines, IsInOrder, May, PortsHaveDisciplines, nobody, take_one, Processes, row_of, entry, is_busy, is_zero, joins, waits, Sharing, Step, message, blocks, enters, first_waiting, time_out, waits_at, zeros_of_wait, record_at}
+use Rattle.std.proofs.Common.{[], ap, ◌∙◌}
+use Rattle.std.specs.Prelude.{slice_set}
 use Rattle.apex_types.specs.declared.codes.Discipline.TheVariants as discipline
 use Rattle.apex_types.specs.declared.codes.ReturnCode.TheVariants as code
 use Rattle.apex_types.specs.declared.identity.Runner.TheVariants as runner
@@ -20,11 +21,11 @@ use Rattle.kernel_meaning.specs.Processes.{refuses as refuses_alone}
 use Rattle.kernel_meaning.specs.SemaphoreServices as semaphores
 use Rattle.kernel_meaning.specs.Sharing.{answers, of_processes, on, refuses}
 use Rattle.kernel_meaning.specs.Step.{nothing}
-use Rattle.kernel_laws.specs.Numbers.{Taking, BecomesReady, GoesLast, waits_by}
-use Rattle.kernel_laws.specs.OrderLaw.{HasTaken}
+use Rattle.kernel_laws.specs.Numbers.{Taking, waits_by}
 use Rattle.kernel_laws.specs.WhoWaits.{WaitsForObject}
+use Rattle.kernel_laws.proofs.ExactTakings.{IsExact, exact_alone, none_ready, not_waiting}
 use Rattle.kernel_laws.proofs.LastTakings.{all_may}
-use Rattle.kernel_laws.proofs.NumberSteps.{Named, nothing_goes, refuse_goes, row_is_of, waits_goes}
+use Rattle.kernel_laws.proofs.NumberSteps.{Named, nothing_goes, refuse_goes, row_is_of, waiting_told, waits_goes}
 use Rattle.kernel_laws.proofs.OfBlackboards as of_blackboards
 use Rattle.kernel_laws.proofs.OfBuffers as of_buffers
 use Rattle.kernel_laws.proofs.OfEvents as of_events
@@ -36,30 +37,26 @@ use Rattle.kernel_laws.proofs.Records.{IsFound, first_waiting_found}
 use Rattle.kernel_laws.proofs.Shares.{Shares, IsSet, after_shares, answers_shares, fills_shares, nothing_shares, refuses_shares}
 use Rattle.kernel_laws.proofs.WaitSteps.{released_idle}
 
--- nobody begins to wait, if nobody may
-none_begins : (ts : List Taking) (q : ℕ) → AreAllowed nobody ts → HasTaken (BeginsToWait q) ts → ⊥
-none_begins [] q h t = t
-none_begins (BecomesReady p ∷ ts) q h (inl e) = cc
-none_begins (BecomesReady p ∷ ts) q h (inr later) = none_begins ts q h.1 later
-none_begins (GoesLast p ∷ ts) q h t = none-some p h.0
-none_begins (BeginsToWait p ∷ ts) q h t = none-some p h.0
-
 -- who may go last, and who may begin to wait
 abbrev pub only_waits : ProcessIndex → May
 only_waits q = record { go_last = None; begin_to_wait = Some q.0 }
 
 -- ---- a caller that has to wait
 
-module _ (d : ListKey → Discipline) (names : ℕ → List ℕ) where
+module _ (d : ListKey → Discipline) (names : List (List ℕ)) where
   -- a step that continues the numbers, in which this process takes a number exactly if it waits for an object then
   record Begun (q : ProcessIndex) (s : Processes) (t : Step Processes) : Type 0 where
     pub goes : Goes d names (only_waits q) s t
-    pub begins : HasTaken (BeginsToWait q.0) goes.takings ↔ WaitsForObject (record_at t.part.rows q)
+    pub exact : IsExact (only_waits q) t.lines t.part goes.takings
+
+  -- the takings beside those that become ready
+  abbrev others : ℕ → Bool → List Taking
+  others q b = if b then BeginsToWait q ∷ [] else []
 
   quiet : (q : ProcessIndex) (s : Processes) (t : Step Processes) → Goes d names nobody s t → (WaitsForObject (record_at t.part.rows q) → ⊥) → Begun q s t
   quiet q s t g idle = record {
     goes = record { takings = g.takings; follows = g.follows; named = g.named; told = g.told; allowed = all_may (only_waits q) g.takings g.allowed };
-    begins = ((λ taken. absurd (none_begins g.takings q.0 g.allowed taken)), (λ a. absurd (idle a)));
+    exact = exact_alone (only_waits q) t.lines t.part g.takings (ap (others q.0) (sym (not_waiting (record_at t.part.rows q) idle))) g.allowed;
   }
 
   either_begun : (q : ProcessIndex) (s : Processes) (b : Bool) (t u : Step Processes) → Begun q s t → Begun q s u → Begun q s (if b then t else u)
@@ -77,7 +74,7 @@ module _ (d : ListKey → Discipline) (names : ℕ → List ℕ) where
         told = g.told;
         allowed = (refl, all_may (only_waits q) g.takings g.allowed);
       };
-      begins = ((λ taken. subst WaitsForObject (sym (get_set_same s.rows (place_of (runner.Process q)) r x there)) refl), (λ a. inl refl));
+      exact = ([], ap (λ (ts : List Taking). BeginsToWait q.0 ∷ ts) none ∙ ap (others q.0) (sym waits_now));
     }
       where
         x : ProcessStatus
@@ -88,6 +85,12 @@ module _ (d : ListKey → Discipline) (names : ℕ → List ℕ) where
 
         g : Goes d names nobody t (waits t (runner.Process q) r (wait.Object w.service w.array) due)
         g = waits_goes d names nobody t (runner.Process q) r (wait.Object w.service w.array) due h (row_is_of d names s (runner.Process q) r h there)
+
+        waits_now : WaitsForObject (record_at (slice_set s.rows (place_of (runner.Process q)) x) q)
+        waits_now = subst WaitsForObject (sym (get_set_same s.rows (place_of (runner.Process q)) r x there)) refl
+
+        none : g.takings ≡ []
+        none = none_ready names g.takings g.allowed (g.told ∙ sym (waiting_told r.who r.state))
 
         joined : Follows d (BeginsToWait q.0 ∷ []) s t
         joined n o =
@@ -110,7 +113,7 @@ module _ (d : ListKey → Discipline) (names : ℕ → List ℕ) where
   module _ (O : Type 0) (Fit : O → Type 0) where
     pub record Begins (q : ProcessIndex) (b : Sharing O) (t : Step (Sharing O)) : Type 0 where
       pub shares : Shares d names O Fit (only_waits q) b t
-      pub begins : HasTaken (BeginsToWait q.0) shares.goes.takings ↔ WaitsForObject (record_at t.part.processes.rows q)
+      pub exact : IsExact (only_waits q) t.lines t.part.processes shares.goes.takings
 
     nobody_begins : (q : ProcessIndex) (b : Sharing O) (t : Step (Sharing O)) → Shares d names O Fit nobody b t → (WaitsForObject (record_at t.part.processes.rows q) → ⊥) → Begins q b t
     nobody_begins q b t g idle = record {
@@ -118,14 +121,14 @@ module _ (d : ListKey → Discipline) (names : ℕ → List ℕ) where
         goes = record { takings = g.goes.takings; follows = g.goes.follows; named = g.goes.named; told = g.goes.told; allowed = all_may (only_waits q) g.goes.takings g.goes.allowed };
         fit = g.fit;
       };
-      begins = ((λ taken. absurd (none_begins g.goes.takings q.0 g.goes.allowed taken)), (λ a. absurd (idle a)));
+      exact = exact_alone (only_waits q) t.lines t.part.processes g.goes.takings (ap (others q.0) (sym (not_waiting (record_at t.part.processes.rows q) idle))) g.goes.allowed;
     }
 
     waits_begins : (b : Sharing O) (h : IsSet d names O Fit b) (q : ProcessIndex) → (WaitsForObject (record_at b.processes.rows q) → ⊥) → (at : At) (limit : ℤ) (w : Place) (m : ArrayVec ℤ) → w.discipline ≡ d w.list
         → Begins q b (of_processes b (blocks at b.processes (runner.Process q) limit w m))
     waits_begins b h q idle at limit w m same =
         let g = blocks_begun b.processes h.named q idle at limit w m same in
-        record { shares = record { goes = g.goes; fit = h.fit }; begins = g.begins }
+        record { shares = record { goes = g.goes; fit = h.fit }; exact = g.exact }
 
     either_begins : (q : ProcessIndex) (b : Sharing O) (c : Bool) (t u : Step (Sharing O)) → Begins q b t → Begins q b u → Begins q b (if c then t else u)
     either_begins q b true t u h k = h

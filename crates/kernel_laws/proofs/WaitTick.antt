@@ -1,11 +1,11 @@
 -- Each step of a partition keeps the agreement of the waiting lists with the records.
-use Rattle.kernel_laws.proofs.Prelude.{◌≡◌, ℕ, ℤ, List, ◌∷◌, Option, Some, None, refl, not, slice_set, place_of, Discipline, At, ListKey, Runner, Action, Call, Engine, Asks, Nothing, Calls, Faults, Ends, is_message_length, Kernel, of_ports, of_processes, with_errors, with_objects, with_ports, Member, World, act, act_all, admits, chooses_with_handler, choice_phase, control_at, given, moved, place_of_port, serves, spends_chosen, then_clears, tick, ticked, treats_asked, treats_due, next_release_of, number_of, clears, breaks, Processes, Step, RecordsAgree, Move, Starts, BreaksDown, Arrives, Leaves, Admits, GoesOut, Advances, makes, Numbers, IsOrdered, chosen_among}
+use Rattle.kernel_laws.proofs.Prelude.{◌≡◌, ℕ, ℤ, List, ◌∷◌, Option, Some, None, refl, not, slice_set, place_of, Discipline, At, ListKey, Runner, Action, Call, Engine, Asks, Nothing, Calls, Faults, Ends, is_message_length, Kernel, of_ports, of_processes, with_errors, with_objects, with_ports, Member, World, act, act_all, chooses_with_handler, choice_phase, control_at, given, moved, place_of_port, serves, spends_chosen, then_clears, tick, ticked, treats_asked, treats_due, next_release_of, number_of, clears, breaks, Processes, Step, RecordsAgree, Move, Starts, BreaksDown, Arrives, Leaves, Admits, GoesOut, Advances, makes, Numbers, IsOrdered, chosen_among}
 use Rattle.std.proofs.Common.{[]}
 use Rattle.apex_types.specs.Runners as action
 use Rattle.apex_types.specs.declared.codes.Mode.TheVariants as mode
 use Rattle.apex_types.specs.declared.service.Call.TheVariants as call
 use Rattle.kernel_meaning.specs.Kernel.{of_ports_alone}
-use Rattle.kernel_meaning.specs.Partition.{arrives, due_phase, leaves, prepares, treating_phase}
+use Rattle.kernel_meaning.specs.Partition.{due_phase, prepares, treating_phase}
 use Rattle.kernel_meaning.specs.PortServices as ports
 use Rattle.kernel_laws.proofs.InRange.{admits_in_range, arrives_in_range, leaves_in_range, objects_in_range, ports_in_range}
 use Rattle.kernel_laws.proofs.OfTick.{tick_goes}
@@ -111,10 +111,11 @@ module _ {C few : Type 0} where
 
 -- ---- the moves of a module with a partition
 
-module _ {C few : Type 0} (d : ListKey → Discipline) (names : ℕ → List ℕ) (n : Numbers) where
+module _ {C few : Type 0} (d : ListKey → Discipline) (names : List (List ℕ)) (n : Numbers) where
   tick_holds : (e : Engine C) (at : At) (w : World C) → IsOrdered d names n w.kernel → KernelHolds few w.kernel → KernelHolds few (tick e at w).world.kernel
   tick_holds e at w ordered h =
-      let t = tick_goes d names n e at w ordered in
+      let ticked = tick_goes d names n e at w ordered in
+      let t = ticked.1 in
       let g = choice_holds e at (due_phase e at w).world t.due.ordered.records (due_holds e at w h) in
       spends_holds e at (prepares e at w).world (prepares e at w).world.kernel.processes.running refl t.prepared.records g
 

@@ -1,6 +1,7 @@
 pub mod Choice
 pub mod WaitingOrder
 pub mod Ready
+pub mod Names
 pub mod Numbers
 pub mod Agreement
 pub mod WhoWaits

@@ -1,6 +1,6 @@
 -- The numbers of a partition, by which its ready list and its waiting lists are in order, and how a
 -- step continues them. The state of a partition stores no number: its lists have their order.
-use Rattle.std.specs.Prelude.{◌≡◌, ℕ, zero, suc, ◌+◌, ℤ, pos, List, [], ◌∷◌, ◌++◌, Option, Some, None, slice_get}
+use Rattle.std.specs.Prelude.{◌≡◌, ℕ, suc, ◌+◌, ℤ, pos, bytes_eq, List, [], ◌∷◌, ◌++◌, filter_map, map, Option, Some, None, option_map, if◌then◌else◌, slice_get}
 use Rattle.apex_types.specs.declared.codes.Discipline.{Discipline}
 use Rattle.apex_types.specs.declared.codes.Discipline.TheVariants as discipline
 use Rattle.apex_types.specs.declared.codes.ProcessState.{ProcessState}
@@ -23,9 +23,7 @@ use Rattle.kernel_laws.specs.Choice.{IsNumbered, takes}
 use Rattle.engine_meaning.specs.Engine.{Asks, Calls}
 use Rattle.kernel_meaning.specs.Objects.{Objects}
 use Rattle.kernel_meaning.specs.Objects.{Ports, discipline_of}
-use Rattle.kernel_meaning.specs.Processes.{Processes}
 use Rattle.kernel_meaning.specs.Queues.{Queues}
-use Rattle.kernel_meaning.specs.Step.{Step}
 use Rattle.kernel_laws.specs.WaitingOrder.{AreQueues}
 
 -- The ready number and the waiting number of each process, by its place from 0, and the next number: no number was
@@ -58,6 +56,10 @@ abbrev pub take_all : List Taking → Numbers → Numbers
 take_all [] n = n
 take_all (t ∷ ts) n = take_all ts (take_one t n)
 
+-- those at these places become ready, in this order
+abbrev pub become_ready : List ℕ → List Taking
+become_ready places = map BecomesReady places
+
 -- ---- lists that have the order of numbers
 
 -- the ready list and the waiting lists have the order of these numbers
@@ -65,21 +67,21 @@ pub record IsInOrder (disciplines : ListKey → Discipline) (n : Numbers) (list 
   pub ready : IsNumbered n.ready n.next list
   pub queues : AreQueues disciplines n.waiting n.next lists
 
--- whatever numbers the lists had the order of, after these takings they have the order of the new ones
-abbrev pub Follows : (ListKey → Discipline) → List Taking → Processes → Processes → Type 0
-Follows disciplines takings s t = (n : Numbers) → IsInOrder disciplines n s.ready s.queues → IsInOrder disciplines (take_all takings n) t.ready t.queues
+-- ---- the names of the processes
+
+-- the subjects of the records, if the processes have these names in the order of the source
+abbrev pub subjects : List (List ℕ) → List Subject
+subjects names = Init ∷ Handler ∷ map Process names
+
+abbrev pub AreNamed : List (List ℕ) → List ProcessStatus → Type 0
+AreNamed names rows = map (λ r. r.who) rows ≡ subjects names
+
+-- the place of the first process with a name
+abbrev pub place_of_name : List (List ℕ) → List ℕ → Option ℕ
+place_of_name [] name = None
+place_of_name (n ∷ ns) name = if bytes_eq n name then Some 0 else option_map suc (place_of_name ns name)
 
 -- ---- the contents of the lines
-
--- the subject of the record at a place, for these names of the processes
-abbrev pub subject_at : (ℕ → List ℕ) → ℕ → Subject
-subject_at names zero = Init
-subject_at names (suc zero) = Handler
-subject_at names (suc (suc p)) = Process (names p)
-
--- each record says so
-abbrev pub AreNamed : (ℕ → Subject) → List ProcessStatus → Type 0
-AreNamed who rows = (place : ℕ) (r : ProcessStatus) → slice_get rows place ≡ Some r → r.who ≡ who place
 
 -- the process that a line calls ready, by its name
 abbrev pub called_ready : ProcessState → Subject → List (List ℕ)
@@ -95,15 +97,9 @@ abbrev pub ready_lines : List EventKind → List (List ℕ)
 ready_lines [] = []
 ready_lines (l ∷ ls) = ready_line l ++ ready_lines ls
 
-abbrev pub taken_ready : (ℕ → List ℕ) → Taking → List (List ℕ)
-taken_ready names (BecomesReady p) = names p ∷ []
-taken_ready names (GoesLast p) = []
-taken_ready names (BeginsToWait p) = []
-
--- the processes that take numbers because they become ready, in their order
-abbrev pub those_ready : (ℕ → List ℕ) → List Taking → List (List ℕ)
-those_ready names [] = []
-those_ready names (t ∷ ts) = taken_ready names t ++ those_ready names ts
+-- their places
+abbrev pub places_called : List (List ℕ) → List EventKind → List ℕ
+places_called names lines = filter_map (place_of_name names) (ready_lines lines)
 
 -- ---- the processes that may take a number though no line calls them ready
 
@@ -151,24 +147,6 @@ may_by p c = record { go_last = goes_last_by p c; begin_to_wait = waits_by p c }
 abbrev pub may_asked : Runner → Asks → May
 may_asked p (Calls c) = may_by p c
 may_asked p _ = nobody
-
-abbrev pub IsAllowed : May → Taking → Type 0
-IsAllowed may (BecomesReady p) = Unit {0}
-IsAllowed may (GoesLast p) = may.go_last ≡ Some p
-IsAllowed may (BeginsToWait p) = may.begin_to_wait ≡ Some p
-
-abbrev pub AreAllowed : May → List Taking → Type 0
-AreAllowed may [] = Unit {0}
-AreAllowed may (t ∷ ts) = IsAllowed may t × AreAllowed may ts
-
--- A step of the processes continues the numbers: the processes that its lines call ready take
--- numbers in the order of these lines; of the others, only those that may take a number do.
-pub record Goes (disciplines : ListKey → Discipline) (names : ℕ → List ℕ) (may : May) (s : Processes) (t : Step Processes) : Type 0 where
-  pub takings : List Taking
-  pub follows : Follows disciplines takings s t.part
-  pub named : AreNamed (subject_at names) t.part.rows
-  pub told : those_ready names takings ≡ ready_lines t.lines
-  pub allowed : AreAllowed may takings
 
 -- ---- the disciplines of the waiting lists
 

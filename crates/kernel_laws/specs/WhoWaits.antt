@@ -68,9 +68,12 @@ is_at_object (wait.Object v array) = true
 is_at_object _ = false
 
 -- a record that waits for an object or a port
+abbrev pub waits_for_object : Option ProcessStatus → Bool
+waits_for_object None = false
+waits_for_object (Some r) = is_at_object r.wait
+
 abbrev pub WaitsForObject : Option ProcessStatus → Type 0
-WaitsForObject None = ⊥
-WaitsForObject (Some r) = is_at_object r.wait ≡ true
+WaitsForObject o = waits_for_object o ≡ true
 
 -- ---- the processes that stand in a list
 

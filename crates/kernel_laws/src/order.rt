@@ -12,6 +12,7 @@ ghost use Rattle.apex_types.specs.declared.process.Entry.{Entry};
 ghost use Rattle.engine_meaning.specs.Engine.{Engine};
 ghost use Rattle.machine_meaning.specs.Image.{Image};
 ghost use Rattle.machine_meaning.specs.ImageLimits.{IsWithinLimits};
+ghost use Rattle.module_meaning.specs.Accepted.{IsModule};
 ghost use Rattle.module_meaning.specs.Table.{Table, at_number};
 ghost use Rattle.kernel_meaning.specs.Kernel.{Kernel};
 ghost use Rattle.machine_meaning.specs.MachineControl.{MachineControl};
@@ -23,9 +24,10 @@ ghost use Rattle.module_meaning.specs.SourceMeaning.{source_module};
 ghost use Rattle.kernel_meaning.specs.Sharing.{waiting};
 ghost use Rattle.kernel_laws.specs.WaitingOrder.{IsReleasedFirst};
 ghost use Rattle.kernel_laws.specs.History.{Move, members_after};
+ghost use Rattle.kernel_laws.specs.Names.{HasOwnNames, HaveOwnNames};
 ghost use Rattle.kernel_laws.specs.Numbers.{Numbers};
-ghost use Rattle.kernel_laws.specs.OrderLaw.{IsOrdered, TickGoes};
-ghost use Rattle.kernel_laws.specs.RunLaw.{HasOrder, HoldsReady, MoveGoes, RunGoes};
+ghost use Rattle.kernel_laws.specs.OrderLaw.{IsOrdered, ReadyPlaces, TickGoes};
+ghost use Rattle.kernel_laws.specs.RunLaw.{HasOrder, HoldsReady, MoveGoes, RunGoes, RunIsNumbered, places_by};
 ghost use Rattle.kernel_laws.specs.WhoWaits.{AreListed, HoldsWaiting};
 
 /// A tick of a partition whose lists are in order continues its numbers, on any engine: on the
@@ -35,33 +37,56 @@ ghost use Rattle.kernel_laws.specs.WhoWaits.{AreListed, HoldsWaiting};
 /// begins to wait: it is the last in the waiting list of the object or the port that its call names.
 /// No other process takes a number.
 pub fn tick_goes_on()
-    ensures machine { (disciplines : ListKey → Discipline) (names : ℕ → List ℕ) (n : Numbers)
+    ensures machine { (disciplines : ListKey → Discipline) (names : List (List ℕ)) (n : Numbers)
         (e : Engine MachineControl) (at : At) (w : World MachineControl)
-        → IsOrdered disciplines names n w.kernel → TickGoes disciplines names n e at w }
-    ensures source { (disciplines : ListKey → Discipline) (names : ℕ → List ℕ) (n : Numbers)
+        → IsOrdered disciplines names n w.kernel
+        → (places : ReadyPlaces) × TickGoes disciplines names n places e at w }
+    ensures source { (disciplines : ListKey → Discipline) (names : List (List ℕ)) (n : Numbers)
         (e : Engine SourceControl) (at : At) (w : World SourceControl)
-        → IsOrdered disciplines names n w.kernel → TickGoes disciplines names n e at w }
+        → IsOrdered disciplines names n w.kernel
+        → (places : ReadyPlaces) × TickGoes disciplines names n places e at w }
 {}
 
 /// So does each step that a module makes of a partition: its ticks, its starts, a fault of its
-/// hardware, and the messages that arrive at its ports and leave them.
+/// hardware, and the messages that arrive at its ports and leave them. If the processes have names of
+/// their own, those that become ready are those with the names that its lines call ready, and so the
+/// numbers after the step are a function of it (`numbers_by`).
 pub fn steps_go_on()
-    ensures machine { (disciplines : ListKey → Discipline) (names : ℕ → List ℕ) (n : Numbers)
+    ensures machine { (disciplines : ListKey → Discipline) (names : List (List ℕ)) (n : Numbers)
         (step : Move) (x : Member MachineControl) → IsOrdered disciplines names n x.world.kernel
-        → MoveGoes disciplines names n step x }
-    ensures source { (disciplines : ListKey → Discipline) (names : ℕ → List ℕ) (n : Numbers)
+        → (places : ReadyPlaces) × MoveGoes disciplines names n places step x }
+    ensures source { (disciplines : ListKey → Discipline) (names : List (List ℕ)) (n : Numbers)
         (step : Move) (x : Member SourceControl) → IsOrdered disciplines names n x.world.kernel
-        → MoveGoes disciplines names n step x }
+        → (places : ReadyPlaces) × MoveGoes disciplines names n places step x }
+    ensures machine_named { (disciplines : ListKey → Discipline) (names : List (List ℕ))
+        (n : Numbers) (step : Move) (x : Member MachineControl) → HaveOwnNames names
+        → IsOrdered disciplines names n x.world.kernel
+        → MoveGoes disciplines names n (places_by names step x) step x }
+    ensures source_named { (disciplines : ListKey → Discipline) (names : List (List ℕ))
+        (n : Numbers) (step : Move) (x : Member SourceControl) → HaveOwnNames names
+        → IsOrdered disciplines names n x.world.kernel
+        → MoveGoes disciplines names n (places_by names step x) step x }
 {}
 
 /// In every state of every run, of every image and of all sources, the ready list and the waiting
 /// lists of each partition have the order of its numbers, and each step continues them. So each
-/// tick chooses the only runner that the numbers allow.
+/// tick chooses the only runner that the numbers allow. If the processes of each partition have names
+/// of their own, as in an image within its limits and in an accepted module, these are the numbers
+/// that the moves of the run give (`numbers_in`).
 pub fn order_in_every_run()
     ensures machine { (image : Image) (devices : List DeviceLine) (n : ℕ)
         → RunGoes (machine_module image) devices n }
     ensures source { (t : Table) (sources : List Program) (devices : List DeviceLine) (n : ℕ)
         → RunGoes (source_module t sources) devices n }
+    ensures lawful { (image : Image) (devices : List DeviceLine) (n : ℕ) → IsWithinLimits image
+        → RunIsNumbered (machine_module image) devices n }
+    ensures named { (t : Table) (programs : List Program) (devices : List DeviceLine) (n : ℕ)
+        → ((p : ℕ) (program : Program) → at_number programs p ≡ Some program
+        → HasOwnNames program) → RunIsNumbered (source_module t programs) devices n }
+    ensures accepted { (table : List ℕ) (sources : List (List ℕ)) (t : Table)
+        (programs : List Program) (devices : List DeviceLine) (n : ℕ)
+        → IsModule table sources t programs
+        → RunIsNumbered (source_module t programs) devices n }
 {}
 
 /// So in the state after any number of ticks there are numbers by which the lists of each partition
@@ -112,7 +137,7 @@ pub fn waiting_ones_are_listed()
 /// If the lists are in order, an entry is at the head of a waiting list if and only if it is to be
 /// released first.
 pub fn head_is_released_first()
-    ensures { (disciplines : ListKey → Discipline) (names : ℕ → List ℕ) (n : Numbers) (k : Kernel)
+    ensures { (disciplines : ListKey → Discipline) (names : List (List ℕ)) (n : Numbers) (k : Kernel)
         (list : ListKey) (e : Entry)
         → IsOrdered disciplines names n k
         → (slice_get (waiting k.processes list) 0 ≡ Some e

@@ -1,6 +1,6 @@
 -- Where it is found that nothing creates a process, no call of the program creates it.
 use Rattle.std.proofs.Common.{◌≡◌, ◌≢◌, ℕ, zero, suc, ◌+◌, ◌<◌, pos, Bool, true, false, nat_abs, nat_le, List, [], ◌∷◌, ◌++◌, map, Option, Some, None, refl, sym, ap, ◌∙◌, subst, arith, inl, inr}
-use Rattle.std.specs.Prelude.{◌&&◌, bytes_eq, if◌then◌else◌, is_some, not, option_map, slice_get, unwrap_or}
+use Rattle.std.specs.Prelude.{◌&&◌, bytes_eq, if◌then◌else◌, is_some, option_map, slice_get, unwrap_or}
 use Rattle.std.specs.List.{list_all, list_any, AllByRecursion}
 use Rattle.std.proofs.lemmas.Bool.{and_parts, cases_lt, false≢true}
 use Rattle.std.proofs.lemmas.Option.{none-some, same_Some, slice_get-map}
@@ -21,7 +21,8 @@ use Rattle.lint.specs.Calls.{Call, Created, plains, all_calls, calls_of, calls_o
 use Rattle.lint.specs.Lives.{Creation, meets}
 use Rattle.lint_laws.specs.Creation.{HandlerFits, IsNot, IsProcess, NeverCreates, creates_process}
 use Rattle.lint_laws.specs.Numbers.{BlockFits, IsNumber}
-use Rattle.lint_laws.proofs.Lists.{mapped}
+use Rattle.kernel_laws.proofs.Places.{mapped}
+use Rattle.kernel_laws.proofs.SourceNames.{AreNew, new_behind, new_rest}
 use Rattle.lint_laws.proofs.Sources.{AtCalls, scope_with, none_of_both, body_fits, procedures_fit}
 
 -- ---- names
@@ -129,22 +130,6 @@ find_last x (d ∷ xs) e h = by_test (bytes_eq d.name x) h (find_last x xs e)
     by_test : (b : Bool) → is_some (if b then Some d.meaning else find x (xs ++ e ∷ [])) ≡ false → (is_some (find x (xs ++ e ∷ [])) ≡ false → bytes_eq e.name x ≡ false) → bytes_eq e.name x ≡ false
     by_test true k rest = absurd (false≢true (sym k))
     by_test false k rest = rest k
-
-was_false : (b : Bool) → not b ≡ true → b ≡ false
-was_false true h = absurd (false≢true h)
-was_false false h = refl
-
-abbrev AreNew : List Entry → List Entry → Type 0
-AreNew before es = are_new [] before es ≡ true
-
-new_rest : (before : List Entry) (e : Entry) (es : List Entry) → AreNew before (e ∷ es) → (is_some (find e.name before) ≡ false) × AreNew (before ++ e ∷ []) es
-new_rest before e es h =
-    let parts = and_parts (not (is_some (find e.name before))) (are_new [] (before ++ e ∷ []) es) h in
-    (was_false (is_some (find e.name before)) parts.0, parts.1)
-
-new_behind : (before xs ys : List Entry) → AreNew before (xs ++ ys) → (those : List Entry) × AreNew those ys
-new_behind before [] ys h = (before, h)
-new_behind before (x ∷ xs) ys h = let r = new_rest before x (xs ++ ys) h in new_behind (before ++ x ∷ []) xs ys r.1
 
 new_at : (before es : List Entry) (i : ℕ) (e : Entry) → AreNew before es → slice_get es i ≡ Some e → is_some (find e.name before) ≡ false
 new_at before [] i e h there = absurd (none-some e there)

@@ -8,12 +8,12 @@ use Rattle.apex_types.specs.declared.device.DeviceLine.{DeviceLine}
 use Rattle.apex_types.specs.declared.event.Event.{Event}
 use Rattle.apex_types.specs.declared.identity.ListKey.{ListKey}
 use Rattle.isolation.proofs.Prelude.{part, slice_get-map}
-use Rattle.isolation.proofs.Kept.{Keeps, advances_keeps, cold_start_keeps, breaks_down_keeps, arrives_keeps, leaves_keeps, admits_keeps, goes_out_keeps}
+use Rattle.isolation.proofs.Kept.{move_keeps}
 use Rattle.isolation.proofs.Seen.{same_itself}
 use Rattle.isolation.proofs.SourceLaw.{source_record, members_at, all_apart}
 use Rattle.isolation.proofs.Steps.{IsApart, name_of, map_set_same}
 use Rattle.isolation.specs.Brought.{is_named, is_of}
-use Rattle.kernel_laws.specs.History.{Move, Starts, BreaksDown, Arrives, Leaves, Admits, GoesOut, Advances, makes, Happening, Moves, Tells, happens, all_happen}
+use Rattle.kernel_laws.specs.History.{Move, makes, Happening, Moves, Tells, happens, all_happen}
 use Rattle.kernel_laws.specs.Numbers.{Numbers, first_numbers}
 use Rattle.kernel_laws.specs.OrderLaw.{IsOrdered}
 use Rattle.kernel_laws.specs.RunLaw.{AreOrdered, GoThrough}
@@ -34,20 +34,10 @@ pub no_line_both : (Says : Event → Type 0) (a b : List Event) → NoLine Says 
 no_line_both Says [] b h k = k
 no_line_both Says (x ∷ a) b h k = (h.0, no_line_both Says a b h.1 k)
 
--- a move keeps the name of its partition, and all its lines are of this name
-move_keeps : (move : Move) (x : Member SourceControl) → Keeps x.world (makes move x)
-move_keeps (Starts at c) x = cold_start_keeps at c x
-move_keeps (BreaksDown at) x = breaks_down_keeps at x
-move_keeps (Arrives at port m) x = arrives_keeps at port m x
-move_keeps (Leaves at port) x = leaves_keeps at port x
-move_keeps (Admits at port) x = admits_keeps at port x
-move_keeps (GoesOut at channel m) x = goes_out_keeps at channel m x
-move_keeps (Advances at) x = advances_keeps at x
-
 -- What lines may say of the partition with a name, and what holds of this partition throughout a run: by it no line of a move says so.
 pub record IsUnsaid (name : List ℕ) (Says : Event → Type 0) (Holds : Member SourceControl → Type 0) : Type 0 where
   pub own : (l : Event) → Says l → l.partition ≡ Some name
-  pub moves : (d : ListKey → Discipline) (called : ℕ → List ℕ) (n : Numbers) (move : Move) (x : Member SourceControl) → IsOrdered d called n x.world.kernel → Holds x
+  pub moves : (d : ListKey → Discipline) (called : List (List ℕ)) (n : Numbers) (move : Move) (x : Member SourceControl) → IsOrdered d called n x.world.kernel → Holds x
       → Holds (with_world x (makes move x).world) × NoLine Says (makes move x).lines
 
 module _ (name : List ℕ) (Says : Event → Type 0) (Holds : Member SourceControl → Type 0) (unsaid : IsUnsaid name Says Holds) where
@@ -60,7 +50,7 @@ module _ (name : List ℕ) (Says : Event → Type 0) (Holds : Member SourceContr
       by_test true e k rest = absurd (cc)
       by_test false e k rest = ((λ says. false≢true (sym e ∙ ap (is_named name) (unsaid.own l says) ∙ same_itself name)), rest k)
 
-  module _ (place : ℕ) (names : List (List ℕ)) (apart : IsApart name place names) (d : ℕ → ListKey → Discipline) (called : ℕ → ℕ → List ℕ) where
+  module _ (place : ℕ) (names : List (List ℕ)) (apart : IsApart name place names) (d : ℕ → ListKey → Discipline) (called : ℕ → List (List ℕ)) where
     -- it holds of the partition at the place, and all have their names
     pub record Stands (ms : List (Member SourceControl)) : Type 0 where
       own : (x : Member SourceControl) → slice_get ms place ≡ Some x → Holds x
@@ -97,10 +87,10 @@ module _ (name : List ℕ) (Says : Event → Type 0) (Holds : Member SourceContr
     run_says : (hs : List Happening) (numbers : ℕ → Numbers) (ms : List (Member SourceControl)) → GoThrough d called hs numbers ms → Stands ms → NoLine Says (all_happen hs ms).lines
     run_says [] numbers ms g h = tt
     run_says (Tells at action ∷ hs) numbers ms g h = ((λ says. absurd (none-some name (unsaid.own _ says))), run_says hs numbers ms g h)
-    run_says (Moves zero move ∷ hs) numbers ms g h = run_says hs _ ms g.1.1 h
+    run_says (Moves zero move ∷ hs) numbers ms g h = run_says hs _ ms g.1.1.1 h
     run_says (Moves (suc q) move ∷ hs) numbers ms g h =
         let k = step_goes numbers move ms q (slice_get ms q) refl g.0 h in
-        no_line_both Says (happens (Moves (suc q) move) ms).lines _ k.1 (run_says hs _ _ g.1.1 k.0)
+        no_line_both Says (happens (Moves (suc q) move) ms).lines _ k.1 (run_says hs _ _ g.1.1.1 k.0)
 
 -- No line of a run says so, if it holds at first.
 pub no_line_in_run : (Says : Event → Type 0) (Holds : Member SourceControl → Type 0) (t : Table) (programs : List Program) (devices : List DeviceLine) (n place : ℕ) (row : Partition) (program : Program) → IsJudged t

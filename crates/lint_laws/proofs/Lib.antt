@@ -1,4 +1,3 @@
-pub mod Lists
 pub mod Controls
 pub mod Histories
 pub mod NormalCalls

@@ -146,9 +146,10 @@ module _ (e : Engine SourceControl) (safe : KeepsOut e) (start : NeverAsksNormal
   spends_out at w (Some (runner.Process p)) (inl is) h = absurd (none-some (runner.Process p) (sym is))
   spends_out at w (Some (runner.Process p)) (inr is) h = absurd (cc)
 
-  tick_out : (d : ListKey → Discipline) (names : ℕ → List ℕ) (n : Numbers) (at : At) (w : World SourceControl) → IsOrdered d names n w.kernel → IsKeptOut w → MovesOut (tick e at w)
+  tick_out : (d : ListKey → Discipline) (names : List (List ℕ)) (n : Numbers) (at : At) (w : World SourceControl) → IsOrdered d names n w.kernel → IsKeptOut w → MovesOut (tick e at w)
   tick_out d names n at w ordered h =
-      let g = tick_goes d names n e at w ordered in
+      let ticked = tick_goes d names n e at w ordered in
+      let g = ticked.1 in
       let k = (due_phase e at w).world.kernel in
       let d = due_out at w h in
       followed_out (prepares e at w) (spending_phase e at) (prepares_out at w h)
@@ -163,7 +164,7 @@ pub record IsKept (x : Member SourceControl) : Type 0 where
   pub start : NeverAsksNormal (x.engine.start runner.Init)
   pub world : IsKeptOut x.world
 
-pub move_out : (d : ListKey → Discipline) (names : ℕ → List ℕ) (n : Numbers) (move : Move) (x : Member SourceControl) → IsOrdered d names n x.world.kernel → IsKept x → MovesOut (makes move x)
+pub move_out : (d : ListKey → Discipline) (names : List (List ℕ)) (n : Numbers) (move : Move) (x : Member SourceControl) → IsOrdered d names n x.world.kernel → IsKept x → MovesOut (makes move x)
 move_out d names n (Starts at c) x ordered h = moved_out x.engine h.engine h.start at (clears x.world.kernel mode.ColdStart c) x.world (clears_out x.world.kernel mode.ColdStart c refl) h.world.control
 move_out d names n (BreaksDown at) x ordered h = moved_out x.engine h.engine h.start at (breaks x.world.kernel) x.world (breaks_out x.world.kernel h.world.out) h.world.control
 move_out d names n (Arrives at port m) x ordered h =

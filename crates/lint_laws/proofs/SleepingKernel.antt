@@ -47,7 +47,7 @@ use Rattle.kernel_meaning.specs.Times as times
 use Rattle.kernel_meaning.specs.Times.{Treated, begins, ends_wait, tick_of, timed_out, released_at, misses, is_past, treats_deadline, treated_after, treats, due_from, mode_of_action, starts_if_waiting, starts_waiting, start_from, start_all_waiting}
 use Rattle.lint_laws.specs.Creation.{IsNot}
 use Rattle.lint_laws.proofs.Controls.{AsksAllowed}
-use Rattle.lint_laws.proofs.Lists.{mapped}
+use Rattle.kernel_laws.proofs.Places.{mapped}
 use Rattle.lint_laws.proofs.Sleeping.{IsNew, IsOther, LinesAreOther, both_other, Sleeps, RowsSleep, rows_set, Keeps, either, in_turn, here, put_keeps, wakes_keeps, rests_found_keeps, released_with_keeps, absent_emptied, named_other}
 use Rattle.lint_laws.proofs.SleepingObjects.{objects_keep, ports_keep}
 use Rattle.lint_laws.proofs.SleepingServices.{in_normal_keeps, get_process_id_keeps, get_process_status_keeps, create_process_keeps, set_priority_keeps, suspend_self_keeps, suspend_keeps, resume_keeps, stop_keeps, start_keeps, delayed_start_keeps, lock_preemption_keeps, unlock_preemption_keeps, get_my_id_keeps, timed_wait_keeps, periodic_wait_keeps, replenish_keeps}

@@ -49,7 +49,7 @@ use Rattle.lint_laws.specs.Creation.{SaysState, NeverHasState, NeverCreates, Han
 use Rattle.lint_laws.specs.Numbers.{BlockFits}
 use Rattle.lint_laws.proofs.Controls.{AsksAllowed, IsSafeEngine, AsksOnly, engine_is_safe, starts_safely}
 use Rattle.lint_laws.proofs.Histories.{no_line_both, no_line_in_run}
-use Rattle.lint_laws.proofs.Lists.{mapped}
+use Rattle.kernel_laws.proofs.Places.{mapped}
 use Rattle.lint_laws.proofs.Sleeping.{AreAbsent, IsOther, IsNew, LinesAreOther, LineIsOther, RowsSleep, Sleeps, WaitsNowhere}
 use Rattle.lint_laws.proofs.SleepingKernel.{CreatesOther, KernelKeeps, clears_keep, then_clears_keep, breaks_keep, asked_keeps, treats_due_keeps, caller_is_other, choice_keeps}
 use Rattle.lint_laws.proofs.SleepingObjects.{arrives_keeps, admits_keep}
@@ -170,9 +170,10 @@ module _ (q : ℕ) where
           let m = moved_quietly at (treats_asked at w.kernel p r.asks (given r.asks r.words)) v (asked_keeps q process at w.kernel h.asleep p (other p refl) r.asks (given r.asks r.words) t.1) (none_set w.controls (place_of p) r.control h.controls t.0) in
           record { quiet = m.quiet; lines = m.lines }
 
-      tick_quietly : (d : ListKey → Discipline) (called : ℕ → List ℕ) (n : Numbers) (at : At) (w : World SourceControl) → IsOrdered d called n w.kernel → IsQuiet w → MovesQuietly (tick e at w)
+      tick_quietly : (d : ListKey → Discipline) (called : List (List ℕ)) (n : Numbers) (at : At) (w : World SourceControl) → IsOrdered d called n w.kernel → IsQuiet w → MovesQuietly (tick e at w)
       tick_quietly d called n at w ordered h =
-          let g = tick_goes d called n e at w ordered in
+          let ticked = tick_goes d called n e at w ordered in
+          let g = ticked.1 in
           followed_quietly (prepares e at w) (spending_phase e at) (prepares_quietly at w h g.due.ordered.records)
           (λ k. let s = (prepares e at w).world.kernel.processes in
           spends_quietly at (prepares e at w).world s.running (λ p is. caller_is_other q process s k.asleep p (runs_ready s g.prepared.records p is)) k)
@@ -192,7 +193,7 @@ module _ (q : ℕ) where
         by_first [] = record { part = h; lines = tt }
         by_first (m ∷ rest) = record { part = h; lines = (tt, tt) }
 
-    move_quietly : (d : ListKey → Discipline) (called : ℕ → List ℕ) (n : Numbers) (move : Move) (x : Member SourceControl) → IsOrdered d called n x.world.kernel → IsKept x → MovesQuietly (makes move x)
+    move_quietly : (d : ListKey → Discipline) (called : List (List ℕ)) (n : Numbers) (move : Move) (x : Member SourceControl) → IsOrdered d called n x.world.kernel → IsKept x → MovesQuietly (makes move x)
     move_quietly d called n (Starts at c) x ordered h = moved_quietly x.engine h.engine h.start at (clears x.world.kernel mode.ColdStart c) x.world (clears_keep q process x.world.kernel mode.ColdStart c h.world.asleep) h.world.controls
     move_quietly d called n (BreaksDown at) x ordered h = moved_quietly x.engine h.engine h.start at (breaks x.world.kernel) x.world (breaks_keep q process x.world.kernel h.world.asleep) h.world.controls
     move_quietly d called n (Arrives at port m) x ordered h =

@@ -17,10 +17,11 @@ use Rattle.apex_types.specs.declared.process.Wait.TheVariants as wait
 use Rattle.kernel_meaning.specs.Processes.{Processes, row_of, who_of, not_running, put_row, put_ready, put_unready, put_dormant, waiting_lines, wakes, waits, rests, rests_found, answers_wait, released_with, no_longer_waits, zeros_of_wait}
 use Rattle.kernel_meaning.specs.Processes as processes
 use Rattle.kernel_meaning.specs.Step.{Step, nothing, after}
+use Rattle.kernel_laws.proofs.RecordChoice.{same_runner}
 use Rattle.state_laws.specs.Told.{Told, is_same, is_it, preempted, has_worked, worker_or, moves_to, with_state, worker_by_lines, running_or, worked_in}
 use Rattle.state_laws.specs.States.{who_runs}
 use Rattle.state_laws.proofs.Agreement.{IsRunning, AgreesOn, Agrees, GoesTo, Goes, goes, runs_and_worked, works, either, each, at_each, still_named, same_runs}
-use Rattle.state_laws.proofs.Subjects.{same_itself, not_same, runner_itself, same_runner, same_place}
+use Rattle.state_laws.proofs.Subjects.{same_itself, not_same, runner_itself, same_place}
 
 -- it is not the current runner
 abbrev pub IsNotRunning : Processes → Runner → Type 0

@@ -17,7 +17,7 @@ use Rattle.kernel_meaning.specs.Step.{Step}
 use Rattle.state_laws.specs.Told.{Told, is_same, worker_or, worker_by_lines, running_or, worked_in}
 use Rattle.state_laws.proofs.Agreement.{reads, AreDistinct, AgreesOn, KernelAgrees, each, still_named}
 use Rattle.state_laws.proofs.Changes.{same_worker}
-use Rattle.state_laws.proofs.Lists.{mapped}
+use Rattle.kernel_laws.proofs.Places.{mapped}
 use Rattle.state_laws.proofs.Subjects.{not_same}
 
 -- ---- records that are forgotten
@@ -28,14 +28,12 @@ module _ (rows : List ProcessStatus) (h : AreDistinct rows) where
     apart = λ i j y z e f same.
         let a = mapped forgotten rows i y e in
         let b = mapped forgotten rows j z f in
-        let c = a.1 in
-        let d = b.1 in
-        h.apart i j a.0 b.0 c.0 d.0 (ap (λ (w : ProcessStatus). w.who) c.1 ∙ same ∙ sym (ap (λ (w : ProcessStatus). w.who) d.1));
-    first = λ y e. let a = mapped forgotten rows 0 y e in let c = a.1 in sym (ap (λ (w : ProcessStatus). w.who) c.1) ∙ h.first a.0 c.0;
+        h.apart i j a.0 b.0 a.1 b.1 (ap (λ (w : ProcessStatus). w.who) a.2 ∙ same ∙ sym (ap (λ (w : ProcessStatus). w.who) b.2));
+    first = λ y e. let a = mapped forgotten rows 0 y e in sym (ap (λ (w : ProcessStatus). w.who) a.2) ∙ h.first a.0 a.1;
   }
 
   forgotten_dormant : (i : ℕ) (y : ProcessStatus) → slice_get (map forgotten rows) i ≡ Some y → Dormant ≡ y.state
-  forgotten_dormant i y e = let a = mapped forgotten rows i y e in let c = a.1 in ap (λ (w : ProcessStatus). w.state) c.1
+  forgotten_dormant i y e = let a = mapped forgotten rows i y e in ap (λ (w : ProcessStatus). w.state) a.2
 
   pub idle_agrees : (v : Told) → ((w : Subject) → v.state w ≡ Dormant) → v.running ≡ None → AgreesOn v (map forgotten rows) None
   idle_agrees v state none = record {

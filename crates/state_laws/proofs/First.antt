@@ -26,12 +26,13 @@ use Rattle.module_meaning.specs.SourceMeaning.{source_members, source_module, so
 use Rattle.module_meaning.specs.Table.{Partition, Table, at_number}
 use Rattle.pal_meaning.specs.Program as program
 use Rattle.pal_meaning.specs.SourceControl.{SourceControl}
-use Rattle.state_laws.specs.Names.{HasOwnNames}
+use Rattle.kernel_laws.specs.Names.{HasOwnNames}
+use Rattle.kernel_laws.proofs.OwnNames.{apart_of}
 use Rattle.state_laws.specs.Spending.{owner_in, worker}
 use Rattle.state_laws.specs.States.{TellsState}
 use Rattle.state_laws.specs.Told.{Told, first_told, told, worker_by_lines}
 use Rattle.state_laws.proofs.Agreement.{KernelAgrees}
-use Rattle.state_laws.proofs.Lists.{mapped}
+use Rattle.kernel_laws.proofs.Places.{mapped}
 use Rattle.state_laws.proofs.Members.{Stands}
 use Rattle.state_laws.proofs.Run.{run_stands, run_worker}
 
@@ -106,14 +107,12 @@ module _ {A : Type 0} (f : A → ProcessStatus) (name : A → List ℕ) (who : (
     (apart : (i j : ℕ) (x y : A) → slice_get xs i ≡ Some x → slice_get xs j ≡ Some y → name x ≡ name y → i ≡ j) where
   pub are_processes : AreProcesses (map f xs)
   are_processes = record {
-    named = λ i r e. let m = mapped f xs i r e in let c = m.1 in (name m.0, sym (ap (λ (y : ProcessStatus). y.who) c.1) ∙ who m.0);
+    named = λ i r e. let m = mapped f xs i r e in (name m.0, sym (ap (λ (y : ProcessStatus). y.who) m.2) ∙ who m.0);
     apart = λ i j r x e g same.
         let m = mapped f xs i r e in
         let n = mapped f xs j x g in
-        let c = m.1 in
-        let d = n.1 in
-        apart i j m.0 n.0 c.0 d.0 (same_process (name m.0) (name n.0) (sym (who m.0) ∙ ap (λ (y : ProcessStatus). y.who) c.1 ∙ same ∙ sym (ap (λ (y : ProcessStatus). y.who) d.1) ∙ who n.0));
-    dormant = λ i r e. let m = mapped f xs i r e in let c = m.1 in sym (ap (λ (y : ProcessStatus). y.state) c.1) ∙ rests m.0;
+        apart i j m.0 n.0 m.1 n.1 (same_process (name m.0) (name n.0) (sym (who m.0) ∙ ap (λ (y : ProcessStatus). y.who) m.2 ∙ same ∙ sym (ap (λ (y : ProcessStatus). y.who) n.2) ∙ who n.0));
+    dormant = λ i r e. let m = mapped f xs i r e in sym (ap (λ (y : ProcessStatus). y.state) m.2) ∙ rests m.0;
   }
 
 -- what is told of a kernel that it agrees with
@@ -140,7 +139,7 @@ module _ (t : Table) (sources : List program.Program) (judged : IsJudged t) (pla
   source_apart = all_apart judged.0 t sources judged.1 place row.name named_here
 
   source_agrees : KernelAgrees first_told first.world.kernel
-  source_agrees = first_agrees (map source_row p.processes) (are_processes source_row (λ (q : program.Process). q.name) (λ q. refl) (λ q. refl) p.processes own) _ _ _ _
+  source_agrees = first_agrees (map source_row p.processes) (are_processes source_row (λ (q : program.Process). q.name) (λ q. refl) (λ q. refl) p.processes (apart_of (λ (q : program.Process). q.name) p.processes own)) _ _ _ _
 
   source_stands : Stands (disciplines_of members (suc place)) (names_of members (suc place)) row.name place (map name_of members) source_apart first_told members
   source_stands = record {

@@ -1,4 +1,3 @@
-pub mod Lists
 pub mod Subjects
 pub mod Agreement
 pub mod Changes
@@ -14,5 +13,4 @@ pub mod Members
 pub mod Run
 pub mod First
 pub mod OfImages
-pub mod Sourced
 pub mod OfModules

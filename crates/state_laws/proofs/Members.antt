@@ -7,17 +7,17 @@ use Rattle.apex_types.specs.declared.codes.Discipline.{Discipline}
 use Rattle.apex_types.specs.declared.event.Event.{Event}
 use Rattle.apex_types.specs.declared.identity.ListKey.{ListKey}
 use Rattle.engine_meaning.specs.Digits.{same}
-use Rattle.isolation.proofs.Kept.{Keeps, advances_keeps, cold_start_keeps, breaks_down_keeps, arrives_keeps, leaves_keeps, admits_keeps, goes_out_keeps}
+use Rattle.isolation.proofs.Kept.{move_keeps}
 use Rattle.isolation.proofs.Prelude.{slice_get-map}
 use Rattle.isolation.proofs.Seen.{AreOf}
 use Rattle.isolation.proofs.Steps.{IsApart, name_of, map_set_same}
 use Rattle.isolation.specs.Brought.{is_named, is_of, part}
-use Rattle.kernel_laws.specs.History.{Move, Starts, BreaksDown, Arrives, Leaves, Admits, GoesOut, Advances, makes}
+use Rattle.kernel_laws.specs.History.{Move, makes}
 use Rattle.kernel_laws.specs.Numbers.{Numbers}
 use Rattle.kernel_laws.specs.OrderLaw.{IsOrdered}
-use Rattle.kernel_laws.specs.RunLaw.{MoveGoes, numbers_by}
+use Rattle.kernel_laws.specs.RunLaw.{numbers_by}
 use Rattle.kernel_laws.proofs.Places.{get_set_same, get_set_other}
-use Rattle.kernel_laws.proofs.Through.{move_goes}
+use Rattle.kernel_laws.proofs.Through.{move_goes, ordered_by}
 use Rattle.kernel_laws.proofs.WaitSteps.{Hold}
 use Rattle.kernel_laws.proofs.WaitTick.{makes_hold}
 use Rattle.kernel_meaning.specs.Kernel.{Fixed}
@@ -72,28 +72,10 @@ told_other name other n t (l ∷ ls) h =
 -- ---- the moves of a partition
 
 module _ {C : Type 0} where
-  pub move_keeps : (move : Move) (x : Member C) → Keeps x.world (makes move x)
-  move_keeps (Starts at c) x = cold_start_keeps at c x
-  move_keeps (BreaksDown at) x = breaks_down_keeps at x
-  move_keeps (Arrives at port m) x = arrives_keeps at port m x
-  move_keeps (Leaves at port) x = leaves_keeps at port x
-  move_keeps (Admits at port) x = admits_keeps at port x
-  move_keeps (GoesOut at channel m) x = goes_out_keeps at channel m x
-  move_keeps (Advances at) x = advances_keeps at x
-
   pub all_own : (move : Move) (x : Member C) → AllOf (name_of x) (makes move x).lines
   all_own move x = let k = move_keeps move x in all_of (name_of x) (makes move x).lines k.own
 
-  ordered_by : (d : ListKey → Discipline) (called : ℕ → List ℕ) (n : Numbers) (move : Move) (x : Member C) (g : MoveGoes d called n move x) → IsOrdered d called (numbers_by d called n move x g) (makes move x).world.kernel
-  ordered_by d called n (Starts at condition) x g = g.ordered
-  ordered_by d called n (BreaksDown at) x g = g.ordered
-  ordered_by d called n (Arrives at port message) x g = g.ordered
-  ordered_by d called n (Leaves at port) x g = g.ordered
-  ordered_by d called n (Admits at port) x g = g.ordered
-  ordered_by d called n (GoesOut at channel message) x g = g.ordered
-  ordered_by d called n (Advances at) x g = g.spent.ordered
-
-module _ {C : Type 0} (d : ListKey → Discipline) (called : ℕ → List ℕ) where
+module _ {C : Type 0} (d : ListKey → Discipline) (called : List (List ℕ)) where
   -- its lists are in order, who waits does so by its record, and what is told agrees
   pub record IsWell (t : Told) (x : Member C) : Type 0 where
     pub numbers : Numbers
@@ -105,7 +87,7 @@ module _ {C : Type 0} (d : ListKey → Discipline) (called : ℕ → List ℕ) w
   well_after t u move x h agrees =
       let g = move_goes d called h.numbers move x h.ordered in
       let k = makes_hold d called h.numbers move x h.ordered (record { holds = h.holds; objects = λ few. absurd few; ports = λ few. absurd few }) in
-      record { numbers = numbers_by d called h.numbers move x g; ordered = ordered_by d called h.numbers move x g; holds = k.holds; agrees = agrees }
+      record { numbers = numbers_by g.0 move x h.numbers; ordered = ordered_by d called h.numbers g.0 move x g.1; holds = k.holds; agrees = agrees }
 
   module _ (name : List ℕ) (place : ℕ) (names : List (List ℕ)) (apart : IsApart name place names) where
     -- the partition at the place is well, and all have their names

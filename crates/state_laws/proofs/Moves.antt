@@ -256,9 +256,10 @@ module _ {C : Type 0} (e : Engine C) (at : At) where
       let k = m.world.kernel in
       moved_holds (chooses_with_handler k) m.world (chooses_holds k.mode (chosen_among k) (handler_agrees k.mode (with_errors k) agree) (handler_holds k.mode (with_errors k) (due_holds w h)))
 
-  pub tick_tells : (d : ListKey → Discipline) (names : ℕ → List ℕ) (n : Numbers) (w : World C) (t : Told) → IsOrdered d names n w.kernel → Hold ⊥ w.kernel.processes → KernelAgrees t w.kernel → TickTells w t
+  pub tick_tells : (d : ListKey → Discipline) (names : List (List ℕ)) (n : Numbers) (w : World C) (t : Told) → IsOrdered d names n w.kernel → Hold ⊥ w.kernel.processes → KernelAgrees t w.kernel → TickTells w t
   tick_tells d names n w t ordered h agrees =
-      let g = tick_goes d names n e at w ordered in
+      let ticked = tick_goes d names n e at w ordered in
+      let g = ticked.1 in
       let m = prepares e at w in
       let p = prepares_goes w t agrees g.due.ordered.records in
       let held = prepared_holds w h g.due.ordered.records in

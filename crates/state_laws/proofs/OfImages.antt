@@ -1,9 +1,7 @@
 -- In every run of a lawful image the lines tell of a partition what it is.
-use Rattle.std.proofs.Common.{◌≡◌, ℕ, zero, suc, Bool, true, false, List, [], ◌∷◌, ◌++◌, length, map, Some, refl, sym, ap, ◌∙◌, subst}
-use Rattle.std.specs.Prelude.{◌+◌, ◌||◌, bytes_eq, slice_get}
-use Rattle.std.proofs.lemmas.Bool.{false≢true}
+use Rattle.std.proofs.Common.{◌≡◌, ℕ, zero, suc, List, [], ◌∷◌, ◌++◌, map, Some, refl, sym, ◌∙◌, subst}
+use Rattle.std.specs.Prelude.{◌+◌, slice_get}
 use Rattle.std.proofs.lemmas.Option.{none-some, same_Some}
-use Rattle.std.proofs.lemmas.Slice.Eq.{bytes_eq-Decides}
 use Rattle.apex_types.specs.Versions.{costs_of}
 use Rattle.apex_types.specs.declared.device.DeviceLine.{DeviceLine}
 use Rattle.apex_types.specs.declared.row.ProcessRow.{ProcessRow}
@@ -13,11 +11,11 @@ use Rattle.kernel_laws.specs.History.{members_after}
 use Rattle.kernel_laws.specs.Numbers.{first_numbers}
 use Rattle.kernel_laws.specs.RunLaw.{disciplines_of, names_of}
 use Rattle.kernel_laws.proofs.Fresh.{machine_ordered}
+use Rattle.kernel_laws.proofs.OwnNames.{rows_apart}
 use Rattle.kernel_laws.proofs.WaitRuns.{machine_holds}
 use Rattle.kernel_meaning.specs.Partition.{Member}
 use Rattle.machine_meaning.specs.Image.{Image, Item}
-use Rattle.machine_meaning.specs.ImageLimits.{EachBeside, IsLawful, IsProcess}
-use Rattle.machine_meaning.specs.ImageReading.{is_process}
+use Rattle.machine_meaning.specs.ImageLimits.{EachBeside, IsLawful}
 use Rattle.machine_meaning.specs.MachineControl.{MachineControl}
 use Rattle.machine_meaning.specs.MachineMeaning.{machine_members, machine_module, machine_row, machine_trace}
 use Rattle.module_meaning.specs.Table.{at_number}
@@ -35,42 +33,6 @@ each_at : {A : Type 0} (P : List A → A → Type 0) (before xs : List A) → Ea
 each_at P before [] h i x e = absurd (none-some x e)
 each_at P before (y ∷ ys) h zero x e = (before, subst (P before) (same_Some y x e) h.0)
 each_at P before (y ∷ ys) h (suc i) x e = each_at P (before ++ y ∷ []) ys h.1 i x e
-
-front_at : {A : Type 0} (a b : List A) (i : ℕ) (x : A) → slice_get a i ≡ Some x → slice_get (a ++ b) i ≡ Some x
-front_at [] b i x e = absurd (none-some x e)
-front_at (y ∷ a) b zero x e = e
-front_at (y ∷ a) b (suc i) x e = front_at a b i x e
-
-last_at : {A : Type 0} (a : List A) (x : A) → slice_get (a ++ x ∷ []) (length a) ≡ Some x
-last_at [] x = refl
-last_at (y ∷ a) x = last_at a x
-
-or_true : (b : Bool) → (b || true) ≡ true
-or_true true = refl
-or_true false = refl
-
-is_there : (before : List ProcessRow) (i : ℕ) (x y : ProcessRow) → slice_get before i ≡ Some x → x.name ≡ y.name → is_process before y.name ≡ true
-is_there [] i x y e same = absurd (none-some x e)
-is_there (b ∷ bs) zero x y e same =
-    ap (λ (c : Bool). c || is_process bs y.name) ((bytes_eq-Decides b.name y.name).1 (ap (λ (r : ProcessRow). r.name) (same_Some b x e) ∙ same))
-is_there (b ∷ bs) (suc i) x y e same = ap (λ (c : Bool). bytes_eq b.name y.name || c) (is_there bs i x y e same) ∙ or_true (bytes_eq b.name y.name)
-
-module _ (unit : ℕ) where
-  later_differ : (before xs : List ProcessRow) → EachBeside (IsProcess unit) before xs → (i : ℕ) (x : ProcessRow) → slice_get before i ≡ Some x → (j : ℕ) (y : ProcessRow) → slice_get xs j ≡ Some y → x.name ≡ y.name → ⊥
-  later_differ before [] h i x e j y f same = none-some y f
-  later_differ before (z ∷ zs) h i x e zero y f same =
-      let p = h.0 in
-      false≢true (sym p.fresh ∙ is_there before i x z e (same ∙ sym (ap (λ (r : ProcessRow). r.name) (same_Some z y f))))
-  later_differ before (z ∷ zs) h i x e (suc j) y f same = later_differ (before ++ z ∷ []) zs h.1 i x (front_at before (z ∷ []) i x e) j y f same
-
-  rows_apart : (before xs : List ProcessRow) → EachBeside (IsProcess unit) before xs → (i j : ℕ) (x y : ProcessRow) → slice_get xs i ≡ Some x → slice_get xs j ≡ Some y → x.name ≡ y.name → i ≡ j
-  rows_apart before [] h i j x y e f same = absurd (none-some x e)
-  rows_apart before (z ∷ zs) h zero zero x y e f same = refl
-  rows_apart before (z ∷ zs) h zero (suc j) x y e f same =
-      absurd (later_differ (before ++ z ∷ []) zs h.1 (length before) z (last_at before z) j y f (ap (λ (r : ProcessRow). r.name) (same_Some z x e) ∙ same))
-  rows_apart before (z ∷ zs) h (suc i) zero x y e f same =
-      absurd (later_differ (before ++ z ∷ []) zs h.1 (length before) z (last_at before z) i x e (ap (λ (r : ProcessRow). r.name) (same_Some z y f) ∙ sym same))
-  rows_apart before (z ∷ zs) h (suc i) (suc j) x y e f same = ap suc (rows_apart (before ++ z ∷ []) zs h.1 i j x y e f same)
 
 -- ---- the partition of an image
 

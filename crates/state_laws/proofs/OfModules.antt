@@ -13,7 +13,7 @@ use Rattle.state_laws.specs.Spending.{owner_in, worker}
 use Rattle.state_laws.specs.States.{TellsState}
 use Rattle.state_laws.specs.Told.{told, worker_by_lines}
 use Rattle.state_laws.proofs.First.{source_tells, source_worker}
-use Rattle.state_laws.proofs.Sourced.{accepted_names}
+use Rattle.kernel_laws.proofs.SourceNames.{accepted_names}
 
 module _ (table : List ℕ) (sources : List (List ℕ)) (t : Table) (programs : List Program) (devices : List DeviceLine) (n : ℕ) (accepted : IsModule table sources t programs) where
   pub module_tells : (p : ℕ) (row : Partition) (x : Member SourceControl) → at_number t.partitions p ≡ Some row → at_number (members_after (source_module t programs) devices n) p ≡ Some x

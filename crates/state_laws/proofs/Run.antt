@@ -21,6 +21,7 @@ use Rattle.apex_types.specs.declared.identity.PortId.{PortId}
 use Rattle.apex_types.specs.declared.row.ChannelEnd.{ChannelEnd}
 use Rattle.apex_types.specs.declared.row.ChannelEnd.TheVariants as ends
 use Rattle.engine_meaning.specs.Digits.{same}
+use Rattle.isolation.proofs.Kept.{move_keeps}
 use Rattle.isolation.proofs.Prelude.{slice_get-map}
 use Rattle.isolation.proofs.Steps.{IsApart, name_of}
 use Rattle.kernel_laws.specs.History.{Move, Starts, BreaksDown, Arrives, Leaves, Admits, GoesOut, Advances, makes, members_after, members_from}
@@ -33,7 +34,7 @@ use Rattle.module_meaning.specs.Table.{Channel, at_number}
 use Rattle.state_laws.specs.Spending.{before_owner, before_owner_from, chosen_by, owner_in, owner_of, worker, worker_at, worker_of}
 use Rattle.state_laws.specs.Told.{Told, first_told, preempted, told, told_from, worker_by_lines}
 use Rattle.state_laws.proofs.Agreement.{KernelAgrees, has_worked_last}
-use Rattle.state_laws.proofs.Members.{IsWell, Stands, IsOwn, steps_to, well_after, told_both, told_own, told_other, AllOf, all_own, move_keeps}
+use Rattle.state_laws.proofs.Members.{IsWell, Stands, IsOwn, steps_to, well_after, told_both, told_own, told_other, AllOf, all_own}
 use Rattle.state_laws.proofs.Moves.{IsBefore, MovesTo, reads_all, tick_tells, cleared_goes, breaks_goes, arrives_tells, admits_tells, leaves_tells}
 
 later : (n : ℕ) (o : Option (ℕ × Subject)) → IsBefore n o → IsBefore (suc n) o
@@ -47,7 +48,7 @@ next_now : (n : ℕ) (o : Option At) → IsNow n o → IsNow (suc n) (option_map
 next_now n None e = tt
 next_now n (Some at) e = omega (arith, e)
 
-module _ {C : Type 0} (d : ListKey → Discipline) (called : ℕ → List ℕ) (name : List ℕ) (place : ℕ) (names : List (List ℕ)) (apart : IsApart name place names) where
+module _ {C : Type 0} (d : ListKey → Discipline) (called : List (List ℕ)) (name : List ℕ) (place : ℕ) (names : List (List ℕ)) (apart : IsApart name place names) where
   abbrev Stay : Told → List (Member C) → Type 0
   Stay t ms = Stands d called name place names apart t ms
 

@@ -56,17 +56,6 @@ runner_itself runner.Init = refl
 runner_itself runner.Handler = refl
 runner_itself (runner.Process p) = eq-eqb p.0 p.0 refl
 
-pub same_runner : (p q : Runner) → processes.is_same p q ≡ true → p ≡ q
-same_runner runner.Init runner.Init e = refl
-same_runner runner.Init runner.Handler e = absurd (false≢true e)
-same_runner runner.Init (runner.Process q) e = absurd (false≢true e)
-same_runner runner.Handler runner.Init e = absurd (false≢true e)
-same_runner runner.Handler runner.Handler e = refl
-same_runner runner.Handler (runner.Process q) e = absurd (false≢true e)
-same_runner (runner.Process p) runner.Init e = absurd (false≢true e)
-same_runner (runner.Process p) runner.Handler e = absurd (false≢true e)
-same_runner (runner.Process p) (runner.Process q) e = ap (λ (n : ℕ). runner.Process (index n)) (eqb-true p.0 q.0 e)
-
 pub same_place : (p q : Runner) → place_of p ≡ place_of q → p ≡ q
 same_place runner.Init runner.Init e = refl
 same_place runner.Init runner.Handler e = absurd (omega (arith, e))

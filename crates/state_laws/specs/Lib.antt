@@ -1,4 +1,3 @@
 pub mod Told
 pub mod States
 pub mod Spending
-pub mod Names

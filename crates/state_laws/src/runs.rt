@@ -3,6 +3,7 @@
 ghost use Rattle.std.specs.Prelude.{◌≡◌, ℕ, suc, List, Some};
 ghost use Rattle.apex_types.specs.declared.device.DeviceLine.{DeviceLine};
 ghost use Rattle.kernel_laws.specs.History.{members_after};
+ghost use Rattle.kernel_laws.specs.Names.{HasOwnNames};
 ghost use Rattle.kernel_meaning.specs.Partition.{Member};
 ghost use Rattle.machine_meaning.specs.Image.{Image, Item};
 ghost use Rattle.machine_meaning.specs.ImageLimits.{IsLawful};
@@ -13,7 +14,6 @@ ghost use Rattle.module_meaning.specs.SourceMeaning.{source_module, source_trace
 ghost use Rattle.module_meaning.specs.Table.{Partition, Table, at_number};
 ghost use Rattle.pal_meaning.specs.Program.{Program};
 ghost use Rattle.pal_meaning.specs.SourceControl.{SourceControl};
-ghost use Rattle.state_laws.specs.Names.{HasOwnNames};
 ghost use Rattle.state_laws.specs.Spending.{owner_in, worker};
 ghost use Rattle.state_laws.specs.States.{TellsState};
 ghost use Rattle.state_laws.specs.Told.{told, worker_by_lines};

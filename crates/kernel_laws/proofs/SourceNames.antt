@@ -1,21 +1,25 @@
 -- The processes of an accepted source have names of their own.
-use Rattle.std.proofs.Common.{◌≡◌, ℕ, zero, suc, Bool, true, false, List, [], ◌∷◌, ◌++◌, Some, None, Result, Ok, Err, refl, sym, ap, ◌∙◌, subst}
-use Rattle.std.specs.Prelude.{bytes_eq, if◌then◌else◌, is_some, not, slice_get, unwrap_or}
-use Rattle.std.proofs.lemmas.Bool.{and_parts, false≢true}
-use Rattle.std.proofs.lemmas.Option.{none-some, same_Some}
+use Rattle.kernel_laws.proofs.Prelude.{◌≡◌, ℕ, zero, suc, ◌+◌, Bool, true, false, List, ◌∷◌, ◌++◌, Some, None, refl, sym, subst, ◌∙◌, if◌then◌else◌, none-some, same_Some, is_some, not, slice_get, and_parts, Schedule, Member, at_number, map, names_of}
+use Rattle.std.proofs.Common.{[], ap, Result, Ok, Err}
+use Rattle.std.proofs.lemmas.Bool.{false≢true}
 use Rattle.std.proofs.lemmas.Slice.Eq.{bytes_eq-Decides}
+use Rattle.std.specs.Prelude.{bytes_eq, unwrap_or}
+use Rattle.apex_types.specs.declared.cost.Costs.{Costs}
 use Rattle.apex_types.specs.declared.denotation.Denotation.TheVariants as denotation
 use Rattle.apex_types.specs.declared.denotation.ObjectKind.TheVariants as object
 use Rattle.apex_types.specs.declared.limits.TheConstants.{MOST_PROCESSES}
 use Rattle.apex_types.specs.declared.row.PortRow.{PortRow}
+use Rattle.kernel_laws.specs.Names.{HasOwnNames, HaveOwnNames}
+use Rattle.kernel_laws.proofs.OwnNames.{AreApart, Own, members_own, own_of, records_own}
+use Rattle.kernel_laws.proofs.Places.{mapped}
 use Rattle.module_meaning.specs.Accepted.{AreAccepted}
-use Rattle.module_meaning.specs.Table.{Partition}
+use Rattle.module_meaning.specs.SourceMeaning.{source_member, source_members, source_row}
+use Rattle.module_meaning.specs.Table.{Partition, Table, fixed_of}
 use Rattle.pal_meaning.specs.Program.{Process, Program}
 use Rattle.pal_meaning.specs.Resolve.{Entry, counted, declaration_entries, declared_entries, find, next, no_counts, process_entries, resolve, resolve_process}
+use Rattle.pal_meaning.specs.SourceControl.{SourceControl}
 use Rattle.pal_meaning.specs.Syntax as written
 use Rattle.pal_meaning.specs.WellFormed.{Refused, are_new, verdict, names_hold, kinds_hold, limits_hold, periods_hold}
-use Rattle.state_laws.specs.Names.{HasOwnNames}
-use Rattle.state_laws.proofs.Lists.{mapped}
 
 -- ---- entries
 
@@ -36,19 +40,20 @@ find_last (d ∷ es) e = by_test (bytes_eq d.name e.name) (find_last es e)
     by_test true k = refl
     by_test false k = k
 
-abbrev AreNew : List Entry → List Entry → Type 0
+-- none of these entries has a name of those before it
+abbrev pub AreNew : List Entry → List Entry → Type 0
 AreNew before es = are_new [] before es ≡ true
 
-was_false : (b : Bool) → not b ≡ true → b ≡ false
+pub was_false : (b : Bool) → not b ≡ true → b ≡ false
 was_false true h = absurd (false≢true h)
 was_false false h = refl
 
-new_rest : (before : List Entry) (e : Entry) (es : List Entry) → AreNew before (e ∷ es) → (is_some (find e.name before) ≡ false) × AreNew (before ++ e ∷ []) es
+pub new_rest : (before : List Entry) (e : Entry) (es : List Entry) → AreNew before (e ∷ es) → (is_some (find e.name before) ≡ false) × AreNew (before ++ e ∷ []) es
 new_rest before e es h =
     let parts = and_parts (not (is_some (find e.name before))) (are_new [] (before ++ e ∷ []) es) h in
     (was_false (is_some (find e.name before)) parts.0, parts.1)
 
-new_behind : (before xs ys : List Entry) → AreNew before (xs ++ ys) → (those : List Entry) × AreNew those ys
+pub new_behind : (before xs ys : List Entry) → AreNew before (xs ++ ys) → (those : List Entry) × AreNew those ys
 new_behind before [] ys h = (before, h)
 new_behind before (x ∷ xs) ys h = let r = new_rest before x (xs ++ ys) h in new_behind (before ++ x ∷ []) xs ys r.1
 
@@ -84,15 +89,18 @@ own_names before count (z ∷ zs) h (suc i) (suc j) p q e f same =
     ap suc (own_names (before ++ entry_of count z ∷ []) (more count) zs r.1 i j p q e f same)
 
 resolved_names : (ports : List PortRow) (tree : written.Program) → names_hold ports tree ≡ true → HasOwnNames (resolve ports tree)
-resolved_names ports tree h i j p q e f same =
-    let declared = declared_entries ports tree in
-    let new = (and_parts (are_new [] [] declared) _ h).0 in
-    let those = new_behind [] (declaration_entries ports no_counts tree.declarations) (process_entries 0 tree.processes) new in
-    let a = mapped (resolve_process declared) tree.processes i p e in
-    let b = mapped (resolve_process declared) tree.processes j q f in
-    let c = a.1 in
-    let d = b.1 in
-    own_names those.0 0 tree.processes those.1 i j a.0 b.0 c.0 d.0 (ap (λ (y : Process). y.name) c.1 ∙ same ∙ sym (ap (λ (y : Process). y.name) d.1))
+resolved_names ports tree h = own_of (λ (p : Process). p.name) (map (resolve_process declared) tree.processes) apart
+  where
+    declared : List Entry
+    declared = declared_entries ports tree
+
+    apart : AreApart (λ (p : Process). p.name) (map (resolve_process declared) tree.processes)
+    apart i j p q e f same =
+        let new = (and_parts (are_new [] [] declared) _ h).0 in
+        let those = new_behind [] (declaration_entries ports no_counts tree.declarations) (process_entries 0 tree.processes) new in
+        let a = mapped (resolve_process declared) tree.processes i p e in
+        let b = mapped (resolve_process declared) tree.processes j q f in
+        own_names those.0 0 tree.processes those.1 i j a.0 b.0 a.1 b.1 (ap (λ (y : Process). y.name) a.2 ∙ same ∙ sym (ap (λ (y : Process). y.name) b.2))
 
 -- ---- accepted sources
 
@@ -118,3 +126,32 @@ accepted_names (r ∷ rs) [] (q ∷ qs) place row h e = absurd h
 accepted_names (r ∷ rs) (s ∷ ss) [] place row h e = absurd h
 accepted_names (r ∷ rs) (s ∷ ss) (q ∷ qs) zero row h e = let a = h.0 in (q, (refl, judged_names r.ports r.period a.tree q a.judged))
 accepted_names (r ∷ rs) (s ∷ ss) (q ∷ qs) (suc place) row h e = accepted_names rs ss qs place row h.1 e
+
+programs_own : (rows : List Partition) (sources : List (List ℕ)) (programs : List Program) → AreAccepted rows sources programs → (place : ℕ) (q : Program) → slice_get programs place ≡ Some q → HasOwnNames q
+programs_own rows sources [] h place q e = absurd (none-some q e)
+programs_own [] [] (p ∷ ps) h place q e = absurd h
+programs_own [] (s ∷ ss) (p ∷ ps) h place q e = absurd h
+programs_own (r ∷ rs) [] (p ∷ ps) h place q e = absurd h
+programs_own (r ∷ rs) (s ∷ ss) (p ∷ ps) h zero q e = let a = h.0 in subst HasOwnNames (same_Some p q e) (judged_names r.ports r.period a.tree p a.judged)
+programs_own (r ∷ rs) (s ∷ ss) (p ∷ ps) h (suc place) q e = programs_own rs ss ps h.1 place q e
+
+-- ---- the members of a module
+
+-- the programs of a module
+abbrev pub HaveOwn : List Program → Type 0
+HaveOwn programs = (p : ℕ) (q : Program) → at_number programs p ≡ Some q → HasOwnNames q
+
+pub accepted_own : (rows : List Partition) (sources : List (List ℕ)) (programs : List Program) → AreAccepted rows sources programs → HaveOwn programs
+accepted_own rows sources programs h zero q e = absurd (none-some q e)
+accepted_own rows sources programs h (suc place) q e = programs_own rows sources programs h place q e
+
+programs_members : (k : Costs) (s : Schedule) (n : ℕ) (ps : List Partition) (programs : List Program) → ((place : ℕ) (q : Program) → slice_get programs place ≡ Some q → HasOwnNames q)
+    → (place : ℕ) (x : Member SourceControl) → slice_get (source_members k s n ps programs) place ≡ Some x → Own x
+programs_members k s n [] programs h place x e = absurd (none-some x e)
+programs_members k s n (p ∷ ps) [] h place x e = absurd (none-some x e)
+programs_members k s n (p ∷ ps) (q ∷ qs) h zero x e =
+    subst Own (same_Some (source_member k (fixed_of s n p) p.ports q) x e) (records_own (λ (r : Process). r.name) q.processes source_row (λ r. refl) (h zero q refl))
+programs_members k s n (p ∷ ps) (q ∷ qs) h (suc place) x e = programs_members k s (n + 1) ps qs (λ i. h (suc i)) place x e
+
+pub source_own : (t : Table) (programs : List Program) → HaveOwn programs → (p : ℕ) → HaveOwnNames (names_of (source_members t.costs t.schedule 1 t.partitions programs) p)
+source_own t programs h = members_own (source_members t.costs t.schedule 1 t.partitions programs) (programs_members t.costs t.schedule 1 t.partitions programs (λ place. h (suc place)))
