@@ -224,7 +224,7 @@ run_piece {C = C} {old = old} {new = new} plan lines k n origin place s ms from 
   by_owner (Some x) e =
       let its = subst (λ (o : Option (Member C)). IsMade (steps_member step s.members place o) ms old new) e made in
       let leads = subst (λ (xs : List (Member C)). LeadsBehind plan lines n (standing_at s.members s.now origin) (step x).lines (standing_at xs (s.now + n) origin)) (sym its.state)
-          (owner_leads plan lines k n s.now origin place s.members x e some within order owned over) in
+      (owner_leads plan lines k n s.now origin place s.members x e some within order owned over) in
       (some, within, refl, record { told = (step x).lines; leads = lift_behind plan lines n origin s (step x).lines ms from leads; sent = its.sent })
 
 -- ticks that no partition owns

@@ -1,6 +1,6 @@
-use Rattle.module.proofs.Prelude.{◌≡◌, ◌<◌, length, Option, Some, ap, sym, ◌∙◌, arith, rules, slice_get-get_or, Member, sent_of, steps_member, member_of, members_of, ticks_by, IsMade}
-use Rattle.std.proofs.Common.{slice_get, slice_set, subst}
-use Rattle.module.proofs.Members.{few_set, fit_at, fit_set, get_member, set_member, same_length}
+use Rattle.module.proofs.Prelude.{◌≡◌, ◌<◌, length, Some, arith, rules, slice_get-get_or, sent_of, ticks_by}
+use Rattle.std.proofs.Common.{slice_get}
+use Rattle.module.proofs.Members.{few_set, fit_at, fit_set, made_at, same_length}
 use Rattle.module.proofs.member.Members.advance_at.Goals as goal
 
 pub lend-mem-requires : goal.lend-mem-requires
@@ -27,15 +27,8 @@ invariant_of-self g c = rw c.number_at.ensures.place (record { few = few_set c.a
 
 pub returns-clause-written : goal.returns-clause-written
 returns-clause-written g c =
-    let e = g.E.Executor in
     let ps = c.args.self.now.partitions.items in
-    let memory = c.args.self.now.memory in
-    let place = c.args.place in
     let p = c.index_mut.result.now in
-    let s = c.lend-mem.result.now in
-    let here : slice_get ps place ≡ Some p = search (rules, slice_get-get_or) in
-    let members = members_of e ps memory in
-    let got : slice_get members place ≡ Some (member_of e p s) = get_member e ps memory place p s here (rw c.number_at.ensures.place at c.lend-mem.ensures.lent) in
-    let made = c.write_piece.ensures.written in
-    rw c.number_at.ensures.place (subst (λ (o : Option (Member e.Control)). IsMade (steps_member (ticks_by c.write_piece.result c.args.moment.at) members place o) (members_of e (slice_set ps place c.write_piece.new.partition) (slice_set memory place c.write_piece.new.mem)) (sent_of g.S.Sink c.args.output.now) (sent_of g.S.Sink c.write_piece.new.output)) (sym got)
-    (record { state = set_member e ps memory place c.write_piece.new.partition c.write_piece.new.mem ∙ ap (λ m. slice_set members place m) made.state; sent = made.sent }))
+    let here : slice_get ps c.args.place ≡ Some p = search (rules, slice_get-get_or) in
+    rw c.number_at.ensures.place
+    (made_at g.E.Executor ps c.args.self.now.memory c.args.place p c.write_piece.new.partition c.lend-mem.result.now c.write_piece.new.mem (ticks_by c.write_piece.result c.args.moment.at) (sent_of g.S.Sink c.args.output.now) (sent_of g.S.Sink c.write_piece.new.output) here (rw c.number_at.ensures.place at c.lend-mem.ensures.lent) c.write_piece.ensures.written)
