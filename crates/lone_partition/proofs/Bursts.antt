@@ -1,15 +1,10 @@
 -- Many ticks of a lone partition together.
-use Rattle.lone_partition.proofs.Prelude.{◌≡◌, ℕ, zero, suc, ◌+◌, ◌-◌, ◌<◌, ◌≤◌, Bool, true, false, List, [], ◌++◌, length, Option, Some, None, refl, sym, ap, subst, ◌∙◌, append_assoc, arith, option_map, is_some, Event, At, PortId, next_tick, ports_of, Member, moved, at_tick, owner, ended, Stepped, Course, Surroundings, then_goes, alone_from, goes, inputs_in, goes_on, sends_ended, sends_ports, sends_so_many, still, tick_alone, ticks_own, InputLine, IsStill, AreFrom, inputs_of, tick_of_input, IsWithin, LeadsTo, HasRun, HasAdvancedWritten, Sent}
-use Rattle.std.proofs.Common.{inl, inr, cond, nat_le}
-use Rattle.apex_types.specs.declared.limits.TheConstants.{MOST_EVENTS}
+use Rattle.lone_partition.proofs.Prelude.{◌≡◌, ℕ, zero, suc, ◌+◌, ◌<◌, ◌≤◌, Bool, true, false, List, [], ◌++◌, length, Option, Some, None, refl, sym, ap, subst, ◌∙◌, append_assoc, arith, option_map, is_some, Event, At, PortId, next_tick, ports_of, Member, moved, at_tick, owner, ended, Stepped, Course, Surroundings, then_goes, alone_from, goes, inputs_in, goes_on, sends_ended, sends_ports, sends_so_many, still, tick_alone, ticks_own, InputLine, IsStill, AreFrom, inputs_of, tick_of_input, IsMade, IsWithin, LeadsTo, HasRun, Sent, ticks_by}
+use Rattle.std.proofs.Common.{inl, inr}
 use Rattle.kernel_meaning.specs.Kernel.{of_ports}
-use Rattle.kernel_meaning.specs.Partition.{Moved, World, with_world, tick}
+use Rattle.kernel_meaning.specs.Partition.{Moved, advances, with_world, tick}
 use Rattle.kernel_meaning.specs.Windows.{tick_from}
 use Rattle.isolation.specs.Alone.{sends_port}
-use Rattle.partition.specs.Gathering.{joined, no_ticks, ticks_within}
-use Rattle.partition.specs.Members.{HasAdvanced}
-use Rattle.partition.specs.declared.rooms.TheConstants.{LINES_FOR_TICK}
-use Rattle.kernel_laws.specs.Bursts.{Burst}
 use Rattle.kernel_laws.specs.Quiet.{IsAtRest}
 use Rattle.kernel_laws.proofs.Quiet.{idle_tick}
 use Rattle.lone_partition.proofs.LinesOfTicks.{inputs_are, none_before}
@@ -94,53 +89,33 @@ module _ {C : Type 0} (s : Surroundings) where
   -- ---- a piece of the partition's window
 
   first_tick : (inputs : List InputLine) (origin number k t : ℕ) (x : Member C) → IsWithin s inputs origin t (Some number)
-      → alone_from s inputs (suc k) (Some (tick_from origin t)) x ≡ (tick x.engine (tick_from origin t) x.world).lines ++ alone_from s inputs k (Some (tick_from origin (t + 1))) (with_world x (tick x.engine (tick_from origin t) x.world).world)
+      → alone_from s inputs (suc k) (Some (tick_from origin t)) x ≡ (advances (tick_from origin t) x).lines ++ alone_from s inputs k (Some (tick_from origin (t + 1))) (with_world x (advances (tick_from origin t) x).world)
   first_tick inputs origin number k t x h =
       ap (λ (r : Course (Member C)). r.lines ++ alone_from s inputs k (option_map next_tick r.at) r.state) (within_tick inputs origin t (Some number) x h)
 
-  abbrev Piece : List InputLine → (origin m t : ℕ) → Member C → Burst (World C) ℕ (List Event) → Type 0
-  Piece inputs origin m t x b = alone_from s inputs (b.ticks + m) (Some (tick_from origin t)) x ≡ b.told ++ alone_from s inputs m (Some (tick_from origin b.words)) (with_world x b.control)
-
   -- while its window continues and no input comes, ticks of the lone partition are its ticks
-  piece : (inputs : List InputLine) (origin number room n m t : ℕ) (x : Member C) → ((i : ℕ) → i < n → IsWithin s inputs origin (t + i) (Some number)) → Piece inputs origin m t x (ticks_within x.engine origin room n x.world t)
-  piece inputs origin number room zero m t x h =
+  leads_on : (inputs : List InputLine) (origin number n m t : ℕ) (x : Member C) → ((i : ℕ) → i < n → IsWithin s inputs origin (t + i) (Some number))
+      → let b = ticks_by n (tick_from origin t) x in
+      alone_from s inputs (n + m) (Some (tick_from origin t)) x ≡ b.lines ++ alone_from s inputs m (Some (tick_from origin (t + n))) (with_world x b.world)
+  leads_on inputs origin number zero m t x h =
       let same : 0 + m ≡ m = omega arith in
-      ap (λ k. alone_from s inputs k (Some (tick_from origin t)) x) same
-  piece inputs origin number room (suc n) m t x h =
+      let here : t ≡ t + 0 = omega arith in
+      ap (λ k. alone_from s inputs k (Some (tick_from origin t)) x) same ∙ ap (λ u. alone_from s inputs m (Some (tick_from origin u)) x) here
+  leads_on inputs origin number (suc n) m t x h =
       let now : t + 0 ≡ t = omega arith in
-      let a : IsWithin s inputs origin t (Some number) = subst (λ u. IsWithin s inputs origin u (Some number)) now (h 0 (omega arith)) in
-      let k = tick x.engine (tick_from origin t) x.world in
+      let one_more : suc n + m ≡ suc (n + m) = omega arith in
+      let there : t + 1 + n ≡ t + suc n = omega arith in
+      let k = advances (tick_from origin t) x in
       let y = with_world x k.world in
+      let b = ticks_by n (tick_from origin (t + 1)) y in
+      let rest : ℕ → List Event = λ u. alone_from s inputs m (Some (tick_from origin u)) (with_world x b.world) in
       let next : (i : ℕ) → i < n → IsWithin s inputs origin (t + 1 + i) (Some number) = λ i below.
       let u : t + suc i ≡ t + 1 + i = omega arith in subst (λ v. IsWithin s inputs origin v (Some number)) u (h (suc i) (omega (arith, below))) in
-      let b = ticks_within x.engine origin (room - length k.lines) n k.world (t + 1) in
-      let rest : Piece inputs origin m (t + 1) y b = piece inputs origin number (room - length k.lines) n m (t + 1) y next in
-      let one_more : 1 + b.ticks + m ≡ suc (b.ticks + m) = omega arith in
-      let none : 0 + m ≡ m = omega arith in
-      let step : (q : Bool) → Piece inputs origin m t x (cond q (joined k.lines 1 b) (no_ticks x.world t)) =
-      λ q. elim q as (λ q. Piece inputs origin m t x (cond q (joined k.lines 1 b) (no_ticks x.world t))) [
-        | true ↦ ap (λ j. alone_from s inputs j (Some (tick_from origin t)) x) one_more
-            ∙ first_tick inputs origin number (b.ticks + m) t x a
-            ∙ ap (λ (ls : List Event). k.lines ++ ls) rest
-            ∙ sym (append_assoc k.lines b.told (alone_from s inputs m (Some (tick_from origin b.words)) (with_world x b.control)))
-        | false ↦ ap (λ j. alone_from s inputs j (Some (tick_from origin t)) x) none
-      ] in
-      step (nat_le LINES_FOR_TICK room)
-
-  pub leads_on : (inputs : List InputLine) (k n origin now number : ℕ) (x y : Member C) (told : List Event) → ((i : ℕ) → i < k → IsWithin s inputs origin (now + i) (Some number)) → HasAdvanced (tick_from origin now) k x y told n
-      → LeadsTo s inputs n (tick_from origin now) x told y
-  leads_on inputs k n origin now number x y told h g m =
-      let b = ticks_within x.engine origin MOST_EVENTS k x.world now in
-      let count : b.ticks ≡ n = ap (λ (b : Burst (World C) ℕ (List Event)). b.ticks) g.1 in
-      let until : b.words ≡ now + n = ap (λ (b : Burst (World C) ℕ (List Event)). b.words) g.1 in
-      let tells : b.told ≡ told = ap (λ (b : Burst (World C) ℕ (List Event)). b.told) g.1 in
-      let world : b.control ≡ y.world = ap (λ (b : Burst (World C) ℕ (List Event)). b.control) g.1 in
-      ap (λ j. alone_from s inputs (j + m) (Some (tick_from origin now)) x) (sym count)
-      ∙ piece inputs origin number MOST_EVENTS k m now x h
-      ∙ ap (λ (es : List Event). es ++ alone_from s inputs m (Some (tick_from origin b.words)) (with_world x b.control)) tells
-      ∙ ap (λ u. told ++ alone_from s inputs m (Some (tick_from origin u)) (with_world x b.control)) until
-      ∙ ap (λ (w : World C). told ++ alone_from s inputs m (Some (tick_from origin (now + n))) (with_world x w)) world
-      ∙ ap (λ (z : Member C). told ++ alone_from s inputs m (Some (tick_from origin (now + n))) z) (sym g.0)
+      ap (λ j. alone_from s inputs j (Some (tick_from origin t)) x) one_more
+      ∙ first_tick inputs origin number (n + m) t x (subst (λ u. IsWithin s inputs origin u (Some number)) now (h 0 (omega arith)))
+      ∙ ap (λ (ls : List Event). k.lines ++ ls) (leads_on inputs origin number n m (t + 1) y next)
+      ∙ ap (λ u. k.lines ++ (b.lines ++ rest u)) there
+      ∙ sym (append_assoc k.lines b.lines (rest (t + suc n)))
 
 -- ---- the lines of the inputs
 
@@ -191,9 +166,13 @@ module _ {C : Type 0} (s : Surroundings) (lines : List InputLine) where
       (all, record { told = []; leads = leads_empty s lines k at.origin.0 at.now.0 x h; sent = nothing_sent sent })
 
   pub run_piece : (k number n : ℕ) (at : At) (x y : Member C) (old new : Sent) → ((i : ℕ) → i < k → IsWithin s lines at.origin.0 (at.now.0 + i) (Some number))
-      → HasAdvancedWritten at k x y old new n → HasRunSome s lines k at x y old new n
-  run_piece k number n at x y old new h (within, told, moved, sent) =
-      (within, record { told = told; leads = leads_on s lines k n at.origin.0 at.now.0 number x y told h moved; sent = sent })
+      → n ≤ k → IsMade (goes (ticks_by n at) x) y old new → HasRunSome s lines k at x y old new n
+  run_piece k number n at x y old new h within made =
+      let b = ticks_by n at x in
+      let leads : LeadsTo s lines n at x b.lines y = λ m.
+      leads_on s lines at.origin.0 number n m at.now.0 x (λ i below. h i (omega (arith, below, within)))
+      ∙ ap (λ (z : Member C). b.lines ++ alone_from s lines m (Some (at_tick at (at.now.0 + n))) z) (sym made.state) in
+      (within, record { told = b.lines; leads = leads; sent = made.sent })
 
   -- some of fewer ticks are some of more
   pub run_fewer : (m k n : ℕ) (at : At) (x y : Member C) (old new : Sent) → m ≤ k → HasRunSome s lines m at x y old new n → HasRunSome s lines k at x y old new n

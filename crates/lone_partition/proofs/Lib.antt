@@ -9,6 +9,6 @@ pub mod Traces
 pub mod Sent
 pub mod Taken
 pub mod Texts
+pub mod Ticks
 pub mod Ways
 pub mod Written
-pub mod Parts

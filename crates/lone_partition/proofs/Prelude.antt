@@ -22,7 +22,7 @@ pub use Rattle.lone_partition.specs.Around.{around}
 pub use Rattle.lone_partition.specs.Lines.{AreFrom, inputs_of, lines_in, tick_of_input}
 pub use Rattle.lone_partition.specs.Only.{only_part}
 pub use Rattle.lone_partition.specs.Outputs.{next_at, sent_of}
-pub use Rattle.lone_partition.specs.Pieces.{HasAdvancedWritten, HasRun, IsWithin, LeadsTo}
+pub use Rattle.lone_partition.specs.Pieces.{HasRun, IsWithin, LeadsTo, ticks_by}
 pub use Rattle.lone_partition.specs.Sent.{HasSent, Sent}
 pub use Rattle.lone_partition.specs.Written.{IsCourse, IsMade}
 pub use Rattle.machine_meaning.specs.Image.{Item}

@@ -1,14 +1,21 @@
--- Many ticks of a lone partition together.
-use Rattle.std.specs.Prelude.{◌≡◌, ◌≤◌, ℕ, ◌+◌, List, [], ◌++◌, Option, Some, None}
+-- Many ticks of a partition together.
+use Rattle.std.specs.Prelude.{◌≡◌, ◌≤◌, ℕ, zero, suc, ◌+◌, List, [], ◌++◌, Option, Some, None}
 use Rattle.apex_types.specs.Line.{text_of}
 use Rattle.apex_types.specs.declared.event.Event.{Event}
 use Rattle.apex_types.specs.declared.identity.At.{At}
-use Rattle.kernel_meaning.specs.Partition.{Member}
+use Rattle.module_meaning.specs.Module.{next_tick}
+use Rattle.kernel_meaning.specs.Partition.{Member, Moved, advances, followed_by, with_world}
 use Rattle.kernel_meaning.specs.Windows.{at_tick, tick_from, owner, ended}
 use Rattle.isolation.specs.Alone.{Surroundings, alone_from, inputs_in}
 use Rattle.isolation.specs.declared.input.InputLine.{InputLine}
-use Rattle.partition.specs.Members.{HasAdvanced}
 use Rattle.lone_partition.specs.Sent.{Sent, HasSent}
+
+-- n ticks of a partition, one after another, whatever it belongs to
+abbrev pub ticks_by : {C : Type 0} → ℕ → At → Member C → Moved C
+ticks_by zero at x = record { world = x.world; lines = [] }
+ticks_by (suc n) at x = followed_by (advances at x) (λ w. ticks_by n (next_tick at) (with_world x w))
+
+-- ---- those of a lone partition
 
 -- No input comes, no window ends, and the owner is `owns`.
 pub record IsWithin (s : Surroundings) (lines : List InputLine) (origin t : ℕ) (owns : Option ℕ) : Type 0 where
@@ -29,8 +36,3 @@ pub record HasRun {C : Type 0} (s : Surroundings) (inputs : List InputLine) (n :
 -- Of k ticks, n were made.
 abbrev pub HasRunSome : {C : Type 0} → Surroundings → List InputLine → ℕ → At → Member C → Member C → Sent → Sent → ℕ → Type 0
 HasRunSome s inputs k at x next old new n = (n ≤ k) × HasRun s inputs n at x next old new
-
--- The partition made k ticks, or fewer, once their lines fill the buffer; they are n, and their lines
--- were to be written.
-abbrev pub HasAdvancedWritten : {C : Type 0} → At → ℕ → Member C → Member C → Sent → Sent → ℕ → Type 0
-HasAdvancedWritten at k x next old new n = (n ≤ k) × (told : List Event) × HasAdvanced at k x next told n × HasSent old new (text_of told)

@@ -27,5 +27,5 @@ pub use lines::{HasTick, at_most, split_tick, until_line};
 pub use load::{fixed, load_partition};
 pub use lone::LonePartition;
 pub use output::Output;
-pub use pieces::write_advance;
+pub use pieces::write_piece;
 pub use step::{PartitionStep, write_leave, write_step};

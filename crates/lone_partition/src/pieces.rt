@@ -1,14 +1,15 @@
 //! Many ticks of one partition together: pieces of its windows, and ticks in which nothing happens.
 
-ghost use Rattle.std.specs.Prelude.{◌≡◌, ◌≤◌, ◌<◌, ◌+◌, ◌^◌, ℕ, List, Some};
+ghost use Rattle.std.specs.Prelude.{◌≡◌, ◌≤◌, ◌<◌, ◌+◌, List};
 ghost use Rattle.apex_types.specs.Limits.{MOST_TICKS};
-ghost use Rattle.isolation.specs.Alone.{Surroundings as Around};
+ghost use Rattle.isolation.specs.Alone.{goes};
 ghost use Rattle.isolation.specs.declared.input.InputLine.{InputLine};
 ghost use Rattle.partition.specs.Members.{member_of};
 ghost use Rattle.lone_partition.specs.Around.{around};
 ghost use Rattle.lone_partition.specs.Lines.{AreFrom, tick_of_input};
 ghost use Rattle.lone_partition.specs.Outputs.{sent_of};
-ghost use Rattle.lone_partition.specs.Pieces.{HasAdvancedWritten, HasRunSome, IsWithin};
+ghost use Rattle.lone_partition.specs.Pieces.{HasRunSome, ticks_by};
+ghost use Rattle.lone_partition.specs.Written.{IsMade};
 
 use crate::lines::{at_most, until_line};
 use crate::output::Output;
@@ -21,7 +22,8 @@ use partition_base::Executor;
 
 /// Executes `most` ticks of the partition, or fewer, once their lines fill the buffer, and writes
 /// these lines; returns how many.
-pub fn write_advance<E: Executor, S: Sink>(
+#[tactic(auto, using(crate::proofs::Ticks::buffer_some))]
+fn write_advance<E: Executor, S: Sink>(
     partition: &mut Partition<E>,
     mem: &mut E::Mem,
     moment: Moment,
@@ -31,9 +33,12 @@ pub fn write_advance<E: Executor, S: Sink>(
     requires fits { E.laid mem.old ≡ E.layout partition.old.executor }
     requires soon { moment.at.now.0 + most ≤ MOST_TICKS }
     ensures fits { E.laid mem.new ≡ E.layout partition.new.executor }
-    ensures written { HasAdvancedWritten moment.at most (member_of E.Executor partition.old mem.old)
+    ensures within { result ≤ most }
+    ensures some { 0 < most → 0 < result }
+    ensures written { IsMade
+        (goes (ticks_by result moment.at) (member_of E.Executor partition.old mem.old))
         (member_of E.Executor partition.new mem.new) (sent_of S.Sink output.old)
-        (sent_of S.Sink output.new) result }
+        (sent_of S.Sink output.new) }
 {
     output.trace.clear();
     let count = partition.advance(mem, moment, most, output.trace);
@@ -42,8 +47,8 @@ pub fn write_advance<E: Executor, S: Sink>(
 }
 
 /// Executes `most` ticks of the partition, and writes their lines, a buffer at a time; returns how
-/// many. Stops once the sink has failed.
-fn write_piece<E: Executor, S: Sink>(
+/// many. Once the sink has failed it stops, but not before the first buffer.
+pub fn write_piece<E: Executor, S: Sink>(
     partition: &mut Partition<E>,
     mem: &mut E::Mem,
     moment: Moment,
@@ -53,21 +58,17 @@ fn write_piece<E: Executor, S: Sink>(
     requires fits { E.laid mem.old ≡ E.layout partition.old.executor }
     requires soon { moment.at.now.0 + most ≤ MOST_TICKS }
     ensures fits { E.laid mem.new ≡ E.layout partition.new.executor }
-    ensures run { (s : Around) (lines : List InputLine) (number : ℕ)
-        → ((i : ℕ) → i < most
-        → IsWithin s lines moment.at.origin.0 (moment.at.now.0 + i) (Some number))
-        → HasRunSome s lines most moment.at (member_of E.Executor partition.old mem.old)
+    ensures within { result ≤ most }
+    ensures some { 0 < most → 0 < result }
+    ensures written { IsMade
+        (goes (ticks_by result moment.at) (member_of E.Executor partition.old mem.old))
         (member_of E.Executor partition.new mem.new) (sent_of S.Sink output.old)
-        (sent_of S.Sink output.new) result }
+        (sent_of S.Sink output.new) }
 {
-    let mut left = most;
+    let mut left = most - write_advance(partition, mem, moment, most, output);
     while left > 0 && !output.has_failed() {
         let now = later(moment, most - left);
-        let count = write_advance(partition, mem, now, left, output);
-        if count == 0 {
-            return most - left;
-        }
-        left -= count;
+        left -= write_advance(partition, mem, now, left, output);
     }
     most - left
 }

@@ -1,13 +1,7 @@
 -- Many ticks of the module together, between two standings.
-use Rattle.module.proofs.Prelude.{still, ◌≡◌, ◌⊎◌, inl, inr, ℕ, zero, suc, ◌+◌, ◌-◌, ◌<◌, ◌≤◌, Bool, true, false, cond, List, ◌∷◌, ◌++◌, length, Option, Some, None, refl, sym, ap, ◌∙◌, arith, slice_get, slice_set, option_map, none-some, same_Some, text_of, TakesBeginning, IsUnderWay, under_way_fails, DeviceLine, Event, At, Kernel, Plan, Member, Moved, World, tick, with_world, Schedule, tick_from, owner, ended, Engine, IsStill, AreStill, HaveNoLines, nothing_sent, Sent, LeadsTo, HasPassedSome, HasSkippedSome, IsBrokenOff, HasMoved, ticks_by, Standing, lines_of, AreFrom, Elapsed, elapse, preceded_by, Course, Stepped, of_tick, origin_of, then_runs, module_tick}
-use Rattle.std.proofs.Common.{[], subst, nat_le}
-use Rattle.apex_types.specs.declared.limits.TheConstants.{MOST_EVENTS}
+use Rattle.module.proofs.Prelude.{still, ◌≡◌, ◌⊎◌, inl, inr, ℕ, zero, suc, ◌+◌, ◌-◌, ◌<◌, ◌≤◌, List, ◌∷◌, ◌++◌, length, Option, Some, None, refl, sym, ap, ◌∙◌, arith, slice_get, option_map, none-some, same_Some, text_of, TakesBeginning, IsUnderWay, under_way_fails, DeviceLine, Event, At, Kernel, Plan, Member, Schedule, tick_from, owner, ended, IsStill, AreStill, HaveNoLines, nothing_sent, Sent, LeadsTo, HasPassedSome, HasSkippedSome, IsBrokenOff, Standing, lines_of, AreFrom, Elapsed, elapse, preceded_by, Course, Stepped, of_tick, origin_of, then_runs, module_tick}
+use Rattle.std.proofs.Common.{[], subst}
 use Rattle.kernel_meaning.specs.Windows.{at_tick}
-use Rattle.kernel_laws.specs.Bursts.{Burst}
-use Rattle.partition.specs.Gathering.{joined, no_ticks, ticks_within}
-use Rattle.partition.specs.Members.{HasAdvanced}
-use Rattle.partition.specs.declared.rooms.TheConstants.{LINES_FOR_TICK}
-use Rattle.partition.proofs.Gathering.{some_ticks}
 use Rattle.module_meaning.specs.Module.{goes_on}
 use Rattle.kernel_laws.proofs.Quiet.{still_tick}
 use Rattle.lone_partition.proofs.LinesOfTicks as of_any
@@ -57,51 +51,6 @@ pub leads_still : {C : Type 0} (plan : Plan) (lines : List DeviceLine) (n now or
     → LeadsTo plan lines n (standing_at ms now origin) [] (standing_at ms (now + n) origin)
 leads_still plan lines n now origin ms begun order still m =
     elapse_still plan lines origin now (now + n) ms still n m now begun (omega arith) (omega arith) (no_lines now (now + n) lines order)
-
--- ---- ticks of a partition
-
-abbrev burst_moved : {C : Type 0} → Burst (World C) ℕ (List Event) → Moved C
-burst_moved b = record { world = b.control; lines = b.told }
-
--- the ticks that were made, one after another
-abbrev AreTicks : {C : Type 0} → Engine C → (origin t : ℕ) → World C → Burst (World C) ℕ (List Event) → Type 0
-AreTicks e origin t w b = ticks_by e origin b.ticks w t ≡ burst_moved b
-
-burst_is_ticks : {C : Type 0} (e : Engine C) (origin room n t : ℕ) (w : World C) → AreTicks e origin t w (ticks_within e origin room n w t)
-burst_is_ticks e origin room zero t w = refl
-burst_is_ticks e origin room (suc n) t w =
-    let k = tick e (tick_from origin t) w in
-    let b = ticks_within e origin (room - length k.lines) n k.world (t + 1) in
-    let one_more : 1 + b.ticks ≡ suc b.ticks = omega arith in
-    let rest : AreTicks e origin (t + 1) k.world b = burst_is_ticks e origin (room - length k.lines) n (t + 1) k.world in
-    let step : (q : Bool) → AreTicks e origin t w (cond q (joined k.lines 1 b) (no_ticks w t)) =
-    λ q. elim q as (λ q. AreTicks e origin t w (cond q (joined k.lines 1 b) (no_ticks w t))) [
-      | true ↦ ap (λ j. ticks_by e origin j w t) one_more ∙ ap (λ (m : Moved _). record { world = m.world; lines = k.lines ++ m.lines }) rest
-      | false ↦ refl
-    ] in
-    step (nat_le LINES_FOR_TICK room)
-
--- at least one tick is made
-pub advances_some : {C : Type 0} (at : At) (k n : ℕ) (x y : Member C) (told : List Event) → 0 < k → HasAdvanced at k x y told n → 0 < n
-advances_some at k n x y told some h =
-    let count : (ticks_within x.engine at.origin.0 MOST_EVENTS k x.world at.now.0).ticks ≡ n = ap (λ (b : Burst (World _) ℕ (List Event)). b.ticks) h.1 in
-    let room : LINES_FOR_TICK ≤ MOST_EVENTS = omega arith in
-    subst (λ m. 0 < m) count (some_ticks x.engine at.origin.0 MOST_EVENTS at.now.0 k x.world room some)
-
--- the result of a partition's ticks, among the others
-pub has_moved : {C : Type 0} (at : At) (k place n : ℕ) (ms : List (Member C)) (x y : Member C) (next : List (Member C)) (told : List Event) → next ≡ slice_set ms place y
-    → HasAdvanced at k x y told n → HasMoved at n place ms (Some x) next told
-has_moved at k place n ms x y next told same h =
-    let b = ticks_within x.engine at.origin.0 MOST_EVENTS k x.world at.now.0 in
-    let count : b.ticks ≡ n = ap (λ (b : Burst (World _) ℕ (List Event)). b.ticks) h.1 in
-    let control : b.control ≡ y.world = ap (λ (b : Burst (World _) ℕ (List Event)). b.control) h.1 in
-    let tells : b.told ≡ told = ap (λ (b : Burst (World _) ℕ (List Event)). b.told) h.1 in
-    let made : ticks_by x.engine at.origin.0 n x.world at.now.0 ≡ burst_moved b = ap (λ j. ticks_by x.engine at.origin.0 j x.world at.now.0) (sym count) ∙ burst_is_ticks x.engine at.origin.0 MOST_EVENTS k at.now.0 x.world in
-    let world = ap (λ (m : Moved _). m.world) made ∙ control in
-    let lines = ap (λ (m : Moved _). m.lines) made ∙ tells in (
-      same ∙ ap (λ (z : Member _). slice_set ms place z) (h.0 ∙ ap (λ (w : World _). with_world x w) (sym world)),
-      sym lines,
-    )
 
 -- ---- still partitions
 

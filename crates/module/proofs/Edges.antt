@@ -1,17 +1,14 @@
 -- Ticks of the owner of a window from an edge on: first the messages move, then it makes its ticks.
-use Rattle.module.proofs.Prelude.{◌≡◌, ℕ, zero, suc, ◌+◌, ◌-◌, ◌<◌, ◌≤◌, List, ◌∷◌, ◌++◌, Option, Some, None, Bool, true, false, cond, inl, inr, ◌⊎◌, length, map, refl, sym, ap, ◌∙◌, append-nil, arith, slice_get, slice_set, option_map, none-some, same_Some, place_of_number, DeviceLine, Event, At, PartitionId, Ticks, Engine, Port, is_source, Member, World, messages_to_move, tick, with_world, Schedule, tick_from, owner, ended, Stepped, Course, Plan, inputs_all, module_tick, moves_and_ticks, moves_ended, moves_ports, moves_so_many, of_member, of_tick, ports_from, ports_of, steps_member, still, then_goes, then_runs, ticks_owner, Channel, at_number, lines_sent, nothing_sent, Sent, LeadsTo, EndsQuietly, HasNoSource, HasPassed, HasPassedSome, HasPassedBehind, HasPassedSomeBehind, HasMoved, HasMovedWritten, ticks_by, Elapsed, Standing, elapse, preceded_by, origin_of, ticks_in, AreFrom, IsMade}
+use Rattle.module.proofs.Prelude.{◌≡◌, ◌≢◌, ℕ, zero, suc, ◌+◌, ◌-◌, ◌<◌, ◌≤◌, List, ◌∷◌, ◌++◌, Option, Some, None, Bool, true, false, cond, inl, inr, ◌⊎◌, length, map, refl, sym, ap, ◌∙◌, append-nil, arith, slice_get, slice_set, option_map, none-some, same_Some, place_of_number, DeviceLine, Event, At, PartitionId, Port, is_source, Member, World, messages_to_move, tick, with_world, Schedule, tick_from, owner, ended, Stepped, Course, Plan, inputs_all, module_tick, moves_and_ticks, moves_ended, moves_ports, moves_so_many, of_member, of_tick, ports_from, ports_of, steps_member, still, then_goes, then_runs, ticks_owner, Channel, at_number, lines_sent, nothing_sent, Sent, LeadsTo, EndsQuietly, HasNoSource, HasPassedSome, HasPassedSomeBehind, ticks_by, Elapsed, Standing, elapse, preceded_by, origin_of, AreFrom, IsMade}
 use Rattle.std.proofs.Common.{[], subst}
 use Rattle.std.proofs.lemmas.Bool.{cases_lt}
 use Rattle.kernel_meaning.specs.Partition.{advances}
 use Rattle.module_meaning.specs.Module.{goes_on}
 use Rattle.module.specs.Pieces.{LeadsBehind, elapse_behind}
-use Rattle.module.proofs.Bursts.{from_lower, lift, standing_at}
+use Rattle.module.proofs.Bursts.{from_lower, standing_at}
 use Rattle.module.proofs.DeviceLines.{none_before, of_tick_again}
 use Rattle.module.proofs.Sources.{sources_of, tick_keeps}
 use Rattle.module.proofs.Standing.{begins_later, preceded_twice}
-
-abbrev pub standing_by : {C : Type 0} → List (Member C) → ℕ → Option ℕ → Standing C
-standing_by ms now origin = record { members = ms; now = now; origin = origin }
 
 -- ---- a tick without device lines: its moves, and then the rest
 
@@ -52,11 +49,6 @@ no_moves plan lines k now origin p ms begun none over =
     ∙ ap (λ (a : Stepped _). preceded_by a.lines (elapse_behind plan lines (suc k) (standing_at a.state now origin)))
     (quiet_moves plan.channels (tick_from origin now) ms p (ended plan.schedule (tick_from origin now)) over)
 
--- no tick of a partition makes a port of it a source
-ticks_keep : {C : Type 0} (e : Engine C) (origin n t : ℕ) (w : World C) → sources_of (ticks_by e origin n w t).world.kernel ≡ sources_of w.kernel
-ticks_keep e origin zero t w = refl
-ticks_keep e origin (suc n) t w = ticks_keep e origin n (t + 1) (tick e (tick_from origin t) w).world ∙ tick_keeps e (tick_from origin t) w
-
 same_sources : (ports others : List Port) → map is_source others ≡ map is_source ports → ((place : ℕ) → messages_to_move (slice_get ports place) ≡ None) → (place : ℕ) → messages_to_move (slice_get others place) ≡ None
 same_sources ports [] same h place = refl
 same_sources [] (y ∷ ys) same h place = absurd (cc)
@@ -78,10 +70,10 @@ set_found [] place x y e = absurd (none-some x e)
 set_found (z ∷ xs) zero x y e = refl
 set_found (z ∷ xs) (suc place) x y e = set_found xs place x y e
 
-set_itself : {A : Type 0} (xs : List A) (place : ℕ) (x : A) → slice_get xs place ≡ Some x → slice_set xs place x ≡ xs
-set_itself [] place x e = absurd (none-some x e)
-set_itself (y ∷ xs) zero x e = ap (λ z. z ∷ xs) (sym (same_Some y x e))
-set_itself (y ∷ xs) (suc place) x e = ap (λ l. y ∷ l) (set_itself xs place x e)
+none_there : {A : Type 0} (xs : List A) (place : ℕ) → place < length xs → slice_get xs place ≢ None
+none_there [] place h e = absurd (omega (arith, h))
+none_there (y ∷ xs) zero h e = none-some y (sym e)
+none_there (y ∷ xs) (suc place) h e = none_there xs place (omega (arith, h)) e
 
 set_again : {A : Type 0} (xs : List A) (place : ℕ) (x y : A) → slice_set (slice_set xs place x) place y ≡ slice_set xs place y
 set_again [] place x y = refl
@@ -97,13 +89,7 @@ set_sourceless ms place x w e same h =
     subst (λ (ports : List Port). (q : ℕ) → messages_to_move (slice_get ports q) ≡ None) (sym now)
     (same_sources (ports_of x) w.kernel.ports.ports same (subst (λ (ports : List Port). (q : ℕ) → messages_to_move (slice_get ports q) ≡ None) seen h))
 
-pub moved_sourceless : {C : Type 0} (at : At) (n place : ℕ) (ms next : List (Member C)) (told : List Event) (o : Option (Member C)) → slice_get ms place ≡ o → HasMoved at n place ms o next told → HasNoSource ms (suc place) → HasNoSource next (suc place)
-moved_sourceless at n place ms next told None e moved h = subst (λ (xs : List (Member _)). HasNoSource xs (suc place)) (sym moved.0) h
-moved_sourceless at n place ms next told (Some x) e moved h =
-    let b = ticks_by x.engine at.origin.0 n x.world at.now.0 in
-    subst (λ (xs : List (Member _)). HasNoSource xs (suc place)) (sym moved.0) (set_sourceless ms place x b.world e (ticks_keep x.engine at.origin.0 n at.now.0 x.world) h)
-
-pub still_quiet : {C : Type 0} (plan : Plan) (origin p t : ℕ) (ms next : List (Member C)) → (HasNoSource ms p → HasNoSource next p) → EndsQuietly plan origin ms p t → EndsQuietly plan origin next p t
+still_quiet : {C : Type 0} (plan : Plan) (origin p t : ℕ) (ms next : List (Member C)) → (HasNoSource ms p → HasNoSource next p) → EndsQuietly plan origin ms p t → EndsQuietly plan origin next p t
 still_quiet plan origin p t ms next kept (inl none) = inl none
 still_quiet plan origin p t ms next kept (inr both) = inr (both.0, kept both.1)
 
@@ -126,7 +112,7 @@ owner_tick plan lines k now origin place ms x e owned =
 -- several ticks
 owner_ticks : {C : Type 0} (plan : Plan) (lines : List DeviceLine) (n m now origin place : ℕ) (ms : List (Member C)) (x : Member C) → slice_get ms place ≡ Some x → owner plan.schedule (tick_from origin now) ≡ Some (suc place)
     → ((i : ℕ) → i < n → IsOwned plan lines origin place ms (now + 1 + i))
-    → let a = ticks_by x.engine origin (suc n) x.world now in
+    → let a = ticks_by (suc n) (tick_from origin now) x in
     elapse_behind plan lines (suc n + m) (standing_at ms now origin) ≡ preceded_by a.lines (elapse plan lines m (standing_at (slice_set ms place (with_world x a.world)) (now + suc n) origin))
 owner_ticks plan lines zero m now origin place ms x e owned h =
     let a = tick x.engine (tick_from origin now) x.world in
@@ -140,7 +126,7 @@ owner_ticks plan lines (suc n) m now origin place ms x e owned h =
     let a = tick x.engine (tick_from origin now) x.world in
     let y = with_world x a.world in
     let after = slice_set ms place y in
-    let b = ticks_by x.engine origin (suc n) a.world (now + 1) in
+    let b = ticks_by (suc n) (tick_from origin (now + 1)) y in
     let here : now + 1 + 0 ≡ now + 1 = omega arith in
     let kept : HasNoSource ms (suc place) → HasNoSource after (suc place) = set_sourceless ms place x a.world e (tick_keeps x.engine (tick_from origin now) x.world) in
     let later : (t : ℕ) → IsOwned plan lines origin place ms t → IsOwned plan lines origin place after t = λ t g.
@@ -202,13 +188,11 @@ nobody_there ms (suc m) place o is number none at =
     ap (ticks_owner at ms) is ∙ ap (steps_member (advances at) ms m) same
 
 -- ticks of a partition from an edge on
-moved_behind : {C : Type 0} (plan : Plan) (lines : List DeviceLine) (k n now origin place : ℕ) (ms next : List (Member C)) (told : List Event) (o : Option (Member C)) → slice_get ms place ≡ o
+owner_leads : {C : Type 0} (plan : Plan) (lines : List DeviceLine) (k n now origin place : ℕ) (ms : List (Member C)) (x : Member C) → slice_get ms place ≡ Some x
     → 0 < n → n ≤ k → AreFrom (now + k) lines → ((i : ℕ) → i < k → owner plan.schedule (tick_from origin (now + i)) ≡ Some (suc place)) → ((i : ℕ) → 0 < i → i < k → EndsQuietly plan origin ms (suc place) (now + i))
-    → HasMoved (tick_from origin now) n place ms o next told → LeadsBehind plan lines n (standing_at ms now origin) told (standing_at next (now + n) origin)
-moved_behind plan lines k zero now origin place ms next told o e some within order owned over h m = absurd (omega (arith, some))
-moved_behind plan lines k (suc n) now origin place ms next told None e some within order owned over h m = absurd (omega (arith, h.2))
-moved_behind plan lines k (suc n) now origin place ms next told (Some x) e some within order owned over h m =
-    let a = ticks_by x.engine origin (suc n) x.world now in
+    → let a = ticks_by n (tick_from origin now) x in LeadsBehind plan lines n (standing_at ms now origin) a.lines (standing_at (slice_set ms place (with_world x a.world)) (now + n) origin)
+owner_leads plan lines k zero now origin place ms x e some within order owned over m = absurd (omega (arith, some))
+owner_leads plan lines k (suc n) now origin place ms x e some within order owned over m =
     let here : now + 0 ≡ now = omega arith in
     let others : (i : ℕ) → i < n → IsOwned plan lines origin place ms (now + 1 + i) = λ i below.
     let u : now + suc i ≡ now + 1 + i = omega arith in
@@ -219,35 +203,6 @@ moved_behind plan lines k (suc n) now origin place ms next told (Some x) e some 
       owner = owned (suc i) (omega (arith, below, within));
     }) in
     owner_ticks plan lines n m now origin place ms x e (subst (λ u. owner plan.schedule (tick_from origin u) ≡ Some (suc place)) here (owned 0 (omega (arith, within)))) others
-    ∙ ap (λ (xs : List (Member _)). preceded_by a.lines (elapse plan lines m (standing_at xs (now + suc n) origin))) (sym h.0)
-    ∙ ap (λ (es : List Event). preceded_by es (elapse plan lines m (standing_at next (now + suc n) origin))) (sym h.1)
-
--- ticks of a partition within its window
-moved_within : {C : Type 0} (plan : Plan) (lines : List DeviceLine) (k n now origin place : ℕ) (ms next : List (Member C)) (told : List Event) (o : Option (Member C)) → slice_get ms place ≡ o
-    → 0 < now → n ≤ k → AreFrom (now + k) lines → ((i : ℕ) → i < k → owner plan.schedule (tick_from origin (now + i)) ≡ Some (suc place)) → ((i : ℕ) → i < k → EndsQuietly plan origin ms (suc place) (now + i))
-    → HasMoved (tick_from origin now) n place ms o next told → LeadsTo plan lines n (standing_at ms now origin) told (standing_at next (now + n) origin)
-moved_within plan lines k zero now origin place ms next told None e begun within order owned over h m =
-    let none : 0 + m ≡ m = omega arith in
-    let here : now ≡ now + 0 = omega arith in
-    ap (λ j. elapse plan lines j (standing_at ms now origin)) none
-    ∙ ap (λ (xs : List (Member _)). elapse plan lines m (standing_at xs now origin)) (sym h.0)
-    ∙ ap (λ u. elapse plan lines m (standing_at next u origin)) here
-    ∙ ap (λ (es : List Event). preceded_by es (elapse plan lines m (standing_at next (now + 0) origin))) (sym h.1)
-moved_within plan lines k zero now origin place ms next told (Some x) e begun within order owned over h m =
-    let none : 0 + m ≡ m = omega arith in
-    let here : now ≡ now + 0 = omega arith in
-    ap (λ j. elapse plan lines j (standing_at ms now origin)) none
-    ∙ ap (λ (xs : List (Member _)). elapse plan lines m (standing_at xs now origin)) (sym (h.0 ∙ set_itself ms place x e))
-    ∙ ap (λ u. elapse plan lines m (standing_at next u origin)) here
-    ∙ ap (λ (es : List Event). preceded_by es (elapse plan lines m (standing_at next (now + 0) origin))) (sym h.1)
-moved_within plan lines k (suc n) now origin place ms next told o e begun within order owned over h m =
-    let here : now + 0 ≡ now = omega arith in
-    let one_more : suc n + m ≡ suc (n + m) = omega arith in
-    ap (λ j. elapse plan lines j (standing_at ms now origin)) one_more
-    ∙ no_moves plan lines (n + m) now origin (suc place) ms begun (none_before now (now + k) lines (omega (arith, within)) order)
-    (subst (λ u. EndsQuietly plan origin ms (suc place) u) here (over 0 (omega (arith, within))))
-    ∙ ap (λ j. elapse_behind plan lines j (standing_at ms now origin)) (sym one_more)
-    ∙ moved_behind plan lines k (suc n) now origin place ms next told o e (omega arith) within order owned (λ i some below. over i below) h m
 
 -- the origin by any name
 lift_behind : {C : Type 0} (plan : Plan) (lines : List DeviceLine) (n origin : ℕ) (s : Standing C) (told : List Event) (ms : List (Member C)) → s.origin ≡ Some origin
@@ -255,40 +210,22 @@ lift_behind : {C : Type 0} (plan : Plan) (lines : List DeviceLine) (n origin : �
 lift_behind plan lines n origin s told ms from h =
     subst (λ (o : Option ℕ). LeadsBehind plan lines n (record { members = s.members; now = s.now; origin = o }) told (record { members = ms; now = s.now + n; origin = o })) (sym from) h
 
--- the first ticks of a piece
-pub run_first : {C : Type 0} {old new : Sent} (plan : Plan) (lines : List DeviceLine) (k n origin place : ℕ) (s : Standing C) (ms : List (Member C)) → s.origin ≡ Some origin
-    → 0 < n → AreFrom (s.now + k) lines
-    → ((i : ℕ) → i < k → owner plan.schedule (tick_from origin (s.now + i)) ≡ Some (suc place)) → ((i : ℕ) → 0 < i → i < k → EndsQuietly plan origin s.members (suc place) (s.now + i))
-    → HasMovedWritten (tick_from origin s.now) k place s.members (slice_get s.members place) ms old new n
-    → HasPassedBehind plan lines n s (record { members = ms; now = s.now + n; origin = s.origin }) old new
-run_first plan lines k n origin place s ms from some order owned over (within, told, moved, sent) =
-    record { told = told; leads = lift_behind plan lines n origin s told ms from (moved_behind plan lines k n s.now origin place s.members ms told (slice_get s.members place) refl some within order owned over moved); sent = sent }
-
--- further ticks of a piece
+-- the ticks of a piece
 pub run_piece : {C : Type 0} {old new : Sent} (plan : Plan) (lines : List DeviceLine) (k n origin place : ℕ) (s : Standing C) (ms : List (Member C)) → s.origin ≡ Some origin
-    → 0 < s.now → AreFrom (s.now + k) lines
-    → ((i : ℕ) → i < k → owner plan.schedule (tick_from origin (s.now + i)) ≡ Some (suc place)) → ((i : ℕ) → i < k → EndsQuietly plan origin s.members (suc place) (s.now + i))
-    → HasMovedWritten (tick_from origin s.now) k place s.members (slice_get s.members place) ms old new n
-    → HasPassedSome plan lines k s (record { members = ms; now = s.now + n; origin = s.origin }) old new n
-run_piece plan lines k n origin place s ms from begun order owned over (within, told, moved, sent) =
-    (within, refl, record { told = told; leads = lift plan lines n s.now origin s told ms refl from (moved_within plan lines k n s.now origin place s.members ms told (slice_get s.members place) refl begun within order owned over moved); sent = sent })
+    → place < length s.members → 0 < n → n ≤ k → AreFrom (s.now + k) lines
+    → ((i : ℕ) → i < k → owner plan.schedule (tick_from origin (s.now + i)) ≡ Some (suc place)) → ((i : ℕ) → 0 < i → i < k → EndsQuietly plan origin s.members (suc place) (s.now + i))
+    → IsMade (steps_member (ticks_by n (tick_from origin s.now)) s.members place (slice_get s.members place)) ms old new
+    → HasPassedSomeBehind plan lines k s (record { members = ms; now = s.now + n; origin = s.origin }) old new n
+run_piece {C = C} {old = old} {new = new} plan lines k n origin place s ms from there some within order owned over made = by_owner (slice_get s.members place) refl where
+  step = ticks_by n (tick_from origin s.now)
 
--- first ticks, then others
-pub behind_more : {C : Type 0} (plan : Plan) (lines : List DeviceLine) (n m : ℕ) (s t u : Standing C) (old mid new : Sent) → HasPassedBehind plan lines n s t old mid → HasPassed plan lines m t u mid new → HasPassedBehind plan lines (n + m) s u old new
-behind_more plan lines n m s t u old mid new a b = record {
-  told = a.told ++ b.told;
-  leads = λ j.
-      let sums : n + m + j ≡ n + (m + j) = omega arith in
-      ap (λ k. elapse_behind plan lines k s) sums ∙ a.leads (m + j) ∙ ap (preceded_by a.told) (b.leads j) ∙ sym (preceded_twice a.told b.told (elapse plan lines j u));
-  sent = lines_sent old mid new a.told b.told (a.told ++ b.told) refl a.sent b.sent;
-}
-
--- m of the ticks that remain
-pub behind_left : {C : Type 0} (plan : Plan) (lines : List DeviceLine) (most left m : ℕ) (s t u : Standing C) (old mid new : Sent) → left ≤ most → HasPassedBehind plan lines (most - left) s t old mid → HasPassedSome plan lines left t u mid new m
-    → HasPassedBehind plan lines (most - (left - m)) s u old new
-behind_left plan lines most left m s t u old mid new few made h =
-    let count : most - left + m ≡ most - (left - m) = let within = h.0 in omega (arith, few, within) in
-    subst (λ n. HasPassedBehind plan lines n s u old new) count (behind_more plan lines (most - left) m s t u old mid new made h.2)
+  by_owner : (o : Option (Member C)) → slice_get s.members place ≡ o → HasPassedSomeBehind plan lines k s (record { members = ms; now = s.now + n; origin = s.origin }) old new n
+  by_owner None e = absurd (none_there s.members place there e)
+  by_owner (Some x) e =
+      let its = subst (λ (o : Option (Member C)). IsMade (steps_member step s.members place o) ms old new) e made in
+      let leads = subst (λ (xs : List (Member C)). LeadsBehind plan lines n (standing_at s.members s.now origin) (step x).lines (standing_at xs (s.now + n) origin)) (sym its.state)
+      (owner_leads plan lines k n s.now origin place s.members x e some within order owned over) in
+      (some, within, refl, record { told = (step x).lines; leads = lift_behind plan lines n origin s (step x).lines ms from leads; sent = its.sent })
 
 -- ticks that no partition owns
 pub run_nobody : {C : Type 0} (plan : Plan) (lines : List DeviceLine) (k origin : ℕ) (s : Standing C) (sent : Sent) (o : Option ℕ) → s.origin ≡ Some origin → 0 < k → AreFrom (s.now + k) lines
@@ -390,7 +327,3 @@ quiet_longer plan origin now owned start more p ms here before is none ends i so
         inr (subst (λ t. ended plan.schedule (tick_from origin t) ≡ Some p) there is, none)
   ]
 ]
-
--- a module between two ticks, from its fields
-pub stands : {C : Type 0} (ms : List (Member C)) {t u : ℕ} {o p : Option Ticks} → t ≡ u → o ≡ p → standing_by ms t (ticks_in o) ≡ standing_by ms u (ticks_in p)
-stands ms {t = t} {u = u} {o = o} {p = p} now from = ap (λ n. standing_by ms n (ticks_in o)) now ∙ ap (λ q. standing_by ms u (ticks_in q)) from

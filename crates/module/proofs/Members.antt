@@ -1,8 +1,9 @@
 -- Partitions with their parts of the memory, one after the other.
-use Rattle.module.proofs.Prelude.{◌≡◌, ◌≢◌, ◌≤◌, ◌<◌, ℕ, zero, suc, List, ◌∷◌, ◌++◌, length, Option, Some, None, map, refl, ap, sym, ◌∙◌, arith, slice_get, slice_set, option_map, length-map, map-append, none-some, same_Some, Kernel, of_member, ports_of, Member, member_of, Ghosts, members_of, AreFitting}
+use Rattle.module.proofs.Prelude.{◌≡◌, ◌≢◌, ◌≤◌, ℕ, zero, suc, List, ◌∷◌, ◌++◌, length, Option, Some, None, map, refl, ap, sym, ◌∙◌, arith, slice_get, slice_set, option_map, length-map, map-append, none-some, same_Some, Kernel, of_member, ports_of, steps_member, Member, Moved, member_of, Ghosts, members_of, AreFitting, Sent, IsMade}
 use Rattle.std.proofs.Common.{[], subst}
 use Rattle.std.proofs.lemmas.List.{length-set, map-set}
 use Rattle.apex_types.specs.declared.limits.TheConstants.{MOST_PARTITIONS}
+use Rattle.isolation.specs.Alone.{goes}
 use Rattle.partition.specs.declared.partition.Partition.{Partition}
 use Rattle.module.specs.Members.{layout_in}
 
@@ -72,6 +73,15 @@ module _ {E X : Type 0} (g : Ghosts E X) where
   set_member (q ∷ ps) [] (suc n) p s = refl
   set_member (q ∷ ps) (t ∷ ss) zero p s = refl
   set_member (q ∷ ps) (t ∷ ss) (suc n) p s = ap (λ l. member_of g q t ∷ l) (set_member ps ss n p s)
+
+  -- a step of the partition at a place, on its own part of the memory, is one among the others
+  pub made_at : (ps : List (Partition E X)) (ss : List X) (n : ℕ) (p q : Partition E X) (s t : X) (step : Member g.Control → Moved g.Control) (old new : Sent)
+      → slice_get ps n ≡ Some p → slice_get ss n ≡ Some s → IsMade (goes step (member_of g p s)) (member_of g q t) old new
+      → IsMade (steps_member step (members_of g ps ss) n (slice_get (members_of g ps ss) n)) (members_of g (slice_set ps n q) (slice_set ss n t)) old new
+  made_at ps ss n p q s t step old new e f made =
+      let ms = members_of g ps ss in
+      subst (λ (o : Option (Member g.Control)). IsMade (steps_member step ms n o) (members_of g (slice_set ps n q) (slice_set ss n t)) old new) (sym (get_member ps ss n p s e f))
+      (record { state = set_member ps ss n q t ∙ ap (λ x. slice_set ms n x) made.state; sent = made.sent })
 
   pub no_member : (ps : List (Partition E X)) (ss : List X) (n : ℕ) → length ps ≤ n → slice_get (members_of g ps ss) n ≡ None
   no_member [] ss n h = refl

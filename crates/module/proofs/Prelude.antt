@@ -42,6 +42,7 @@ pub use Rattle.kernel_meaning.specs.Windows.{Schedule, ended, owner, tick_from}
 pub use Rattle.lone_partition.proofs.Outputs.{lines_sent, nothing_sent}
 pub use Rattle.lone_partition.specs.Loading.{fresh_item}
 pub use Rattle.lone_partition.specs.Outputs.{next_at, sent_of}
+pub use Rattle.lone_partition.specs.Pieces.{ticks_by}
 pub use Rattle.lone_partition.specs.Sent.{Sent}
 pub use Rattle.lone_partition.specs.Written.{IsCourse, IsMade}
 pub use Rattle.machine_laws.proofs.ImageLaws.{spelled_is_read}
@@ -58,7 +59,7 @@ pub use Rattle.module.specs.Collecting.{AreCollected, BringsNothing, HasNoRoom, 
 pub use Rattle.module.specs.Costs.{AreCostsOf}
 pub use Rattle.module.specs.Machines.{HaveTicked, Machine, fresh_machine, machine_of}
 pub use Rattle.module.specs.Members.{AreFitting, members_of}
-pub use Rattle.module.specs.Pieces.{EndsQuietly, HasMoved, HasMovedWritten, HasNoSource, HasPassed, HasPassedBehind, HasPassedSome, HasPassedSomeBehind, HasRun, HasSkippedSome, IsBrokenOff, LeadsTo, ticks_by}
+pub use Rattle.module.specs.Pieces.{EndsQuietly, HasNoSource, HasPassed, HasPassedSome, HasPassedSomeBehind, HasRun, HasSkippedSome, IsBrokenOff, LeadsTo}
 pub use Rattle.module.specs.Promises.{Means}
 pub use Rattle.module.specs.Refusals.{first_too_long, is_too_long}
 pub use Rattle.module.specs.Replays.{Replays}

@@ -1,14 +1,12 @@
 -- Many ticks of the module, made together.
-use Rattle.std.specs.Prelude.{◌≡◌, ◌⊎◌, ◌≤◌, ◌<◌, ℕ, zero, suc, ◌+◌, List, [], ◌++◌, Option, Some, None, slice_get, slice_set}
+use Rattle.std.specs.Prelude.{◌≡◌, ◌⊎◌, ◌≤◌, ◌<◌, ℕ, zero, suc, ◌+◌, List, [], Option, Some, None, slice_get}
 use Rattle.std.specs.Io.KnownBytes.{Appends}
 use Rattle.apex_types.specs.Line.{text_of}
 use Rattle.apex_types.specs.Line.{TakesBeginning}
 use Rattle.apex_types.specs.declared.device.DeviceLine.{DeviceLine}
 use Rattle.apex_types.specs.declared.event.Event.{Event}
-use Rattle.apex_types.specs.declared.identity.At.{At}
-use Rattle.engine_meaning.specs.Engine.{Engine}
 use Rattle.module_meaning.specs.Module.{Plan, ports_from, still, ticks_owner}
-use Rattle.kernel_meaning.specs.Partition.{Member, Moved, World, messages_to_move, tick, with_world}
+use Rattle.kernel_meaning.specs.Partition.{Member, messages_to_move}
 use Rattle.kernel_meaning.specs.Windows.{ended, owner, tick_from}
 use Rattle.lone_partition.specs.Sent.{Sent, HasSent}
 use Rattle.module_meaning.specs.Standing.{Elapsed, Standing, elapse, preceded_by}
@@ -47,27 +45,6 @@ pub record IsBrokenOff {C : Type 0} (plan : Plan) (lines : List DeviceLine) (k :
   pub leads : LeadsTo plan lines ticks s told next
   pub beginning : TakesBeginning old new (text_of told)
   pub failed : after ≡ before + 1
-
--- ---- the ticks of one partition
-
--- n ticks of a partition from tick `t` on: the world after them, and their lines
-abbrev pub ticks_by : {C : Type 0} → Engine C → (origin : ℕ) → ℕ → World C → ℕ → Moved C
-ticks_by e origin zero w t = record { world = w; lines = [] }
-ticks_by e origin (suc n) w t =
-    let a = tick e (tick_from origin t) w in
-    let b = ticks_by e origin n a.world (t + 1) in
-    record { world = b.world; lines = a.lines ++ b.lines }
-
--- The partition at `place` made n ticks, which wrote these lines.
-abbrev pub HasMoved : {C : Type 0} → At → ℕ → ℕ → List (Member C) → Option (Member C) → List (Member C) → List Event → Type 0
-HasMoved at n place members None now told = (now ≡ members) × (told ≡ []) × (n ≡ 0)
-HasMoved at n place members (Some x) now told =
-    let b = ticks_by x.engine at.origin.0 n x.world at.now.0 in
-    (now ≡ slice_set members place (with_world x b.world)) × (told ≡ b.lines)
-
--- Of k ticks, the partition at `place` made n, and their lines were to be written.
-abbrev pub HasMovedWritten : {C : Type 0} → At → ℕ → ℕ → List (Member C) → Option (Member C) → List (Member C) → Sent → Sent → ℕ → Type 0
-HasMovedWritten at k place members o now old new n = (n ≤ k) × (told : List Event) × HasMoved at n place members o now told × HasSent old new (text_of told)
 
 -- ---- edges at which nothing moves
 

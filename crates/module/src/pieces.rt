@@ -8,8 +8,9 @@ ghost use Rattle.module_meaning.specs.Module as meaning;
 ghost use Rattle.kernel_meaning.specs.Windows.{tick_from, owner, ended};
 ghost use Rattle.kernel_laws.specs.Quiet.{AreStill};
 ghost use Rattle.lone_partition.specs.Outputs.{sent_of};
+ghost use Rattle.lone_partition.specs.Pieces.{ticks_by};
 ghost use Rattle.module.specs.Collecting.{BringsNothing};
-ghost use Rattle.module.specs.Pieces.{EndsQuietly, HasMovedWritten, HasNoSource, HasPassedSome, HasPassedSomeBehind, HasSkippedSome};
+ghost use Rattle.module.specs.Pieces.{EndsQuietly, HasNoSource, HasPassedSome, HasPassedSomeBehind, HasSkippedSome};
 ghost use Rattle.module.specs.Standing.{ticks_in};
 ghost use Rattle.module.specs.Views.{members_in, plan_of, standing_of};
 ghost use Rattle.lone_partition.specs.Written.{IsMade};
@@ -20,7 +21,7 @@ use crate::step::number_at;
 use apex_types::limits::MOST_TICKS;
 use apex_types::{At, DeviceLine, Moment, PartitionId, PortId, Sink, Ticks};
 use image::Image;
-use lone_partition::{Output, at_most, until_line, write_advance};
+use lone_partition::{Output, at_most, until_line, write_piece};
 use partition_base::Executor;
 use regions::PartitionMem;
 use window_table::Span;
@@ -94,9 +95,9 @@ impl<E: Executor<Mem = PartitionMem>> Members<E> {
         self.move_ended(image.channels.as_slice(), moment, ended, output);
     }
 
-    /// Executes `most` ticks of the partition at `place`, or fewer, once their lines fill the
-    /// buffer, and writes these lines; returns how many. The partition borrows its own part of the
-    /// memory, and no other partition's memory changes.
+    /// Executes `most` ticks of the partition at `place`, or fewer, once the sink has failed, and
+    /// writes their lines; returns how many. The partition borrows its own part of the memory, and
+    /// no other partition's memory changes.
     #[tactic(auto, using(crate::proofs::Members::others))]
     fn advance_at<S: Sink>(
         &mut self,
@@ -107,16 +108,18 @@ impl<E: Executor<Mem = PartitionMem>> Members<E> {
     ) -> u32
         requires there { place < length self.old.partitions.items }
         requires soon { moment.at.now.0 + most ≤ MOST_TICKS }
-        ensures written { HasMovedWritten moment.at most place (members_in E.Executor self.old)
-            (slice_get (members_in E.Executor self.old) place) (members_in E.Executor self.new)
-            (sent_of S.Sink output.old) (sent_of S.Sink output.new) result }
+        ensures within { result ≤ most }
         ensures some { 0 < most → 0 < result }
-        ensures count { length self.new.partitions.items ≡ length self.old.partitions.items }
+        ensures written { IsMade
+            (meaning.steps_member (ticks_by result moment.at) (members_in E.Executor self.old)
+            place (slice_get (members_in E.Executor self.old) place))
+            (members_in E.Executor self.new) (sent_of S.Sink output.old)
+            (sent_of S.Sink output.new) }
         ensures others { (q : ℕ) → q ≢ place
             → slice_get self.new.memory q ≡ slice_get self.old.memory q }
     {
         let mem = self.memory.lend(number_at(place));
-        write_advance(&mut self.partitions[place], mem, moment, most, output)
+        write_piece(&mut self.partitions[place], mem, moment, most, output)
     }
 }
 
@@ -163,44 +166,9 @@ impl<E: Executor<Mem = PartitionMem>> Module<E> {
         self.now = Ticks(self.now.0 + u64::from(ticks));
     }
 
-    /// Executes `most` ticks of the partition at `place`, or fewer, once their lines fill the
-    /// buffer; returns how many.
-    fn stretch<S: Sink>(
-        &mut self,
-        origin: Ticks,
-        place: usize,
-        most: u32,
-        output: &mut Output<'_, S>,
-    ) -> u32
-        requires origin { self.old.origin ≡ Some origin }
-        requires there { place < length self.old.members.partitions.items }
-        requires soon { self.old.now.0 + most ≤ MOST_TICKS }
-        ensures image { self.new.image ≡ self.old.image }
-        ensures origin { self.new.origin ≡ self.old.origin }
-        ensures moved { HasMovedWritten (tick_from origin.0 self.old.now.0) most place
-            (members_in E.Executor self.old.members)
-            (slice_get (members_in E.Executor self.old.members) place)
-            (members_in E.Executor self.new.members) (sent_of S.Sink output.old)
-            (sent_of S.Sink output.new) result }
-        ensures some { 0 < most → 0 < result }
-        ensures count { length self.new.members.partitions.items
-            ≡ length self.old.members.partitions.items }
-        ensures now { self.new.now.0 ≡ self.old.now.0 + result }
-    {
-        let moment = Moment {
-            at: At {
-                now: self.now,
-                origin,
-            },
-        };
-        let count = self.members.advance_at(place, moment, most, output);
-        self.skip(count);
-        count
-    }
-
-    /// Executes `most` ticks of the owner of a window, and writes their lines, a buffer at a time.
-    /// Once the sink has failed it stops, but not before the first buffer. The messages of the
-    /// first tick have moved already.
+    /// Executes `most` ticks of the owner of a window, and writes their lines; returns how many.
+    /// Once the sink has failed it stops, but not before the first buffer. The messages of the first
+    /// tick have moved already.
     fn piece<S: Sink>(
         &mut self,
         origin: Ticks,
@@ -209,7 +177,6 @@ impl<E: Executor<Mem = PartitionMem>> Module<E> {
         output: &mut Output<'_, S>,
     ) -> u32
         requires origin { self.old.origin ≡ Some origin }
-        requires begun { 0 < self.old.now.0 }
         requires soon { self.old.now.0 + most ≤ MOST_TICKS }
         requires some { 0 < most }
         requires there { place < length self.old.members.partitions.items }
@@ -225,11 +192,15 @@ impl<E: Executor<Mem = PartitionMem>> Module<E> {
             (standing_of E.Executor self.old) (standing_of E.Executor self.new)
             (sent_of S.Sink output.old) (sent_of S.Sink output.new) result }
     {
-        let mut left = most - self.stretch(origin, place, most, output);
-        while left > 0 && !output.has_failed() {
-            left -= self.stretch(origin, place, left, output);
-        }
-        most - left
+        let moment = Moment {
+            at: At {
+                now: self.now,
+                origin,
+            },
+        };
+        let count = self.members.advance_at(place, moment, most, output);
+        self.skip(count);
+        count
     }
 
     /// Whether the window after that of the last span may be of a partition. It is only a hint: a

@@ -1,5 +1,5 @@
 use Rattle.lone_partition.proofs.Prelude.{◌≡◌, ◌≤◌, ◌+◌, Some, None, arith, rules, ended, owner, member_of, around, sent_of, tick_of_input}
-use Rattle.lone_partition.proofs.Bursts.{is_within, run_empty, run_fewer}
+use Rattle.lone_partition.proofs.Bursts.{is_within, run_empty, run_fewer, run_piece}
 use Rattle.lone_partition.proofs.LinesOfTicks.{from_lower}
 use Rattle.lone_partition.proofs.pieces.advance_window.Goals as goal
 
@@ -30,5 +30,6 @@ returns-in-Some-clause-run g c = λ lines order.
     let over : ended s.schedule at ≡ None = search rules in
     let owns : owner s.schedule at ≡ Some c.in-Some.field-0.0 = search rules in
     run_fewer s lines n c.args.most c.write_piece.result at x y _ _ few
-    (c.write_piece.ensures.run s lines c.in-Some.field-0.0
-    (is_within s lines n c.until_change.result at (Some c.in-Some.field-0.0) c.at_most-count.ensures.ticks (from_lower tick_of_input (t + n) (t + c.args.most) lines (omega (arith, few)) order) over c.until_change.ensures.ended owns c.until_change.ensures.owner))
+    (run_piece s lines n c.in-Some.field-0.0 c.write_piece.result at x y _ _
+    (is_within s lines n c.until_change.result at (Some c.in-Some.field-0.0) c.at_most-count.ensures.ticks (from_lower tick_of_input (t + n) (t + c.args.most) lines (omega (arith, few)) order) over c.until_change.ensures.ended owns c.until_change.ensures.owner)
+    c.write_piece.ensures.within c.write_piece.ensures.written)

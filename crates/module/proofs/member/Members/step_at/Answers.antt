@@ -1,7 +1,7 @@
-use Rattle.module.proofs.Prelude.{◌≡◌, ◌≤◌, ◌<◌, length, Option, Some, None, ap, sym, ◌∙◌, arith, rules, slice_get-get_or, Member, sent_of, steps_member, member_of, members_of, IsMade}
-use Rattle.std.proofs.Common.{slice_get, slice_set, subst}
+use Rattle.module.proofs.Prelude.{◌≡◌, ◌≤◌, ◌<◌, length, Option, Some, None, sym, arith, rules, slice_get-get_or, Member, sent_of, steps_member, members_of, IsMade}
+use Rattle.std.proofs.Common.{slice_get, subst}
 use Rattle.lone_partition.specs.Steps.{step_of}
-use Rattle.module.proofs.Members.{few_set, fit_at, fit_set, get_member, set_member, no_member, same_length}
+use Rattle.module.proofs.Members.{few_set, fit_at, fit_set, made_at, no_member, same_length}
 use Rattle.lone_partition.proofs.Written.{still_made}
 use Rattle.module.proofs.member.Members.step_at.Goals as goal
 
@@ -29,18 +29,11 @@ invariant_of-self-2 g c = rw c.number_at.ensures.place (record { few = few_set c
 
 pub returns-clause-written : goal.returns-clause-written
 returns-clause-written g c =
-    let e = g.E.Executor in
     let ps = c.args.self.now.partitions.items in
-    let memory = c.args.self.now.memory in
-    let place = c.args.place in
     let p = c.index_mut.result.now in
-    let s = c.lend-mem.result.now in
-    let here : slice_get ps place ≡ Some p = search (rules, slice_get-get_or) in
-    let members = members_of e ps memory in
-    let got : slice_get members place ≡ Some (member_of e p s) = get_member e ps memory place p s here (rw c.number_at.ensures.place at c.lend-mem.ensures.lent) in
-    let made = c.write_step.ensures.written in
-    rw c.number_at.ensures.place (subst (λ (o : Option (Member e.Control)). IsMade (steps_member (step_of c.args.moment.at c.args.step.now) members place o) (members_of e (slice_set ps place c.write_step.new.partition) (slice_set memory place c.write_step.new.mem)) (sent_of g.S.Sink c.args.output.now) (sent_of g.S.Sink c.write_step.new.output)) (sym got)
-    (record { state = set_member e ps memory place c.write_step.new.partition c.write_step.new.mem ∙ ap (λ m. slice_set members place m) made.state; sent = made.sent }))
+    let here : slice_get ps c.args.place ≡ Some p = search (rules, slice_get-get_or) in
+    rw c.number_at.ensures.place
+    (made_at g.E.Executor ps c.args.self.now.memory c.args.place p c.write_step.new.partition c.lend-mem.result.now c.write_step.new.mem (step_of c.args.moment.at c.args.step.now) (sent_of g.S.Sink c.args.output.now) (sent_of g.S.Sink c.write_step.new.output) here (rw c.number_at.ensures.place at c.lend-mem.ensures.lent) c.write_step.ensures.written)
 
 pub returns-then-place-len-clause-written : goal.returns-then-place-len-clause-written
 returns-then-place-len-clause-written g c =
