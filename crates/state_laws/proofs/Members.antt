@@ -118,7 +118,7 @@ module _ {C : Type 0} (d : ListKey → Discipline) (called : ℕ → List ℕ) w
     IsOwn t move ms q u = (q ≡ place) × ((x : Member C) × ((slice_get ms place ≡ Some x) × (u ≡ reads_all t (makes move x).lines)))
 
     pub record StepsTo (t : Told) (move : Move) (ms : List (Member C)) (q : ℕ) (o : Option (Member C)) : Type 0 where
-      pub stands : Stands (told_from name t (steps_member (makes move) ms q o).lines) (steps_member (makes move) ms q o).members
+      pub stands : Stands (told_from name t (steps_member (makes move) ms q o).lines) (steps_member (makes move) ms q o).state
       pub lines : (told_from name t (steps_member (makes move) ms q o).lines ≡ t) ⊎ IsOwn t move ms q (told_from name t (steps_member (makes move) ms q o).lines)
       pub read : (x : Member C) → q ≡ place → slice_get ms place ≡ Some x → told_from name t (steps_member (makes move) ms q o).lines ≡ reads_all t (makes move x).lines
 

@@ -27,7 +27,7 @@ use Rattle.kernel_laws.specs.History.{Move, Starts, BreaksDown, Arrives, Leaves,
 use Rattle.kernel_meaning.specs.Kernel.{Fixed}
 use Rattle.kernel_meaning.specs.Partition.{Member, cold_start, leaving, messages_to_move, place_of_port}
 use Rattle.kernel_meaning.specs.Windows.{ended, owner}
-use Rattle.module_meaning.specs.Module.{Advanced, Course, Module, Plan, as_origin, breaks_module, channel_from, delivers, delivers_all, first_tick, goes_by, goes_on, inputs, inputs_all, module_tick, moves_and_ticks, moves_ended, moves_found, moves_message, moves_messages, moves_port, moves_ports, moves_so_many, next_tick, of_member, of_tick, ports_from, start_lines, started_member, starts_all, steps, steps_member, still, then_goes, ticks_owner, trace, trace_from, unless_down}
+use Rattle.module_meaning.specs.Module.{Course, Module, Plan, as_origin, breaks_module, channel_from, delivers, delivers_all, first_tick, goes_by, goes_on, inputs, inputs_all, module_tick, moves_and_ticks, moves_ended, moves_found, moves_message, moves_messages, moves_port, moves_ports, moves_so_many, next_tick, of_member, of_tick, ports_from, start_lines, started_member, starts_all, Stepped, steps, steps_member, still, then_goes, ticks_owner, trace, trace_from, unless_down}
 use Rattle.module_meaning.specs.Standing.{IsNow}
 use Rattle.module_meaning.specs.Table.{Channel, at_number}
 use Rattle.state_laws.specs.Spending.{before_owner, before_owner_from, chosen_by, owner_in, owner_of, worker, worker_at, worker_of}
@@ -52,21 +52,21 @@ module _ {C : Type 0} (d : ListKey → Discipline) (called : ℕ → List ℕ) (
   Stay t ms = Stands d called name place names apart t ms
 
   -- the partition stands, and the same has worked last
-  pub record QuietTo (t : Told) (a : Advanced C) : Type 0 where
-    pub stands : Stay (told_from name t a.lines) a.members
+  pub record QuietTo (t : Told) (a : Stepped (List (Member C))) : Type 0 where
+    pub stands : Stay (told_from name t a.lines) a.state
     pub same : (told_from name t a.lines).worked ≡ t.worked
 
-  abbrev advanced : Course C → Advanced C
-  advanced c = record { members = c.members; lines = c.lines }
+  abbrev advanced : Course (List (Member C)) → Stepped (List (Member C))
+  advanced c = record { state = c.state; lines = c.lines }
 
   still_to : (t : Told) (ms : List (Member C)) → Stay t ms → QuietTo t (still ms)
   still_to t ms h = record { stands = h; same = refl }
 
-  then_to : (t : Told) (a : Advanced C) (rest : List (Member C) → Advanced C) → QuietTo t a → ((u : Told) → Stay u a.members → QuietTo u (rest a.members)) → QuietTo t (then_goes a rest)
+  then_to : (t : Told) (a : Stepped (List (Member C))) (rest : List (Member C) → Stepped (List (Member C))) → QuietTo t a → ((u : Told) → Stay u a.state → QuietTo u (rest a.state)) → QuietTo t (then_goes a rest)
   then_to t a rest h k =
-      let is = told_both name t a.lines (rest a.members).lines in
+      let is = told_both name t a.lines (rest a.state).lines in
       let b = k (told_from name t a.lines) h.stands in
-      record { stands = subst (λ (u : Told). Stay u (rest a.members).members) (sym is) b.stands; same = ap has_worked_last is ∙ b.same ∙ h.same }
+      record { stands = subst (λ (u : Told). Stay u (rest a.state).state) (sym is) b.stands; same = ap has_worked_last is ∙ b.same ∙ h.same }
 
   quiet : (tick : ℕ) (move : Move) → ((t : Told) (x : Member C) → IsWell d called t x → MovesTo has_worked_last tick t (makes move x)) → (q : ℕ) (t : Told) (ms : List (Member C)) → Stay t ms → QuietTo t (steps (makes move) ms q)
   quiet tick move tells zero t ms h = still_to t ms h
@@ -110,7 +110,7 @@ module _ {C : Type 0} (d : ListKey → Discipline) (called : ℕ → List ℕ) (
   delivers_all_to : (at : At) (c : Channel) (m : ArrayVec _) (es : List ChannelEnd) (t : Told) (ms : List (Member C)) → Stay t ms → QuietTo t (delivers_all at c m es ms)
   delivers_all_to at c m [] t ms h = still_to t ms h
   delivers_all_to at c m (e ∷ es) t ms h =
-      then_to t (delivers at c m c.source e ms) (delivers_all at c m es) (delivers_to at c m c.source e t ms h) (λ u k. delivers_all_to at c m es u (delivers at c m c.source e ms).members k)
+      then_to t (delivers at c m c.source e ms) (delivers_all at c m es) (delivers_to at c m c.source e t ms h) (λ u k. delivers_all_to at c m es u (delivers at c m c.source e ms).state k)
 
   goes_by_to : (at : At) (m : ArrayVec _) (o : Option Channel) (t : Told) (ms : List (Member C)) → Stay t ms → QuietTo t (goes_by at m o ms)
   goes_by_to at m None t ms h = still_to t ms h
@@ -122,7 +122,7 @@ module _ {C : Type 0} (d : ListKey → Discipline) (called : ℕ → List ℕ) (
   found_to channels at p port None t ms h = still_to t ms h
   found_to channels at p port (Some m) t ms h =
       then_to t (steps (makes (Leaves at port)) ms p.0) (goes_by at m (channel_from channels p port)) (leaves_to at port p.0 t ms h)
-      (λ u k. goes_by_to at m (channel_from channels p port) u (steps (makes (Leaves at port)) ms p.0).members k)
+      (λ u k. goes_by_to at m (channel_from channels p port) u (steps (makes (Leaves at port)) ms p.0).state k)
 
   message_to : (channels : List Channel) (at : At) (p : PartitionId) (port : PortId) (t : Told) (ms : List (Member C)) → Stay t ms → QuietTo t (moves_message channels at p port ms)
   message_to channels at p port t ms h = found_to channels at p port (of_member None (leaving port) (at_number ms p.0)) t ms h
@@ -130,19 +130,19 @@ module _ {C : Type 0} (d : ListKey → Discipline) (called : ℕ → List ℕ) (
   messages_to : (n : ℕ) (channels : List Channel) (at : At) (p : PartitionId) (port : PortId) (t : Told) (ms : List (Member C)) → Stay t ms → QuietTo t (moves_messages n channels at p port ms)
   messages_to zero channels at p port t ms h = still_to t ms h
   messages_to (suc n) channels at p port t ms h =
-      then_to t (moves_message channels at p port ms) (moves_messages n channels at p port) (message_to channels at p port t ms h) (λ u k. messages_to n channels at p port u (moves_message channels at p port ms).members k)
+      then_to t (moves_message channels at p port ms) (moves_messages n channels at p port) (message_to channels at p port t ms h) (λ u k. messages_to n channels at p port u (moves_message channels at p port ms).state k)
 
   so_many_to : (channels : List Channel) (at : At) (p : PartitionId) (port : PortId) (o : Option ℕ) (t : Told) (ms : List (Member C)) → Stay t ms → QuietTo t (moves_so_many channels at p port ms o)
   so_many_to channels at p port None t ms h = still_to t ms h
   so_many_to channels at p port (Some n) t ms h =
-      then_to t (moves_messages n channels at p port ms) (λ ns. steps (makes (Admits at port)) ns p.0) (messages_to n channels at p port t ms h) (λ u k. admits_to at port p.0 u (moves_messages n channels at p port ms).members k)
+      then_to t (moves_messages n channels at p port ms) (λ ns. steps (makes (Admits at port)) ns p.0) (messages_to n channels at p port t ms h) (λ u k. admits_to at port p.0 u (moves_messages n channels at p port ms).state k)
 
   ports_to : (n number : ℕ) (channels : List Channel) (at : At) (p : PartitionId) (t : Told) (ms : List (Member C)) → Stay t ms → QuietTo t (moves_ports n number channels at p ms)
   ports_to zero number channels at p t ms h = still_to t ms h
   ports_to (suc n) number channels at p t ms h =
       let port : PortId = record { 0 = number } in
       then_to t (moves_port channels at p port ms) (moves_ports n (number + 1) channels at p)
-      (so_many_to channels at p port (messages_to_move (at_number (ports_from ms p.0) number)) t ms h) (λ u k. ports_to n (number + 1) channels at p u (moves_port channels at p port ms).members k)
+      (so_many_to channels at p port (messages_to_move (at_number (ports_from ms p.0) number)) t ms h) (λ u k. ports_to n (number + 1) channels at p u (moves_port channels at p port ms).state k)
 
   ended_to : (channels : List Channel) (at : At) (o : Option ℕ) (t : Told) (ms : List (Member C)) → Stay t ms → QuietTo t (moves_ended channels at ms o)
   ended_to channels at None t ms h = still_to t ms h
@@ -222,12 +222,12 @@ module _ {C : Type 0} (d : ListKey → Discipline) (called : ℕ → List ℕ) (
 
   inputs_to : (plan : Plan) (ls : List DeviceLine) (at : At) (t : Told) (ms : List (Member C)) → Stay t ms → QuietTo t (advanced (inputs_all plan at ls ms))
   inputs_to plan [] at t ms h = still_to t ms h
-  inputs_to plan (l ∷ ls) at t ms h = by_at (inputs plan at l.input ms).at (input_to plan at l.input t ms h) (λ a u g. inputs_to plan ls a u (inputs plan at l.input ms).members g)
+  inputs_to plan (l ∷ ls) at t ms h = by_at (inputs plan at l.input ms).at (input_to plan at l.input t ms h) (λ a u g. inputs_to plan ls a u (inputs plan at l.input ms).state g)
     where
-      i : Course C
+      i : Course (List (Member C))
       i = inputs plan at l.input ms
 
-      by_at : (o : Option At) → QuietTo t (advanced i) → ((a : At) (u : Told) → Stay u i.members → QuietTo u (advanced (inputs_all plan a ls i.members))) → QuietTo t (advanced (unless_down i (λ a ns. inputs_all plan a ls ns) o))
+      by_at : (o : Option At) → QuietTo t (advanced i) → ((a : At) (u : Told) → Stay u i.state → QuietTo u (advanced (inputs_all plan a ls i.state))) → QuietTo t (advanced (unless_down i (λ a ns. inputs_all plan a ls ns) o))
       by_at None k rest = k
       by_at (Some a) k rest = then_to t (advanced i) (λ ns. advanced (inputs_all plan a ls ns)) k (rest a)
 
@@ -244,20 +244,20 @@ module _ {C : Type 0} (d : ListKey → Discipline) (called : ℕ → List ℕ) (
 
   inputs_now : (n : ℕ) (plan : Plan) (ls : List DeviceLine) (at : At) (ms : List (Member C)) → at.now.0 ≡ n → IsNow n (inputs_all plan at ls ms).at
   inputs_now n plan [] at ms e = e
-  inputs_now n plan (l ∷ ls) at ms e = by_at (inputs plan at l.input ms).at (input_now n plan at l.input ms e) (input_now n plan at l.input ms e) (λ a k. inputs_now n plan ls a (inputs plan at l.input ms).members k)
+  inputs_now n plan (l ∷ ls) at ms e = by_at (inputs plan at l.input ms).at (input_now n plan at l.input ms e) (input_now n plan at l.input ms e) (λ a k. inputs_now n plan ls a (inputs plan at l.input ms).state k)
     where
-      i : Course C
+      i : Course (List (Member C))
       i = inputs plan at l.input ms
 
-      by_at : (o : Option At) → IsNow n o → IsNow n i.at → ((a : At) → a.now.0 ≡ n → IsNow n (inputs_all plan a ls i.members).at) → IsNow n (unless_down i (λ a ns. inputs_all plan a ls ns) o).at
+      by_at : (o : Option At) → IsNow n o → IsNow n i.at → ((a : At) → a.now.0 ≡ n → IsNow n (inputs_all plan a ls i.state).at) → IsNow n (unless_down i (λ a ns. inputs_all plan a ls ns) o).at
       by_at None k down rest = down
       by_at (Some a) k down rest = rest a k
 
   -- ---- the owner's tick
 
   -- the partition stands, and nobody has worked later than in this tick
-  pub record TicksTo (n : ℕ) (t : Told) (a : Advanced C) : Type 0 where
-    pub stands : Stay (told_from name t a.lines) a.members
+  pub record TicksTo (n : ℕ) (t : Told) (a : Stepped (List (Member C))) : Type 0 where
+    pub stands : Stay (told_from name t a.lines) a.state
     pub before : IsBefore (suc n) (told_from name t a.lines).worked
 
   owner_to : (at : At) (o : Option ℕ) (t : Told) (ms : List (Member C)) → Stay t ms → IsBefore at.now.0 t.worked → TicksTo at.now.0 t (ticks_owner at ms o)
@@ -294,17 +294,17 @@ module _ {C : Type 0} (d : ListKey → Discipline) (called : ℕ → List ℕ) (
   moves_and_ticks_to plan at t ms h b =
       let a = moves_ended plan.channels at ms (ended plan.schedule at) in
       let k = ended_to plan.channels at (ended plan.schedule at) t ms h in
-      let o = owner_to at (owner plan.schedule at) (told_from name t a.lines) a.members k.stands (subst (IsBefore at.now.0) (sym k.same) b) in
-      let is = told_both name t a.lines (ticks_owner at a.members (owner plan.schedule at)).lines in
+      let o = owner_to at (owner plan.schedule at) (told_from name t a.lines) a.state k.stands (subst (IsBefore at.now.0) (sym k.same) b) in
+      let is = told_both name t a.lines (ticks_owner at a.state (owner plan.schedule at)).lines in
       record {
-        stands = subst (λ (v : Told). Stay v (ticks_owner at a.members (owner plan.schedule at)).members) (sym is) o.stands;
+        stands = subst (λ (v : Told). Stay v (ticks_owner at a.state (owner plan.schedule at)).state) (sym is) o.stands;
         before = subst (λ (v : Told). IsBefore (suc at.now.0) v.worked) (sym is) o.before;
       }
 
   -- ---- a tick of the module
 
   module _ (plan : Plan) (devices : List DeviceLine) (at : At) (t : Told) (ms : List (Member C)) (h : Stay t ms) (b : IsBefore at.now.0 t.worked) where
-    abbrev brought : Course C
+    abbrev brought : Course (List (Member C))
     brought = inputs_all plan at (of_tick at.now.0 devices) ms
 
     brought_to : QuietTo t (advanced brought)
@@ -317,11 +317,11 @@ module _ {C : Type 0} (d : ListKey → Discipline) (called : ℕ → List ℕ) (
     after_devices None e = record { stands = brought_to.stands; before = later at.now.0 _ still_before }
     after_devices (Some a) e =
         let u = told_from name t brought.lines in
-        let k = moves_and_ticks_to plan a u brought.members brought_to.stands (subst (λ (n : ℕ). IsBefore n u.worked) (sym e) still_before) in
-        let is = told_both name t brought.lines (moves_and_ticks plan a brought.members).lines in
+        let k = moves_and_ticks_to plan a u brought.state brought_to.stands (subst (λ (n : ℕ). IsBefore n u.worked) (sym e) still_before) in
+        let is = told_both name t brought.lines (moves_and_ticks plan a brought.state).lines in
         record {
-          stands = subst (λ (v : Told). Stay v (moves_and_ticks plan a brought.members).members) (sym is) k.stands;
-          before = subst (λ (v : Told). IsBefore (suc at.now.0) v.worked) (sym is) (subst (λ (n : ℕ). IsBefore (suc n) (told_from name u (moves_and_ticks plan a brought.members).lines).worked) e k.before);
+          stands = subst (λ (v : Told). Stay v (moves_and_ticks plan a brought.state).state) (sym is) k.stands;
+          before = subst (λ (v : Told). IsBefore (suc at.now.0) v.worked) (sym is) (subst (λ (n : ℕ). IsBefore (suc n) (told_from name u (moves_and_ticks plan a brought.state).lines).worked) e k.before);
         }
 
     tick_to : TicksTo at.now.0 t (advanced (module_tick plan at devices ms))
@@ -336,23 +336,23 @@ module _ {C : Type 0} (d : ListKey → Discipline) (called : ℕ → List ℕ) (
 
     worker_after : (o : Option At) → brought.at ≡ o → IsNow at.now.0 o → owner_of plan (unless_down brought (λ a ns. goes_on a (moves_ended plan.channels a ns (ended plan.schedule a))) o).at ≡ Some (suc place)
         → worker_by_lines at.now.0 (told_from name t (unless_down brought (moves_and_ticks plan) o).lines)
-        ≡ worker_of plan (unless_down brought (λ a ns. goes_on a (moves_ended plan.channels a ns (ended plan.schedule a))) o).at (unless_down brought (λ a ns. goes_on a (moves_ended plan.channels a ns (ended plan.schedule a))) o).members
+        ≡ worker_of plan (unless_down brought (λ a ns. goes_on a (moves_ended plan.channels a ns (ended plan.schedule a))) o).at (unless_down brought (λ a ns. goes_on a (moves_ended plan.channels a ns (ended plan.schedule a))) o).state
     worker_after None is e owns = absurd (none-some (suc place) (sym (ap (owner_of plan) is) ∙ owns))
     worker_after (Some a) is e owns =
         let u = told_from name t brought.lines in
-        let m = moves_ended plan.channels a brought.members (ended plan.schedule a) in
-        let k = ended_to plan.channels a (ended plan.schedule a) u brought.members brought_to.stands in
+        let m = moves_ended plan.channels a brought.state (ended plan.schedule a) in
+        let k = ended_to plan.channels a (ended plan.schedule a) u brought.state brought_to.stands in
         let v = told_from name u m.lines in
         let c : IsBefore a.now.0 v.worked = subst (IsBefore a.now.0) (sym k.same) (subst (λ (n : ℕ). IsBefore n u.worked) (sym e) still_before) in
-        let w : worker_by_lines a.now.0 (told_from name v (ticks_owner a m.members (owner plan.schedule a)).lines) ≡ worker_at a m.members (owner plan.schedule a) =
-        subst (λ (o : Option ℕ). worker_by_lines a.now.0 (told_from name v (ticks_owner a m.members o).lines) ≡ worker_at a m.members o) (sym owns) (owner_worker a v m.members k.stands c) in
-        let last = (ticks_owner a m.members (owner plan.schedule a)).lines in
+        let w : worker_by_lines a.now.0 (told_from name v (ticks_owner a m.state (owner plan.schedule a)).lines) ≡ worker_at a m.state (owner plan.schedule a) =
+        subst (λ (o : Option ℕ). worker_by_lines a.now.0 (told_from name v (ticks_owner a m.state o).lines) ≡ worker_at a m.state o) (sym owns) (owner_worker a v m.state k.stands c) in
+        let last = (ticks_owner a m.state (owner plan.schedule a)).lines in
         ap (worker_by_lines at.now.0) (told_both name t brought.lines (m.lines ++ last) ∙ told_both name u m.lines last)
         ∙ ap (λ (n : ℕ). worker_by_lines n (told_from name v last)) (sym e)
         ∙ w
 
     tick_worker : owner_of plan (before_owner plan at devices ms).at ≡ Some (suc place)
-        → worker_by_lines at.now.0 (told_from name t (module_tick plan at devices ms).lines) ≡ worker_of plan (before_owner plan at devices ms).at (before_owner plan at devices ms).members
+        → worker_by_lines at.now.0 (told_from name t (module_tick plan at devices ms).lines) ≡ worker_of plan (before_owner plan at devices ms).at (before_owner plan at devices ms).state
     tick_worker owns = worker_after brought.at refl (inputs_now at.now.0 plan (of_tick at.now.0 devices) at ms refl) owns
 
   -- ---- a run
@@ -365,8 +365,8 @@ module _ {C : Type 0} (d : ListKey → Discipline) (called : ℕ → List ℕ) (
       let c = subst (λ (i : ℕ). IsBefore i t.worked) (sym e) b in
       let r = module_tick plan at devices ms in
       let k = tick_to plan devices at t ms h c in
-      let rest = run_to plan devices n (suc at.now.0) (option_map next_tick r.at) (next_now at.now.0 r.at (tick_now plan devices at t ms h c)) (told_from name t r.lines) r.members k.stands k.before in
-      subst (λ (v : Told). Stay v (members_from plan devices n (option_map next_tick r.at) r.members)) (sym (told_both name t r.lines (trace_from plan devices n (option_map next_tick r.at) r.members))) rest
+      let rest = run_to plan devices n (suc at.now.0) (option_map next_tick r.at) (next_now at.now.0 r.at (tick_now plan devices at t ms h c)) (told_from name t r.lines) r.state k.stands k.before in
+      subst (λ (v : Told). Stay v (members_from plan devices n (option_map next_tick r.at) r.state)) (sym (told_both name t r.lines (trace_from plan devices n (option_map next_tick r.at) r.state))) rest
 
   pub run_stands : (m : Module C) (devices : List DeviceLine) (n : ℕ) → Stay first_told m.members → Stay (told name (trace m devices n)) (members_after m devices n)
   run_stands m devices zero h = h
@@ -374,12 +374,12 @@ module _ {C : Type 0} (d : ListKey → Discipline) (called : ℕ → List ℕ) (
       let s = starts_all first_tick condition.NormalStart m.members in
       let k = starts_to first_tick condition.NormalStart first_told first_told m.members h refl in
       let u = told_from name first_told s.lines in
-      let rest = run_to m.plan devices (suc n) 0 (Some first_tick) refl u s.members k.stands (subst (IsBefore 0) (sym k.same) tt) in
-      subst (λ (v : Told). Stay v (members_from m.plan devices (suc n) (Some first_tick) s.members)) (sym (told_both name first_told s.lines (trace_from m.plan devices (suc n) (Some first_tick) s.members))) rest
+      let rest = run_to m.plan devices (suc n) 0 (Some first_tick) refl u s.state k.stands (subst (IsBefore 0) (sym k.same) tt) in
+      subst (λ (v : Told). Stay v (members_from m.plan devices (suc n) (Some first_tick) s.state)) (sym (told_both name first_told s.lines (trace_from m.plan devices (suc n) (Some first_tick) s.state))) rest
 
   worker_from : (plan : Plan) (devices : List DeviceLine) (n now : ℕ) (o : Option At) → IsNow now o → (t : Told) (ms : List (Member C)) → Stay t ms → IsBefore now t.worked
       → owner_of plan (before_owner_from plan devices n o ms).at ≡ Some (suc place)
-      → worker_by_lines (now + n) (told_from name t (trace_from plan devices (suc n) o ms)) ≡ worker_of plan (before_owner_from plan devices n o ms).at (before_owner_from plan devices n o ms).members
+      → worker_by_lines (now + n) (told_from name t (trace_from plan devices (suc n) o ms)) ≡ worker_of plan (before_owner_from plan devices n o ms).at (before_owner_from plan devices n o ms).state
   worker_from plan devices zero now None e t ms h b owns = absurd (none-some (suc place) owns)
   worker_from plan devices zero now (Some at) e t ms h b owns =
       let c = subst (λ (i : ℕ). IsBefore i t.worked) (sym e) b in
@@ -393,9 +393,9 @@ module _ {C : Type 0} (d : ListKey → Discipline) (called : ℕ → List ℕ) (
       let c = subst (λ (i : ℕ). IsBefore i t.worked) (sym e) b in
       let r = module_tick plan at devices ms in
       let k = tick_to plan devices at t ms h c in
-      let later = trace_from plan devices (suc n) (option_map next_tick r.at) r.members in
+      let later = trace_from plan devices (suc n) (option_map next_tick r.at) r.state in
       let is : now + suc n ≡ suc at.now.0 + n = omega (arith, e) in
-      let rest = worker_from plan devices n (suc at.now.0) (option_map next_tick r.at) (next_now at.now.0 r.at (tick_now plan devices at t ms h c)) (told_from name t r.lines) r.members k.stands k.before owns in
+      let rest = worker_from plan devices n (suc at.now.0) (option_map next_tick r.at) (next_now at.now.0 r.at (tick_now plan devices at t ms h c)) (told_from name t r.lines) r.state k.stands k.before owns in
       ap (λ (i : ℕ). worker_by_lines i (told_from name t (r.lines ++ later))) is
       ∙ ap (worker_by_lines (suc at.now.0 + n)) (told_both name t r.lines later)
       ∙ rest
@@ -405,8 +405,8 @@ module _ {C : Type 0} (d : ListKey → Discipline) (called : ℕ → List ℕ) (
       let s = starts_all first_tick condition.NormalStart m.members in
       let k = starts_to first_tick condition.NormalStart first_told first_told m.members h refl in
       let u = told_from name first_told s.lines in
-      let later = trace_from m.plan devices (suc n) (Some first_tick) s.members in
+      let later = trace_from m.plan devices (suc n) (Some first_tick) s.state in
       let is : n ≡ 0 + n = omega arith in
       ap (λ (i : ℕ). worker_by_lines i (told_from name first_told (s.lines ++ later))) is
       ∙ ap (worker_by_lines (0 + n)) (told_both name first_told s.lines later)
-      ∙ worker_from m.plan devices n 0 (Some first_tick) refl u s.members k.stands (subst (IsBefore 0) (sym k.same) tt) owns
+      ∙ worker_from m.plan devices n 0 (Some first_tick) refl u s.state k.stands (subst (IsBefore 0) (sym k.same) tt) owns

@@ -10,25 +10,25 @@ use Rattle.module_meaning.specs.Table.{at_number}
 use Rattle.state_laws.specs.States.{runs_in}
 
 -- a tick up to the owner's: the lines of the devices, then the moves of messages
-abbrev pub before_owner : {C : Type 0} → Plan → At → List DeviceLine → List (Member C) → Course C
+abbrev pub before_owner : {C : Type 0} → Plan → At → List DeviceLine → List (Member C) → Course (List (Member C))
 before_owner plan at devices members =
     then_runs (inputs_all plan at (of_tick at.now.0 devices) members) (λ a ms. goes_on a (moves_ended plan.channels a ms (ended plan.schedule a)))
 
-abbrev pub shut_down : {C : Type 0} → List (Member C) → Course C
-shut_down members = record { at = None; members = members; lines = [] }
+abbrev pub shut_down : {C : Type 0} → List (Member C) → Course (List (Member C))
+shut_down members = record { at = None; state = members; lines = [] }
 
 -- the tick n ticks later, up to the owner's
-abbrev pub before_owner_from : {C : Type 0} → Plan → List DeviceLine → ℕ → Option At → List (Member C) → Course C
+abbrev pub before_owner_from : {C : Type 0} → Plan → List DeviceLine → ℕ → Option At → List (Member C) → Course (List (Member C))
 before_owner_from plan devices zero None members = shut_down members
 before_owner_from plan devices zero (Some at) members = before_owner plan at devices members
 before_owner_from plan devices (suc n) None members = shut_down members
 before_owner_from plan devices (suc n) (Some at) members =
     let r = module_tick plan at devices members in
-    before_owner_from plan devices n (option_map next_tick r.at) r.members
+    before_owner_from plan devices n (option_map next_tick r.at) r.state
 
 -- tick n of a run, up to the owner's
-abbrev pub before_owner_in : {C : Type 0} → Module C → List DeviceLine → ℕ → Course C
-before_owner_in m devices n = let s = starts m.members in before_owner_from m.plan devices n (Some first_tick) s.members
+abbrev pub before_owner_in : {C : Type 0} → Module C → List DeviceLine → ℕ → Course (List (Member C))
+before_owner_in m devices n = let s = starts m.members in before_owner_from m.plan devices n (Some first_tick) s.state
 
 -- the owner of the window, unless the module is shut down
 abbrev pub owner_of : Plan → Option At → Option ℕ
@@ -53,4 +53,4 @@ worker_of plan (Some at) members = worker_at at members (owner plan.schedule at)
 
 -- who spends tick n of a run: nobody if the module is shut down, the tick is in no window, or its owner chooses nobody
 abbrev pub worker : {C : Type 0} → Module C → List DeviceLine → ℕ → Option Subject
-worker m devices n = let c = before_owner_in m devices n in worker_of m.plan c.at c.members
+worker m devices n = let c = before_owner_in m devices n in worker_of m.plan c.at c.state
