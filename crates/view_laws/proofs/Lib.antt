@@ -1,3 +1,4 @@
 pub mod Owners
 pub mod Told
 pub mod Lines
+pub mod Run
