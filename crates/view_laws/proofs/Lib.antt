@@ -2,3 +2,4 @@ pub mod Owners
 pub mod Told
 pub mod Lines
 pub mod Run
+pub mod OfRuns

@@ -37,7 +37,7 @@ use Rattle.module_meaning.specs.Table.{Channel, at_number}
 use Rattle.state_laws.specs.Spending.{before_owner, before_owner_from, before_owner_in}
 use Rattle.trace_windows.specs.Frames.{Frames, at_first, with_line}
 use Rattle.view_laws.specs.Reading.{AreInOrder, frames_after, up_to}
-use Rattle.view_laws.proofs.Lines.{framed, framed_so}
+use Rattle.view_laws.proofs.Lines.{AreUpTo, framed, framed_so}
 
 -- ---- lines of a tick
 
@@ -324,3 +324,126 @@ module _ {C : Type 0} where
 
   before_now : (plan : Plan) (devices : List DeviceLine) (at : At) (ms : List (Member C)) → IsNow at.now.0 (before_owner plan at devices ms).at
   before_now plan devices at ms = subst (IsNow at.now.0) (sym (before_same plan devices at ms)) (tick_in plan devices at ms)
+
+-- ---- lines in order
+
+order_from : (m from : ℕ) (lines : List Event) → from ≤ m → AreInOrder m lines → AreInOrder from lines
+order_from m from [] l h = tt
+order_from m from (e ∷ es) l h = let a = h.0 in (omega (arith, l, a), h.1)
+
+order_both : (m n from : ℕ) (a b : List Event) → from ≤ n → n ≤ m → AreOf n a → AreInOrder m b → AreInOrder from (a ++ b)
+order_both m n from [] b l k h g = order_from m from b (omega (arith, l, k)) g
+order_both m n from (e ∷ a) b l k h g = let is = h.0 in (omega (arith, is, l), order_both m n e.tick.0 a b (omega (arith, is)) k h.1 g)
+
+of_up_to : (n t : ℕ) (lines : List Event) → n ≤ t → AreOf n lines → AreUpTo t lines
+of_up_to n t [] l h = tt
+of_up_to n t (e ∷ es) l h = let is = h.0 in (omega (arith, is, l), of_up_to n t es l h.1)
+
+up_to_front : (t : ℕ) (a b : List Event) → AreUpTo t a → up_to t (a ++ b) ≡ a ++ up_to t b
+up_to_front t [] b h = refl
+up_to_front t (e ∷ a) b h = ap (λ (c : Bool). if c then [] else e ∷ up_to t (a ++ b)) (le-ltb t e.tick.0 h.0) ∙ ap (λ (es : List Event). e ∷ es) (up_to_front t a b h.1)
+
+later_none : (t : ℕ) (lines : List Event) → AreInOrder (suc t) lines → up_to t lines ≡ []
+later_none t [] h = refl
+later_none t (e ∷ es) h = let l = h.0 in ap (λ (c : Bool). if c then [] else e ∷ up_to t es) (lt-ltb t e.tick.0 (omega (arith, l)))
+
+next_now : (n : ℕ) (o : Option At) → IsNow n o → IsNow (suc n) (option_map next_tick o)
+next_now n None e = tt
+next_now n (Some at) e = omega (arith, e)
+
+next_frames : (o : Option At) (f : Frames) → HasFrames o f → HasFrames (option_map next_tick o) f
+next_frames None f h = h
+next_frames (Some at) f h = h
+
+module _ {C : Type 0} (plan : Plan) (devices : List DeviceLine) where
+  abbrev result : At → List (Member C) → Course (List (Member C))
+  result at ms = module_tick plan at devices ms
+
+  abbrev later : ℕ → At → List (Member C) → List Event
+  later n at ms = trace_from plan devices n (option_map next_tick (result at ms).at) (result at ms).state
+
+  after_tick : (now : ℕ) (at : At) (ms : List (Member C)) → IsNow now (Some at) → IsNow (suc now) (option_map next_tick (result at ms).at)
+  after_tick now at ms e = next_now now (result at ms).at (subst (λ (n : ℕ). IsNow n (result at ms).at) e (tick_in plan devices at ms))
+
+  of_now : (now : ℕ) (at : At) (ms : List (Member C)) → IsNow now (Some at) → AreOf now (result at ms).lines
+  of_now now at ms e = subst (λ (n : ℕ). AreOf n (result at ms).lines) e (tick_leads plan devices at ms).of
+
+  trace_order : (n now : ℕ) (o : Option At) (ms : List (Member C)) → IsNow now o → AreInOrder now (trace_from plan devices n o ms)
+  trace_order zero now o ms e = tt
+  trace_order (suc n) now None ms e = tt
+  trace_order (suc n) now (Some at) ms e =
+      order_both (suc now) now now (result at ms).lines (later n at ms) (omega arith) (omega arith) (of_now now at ms e)
+      (trace_order n (suc now) (option_map next_tick (result at ms).at) (result at ms).state (after_tick now at ms e))
+
+  trace_up_to : (i k now : ℕ) (o : Option At) (ms : List (Member C)) → i < k → IsNow now o → up_to (now + i) (trace_from plan devices k o ms) ≡ trace_from plan devices (suc i) o ms
+  trace_up_to i zero now o ms l e = absurd (omega (arith, l))
+  trace_up_to i (suc k) now None ms l e = refl
+  trace_up_to zero (suc k) now (Some at) ms l e =
+      let rest = trace_order k (suc now) (option_map next_tick (result at ms).at) (result at ms).state (after_tick now at ms e) in
+      let is : suc now ≡ suc (now + 0) = omega arith in
+      up_to_front (now + 0) (result at ms).lines (later k at ms) (of_up_to now (now + 0) (result at ms).lines (omega arith) (of_now now at ms e))
+      ∙ ap (λ (es : List Event). (result at ms).lines ++ es) (later_none (now + 0) (later k at ms) (subst (λ (n : ℕ). AreInOrder n (later k at ms)) is rest))
+  trace_up_to (suc i) (suc k) now (Some at) ms l e =
+      let is : now + suc i ≡ suc now + i = omega arith in
+      up_to_front (now + suc i) (result at ms).lines (later k at ms) (of_up_to now (now + suc i) (result at ms).lines (omega arith) (of_now now at ms e))
+      ∙ ap (λ (es : List Event). (result at ms).lines ++ es)
+      (ap (λ (t : ℕ). up_to t (later k at ms)) is ∙ trace_up_to i k (suc now) (option_map next_tick (result at ms).at) (result at ms).state (omega (arith, l)) (after_tick now at ms e))
+
+  from_frames : (n now : ℕ) (o : Option At) (ms : List (Member C)) (f : Frames) → IsNow now o → HasFrames o f → HasFrames (before_owner_from plan devices n o ms).at (frames_after f (trace_from plan devices (suc n) o ms))
+  from_frames zero now None ms f e h = h
+  from_frames zero now (Some at) ms f e h =
+      let k = tick_leads plan devices at ms in
+      subst (λ (g : Frames). HasFrames (before_owner plan at devices ms).at g) (sym (frames_both f (result at ms).lines []))
+      (subst (λ (o : Option At). HasFrames o (frames_after f (result at ms).lines)) (sym (before_same plan devices at ms)) (k.frames f h))
+  from_frames (suc n) now None ms f e h = h
+  from_frames (suc n) now (Some at) ms f e h =
+      let k = tick_leads plan devices at ms in
+      let rest = from_frames n (suc now) (option_map next_tick (result at ms).at) (result at ms).state (frames_after f (result at ms).lines) (after_tick now at ms e) (next_frames (result at ms).at (frames_after f (result at ms).lines) (k.frames f h)) in
+      subst (λ (g : Frames). HasFrames (before_owner_from plan devices (suc n) (Some at) ms).at g) (sym (frames_both f (result at ms).lines (later (suc n) at ms))) rest
+
+  from_now : (n now : ℕ) (o : Option At) (ms : List (Member C)) → IsNow now o → IsNow (now + n) (before_owner_from plan devices n o ms).at
+  from_now zero now None ms e = tt
+  from_now zero now (Some at) ms e = let is : at.now.0 ≡ now + 0 = omega (arith, e) in subst (λ (t : ℕ). IsNow t (before_owner plan at devices ms).at) is (before_now plan devices at ms)
+  from_now (suc n) now None ms e = tt
+  from_now (suc n) now (Some at) ms e =
+      let is : suc now + n ≡ now + suc n = omega arith in
+      subst (λ (t : ℕ). IsNow t (before_owner_from plan devices (suc n) (Some at) ms).at) is (from_now n (suc now) (option_map next_tick (result at ms).at) (result at ms).state (after_tick now at ms e))
+
+  from_count : (n : ℕ) (o : Option At) (ms : List (Member C)) → length (before_owner_from plan devices n o ms).state ≡ length ms
+  from_count zero None ms = refl
+  from_count zero (Some at) ms = before_count plan devices at ms
+  from_count (suc n) None ms = refl
+  from_count (suc n) (Some at) ms = from_count n (option_map next_tick (result at ms).at) (result at ms).state ∙ (tick_leads plan devices at ms).kept
+
+-- ---- a run
+
+module _ {C : Type 0} (m : Module C) (devices : List DeviceLine) where
+  abbrev started : Stepped (List (Member C))
+  started = starts_all first_tick condition.NormalStart m.members
+
+  started_quiet : Quiet 0 (length m.members) started
+  started_quiet = starts_quiet first_tick condition.NormalStart m.members
+
+  pub run_order : (n : ℕ) → AreInOrder 0 (trace m devices n)
+  run_order zero = tt
+  run_order (suc n) = order_both 0 0 0 started.lines (trace_from m.plan devices (suc n) (Some first_tick) started.state) (omega arith) (omega arith) started_quiet.of (trace_order m.plan devices (suc n) 0 (Some first_tick) started.state refl)
+
+  pub run_up_to : (n t : ℕ) → t < n → up_to t (trace m devices n) ≡ trace m devices (suc t)
+  run_up_to zero t l = absurd (omega (arith, l))
+  run_up_to (suc n) t l =
+      let is : t ≡ 0 + t = omega arith in
+      let rest = trace_from m.plan devices (suc n) (Some first_tick) started.state in
+      up_to_front t started.lines rest (of_up_to 0 t started.lines (omega arith) started_quiet.of)
+      ∙ ap (λ (es : List Event). started.lines ++ es) (ap (λ (i : ℕ). up_to i rest) is ∙ trace_up_to m.plan devices t (suc n) 0 (Some first_tick) started.state l refl)
+
+  pub run_frames : (n : ℕ) → HasFrames (before_owner_in m devices n).at (frames_after at_first (trace m devices (suc n)))
+  run_frames n =
+      let rest = trace_from m.plan devices (suc n) (Some first_tick) started.state in
+      let is : frames_after at_first (started.lines ++ rest) ≡ frames_after at_first rest = frames_both at_first started.lines rest ∙ ap (λ (f : Frames). frames_after f rest) (named_frames at_first started.lines started_quiet.named) in
+      subst (HasFrames (before_owner_in m devices n).at) (sym is) (from_frames m.plan devices n 0 (Some first_tick) started.state at_first refl (refl, refl))
+
+  pub run_now : (n : ℕ) → IsNow n (before_owner_in m devices n).at
+  run_now n = let is : 0 + n ≡ n = omega arith in subst (λ (t : ℕ). IsNow t (before_owner_in m devices n).at) is (from_now m.plan devices n 0 (Some first_tick) started.state refl)
+
+  pub run_count : (n : ℕ) → length (before_owner_in m devices n).state ≡ length m.members
+  run_count n = from_count m.plan devices n (Some first_tick) started.state ∙ started_quiet.kept

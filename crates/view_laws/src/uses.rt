@@ -31,3 +31,22 @@ pub fn lines_tell_the_use()
         → t < MOST_TICKS
         → use_of schedule (at_first names) lines t ≡ use_told schedule names (up_to t lines) t }
 {}
+
+/// What the views count for a tick of any run is what the processor does in it: the runner that the
+/// owner of the tick's window chooses spends it, or nobody does; or the tick is in no window, or the
+/// module is shut down. So it is in any run of a lawful image and of an accepted module.
+pub fn uses_are_spent()
+    ensures machine { (image : Image) (devices : List DeviceLine) (n t : ℕ)
+        → IsLawful image
+        → t < n
+        → n ≤ MOST_TICKS
+        → use_of image.schedule (at_first (names_of_image image)) (machine_trace image devices n) t
+        ≡ use_in (machine_module image) devices t }
+    ensures accepted { (table : List ℕ) (sources : List (List ℕ)) (t : Table)
+        (programs : List Program) (devices : List DeviceLine) (n i : ℕ)
+        → IsModule table sources t programs
+        → i < n
+        → n ≤ MOST_TICKS
+        → use_of t.schedule (at_first (names_of_table t)) (source_trace t programs devices n) i
+        ≡ use_in (source_module t programs) devices i }
+{}
