@@ -39,7 +39,7 @@ abbrev pub AreUpTo : ℕ → List Event → Type 0
 AreUpTo t [] = Unit {0}
 AreUpTo t (e ∷ es) = (e.tick.0 ≤ t) × AreUpTo t es
 
-up_to_are : (t : ℕ) (lines : List Event) → AreUpTo t (up_to t lines)
+pub up_to_are : (t : ℕ) (lines : List Event) → AreUpTo t (up_to t lines)
 up_to_are t [] = tt
 up_to_are t (e ∷ es) = by_test (nat_lt t e.tick.0) refl (up_to_are t es)
   where
@@ -317,3 +317,14 @@ names_apart names own place name e = record {
     by_test : (q : ℕ) (other : List ℕ) → (q ≡ place → ⊥) → slice_get names q ≡ Some other → (b : Bool) → same name other ≡ b → same name other ≡ false
     by_test q other n f true g = absurd (n (own q place other name f e (sym (same_name name other g))))
     by_test q other n f false g = g
+
+-- ---- the owner of a tick
+
+pub owner_up_to : (schedule : Schedule) (f : Frames) (lines : List Event) (t : ℕ) → frames.owner_in schedule f lines t ≡ frames.owner_by schedule (frames_after f (up_to t lines)) t
+owner_up_to schedule f [] t = refl
+owner_up_to schedule f (e ∷ es) t = by_test (nat_lt t e.tick.0) refl (owner_up_to schedule (frames.with_line e f) es t)
+  where
+    by_test : (b : Bool) → nat_lt t e.tick.0 ≡ b → frames.owner_in schedule (frames.with_line e f) es t ≡ frames.owner_by schedule (frames_after (frames.with_line e f) (up_to t es)) t
+        → (if nat_lt t e.tick.0 then frames.owner_by schedule f t else frames.owner_in schedule (frames.with_line e f) es t) ≡ frames.owner_by schedule (frames_after f (if b then [] else e ∷ up_to t es)) t
+    by_test true k rest = ap (λ (b : Bool). if b then frames.owner_by schedule f t else frames.owner_in schedule (frames.with_line e f) es t) k
+    by_test false k rest = ap (λ (b : Bool). if b then frames.owner_by schedule f t else frames.owner_in schedule (frames.with_line e f) es t) k ∙ rest

@@ -1,6 +1,6 @@
 -- What the windows count for each tick of a run is what the processor does in it.
 use Rattle.std.proofs.Common.{◌≡◌, ◌<◌, ◌≤◌, ℕ, zero, suc, Bool, true, false, List, [], ◌∷◌, length, map, Option, Some, None, refl, sym, ap, ◌∙◌, subst, arith}
-use Rattle.std.specs.Prelude.{◌+◌, option_map, slice_get}
+use Rattle.std.specs.Prelude.{◌+◌, ◌-◌, option_map, slice_get}
 use Rattle.std.proofs.lemmas.List.{length-map}
 use Rattle.std.proofs.lemmas.Option.{none-some, same_Some, slice_get-map}
 use Rattle.apex_types.specs.Limits.{MOST_TICKS}
@@ -31,11 +31,16 @@ use Rattle.state_laws.proofs.OfImages.{image_worker}
 use Rattle.state_laws.proofs.OfModules.{module_worker}
 use Rattle.trace_windows.specs.Frames.{Frames}
 use Rattle.trace_windows.specs.Frames as frames
-use Rattle.trace_windows.specs.Standings.{at_first}
-use Rattle.trace_windows.specs.Uses.{use_by, use_of}
-use Rattle.view_laws.specs.Reading.{frames_after, use_told, use_unless, use_with, worker_told}
+use Rattle.trace_windows.specs.Standings.{at_first, in_run}
+use Rattle.trace_windows.specs.Counts.{capped, ticks_for}
+use Rattle.trace_windows.specs.Runs.{AreBefore, AreSharesOf}
+use Rattle.trace_windows.specs.Uses.{is_same, one_if, ticks_used, use_by, use_of}
+use Rattle.trace_windows.specs.declared.counted.Row.{Row}
+use Rattle.trace_windows.specs.declared.usage.Use.{Use}
+use Rattle.trace_windows.proofs.Counting.{alike}
+use Rattle.view_laws.specs.Reading.{AreInOrder, frames_after, use_told, use_unless, use_with, worker_told}
 use Rattle.view_laws.specs.Spent.{name_of_item, name_of_row, names_of_image, names_of_table, use_at, use_in}
-use Rattle.view_laws.proofs.Lines.{use_is_told}
+use Rattle.view_laws.proofs.Lines.{AreUpTo, owner_up_to, up_to_are, use_is_told}
 use Rattle.view_laws.proofs.Run.{HasFrames, run_count, run_frames, run_now, run_order, run_up_to}
 
 -- ---- a place behind the last
@@ -92,6 +97,55 @@ run_uses m names devices n t many apart l few works =
     use_is_told m.plan.schedule names (trace m devices n) t apart (run_order m devices n) (omega (arith, l, few))
     ∙ ap (λ (ls : List Event). use_told m.plan.schedule names ls t) (run_up_to m devices n t l)
     ∙ run_use m names devices t many works
+
+-- ---- the owners, the order of the lines, and the shares, in any run
+
+owner_so : (plan : Plan) (o : Option At) (f : Frames) (t : ℕ) → IsNow t o → HasFrames o f → frames.owner_by plan.schedule f t ≡ owner_of plan o
+owner_so plan None f t e h = ap (λ (b : Bool). frames.owner_if b (owner plan.schedule (tick_from f.origin t))) h
+owner_so plan (Some at) f t e h =
+    ap (λ (b : Bool). frames.owner_if b (owner plan.schedule (tick_from f.origin t))) h.0
+    ∙ ap (λ (i : ℕ). owner plan.schedule (tick_from i t)) h.1
+    ∙ ap (λ (i : ℕ). owner plan.schedule (tick_from at.origin.0 i)) (sym e)
+
+pub run_owners : {C : Type 0} (m : Module C) (devices : List DeviceLine) (n t : ℕ) → t < n → frames.owner_in m.plan.schedule frames.at_first (trace m devices n) t ≡ owner_in m devices t
+run_owners m devices n t l =
+    owner_up_to m.plan.schedule frames.at_first (trace m devices n) t
+    ∙ ap (λ (ls : List Event). frames.owner_by m.plan.schedule (frames_after frames.at_first ls) t) (run_up_to m devices n t l)
+    ∙ owner_so m.plan (before_owner_in m devices t).at (frames_after frames.at_first (trace m devices (suc t))) t (run_now m devices t) (run_frames m devices t)
+
+before_in_order : (until from : ℕ) (lines : List Event) → until ≤ MOST_TICKS → from ≤ until → AreInOrder from lines → AreUpTo until lines → AreBefore until from lines
+before_in_order until from [] l k h g = k
+before_in_order until from (e ∷ es) l k h g =
+    let low = h.0 in
+    let up = g.0 in
+    let is : in_run e.tick.0 ≡ e.tick.0 = omega (arith, up, l) in
+    (omega (arith, is, low), subst (λ (n : ℕ). AreBefore until n es) (sym is) (before_in_order until e.tick.0 es l up h.1 g.1))
+
+up_to_later : (n m : ℕ) (lines : List Event) → n ≤ m → AreUpTo n lines → AreUpTo m lines
+up_to_later n m [] l h = tt
+up_to_later n m (e ∷ es) l h = let up = h.0 in (omega (arith, up, l), up_to_later n m es l h.1)
+
+pub run_before : {C : Type 0} (m : Module C) (devices : List DeviceLine) (n until : ℕ) → n ≤ until → until ≤ MOST_TICKS → AreBefore until 0 (trace m devices n)
+run_before m devices zero until l few = omega arith
+run_before m devices (suc n) until l few =
+    before_in_order until 0 (trace m devices (suc n)) few (omega arith) (run_order m devices (suc n))
+    (up_to_later n until (trace m devices (suc n)) (omega (arith, l)) (subst (AreUpTo n) (run_up_to m devices (suc n) n (omega arith)) (up_to_are n (trace m devices (suc n)))))
+
+-- no more ticks than there are
+few_ticks : (used : ℕ → Use) (u : Use) (from n : ℕ) → ticks_used used u from n ≤ n
+few_ticks used u from zero = omega arith
+few_ticks used u from (suc n) = let h = few_ticks used u from n in let k = one_most (is_same (used (from + n)) u) in omega (arith, h, k)
+  where
+    one_most : (b : Bool) → one_if b ≤ 1
+    one_most true = omega arith
+    one_most false = omega arith
+
+pub shares_so : (schedule : Schedule) (names : List (List ℕ)) (used : ℕ → Use) (events : List Event) (from until n : ℕ) (rows : List Row) → until ≤ n → n ≤ MOST_TICKS
+    → ((t : ℕ) → t < n → use_of schedule (at_first names) events t ≡ used t) → AreSharesOf schedule names from until events rows → (u : Use) → ticks_for u rows ≡ ticks_used used u from (until - from)
+shares_so schedule names used events from until n rows l few same shares u =
+    let k = few_ticks used u from (until - from) in
+    let fits : capped (ticks_used used u from (until - from)) ≡ ticks_used used u from (until - from) = omega (arith, k, l, few) in
+    shares u ∙ ap capped (alike (use_of schedule (at_first names) events) used u from from (until - from) (λ i h. same (from + i) (omega (arith, h, l)))) ∙ fits
 
 -- ---- rows with names
 

@@ -1,6 +1,6 @@
 //! What the views count for each tick.
 
-ghost use Rattle.std.specs.Prelude.{◌≡◌, ◌<◌, ◌≤◌, ◌-◌, ℕ, List};
+ghost use Rattle.std.specs.Prelude.{◌≡◌, ◌<◌, ◌≤◌, ◌-◌, ℕ, suc, List};
 ghost use Rattle.apex_types.specs.Limits.{MOST_TICKS};
 ghost use Rattle.apex_types.specs.declared.device.DeviceLine.{DeviceLine};
 ghost use Rattle.apex_types.specs.declared.event.Event.{Event};
@@ -12,9 +12,10 @@ ghost use Rattle.module_meaning.specs.Accepted.{IsModule};
 ghost use Rattle.module_meaning.specs.SourceMeaning.{source_module, source_trace};
 ghost use Rattle.module_meaning.specs.Table.{Table};
 ghost use Rattle.pal_meaning.specs.Program.{Program};
-ghost use Rattle.trace_windows.specs.Counts.{capped, ticks_for};
+ghost use Rattle.state_laws.specs.Spending.{owner_in};
+ghost use Rattle.trace_windows.specs.Counts.{ticks_for};
 ghost use Rattle.trace_windows.specs.Frames as frames;
-ghost use Rattle.trace_windows.specs.Runs.{AreSharesOf};
+ghost use Rattle.trace_windows.specs.Runs.{AreBefore, AreSharesOf};
 ghost use Rattle.trace_windows.specs.Standings.{at_first};
 ghost use Rattle.trace_windows.specs.Uses.{ticks_used, use_of};
 ghost use Rattle.trace_windows.specs.declared.counted.Row.{Row};
@@ -49,4 +50,58 @@ pub fn uses_are_spent()
         → n ≤ MOST_TICKS
         → use_of t.schedule (at_first (names_of_table t)) (source_trace t programs devices n) i
         ≡ use_in (source_module t programs) devices i }
+{}
+
+/// The windows of a view are those of the kernel: by the lines a tick of a run has the owner that its
+/// window has, and none in no window or after a shutdown.
+pub fn windows_have_their_owners()
+    ensures machine { (image : Image) (devices : List DeviceLine) (n t : ℕ)
+        → t < n
+        → frames.owner_in image.schedule frames.at_first (machine_trace image devices n) t
+        ≡ owner_in (machine_module image) devices t }
+    ensures source { (t : Table) (programs : List Program) (devices : List DeviceLine) (n i : ℕ)
+        → i < n
+        → frames.owner_in t.schedule frames.at_first (source_trace t programs devices n) i
+        ≡ owner_in (source_module t programs) devices i }
+{}
+
+/// The rows of a summary have just as many ticks as the processor spends so in the run, from one tick
+/// on and before another.
+pub fn shares_are_spent()
+    ensures machine { (image : Image) (devices : List DeviceLine) (n from until : ℕ)
+        (rows : List Row)
+        → IsLawful image
+        → until ≤ n
+        → n ≤ MOST_TICKS
+        → AreSharesOf image.schedule (names_of_image image) from until
+        (machine_trace image devices n) rows
+        → (u : Use) → ticks_for u rows
+        ≡ ticks_used (use_in (machine_module image) devices) u from (until - from) }
+    ensures accepted { (table : List ℕ) (sources : List (List ℕ)) (t : Table)
+        (programs : List Program) (devices : List DeviceLine) (n from until : ℕ) (rows : List Row)
+        → IsModule table sources t programs
+        → until ≤ n
+        → n ≤ MOST_TICKS
+        → AreSharesOf t.schedule (names_of_table t) from until (source_trace t programs devices n)
+        rows
+        → (u : Use) → ticks_for u rows
+        ≡ ticks_used (use_in (source_module t programs) devices) u from (until - from) }
+{}
+
+/// The lines of a run are in the order of their ticks and none is behind its last tick. Those up to
+/// a tick are the trace of the run that ends with this tick.
+pub fn lines_are_in_order()
+    ensures machine { (image : Image) (devices : List DeviceLine) (n : ℕ)
+        → n ≤ MOST_TICKS
+        → AreBefore n 0 (machine_trace image devices n) }
+    ensures source { (t : Table) (programs : List Program) (devices : List DeviceLine) (n : ℕ)
+        → n ≤ MOST_TICKS
+        → AreBefore n 0 (source_trace t programs devices n) }
+    ensures machine_part { (image : Image) (devices : List DeviceLine) (n t : ℕ)
+        → t < n
+        → up_to t (machine_trace image devices n) ≡ machine_trace image devices (suc t) }
+    ensures source_part { (t : Table) (programs : List Program) (devices : List DeviceLine)
+        (n i : ℕ)
+        → i < n
+        → up_to i (source_trace t programs devices n) ≡ source_trace t programs devices (suc i) }
 {}
