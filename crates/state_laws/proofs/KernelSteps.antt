@@ -26,19 +26,19 @@ use Rattle.apex_types.specs.declared.service.Call.TheVariants as call
 use Rattle.apex_types.specs.declared.service.Service.TheVariants as service
 use Rattle.engine_meaning.specs.Engine.{Asks, Nothing, Calls, Faults, Ends}
 use Rattle.kernel_laws.specs.WhoWaits.{AreWaiting}
-use Rattle.kernel_meaning.specs.HealthServices.{report, is_message_length, create_error_handler, creates_found, is_handler_created, get_error_status, takes_error, raises, waits_or_leaves, response_of, raise_application_error, ignores, is_fault, acts_on_error, then_acts, handles, faults}
+use Rattle.kernel_meaning.specs.HealthServices.{report, is_message_length, create_error_handler, creates_found, is_handler_created, get_error_status, takes_error, raises, waits_or_leaves, response_of, raise_application_error, ignores, is_fault, acts_on_error, tells_error, then_acts, handles, faults}
 use Rattle.kernel_meaning.specs.Kernel.{Errors, Kernel, of_processes, with_errors, with_objects, with_ports}
 use Rattle.kernel_meaning.specs.Partition.{serves, treats_asked}
 use Rattle.kernel_meaning.specs.PartitionServices.{clears, next_release_of, starts_normally, mode_of, wants, is_warm, is_cold, set_partition_mode, ends_body, enters_normal}
 use Rattle.kernel_meaning.specs.PartitionServices as services
-use Rattle.kernel_meaning.specs.Processes.{Processes, row_of, is_normal, is_same, rests_found, not_running, answers}
+use Rattle.kernel_meaning.specs.Processes.{Processes, row_of, is_normal, is_same, rests_found, not_running, subject, answers}
 use Rattle.kernel_meaning.specs.ProcessServices.{number_of}
 use Rattle.kernel_meaning.specs.Sharing as sharing
 use Rattle.kernel_meaning.specs.Sharing.{Sharing, is_large_enough}
 use Rattle.apex_types.specs.declared.limits.TheConstants.{MOST_REPORT_WORDS}
 use Rattle.kernel_meaning.specs.Step.{Step, after, lifted}
 use Rattle.kernel_meaning.specs.Times.{start_all_waiting}
-use Rattle.state_laws.specs.Told.{Told, responds, preempted, worker_by_lines, is_from_outside}
+use Rattle.state_laws.specs.Told.{Told, cleared, responds, worked_in, worker_by_lines, running_or, is_from_outside}
 use Rattle.state_laws.specs.States.{who_runs}
 use Rattle.state_laws.proofs.Agreement.{reads, reads_both, IsRunning, KernelAgrees, Goes, either as either_goes}
 use Rattle.state_laws.proofs.Changes.{kept, rests_found_goes}
@@ -63,22 +63,11 @@ module _ {A : Type 0} (of : Told → A) (tick : ℕ) where
 
 -- ---- responses to errors
 
--- an error from outside while nobody runs, or one that is not from outside
-pub response_same : (t : Told) (e : ErrorKind) (r : Response) → t.running ≡ None → responds t e r ≡ t
-response_same t e (response.Partition a) none = by_test (is_from_outside e) a
-  where
-    same : preempted t ≡ t
-    same = ap (λ (o : Option Subject). record t { running = o }) (sym none)
+pub same_twice : (b : Bool) (t : Told) → (if b then t else t) ≡ t
+same_twice true t = refl
+same_twice false t = refl
 
-    by_test : (b : Bool) (a : PartitionAction) → (if b then responds t error.HardwareFault (response.Partition a) else t) ≡ t
-    by_test true action.Ignore = refl
-    by_test true action.Idle = same
-    by_test true action.WarmStart = same
-    by_test true action.ColdStart = same
-    by_test false a = refl
-response_same t e response.Handler none = refl
-response_same t e (response.Module a) none = refl
-
+-- an error with which nothing is cleared
 own_response : (t : Told) (r : Response) → responds t error.ApplicationError r ≡ t
 own_response t (response.Partition a) = refl
 own_response t response.Handler = refl
@@ -139,6 +128,31 @@ module _ (tick : ℕ) (t : Told) where
         let how = response_of k.fixed.health k.mode (with_errors k) p e in
         ap (λ (ls : List EventKind). reads tick (responds t e how) ls) (no_lines p e words how) ∙ same how
 
+    -- an error while nobody runs: if it is one from outside, all are gone with its line, and then cleared
+    handles_works : (p : Runner) (e : ErrorKind) (words : List ℤ) → t.running ≡ None → Works (handles k p e words)
+    handles_works p e words none = by_response (response_of k.fixed.health k.mode (with_errors k) p e)
+      where
+        raised : Response → Step (Option PartitionAction)
+        raised how = after (tells_error None e (Some (subject k.processes p)) how) (waits_or_leaves p e words how)
+
+        works_then : (m : Mode) → is_normal m ≡ false → (b : Bool)
+            → KernelAgrees (reads tick (if b then cleared t else t) (clears k m condition.HmPartitionRestart).lines) (clears k m condition.HmPartitionRestart).part
+            × (worker_by_lines tick (reads tick (if b then cleared t else t) (clears k m condition.HmPartitionRestart).lines) ≡ worker_by_lines tick t)
+        works_then m other true =
+            let named = h.processes.named in
+            let g = clears_go tick (cleared t) k m condition.HmPartitionRestart named other in
+            (g.agrees, cleared_worker tick (cleared t) (clears k m condition.HmPartitionRestart) g ∙ sym (ap (λ (o : Option Subject). running_or o (worked_in tick t.worked)) none))
+        works_then m other false = let g = clears_works m condition.HmPartitionRestart other in (g.agrees, g.same)
+
+        by_response : (how : Response) → Works (then_acts k p e (after (tells_error None e (Some (subject k.processes p)) how) (waits_or_leaves p e words how)))
+        by_response response.Handler =
+            then_acts_works p e (raised response.Handler) (ap (λ (ls : List EventKind). reads tick t ls) (no_lines p e words response.Handler))
+        by_response (response.Module a) = then_acts_works p e (raised (response.Module a)) refl
+        by_response (response.Partition action.Ignore) = then_acts_works p e (raised (response.Partition action.Ignore)) (same_twice (is_from_outside e) t)
+        by_response (response.Partition action.Idle) = let g = works_then mode.Idle refl (is_from_outside e) in record { agrees = g.0; same = g.1 }
+        by_response (response.Partition action.WarmStart) = let g = works_then mode.WarmStart refl (is_from_outside e) in record { agrees = g.0; same = g.1 }
+        by_response (response.Partition action.ColdStart) = let g = works_then mode.ColdStart refl (is_from_outside e) in record { agrees = g.0; same = g.1 }
+
     raise_reads : (p : Runner) (e : ℤ) (array : ArrayPlace) (size : ℤ) (words : List ℤ) → reads tick t (raise_application_error k.fixed.health k.mode (with_errors k) p e array size words).lines ≡ t
     raise_reads p e array size words =
         either_reads (not (int_eq e (pos 1))) _ _ refl (either_reads (not (is_message_length array.size size)) _ _ refl (raises_reads p error.ApplicationError _ (own_response t)))
@@ -198,7 +212,7 @@ module _ (tick : ℕ) (t : Told) (k : Kernel) (h : KernelAgrees t k) where
       let u = reads tick t s.lines in
       let none : u.running ≡ None = a.agrees.processes.running ∙ ap (who_runs s.part.processes.rows) (rested (row_of k.processes p) refl) in
       kernel_in_turn (worker_by_lines tick) tick t s (handles s.part p e []) a
-      (then_acts_works tick u s.part a.agrees p e (raises s.part.fixed.health s.part.mode (with_errors s.part) p e []) (raises_reads tick u s.part a.agrees p e [] (λ r. response_same u e r none)))
+      (handles_works tick u s.part a.agrees p e [] none)
     where
       rested : (o : Option ProcessStatus) → row_of k.processes p ≡ o → (rests_found k.processes p o).part.running ≡ None
       rested None there = absurd (missing there)

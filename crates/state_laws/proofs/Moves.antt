@@ -46,7 +46,7 @@ use Rattle.kernel_meaning.specs.Sharing.{Sharing}
 use Rattle.kernel_meaning.specs.Step.{Step, nothing, after}
 use Rattle.kernel_meaning.specs.Times.{mode_of_action}
 use Rattle.state_laws.specs.States.{runs_in}
-use Rattle.state_laws.specs.Told.{Told, is_it, has_worked, preempted, worker_or, moves_to, says, is_from_outside, is_ignored, responds, worker_by_lines, running_or, worked_in}
+use Rattle.state_laws.specs.Told.{Told, cleared, is_it, has_worked, preempted, worker_or, moves_to, says, is_from_outside, is_ignored, responds, worker_by_lines, running_or, worked_in}
 use Rattle.state_laws.proofs.Agreement.{reads, AreDistinct, Agrees, KernelAgrees, has_worked_last, idles}
 use Rattle.state_laws.proofs.Choice.{choice_goes}
 use Rattle.state_laws.proofs.Clears.{clears_go, cleared_worked}
@@ -97,7 +97,7 @@ module _ (tick n : ℕ) (lt : tick < n) where
   responds_before : (t : Told) (e : ErrorKind) (r : Response) → IsBefore n t.worked → IsBefore n (responds t e r).worked
   responds_before t e (level.Partition a) h = by_tests (is_from_outside e) (is_ignored a)
     where
-      by_tests : (b c : Bool) → IsBefore n (if b then (if c then t else preempted t) else t).worked
+      by_tests : (b c : Bool) → IsBefore n (if b then (if c then t else cleared t) else t).worked
       by_tests true true = h
       by_tests true false = h
       by_tests false c = h
@@ -282,10 +282,10 @@ module _ {C : Type 0} (e : Engine C) (at : At) where
   pub breaks_goes : (w : World C) (t : Told) → KernelAgrees t w.kernel → MovesTo has_worked_last now t (moved at e (breaks w.kernel) w)
   breaks_goes w t h = moved_goes has_worked_last (breaks w.kernel) w t (by_action (action_of w.kernel.fixed.health error.HardwareFault))
     where
-      clears_after : (m : Mode) → is_normal m ≡ false → KernelGoes has_worked_last now (preempted t) (clears w.kernel m condition.HmPartitionRestart)
+      clears_after : (m : Mode) → is_normal m ≡ false → KernelGoes has_worked_last now (cleared t) (clears w.kernel m condition.HmPartitionRestart)
       clears_after m other =
-          let g = clears_go now (preempted t) w.kernel m condition.HmPartitionRestart h.processes.named other in
-          record { agrees = g.agrees; same = cleared_worked now (preempted t) (clears w.kernel m condition.HmPartitionRestart) g refl }
+          let g = clears_go now (cleared t) w.kernel m condition.HmPartitionRestart h.processes.named other in
+          record { agrees = g.agrees; same = cleared_worked now (cleared t) (clears w.kernel m condition.HmPartitionRestart) g refl }
 
       by_action : (a : PartitionAction) → KernelGoes has_worked_last now t (after (tells_error w.kernel error.HardwareFault None (level.Partition a)) (then_clears w.kernel (mode_of_action a)))
       by_action response.Ignore = record { agrees = h; same = refl }

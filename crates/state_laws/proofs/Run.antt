@@ -31,7 +31,7 @@ use Rattle.module_meaning.specs.Module.{Course, Module, Plan, as_origin, breaks_
 use Rattle.module_meaning.specs.Standing.{IsNow}
 use Rattle.module_meaning.specs.Table.{Channel, at_number}
 use Rattle.state_laws.specs.Spending.{before_owner, before_owner_from, chosen_by, owner_in, owner_of, worker, worker_at, worker_of}
-use Rattle.state_laws.specs.Told.{Told, first_told, preempted, told, told_from, worker_by_lines}
+use Rattle.state_laws.specs.Told.{Told, cleared, first_told, told, told_from, worker_by_lines}
 use Rattle.state_laws.proofs.Agreement.{KernelAgrees, has_worked_last}
 use Rattle.state_laws.proofs.Members.{IsWell, Stands, IsOwn, steps_to, well_after, told_both, told_own, told_other, AllOf, all_own, move_keeps}
 use Rattle.state_laws.proofs.Moves.{IsBefore, MovesTo, reads_all, tick_tells, cleared_goes, breaks_goes, arrives_tells, admits_tells, leaves_tells}
@@ -213,7 +213,7 @@ module _ {C : Type 0} (d : ListKey → Discipline) (called : ℕ → List ℕ) (
   faults_to : (at : At) (a : ModuleAction) (t : Told) (ms : List (Member C)) → Stay t ms → QuietTo t (advanced (breaks_module at a ms))
   faults_to at reaction.Ignore t ms h = record { stands = h; same = refl }
   faults_to at reaction.Shutdown t ms h = record { stands = h; same = refl }
-  faults_to at reaction.Reset t ms h = let k = starts_to (as_origin at) condition.HmModuleRestart t (preempted t) ms h refl in record { stands = k.stands; same = k.same }
+  faults_to at reaction.Reset t ms h = let k = starts_to (as_origin at) condition.HmModuleRestart t (cleared t) ms h refl in record { stands = k.stands; same = k.same }
 
   input_to : (plan : Plan) (at : At) (i : DeviceInput) (t : Told) (ms : List (Member C)) → Stay t ms → QuietTo t (advanced (inputs plan at i ms))
   input_to plan at (device.Message channel m) t ms h = goes_by_to at m (slice_get plan.channels channel.0) t ms h

@@ -46,6 +46,10 @@ is_it who (Some x) = is_same who x
 abbrev pub preempted : Told → Told
 preempted t = record t { running = None }
 
+-- all are gone before any of them works in this tick
+abbrev pub cleared : Told → Told
+cleared t = record t { state = λ x. Dormant; running = None }
+
 abbrev pub worker_or : ℕ → Option (ℕ × Subject) → Option Subject → Option (ℕ × Subject)
 worker_or tick worked None = worked
 worker_or tick worked (Some who) = Some (tick, who)
@@ -86,7 +90,7 @@ is_ignored _ = false
 
 -- the partition is cleared before the runner works
 abbrev pub responds : Told → ErrorKind → Response → Told
-responds t e (response.Partition a) = if is_from_outside e then (if is_ignored a then t else preempted t) else t
+responds t e (response.Partition a) = if is_from_outside e then (if is_ignored a then t else cleared t) else t
 responds t e _ = t
 
 -- ---- a line
@@ -99,7 +103,7 @@ says tick t (event.Error e who r) = responds t e r
 says tick t _ = t
 
 abbrev pub resets : Told → Response → Told
-resets t (response.Module reaction.Reset) = preempted t
+resets t (response.Module reaction.Reset) = cleared t
 resets t _ = t
 
 -- a line of the module: a reset clears all partitions before the runner works

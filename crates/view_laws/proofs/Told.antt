@@ -20,7 +20,7 @@ use Rattle.apex_types.specs.declared.event.Subject.{Subject}
 use Rattle.apex_types.specs.declared.event.Subject.TheVariants.{Init, Handler, Process}
 use Rattle.isolation.proofs.Steps.{IsApart}
 use Rattle.engine_meaning.specs.Digits.{same}
-use Rattle.state_laws.specs.Told.{Told, first_told, has_worked, is_ignored, is_it, is_same, preempted, said_by, says, says_module, worked_in, worker_or}
+use Rattle.state_laws.specs.Told.{Told, cleared, first_told, has_worked, is_ignored, is_it, is_same, preempted, said_by, says, says_module, worked_in, worker_or}
 use Rattle.state_laws.proofs.Moves.{IsBefore}
 use Rattle.state_laws.proofs.Subjects.{name_itself, same_name, same_subject}
 use Rattle.trace_stays.specs.Clearing.{starts_by}
@@ -168,11 +168,14 @@ module _ (names : List (List ℕ)) (place : ℕ) where
             }
         by_running (Some who) e = own_stop who (sym h.running ∙ e)
 
-    own_outside : (a : PartitionAction) → Tells (cleared_if (starts_by a) place s) (if is_ignored a then t else preempted t)
+    all_gone : Tells (without_running place s) (cleared t)
+    all_gone = let k = own_cleared in record { named = k.named; running = k.running; last = k.last; before = k.before }
+
+    own_outside : (a : PartitionAction) → Tells (cleared_if (starts_by a) place s) (if is_ignored a then t else cleared t)
     own_outside action.Ignore = h
-    own_outside action.Idle = own_cleared
-    own_outside action.WarmStart = own_cleared
-    own_outside action.ColdStart = own_cleared
+    own_outside action.Idle = all_gone
+    own_outside action.WarmStart = all_gone
+    own_outside action.ColdStart = all_gone
 
     own_error : (e : ErrorKind) (who : Option Subject) (a : Response) → Tells (with_own (event.Error e who a) place s) (says s.now t (event.Error e who a))
     own_error e who response.Handler = h
