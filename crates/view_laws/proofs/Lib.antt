@@ -2,4 +2,5 @@ pub mod Owners
 pub mod Told
 pub mod Lines
 pub mod Run
+pub mod Shown
 pub mod OfRuns

@@ -1,0 +1,60 @@
+//! What the views show as states and modes.
+
+ghost use Rattle.std.specs.Prelude.{◌≡◌, ◌<◌, ℕ, suc, true, List, Some};
+ghost use Rattle.apex_types.specs.NameText.{is_name};
+ghost use Rattle.apex_types.specs.declared.device.DeviceLine.{DeviceLine};
+ghost use Rattle.apex_types.specs.declared.event.Event.{Event};
+ghost use Rattle.apex_types.specs.declared.event.Subject.{Subject};
+ghost use Rattle.apex_types.specs.declared.event.Subject.TheVariants as subject;
+ghost use Rattle.kernel_laws.specs.History.{members_after};
+ghost use Rattle.kernel_meaning.specs.Partition.{Member};
+ghost use Rattle.machine_meaning.specs.Image.{Image, Item};
+ghost use Rattle.machine_meaning.specs.ImageLimits.{IsLawful};
+ghost use Rattle.machine_meaning.specs.MachineControl.{MachineControl};
+ghost use Rattle.machine_meaning.specs.MachineMeaning.{machine_module, machine_trace};
+ghost use Rattle.module_meaning.specs.Accepted.{IsModule};
+ghost use Rattle.module_meaning.specs.SourceMeaning.{source_module, source_trace};
+ghost use Rattle.module_meaning.specs.Table.{Partition, Table, at_number};
+ghost use Rattle.pal_meaning.specs.Program.{Program};
+ghost use Rattle.pal_meaning.specs.SourceControl.{SourceControl};
+ghost use Rattle.state_laws.specs.Told.{told};
+ghost use Rattle.view_laws.specs.Reading.{up_to};
+ghost use Rattle.view_laws.specs.Shown.{HaveNames, IsNamed, ShowsState, mode_shown, state_shown};
+
+/// The state that a view shows of a process after lines is the one that these lines tell, and so is
+/// the mode of a partition. So it is for INIT and the error handler, if no process in the lines has
+/// one of their words as its name.
+pub fn lines_tell_what_is_shown()
+    ensures mode { (lines : List Event) (name : List ℕ)
+        → mode_shown lines name ≡ (told name lines).mode }
+    ensures process { (lines : List Event) (name own : List ℕ)
+        → is_name own ≡ true
+        → state_shown lines name (subject.Process own)
+        ≡ (told name lines).state (subject.Process own) }
+    ensures runner { (lines : List Event) (name : List ℕ) (who : Subject)
+        → IsNamed who
+        → HaveNames lines
+        → state_shown lines name who ≡ (told name lines).state who }
+{}
+
+/// In any run of a lawful image and of an accepted module a view shows after the lines up to a tick
+/// what the kernel's state is after this tick: the mode of each partition, and the state of each
+/// process, of INIT and of the error handler.
+pub fn states_are_shown()
+    ensures machine { (image : Image) (devices : List DeviceLine) (n t p : ℕ) (item : Item)
+        (x : Member MachineControl)
+        → IsLawful image
+        → t < n
+        → at_number image.items p ≡ Some item
+        → at_number (members_after (machine_module image) devices (suc t)) p ≡ Some x
+        → ShowsState (up_to t (machine_trace image devices n)) item.partition.name
+        x.world.kernel }
+    ensures accepted { (table : List ℕ) (sources : List (List ℕ)) (t : Table)
+        (programs : List Program) (devices : List DeviceLine) (n i p : ℕ) (row : Partition)
+        (x : Member SourceControl)
+        → IsModule table sources t programs
+        → i < n
+        → at_number t.partitions p ≡ Some row
+        → at_number (members_after (source_module t programs) devices (suc i)) p ≡ Some x
+        → ShowsState (up_to i (source_trace t programs devices n)) row.name x.world.kernel }
+{}
