@@ -1,11 +1,9 @@
 -- What the windows count of the lines up to a tick is what these lines tell.
-use Rattle.std.proofs.Common.{◌≡◌, ◌<◌, ◌≤◌, ℕ, zero, suc, Bool, true, false, min, List, [], ◌∷◌, Option, Some, None, map, refl, sym, ap, ◌∙◌, subst, arith}
+use Rattle.std.proofs.Common.{◌≡◌, ◌<◌, ◌≤◌, ℕ, zero, suc, Bool, true, false, List, [], ◌∷◌, Option, Some, None, map, refl, sym, ap, ◌∙◌, subst, arith}
 use Rattle.std.specs.Prelude.{nat_lt, if◌then◌else◌, slice_get}
 use Rattle.std.proofs.lemmas.Bool.{le-ltb, lt-ltb, ltb-false, ltb-true}
 use Rattle.std.proofs.lemmas.Option.{none-some}
 use Rattle.apex_types.specs.Limits.{MOST_TICKS}
-use Rattle.apex_types.specs.declared.codes.ErrorKind.{ErrorKind}
-use Rattle.apex_types.specs.declared.codes.Mode.{Mode}
 use Rattle.apex_types.specs.declared.codes.Mode.TheVariants as mode
 use Rattle.apex_types.specs.declared.codes.ModuleAction.TheVariants as reaction
 use Rattle.apex_types.specs.declared.codes.ProcessState.{ProcessState}
@@ -27,9 +25,9 @@ use Rattle.trace_windows.specs.Frames.{Frames}
 use Rattle.trace_windows.specs.Frames as frames
 use Rattle.trace_windows.specs.Standings.{Standing, acted, at_first, in_run, is_running, left_if, passed, passed_if, place_in, running_at, stopped, cleared_if, with_kind, with_line, with_module, with_own, with_place, without_process}
 use Rattle.trace_windows.specs.Uses.{last_from, or_stopped, use_by, use_from, use_if, use_of, works_at}
-use Rattle.trace_windows.proofs.Reading.{kind_now, line_now}
+use Rattle.trace_windows.proofs.Reading.{line_now}
 use Rattle.view_laws.specs.Reading.{AreInOrder, HaveOwnNames, frames_after, up_to, use_told, use_unless, worker_told}
-use Rattle.view_laws.proofs.Owners.{name_of, names_in, none_stopped}
+use Rattle.view_laws.proofs.Owners.{names_in, none_stopped}
 use Rattle.view_laws.proofs.Told.{Tells, passed_tells, module_tells, else_tells, kind_tells}
 
 -- ---- lines up to a tick

@@ -8,15 +8,14 @@ use Rattle.apex_types.specs.Versions.{costs_of}
 use Rattle.apex_types.specs.declared.cost.Costs.{Costs}
 use Rattle.apex_types.specs.declared.device.DeviceLine.{DeviceLine}
 use Rattle.apex_types.specs.declared.event.Event.{Event}
-use Rattle.apex_types.specs.declared.event.Subject.{Subject}
 use Rattle.apex_types.specs.declared.identity.At.{At}
 use Rattle.isolation.proofs.Law.{members_named}
-use Rattle.isolation.proofs.OfImage.{image_all_apart, name_in}
+use Rattle.isolation.proofs.OfImage.{image_all_apart}
 use Rattle.isolation.proofs.SourceLaw.{all_apart}
 use Rattle.isolation.proofs.Steps.{AreApart, name_of}
 use Rattle.kernel_meaning.specs.Partition.{Member}
 use Rattle.kernel_meaning.specs.Windows.{Schedule, owner, tick_from}
-use Rattle.machine_meaning.specs.Image.{Image, Item}
+use Rattle.machine_meaning.specs.Image.{Image}
 use Rattle.machine_meaning.specs.ImageLimits.{IsLawful}
 use Rattle.machine_meaning.specs.MachineMeaning.{machine_members, machine_module, machine_trace}
 use Rattle.module_meaning.specs.Accepted.{AreAccepted, IsModule}

@@ -1,6 +1,6 @@
 -- The lines of a run: those of a tick have this tick, and the module's tell where frames begin and that it is shut down.
-use Rattle.std.proofs.Common.{◌≡◌, ◌<◌, ◌≤◌, ℕ, zero, suc, Bool, true, false, List, [], ◌∷◌, ◌++◌, length, map, Option, Some, None, refl, sym, ap, ◌∙◌, subst, arith}
-use Rattle.std.specs.Prelude.{◌+◌, nat_lt, if◌then◌else◌, option_map, slice_get, slice_set}
+use Rattle.std.proofs.Common.{◌≡◌, ◌<◌, ◌≤◌, ℕ, zero, suc, Bool, true, false, List, [], ◌∷◌, ◌++◌, length, Option, Some, None, refl, sym, ap, ◌∙◌, subst, arith}
+use Rattle.std.specs.Prelude.{◌+◌, if◌then◌else◌, option_map, slice_get, slice_set}
 use Rattle.std.specs.List.{flat_map}
 use Rattle.std.proofs.lemmas.Bool.{le-ltb, lt-ltb}
 use Rattle.arrayvec.specs.ArrayVec.{ArrayVec}
@@ -31,7 +31,7 @@ use Rattle.kernel_meaning.specs.PartitionServices.{clears}
 use Rattle.kernel_meaning.specs.PortServices as ports
 use Rattle.kernel_meaning.specs.Step.{Step}
 use Rattle.kernel_meaning.specs.Windows.{ended, owner}
-use Rattle.module_meaning.specs.Module.{Course, Module, Plan, Stepped, as_origin, breaks_module, channel_from, delivers, delivers_all, first_tick, goes_by, inputs, inputs_all, module_tick, moves_and_ticks, moves_ended, moves_found, moves_message, moves_messages, moves_port, moves_ports, moves_so_many, next_tick, of_member, of_tick, ports_from, start_lines, started_member, starts_all, steps, steps_member, still, then_goes, ticks_owner, trace, trace_from, unless_down, goes_on}
+use Rattle.module_meaning.specs.Module.{Course, Module, Plan, Stepped, as_origin, breaks_module, channel_from, delivers, delivers_all, first_tick, goes_by, inputs, inputs_all, module_tick, moves_and_ticks, moves_ended, moves_found, moves_message, moves_messages, moves_port, moves_ports, moves_so_many, next_tick, of_member, of_tick, ports_from, start_lines, starts_all, steps, steps_member, still, then_goes, ticks_owner, trace, trace_from, unless_down, goes_on}
 use Rattle.module_meaning.specs.Standing.{IsNow}
 use Rattle.module_meaning.specs.Table.{Channel, at_number}
 use Rattle.state_laws.specs.Spending.{before_owner, before_owner_from, before_owner_in}

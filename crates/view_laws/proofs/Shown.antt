@@ -1,10 +1,9 @@
 -- The states and modes that a view shows after lines are those that these lines tell.
 use Rattle.std.proofs.Common.{◌≡◌, ℕ, Bool, true, false, List, [], ◌∷◌, Option, Some, None, refl, sym, ap, ◌∙◌, subst}
 use Rattle.std.specs.Prelude.{◌&&◌, ◌==◌, codes, if◌then◌else◌}
-use Rattle.std.proofs.lemmas.Bool.{and_left, and_parts, cases_Bool, eqb-true, false≢true}
+use Rattle.std.proofs.lemmas.Bool.{and_left, and_parts, eqb-true, false≢true}
 use Rattle.apex_types.specs.Line.{subject_text}
 use Rattle.apex_types.specs.NameText.{is_lower_case, is_name}
-use Rattle.apex_types.specs.declared.codes.ErrorKind.{ErrorKind}
 use Rattle.apex_types.specs.declared.codes.ErrorKind.TheVariants as error
 use Rattle.apex_types.specs.declared.codes.Mode.{Mode}
 use Rattle.apex_types.specs.declared.codes.Mode.TheVariants as mode
@@ -13,26 +12,22 @@ use Rattle.apex_types.specs.declared.codes.PartitionAction.{PartitionAction}
 use Rattle.apex_types.specs.declared.codes.PartitionAction.TheVariants as action
 use Rattle.apex_types.specs.declared.codes.ProcessState.{ProcessState}
 use Rattle.apex_types.specs.declared.codes.ProcessState.TheVariants as state
-use Rattle.apex_types.specs.declared.codes.Response.{Response}
 use Rattle.apex_types.specs.declared.codes.Response.TheVariants as response
 use Rattle.apex_types.specs.declared.event.Event.{Event}
 use Rattle.apex_types.specs.declared.event.EventKind.{EventKind}
 use Rattle.apex_types.specs.declared.event.EventKind.TheVariants as event
 use Rattle.apex_types.specs.declared.event.Subject.{Subject}
 use Rattle.apex_types.specs.declared.event.Subject.TheVariants.{Init, Handler, Process}
-use Rattle.apex_types.specs.declared.identity.Runner.{Runner}
-use Rattle.apex_types.specs.declared.process.ProcessStatus.{ProcessStatus}
 use Rattle.engine_meaning.specs.Digits.{same}
 use Rattle.kernel_meaning.specs.Kernel.{Kernel}
-use Rattle.kernel_meaning.specs.Processes.{row_of}
 use Rattle.state_laws.specs.States.{TellsState}
 use Rattle.state_laws.specs.Told.{Told, cleared, first_told, has_worked, is_ignored, is_it, is_same, moves_to, preempted, said_by, says, says_module, told, told_from}
 use Rattle.state_laws.specs.Told as reading
 use Rattle.state_laws.proofs.Subjects.{name_itself, same_name}
 use Rattle.trace_stays.specs.Clearing.{starts_by}
-use Rattle.trace_stays.specs.Following.{held_with, is_of, mode_after, mode_in, next_by, next_if, next_in, next_of_all}
+use Rattle.trace_stays.specs.Following.{held_with, mode_after, mode_in, next_by, next_if, next_in, next_of_all}
 use Rattle.trace_stays.specs.Traces.{mode_behind_all, mode_with_line, state_after, with_line}
-use Rattle.trace_stays.specs.declared.next.Next.TheVariants.{Enters, Gone, Cleared}
+use Rattle.trace_stays.specs.declared.next.Next.TheVariants.{Enters, Cleared}
 use Rattle.trace_stays.specs.declared.stay.Held.{Held}
 use Rattle.trace_stays.specs.declared.stay.HeldMode.{HeldMode}
 use Rattle.view_laws.specs.Shown.{HaveNames, IsNamed, NamesOne, ShowsState, mode_of, mode_shown, state_of, state_shown}

@@ -1,6 +1,6 @@
 -- One line more: what the windows count of a partition goes on as what is told of it.
-use Rattle.std.proofs.Common.{◌≡◌, ◌≢◌, ◌<◌, ◌≤◌, ℕ, suc, Bool, true, false, List, [], ◌∷◌, ◌++◌, Option, Some, None, refl, sym, ap, ◌∙◌, subst, arith}
-use Rattle.std.specs.Prelude.{◌==◌, nat_lt, if◌then◌else◌, option_map, slice_get}
+use Rattle.std.proofs.Common.{◌≡◌, ◌≢◌, ◌<◌, ℕ, suc, Bool, true, false, List, Option, Some, None, refl, sym, ap, ◌∙◌, subst, arith}
+use Rattle.std.specs.Prelude.{nat_lt, if◌then◌else◌, option_map, slice_get}
 use Rattle.std.proofs.lemmas.Bool.{eq-eqb, ne_eqb, false≢true, ltb-true}
 use Rattle.std.proofs.lemmas.Option.{none-some, same_Some, slice_get-map}
 use Rattle.apex_types.specs.declared.codes.ErrorKind.{ErrorKind}
@@ -20,7 +20,7 @@ use Rattle.apex_types.specs.declared.event.Subject.{Subject}
 use Rattle.apex_types.specs.declared.event.Subject.TheVariants.{Init, Handler, Process}
 use Rattle.isolation.proofs.Steps.{IsApart}
 use Rattle.engine_meaning.specs.Digits.{same}
-use Rattle.state_laws.specs.Told.{Told, cleared, first_told, has_worked, is_ignored, is_it, is_same, preempted, said_by, says, says_module, worked_in, worker_or}
+use Rattle.state_laws.specs.Told.{Told, cleared, has_worked, is_ignored, is_it, is_same, preempted, said_by, says, says_module, worked_in, worker_or}
 use Rattle.state_laws.proofs.Moves.{IsBefore}
 use Rattle.state_laws.proofs.Subjects.{name_itself, same_name, same_subject}
 use Rattle.trace_stays.specs.Clearing.{starts_by}
