@@ -3,4 +3,5 @@ pub mod Told
 pub mod Lines
 pub mod Run
 pub mod Shown
+pub mod Stays
 pub mod OfRuns

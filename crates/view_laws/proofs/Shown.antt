@@ -99,7 +99,7 @@ processes_apart own (e ∷ es) h = (by_kind e.kind, processes_apart own es h)
     by_kind (event.Lost port words) = tt
     by_kind (event.Out channel words) = tt
 
-runners_apart : (who : Subject) (lines : List Event) → IsNamed who → HaveNames lines → AreToldApart who lines
+pub runners_apart : (who : Subject) (lines : List Event) → IsNamed who → HaveNames lines → AreToldApart who lines
 runners_apart who [] h k = tt
 runners_apart who (e ∷ es) h k = (by_kind e.kind k.0, runners_apart who es h k.1)
   where

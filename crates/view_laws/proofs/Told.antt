@@ -50,7 +50,7 @@ it_runs : (who : Subject) (o : Option Subject) → is_it who o ≡ true → o �
 it_runs who None e = absurd (false≢true e)
 it_runs who (Some x) e = ap Some (sym (same_subject who x e))
 
-not_in : (m n : ℕ) (w : Option (ℕ × Subject)) → m < n → IsBefore (suc m) w → None ≡ worked_in n w
+pub not_in : (m n : ℕ) (w : Option (ℕ × Subject)) → m < n → IsBefore (suc m) w → None ≡ worked_in n w
 not_in m n None l h = refl
 not_in m n (Some w) l h = sym (ap (λ (b : Bool). if b then Some w.1 else None) (ne_eqb w.0 n (λ e. absurd (omega (arith, e, l, h)))))
 

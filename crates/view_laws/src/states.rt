@@ -1,6 +1,8 @@
 //! What the views show as states and modes.
 
-ghost use Rattle.std.specs.Prelude.{◌≡◌, ◌<◌, ℕ, suc, true, List, Some};
+ghost use Rattle.std.specs.Prelude.{◌≡◌, ◌<◌, ℕ, suc, true, List, None, Some};
+ghost use Rattle.apex_types.specs.Limits.{MOST_TICKS};
+ghost use Rattle.apex_types.specs.Line.{subject_text};
 ghost use Rattle.apex_types.specs.NameText.{is_name};
 ghost use Rattle.apex_types.specs.declared.device.DeviceLine.{DeviceLine};
 ghost use Rattle.apex_types.specs.declared.event.Event.{Event};
@@ -17,9 +19,12 @@ ghost use Rattle.module_meaning.specs.SourceMeaning.{source_module, source_trace
 ghost use Rattle.module_meaning.specs.Table.{Partition, Table, at_number};
 ghost use Rattle.pal_meaning.specs.Program.{Program};
 ghost use Rattle.pal_meaning.specs.SourceControl.{SourceControl};
-ghost use Rattle.state_laws.specs.Told.{told};
-ghost use Rattle.view_laws.specs.Reading.{up_to};
+ghost use Rattle.state_laws.specs.Told.{first_told, told};
+ghost use Rattle.trace_stays.specs.Traces.{stays_in};
+ghost use Rattle.trace_windows.specs.Uses.{one_if};
+ghost use Rattle.view_laws.specs.Reading.{AreInOrder, up_to};
 ghost use Rattle.view_laws.specs.Shown.{HaveNames, IsNamed, ShowsState, mode_shown, state_shown};
+ghost use Rattle.view_laws.specs.Ticks.{RunInTurn, running_in, runs_told};
 
 /// The state that a view shows of a process after lines is the one that these lines tell, and so is
 /// the mode of a partition. So it is for INIT and the error handler, if no process in the lines has
@@ -57,4 +62,19 @@ pub fn states_are_shown()
         → at_number t.partitions p ≡ Some row
         → at_number (members_after (source_module t programs) devices (suc i)) p ≡ Some x
         → ShowsState (up_to i (source_trace t programs devices n)) row.name x.world.kernel }
+{}
+
+/// A tick is in a stay in RUNNING of a runner just if the runner is RUNNING after the lines of the tick,
+/// or has left RUNNING by its work in it, and then it is in one such stay. So it is in lines in order in which
+/// a runner becomes RUNNING only in a tick that nobody of its partition has spent yet.
+pub fn stays_tell_who_runs()
+    ensures { (lines : List Event) (name : List ℕ) (who : Subject) (until t : ℕ)
+        → IsNamed who
+        → HaveNames lines
+        → AreInOrder 0 lines
+        → RunInTurn name first_told lines
+        → t < until
+        → t < MOST_TICKS
+        → running_in t (stays_in lines until name (subject_text who) None)
+        ≡ one_if (runs_told t who (told name (up_to t lines))) }
 {}
