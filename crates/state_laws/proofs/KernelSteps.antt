@@ -40,7 +40,7 @@ use Rattle.kernel_meaning.specs.Step.{Step, after, lifted}
 use Rattle.kernel_meaning.specs.Times.{start_all_waiting}
 use Rattle.state_laws.specs.Told.{Told, cleared, responds, worked_in, worker_by_lines, running_or, is_from_outside}
 use Rattle.state_laws.specs.States.{who_runs}
-use Rattle.state_laws.proofs.Agreement.{reads, reads_both, IsRunning, KernelAgrees, Goes, either as either_goes}
+use Rattle.state_laws.proofs.Agreement.{agrees_after, reads, reads_both, IsRunning, KernelAgrees, Goes, either as either_goes}
 use Rattle.state_laws.proofs.Changes.{kept, rests_found_goes}
 use Rattle.state_laws.proofs.Clears.{clears_go, cleared_worker}
 use Rattle.state_laws.proofs.Objects.{objects_go, ports_go}
@@ -54,7 +54,7 @@ pub record KernelGoes {A : Type 0} (of : Told → A) (tick : ℕ) (t : Told) (s 
 
 module _ {A : Type 0} (of : Told → A) (tick : ℕ) where
   pub of_goes : (t : Told) (k : Kernel) (s : Step Processes) → KernelAgrees t k → Goes of tick t s → KernelGoes of tick t (of_processes k s)
-  of_goes t k s h g = record { agrees = record { mode = g.mode ∙ h.mode; processes = g.agrees }; same = g.same }
+  of_goes t k s h g = record { agrees = agrees_after t (reads tick t s.lines) k (of_processes k s).part h g.mode refl g.agrees; same = g.same }
 
   pub kernel_in_turn : (t : Told) (s u : Step Kernel) → KernelGoes of tick t s → KernelGoes of tick (reads tick t s.lines) u → KernelGoes of tick t (after s u)
   kernel_in_turn t s u h k =
@@ -97,7 +97,7 @@ module _ (tick : ℕ) (t : Told) where
     stays actions = record { agrees = h; same = refl }
 
     clears_works : (m : Mode) (c : StartCondition) → is_normal m ≡ false → Works (clears k m c)
-    clears_works m c e = let named = h.processes.named in let g = clears_go tick t k m c named e in record { agrees = g.agrees; same = cleared_worker tick t (clears k m c) g }
+    clears_works m c e = let named = h.processes.named in let g = clears_go tick t k m c named e h.orderly in record { agrees = g.agrees; same = cleared_worker tick t (clears k m c) g }
 
     of_works : (s : Step Processes) → Goes (worker_by_lines tick) tick t s → Works (of_processes k s)
     of_works s g = of_goes (worker_by_lines tick) tick t k s h g
@@ -140,7 +140,7 @@ module _ (tick : ℕ) (t : Told) where
             × (worker_by_lines tick (reads tick (if b then cleared t else t) (clears k m condition.HmPartitionRestart).lines) ≡ worker_by_lines tick t)
         works_then m other true =
             let named = h.processes.named in
-            let g = clears_go tick (cleared t) k m condition.HmPartitionRestart named other in
+            let g = clears_go tick (cleared t) k m condition.HmPartitionRestart named other h.orderly in
             (g.agrees, cleared_worker tick (cleared t) (clears k m condition.HmPartitionRestart) g ∙ sym (ap (λ (o : Option Subject). running_or o (worked_in tick t.worked)) none))
         works_then m other false = let g = clears_works m condition.HmPartitionRestart other in (g.agrees, g.same)
 
@@ -162,7 +162,7 @@ module _ (tick : ℕ) (t : Told) where
   enters_works : (k : Kernel) → KernelAgrees t k → Works (enters_normal k)
   enters_works k h =
       let p = h.processes in
-      record { agrees = record { mode = refl; processes = record { named = p.named; states = p.states; running = p.running; runs = p.runs } }; same = refl }
+      record { agrees = record { mode = refl; orderly = h.orderly; processes = record { named = p.named; states = p.states; running = p.running; runs = p.runs } }; same = refl }
 
 module _ (tick : ℕ) (t : Told) (k : Kernel) (h : KernelAgrees t k) where
   abbrev Kept : Step Kernel → Type 0
@@ -269,8 +269,8 @@ module _ (tick : ℕ) (t : Told) (k : Kernel) (h : KernelAgrees t k) where
       serves_works at (call.SetPartitionMode m) words = set_mode_works at p m
       serves_works at call.StopSelf words = ends_body_works p
       serves_works at (call.ReportApplicationMessage array size) words = of_works tick t k h _ (report_goes array size words)
-      serves_works at call.CreateErrorHandler words = let g = create_handler_goes in record { agrees = record { mode = g.mode ∙ h.mode; processes = g.agrees }; same = g.same }
-      serves_works at (call.GetErrorStatus array) words = let g = error_status_goes array in record { agrees = record { mode = g.mode ∙ h.mode; processes = g.agrees }; same = g.same }
+      serves_works at call.CreateErrorHandler words = let g = create_handler_goes in record { agrees = agrees_after t _ k _ h g.mode refl g.agrees; same = g.same }
+      serves_works at (call.GetErrorStatus array) words = let g = error_status_goes array in record { agrees = agrees_after t _ k _ h g.mode refl g.agrees; same = g.same }
       serves_works at (call.RaiseApplicationError e array size) words = then_acts_works tick t k h p error.ApplicationError _ (raise_reads tick t k h p e array size words)
       serves_works at (call.GetProcessId name) words = of_works tick t k h _ (get_process_id_goes tick t k.processes h.processes p name)
       serves_works at (call.GetProcessStatus id) words = of_works tick t k h _ (get_process_status_goes tick t k.processes h.processes p id)
@@ -289,8 +289,8 @@ module _ (tick : ℕ) (t : Told) (k : Kernel) (h : KernelAgrees t k) where
       serves_works at call.PeriodicWait words = of_works tick t k h _ (periodic_wait_goes tick t k.processes h.processes p)
       serves_works at call.GetTime words = record { agrees = h; same = refl }
       serves_works at (call.Replenish budget) words = of_works tick t k h _ (replenish_goes tick t k.processes h.processes p k.mode at budget)
-      serves_works at (call.Object c) words = let g = objects_go tick t (with_objects k) h.processes w p k.mode at c words in record { agrees = record { mode = g.mode ∙ h.mode; processes = g.agrees }; same = g.same }
-      serves_works at (call.Port c) words = let g = ports_go tick t (with_ports k) h.processes p k.mode at c words in record { agrees = record { mode = g.mode ∙ h.mode; processes = g.agrees }; same = g.same }
+      serves_works at (call.Object c) words = let g = objects_go tick t (with_objects k) h.processes w p k.mode at c words in record { agrees = agrees_after t _ k _ h g.mode refl g.agrees; same = g.same }
+      serves_works at (call.Port c) words = let g = ports_go tick t (with_ports k) h.processes p k.mode at c words in record { agrees = agrees_after t _ k _ h g.mode refl g.agrees; same = g.same }
 
       pub asked_works : (at : At) (a : Asks) (words : List ℤ) → Kept (treats_asked at k p a words)
       asked_works at Nothing words = stays tick t k h []
