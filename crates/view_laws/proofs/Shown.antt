@@ -30,7 +30,7 @@ use Rattle.trace_stays.specs.Traces.{mode_behind_all, mode_with_line, state_afte
 use Rattle.trace_stays.specs.declared.next.Next.TheVariants.{Enters, Cleared}
 use Rattle.trace_stays.specs.declared.stay.Held.{Held}
 use Rattle.trace_stays.specs.declared.stay.HeldMode.{HeldMode}
-use Rattle.view_laws.specs.Shown.{HaveNames, IsNamed, NamesOne, ShowsState, mode_of, mode_shown, state_of, state_shown}
+use Rattle.view_laws.specs.Shown.{HasOwnWord, HaveNames, IsNamed, NamesOne, ShowsState, mode_of, mode_shown, state_of, state_shown}
 
 -- ---- names
 
@@ -201,11 +201,13 @@ module _ (who : Subject) where
   lines_show name [] held t apart h = h
   lines_show name (e ∷ es) held t apart h = lines_show name es (with_line e name (subject_text who) held) (reading.with_line name t e) apart.1 (kind_shows name e.partition e.kind e.tick.0 held t apart.0 h)
 
-pub process_shown : (lines : List Event) (name own : List ℕ) → is_name own ≡ true → state_shown lines name (Process own) ≡ (told name lines).state (Process own)
-process_shown lines name own h = lines_show (Process own) name lines None first_told (processes_apart own lines h) refl
+pub own_word : (who : Subject) (lines : List Event) → HasOwnWord lines who → AreToldApart who lines
+own_word Init lines h = runners_apart Init lines tt h
+own_word Handler lines h = runners_apart Handler lines tt h
+own_word (Process own) lines h = processes_apart own lines h
 
-pub runner_shown : (lines : List Event) (name : List ℕ) (who : Subject) → IsNamed who → HaveNames lines → state_shown lines name who ≡ (told name lines).state who
-runner_shown lines name who h k = lines_show who name lines None first_told (runners_apart who lines h k) refl
+pub state_is_told : (lines : List Event) (name : List ℕ) (who : Subject) → HasOwnWord lines who → state_shown lines name who ≡ (told name lines).state who
+state_is_told lines name who h = lines_show who name lines None first_told (own_word who lines h) refl
 
 -- ---- a mode
 
@@ -301,7 +303,5 @@ mode_is_told lines name = lines_mode name lines None first_told refl
 pub shows : (lines : List Event) (name : List ℕ) (k : Kernel) → TellsState (told name lines) k → ShowsState lines name k
 shows lines name k h = record {
   mode = mode_is_told lines name ∙ h.mode;
-  processes = λ p r own there is named.
-      subst (λ (who : Subject). state_shown lines name who ≡ (told name lines).state who) (sym is) (process_shown lines name own named) ∙ h.states p r there;
-  runners = λ names p r there named. runner_shown lines name r.who named names ∙ h.states p r there;
+  states = λ p r there own. state_is_told lines name r.who own ∙ h.states p r there;
 }

@@ -1,7 +1,7 @@
 -- A view shows just in those ticks that a runner is RUNNING in which the lines tell it.
-use Rattle.std.proofs.Common.{◌≡◌, ◌<◌, ◌≤◌, ℕ, zero, suc, max, Bool, true, false, ◌⊎◌, inl, inr, List, [], ◌∷◌, ◌++◌, Option, Some, None, refl, sym, ap, ◌∙◌, subst, arith}
-use Rattle.std.specs.Prelude.{◌+◌, ◌==◌, ◌&&◌, ◌||◌, nat_le, nat_lt, if◌then◌else◌}
-use Rattle.std.proofs.lemmas.Bool.{and_left, and_right, cases_eq, cases_lt, eq-eqb, ne_eqb, false≢true, le-leb, le-ltb, lt-leb, lt-ltb, ltb-false, ltb-true}
+use Rattle.std.proofs.Common.{◌≡◌, ◌<◌, ◌≤◌, ℕ, zero, suc, max, Bool, true, false, not, ◌⊎◌, inl, inr, List, [], ◌∷◌, ◌++◌, Option, Some, None, refl, sym, ap, ◌∙◌, subst, arith}
+use Rattle.std.specs.Prelude.{◌+◌, ◌==◌, ◌&&◌, ◌||◌, nat_le, nat_lt, if◌then◌else◌, is_some}
+use Rattle.std.proofs.lemmas.Bool.{and_left, and_parts, and_right, cases_eq, cases_lt, eq-eqb, ne_eqb, false≢true, le-leb, le-ltb, lt-leb, lt-ltb, ltb-false, ltb-true}
 use Rattle.std.proofs.lemmas.Option.{none-some, same_Some}
 use Rattle.apex_types.specs.Limits.{MOST_TICKS}
 use Rattle.apex_types.specs.Line.{subject_text}
@@ -32,10 +32,112 @@ use Rattle.trace_stays.specs.declared.stay.Held.{Held}
 use Rattle.trace_stays.specs.declared.stay.Stay.{Stay}
 use Rattle.trace_windows.specs.Uses.{one_if}
 use Rattle.view_laws.specs.Reading.{AreInOrder, up_to}
-use Rattle.view_laws.specs.Shown.{HaveNames, IsNamed}
-use Rattle.view_laws.specs.Ticks.{IsFree, IsFreeIf, IsFreeIn, RunInTurn, has_tick, is_running, running_in, runs_told}
-use Rattle.view_laws.proofs.Shown.{AreToldApart, ToldApart, runners_apart, same_turned}
+use Rattle.view_laws.specs.Shown.{HasOwnWord}
+use Rattle.view_laws.specs.Ticks.{has_tick, is_running, running_in, runs_told}
+use Rattle.view_laws.proofs.Shown.{AreToldApart, ToldApart, own_word, same_turned}
 use Rattle.view_laws.proofs.Told.{not_in}
+
+-- ---- a runner becomes RUNNING only in a tick that nobody of its partition has spent yet
+
+abbrev IsFree : ℕ → Told → EventKind → Type 0
+IsFree tick t (event.State who state.Running) = worker_by_lines tick t ≡ None
+IsFree tick t _ = Unit {0}
+
+abbrev IsFreeIf : Bool → ℕ → Told → EventKind → Type 0
+IsFreeIf true tick t kind = IsFree tick t kind
+IsFreeIf false tick t kind = Unit {0}
+
+abbrev IsFreeIn : List ℕ → Told → Option (List ℕ) → ℕ → EventKind → Type 0
+IsFreeIn name t None tick kind = Unit {0}
+IsFreeIn name t (Some other) tick kind = IsFreeIf (same name other) tick t kind
+
+abbrev RunInTurn : List ℕ → Told → List Event → Type 0
+RunInTurn name t [] = Unit {0}
+RunInTurn name t (e ∷ es) = IsFreeIn name t e.partition e.tick.0 e.kind × RunInTurn name (reading.with_line name t e) es
+
+unspent : (o : Option Subject) → not (is_some o) ≡ true → o ≡ None
+unspent None e = refl
+unspent (Some who) e = absurd (false≢true e)
+
+-- a line that leaves the runners in turn came to such, and was in turn
+abbrev InTurn : ℕ → Told → EventKind → Told → Type 0
+InTurn tick t kind u = u.orderly ≡ true → (t.orderly ≡ true) × IsFree tick t kind
+
+state_in_turn : (tick : ℕ) (t : Told) (who : Subject) (s : ProcessState) → InTurn tick t (event.State who s) (says tick t (event.State who s))
+state_in_turn tick t who state.Running e = let parts = and_parts t.orderly (not (is_some (worker_by_lines tick t))) e in (parts.0, unspent (worker_by_lines tick t) parts.1)
+state_in_turn tick t who state.Ready e = (by_test (is_it who t.running) e, tt)
+  where
+    by_test : (b : Bool) → (if b then preempted t else t).orderly ≡ true → t.orderly ≡ true
+    by_test true h = h
+    by_test false h = h
+state_in_turn tick t who state.Waiting e = (by_test (is_it who t.running) e, tt)
+  where
+    by_test : (b : Bool) → (if b then has_worked tick t else t).orderly ≡ true → t.orderly ≡ true
+    by_test true h = h
+    by_test false h = h
+state_in_turn tick t who state.Dormant e = (by_test (is_it who t.running) e, tt)
+  where
+    by_test : (b : Bool) → (if b then has_worked tick t else t).orderly ≡ true → t.orderly ≡ true
+    by_test true h = h
+    by_test false h = h
+
+response_in_turn : (t : Told) (a : PartitionAction) → (if is_ignored a then t else cleared t).orderly ≡ true → t.orderly ≡ true
+response_in_turn t action.Ignore h = h
+response_in_turn t action.Idle h = h
+response_in_turn t action.WarmStart h = h
+response_in_turn t action.ColdStart h = h
+
+own_in_turn : (tick : ℕ) (t : Told) (kind : EventKind) → InTurn tick t kind (says tick t kind)
+own_in_turn tick t (event.State who s) e = state_in_turn tick t who s e
+own_in_turn tick t (event.Mode mode.Normal) e = (e, tt)
+own_in_turn tick t (event.Mode mode.Idle) e = (e, tt)
+own_in_turn tick t (event.Mode mode.ColdStart) e = (e, tt)
+own_in_turn tick t (event.Mode mode.WarmStart) e = (e, tt)
+own_in_turn tick t (event.Error k who response.Handler) e = (e, tt)
+own_in_turn tick t (event.Error k who (response.Module a)) e = (e, tt)
+own_in_turn tick t (event.Error error.DeadlineMissed who (response.Partition a)) e = (response_in_turn t a e, tt)
+own_in_turn tick t (event.Error error.HardwareFault who (response.Partition a)) e = (response_in_turn t a e, tt)
+own_in_turn tick t (event.Error error.ApplicationError who (response.Partition a)) e = (e, tt)
+own_in_turn tick t (event.Error error.NumericError who (response.Partition a)) e = (e, tt)
+own_in_turn tick t (event.Error error.IllegalRequest who (response.Partition a)) e = (e, tt)
+own_in_turn tick t (event.Error error.StackOverflow who (response.Partition a)) e = (e, tt)
+own_in_turn tick t (event.Error error.MemoryViolation who (response.Partition a)) e = (e, tt)
+own_in_turn tick t (event.Return who service code) e = (e, tt)
+own_in_turn tick t (event.Report who words) e = (e, tt)
+own_in_turn tick t (event.Move port words) e = (e, tt)
+own_in_turn tick t (event.Arrive port words) e = (e, tt)
+own_in_turn tick t (event.Lost port words) e = (e, tt)
+own_in_turn tick t (event.Out channel words) e = (e, tt)
+
+module_in_turn : (t : Told) (kind : EventKind) → (says_module t kind).orderly ≡ true → t.orderly ≡ true
+module_in_turn t (event.Error k who response.Handler) e = e
+module_in_turn t (event.Error k who (response.Partition a)) e = e
+module_in_turn t (event.Error k who (response.Module reaction.Ignore)) e = e
+module_in_turn t (event.Error k who (response.Module reaction.Shutdown)) e = e
+module_in_turn t (event.Error k who (response.Module reaction.Reset)) e = e
+module_in_turn t (event.State who s) e = e
+module_in_turn t (event.Mode m) e = e
+module_in_turn t (event.Return who service code) e = e
+module_in_turn t (event.Report who words) e = e
+module_in_turn t (event.Move port words) e = e
+module_in_turn t (event.Arrive port words) e = e
+module_in_turn t (event.Lost port words) e = e
+module_in_turn t (event.Out channel words) e = e
+
+line_in_turn : (name : List ℕ) (t : Told) (p : Option (List ℕ)) (tick : ℕ) (kind : EventKind) → (said_by name t p tick kind).orderly ≡ true → (t.orderly ≡ true) × IsFreeIn name t p tick kind
+line_in_turn name t None tick kind e = (module_in_turn t kind e, tt)
+line_in_turn name t (Some other) tick kind e = by_test (same name other) e
+  where
+    by_test : (b : Bool) → (if b then says tick t kind else t).orderly ≡ true → (t.orderly ≡ true) × IsFreeIf b tick t kind
+    by_test true h = own_in_turn tick t kind h
+    by_test false h = (h, tt)
+
+lines_in_turn : (name : List ℕ) (lines : List Event) (t : Told) → (told_from name t lines).orderly ≡ true → (t.orderly ≡ true) × RunInTurn name t lines
+lines_in_turn name [] t e = (e, tt)
+lines_in_turn name (l ∷ ls) t e =
+    let rest = lines_in_turn name ls (reading.with_line name t l) e in
+    let here = line_in_turn name t l.partition l.tick.0 l.kind rest.0 in
+    (here.0, (here.1, rest.1))
 
 -- ---- where a stay is left
 
@@ -515,6 +617,10 @@ module _ (x : ℕ) (few : x < MOST_TICKS) where
 
     -- ---- a tick
 
+    -- so many stays have the tick; and if somebody is RUNNING, nobody has worked in it
+    abbrev pub IsShown : ℕ → Told → Type 0
+    IsShown n u = (n ≡ one_if (runs_told x who u)) × ((y : Subject) → u.running ≡ Some y → worked_in x u.worked ≡ None)
+
     at_last : (held : Option Held) (t : Told) (c : ℕ) → Told_at x held t c → c + shows_now held ≡ one_if (runs_told x who t)
     at_last held t c h = by_test (is_it who t.running) refl
       where
@@ -543,11 +649,11 @@ module _ (x : ℕ) (few : x < MOST_TICKS) where
             omega (arith, k, a)
 
     shown_told : (lines : List Event) (until : ℕ) (name : List ℕ) (z : ℕ) (held : Option Held) (t : Told) (c : ℕ) → z ≤ x → x < until → AreInOrder z lines → AreToldApart who lines → RunInTurn name t lines → Told_at z held t c
-        → c + running_in x (stays_in lines until name (subject_text who) held) ≡ one_if (runs_told x who (told_from name t (up_to x lines)))
+        → IsShown (c + running_in x (stays_in lines until name (subject_text who) held)) (told_from name t (up_to x lines))
     shown_told [] until name z held t c l u order apart free h =
         let a = late [] until name (subject_text who) held tt u in
-        let b = at_last held t c (later_tick z x held t.running t.worked c l h) in
-        ap (λ (n : ℕ). c + n) a ∙ b
+        let k = later_tick z x held t.running t.worked c l h in
+        (ap (λ (n : ℕ). c + n) a ∙ at_last held t c k, k.free)
     shown_told (e ∷ es) until name z held t c l u order apart free h =
         by_test (nat_lt x e.tick.0) refl
         (λ low k. shown_told es until name e.tick.0 (with_line e name (subject_text who) held) (reading.with_line name t e) (c + counted (stay_with (next_by e.partition e.kind name (subject_text who)) e.tick.0 held)) low u order.1 apart.1 free.1 k)
@@ -559,13 +665,13 @@ module _ (x : ℕ) (few : x < MOST_TICKS) where
         over = counted (stay_with (next_by e.partition e.kind name (subject_text who)) e.tick.0 held)
 
         by_test : (b : Bool) → nat_lt x e.tick.0 ≡ b
-            → (e.tick.0 ≤ x → Told_at e.tick.0 new (reading.with_line name t e) (c + over) → c + over + running_in x (stays_in es until name (subject_text who) new) ≡ one_if (runs_told x who (told_from name (reading.with_line name t e) (up_to x es))))
-            → c + running_in x (stays_in (e ∷ es) until name (subject_text who) held) ≡ one_if (runs_told x who (told_from name t (if b then [] else e ∷ up_to x es)))
+            → (e.tick.0 ≤ x → Told_at e.tick.0 new (reading.with_line name t e) (c + over) → IsShown (c + over + running_in x (stays_in es until name (subject_text who) new)) (told_from name (reading.with_line name t e) (up_to x es)))
+            → IsShown (c + running_in x (stays_in (e ∷ es) until name (subject_text who) held)) (told_from name t (if b then [] else e ∷ up_to x es))
         by_test true f later =
             let after = ltb-true x e.tick.0 f in
             let a = late (e ∷ es) until name (subject_text who) held (omega (arith, after), order.1) u in
-            let b = at_last held t c (later_tick z x held t.running t.worked c l h) in
-            ap (λ (n : ℕ). c + n) a ∙ b
+            let k = later_tick z x held t.running t.worked c l h in
+            (ap (λ (n : ℕ). c + n) a ∙ at_last held t c k, k.free)
         by_test false f later =
             let low : e.tick.0 ≤ x = ltb-false x e.tick.0 f in
             let there = later_tick z e.tick.0 held t.running t.worked c order.0 h in
@@ -573,11 +679,19 @@ module _ (x : ℕ) (few : x < MOST_TICKS) where
             let k = any_line e.tick.0 low held t c there name e.partition e.kind apart.0 free.0 in
             let rest = later low k in
             let parts = and_counted (stay_with next e.tick.0 held) (stays_in es until name (subject_text who) (with_line e name (subject_text who) held)) in
-            omega (arith, rest, parts)
+            let all = rest.0 in
+            (omega (arith, all, parts), rest.1)
 
-pub runner_in : (lines : List Event) (until : ℕ) (name : List ℕ) (who : Subject) (x : ℕ) → IsNamed who → HaveNames lines → AreInOrder 0 lines → RunInTurn name first_told lines → x < until → x < MOST_TICKS
-    → running_in x (stays_in lines until name (subject_text who) None) ≡ one_if (runs_told x who (told name (up_to x lines)))
-runner_in lines until name who x named names order free u few =
-    let begun : Runs x few who 0 None None None 0 = record { runs = refl; count = refl; free = λ y e. absurd (none-some y e); since = λ k e. absurd (none-some k e); before = tt } in
-    let k = shown_told x few who lines until name 0 None first_told 0 (omega arith) u order (runners_apart who lines named names) free begun in
-    omega (arith, k)
+module _ (lines : List Event) (until : ℕ) (name : List ℕ) (who : Subject) (x : ℕ) (own : HasOwnWord lines who) (order : AreInOrder 0 lines) (orderly : (told name lines).orderly ≡ true) (u : x < until) (few : x < MOST_TICKS) where
+  begun : Runs x few who 0 None None None 0
+  begun = record { runs = refl; count = refl; free = λ y e. absurd (none-some y e); since = λ k e. absurd (none-some k e); before = tt }
+
+  ended : IsShown x few who (0 + running_in x (stays_in lines until name (subject_text who) None)) (told name (up_to x lines))
+  ended = shown_told x few who lines until name 0 None first_told 0 (omega arith) u order (own_word who lines own) (lines_in_turn name lines first_told orderly).1 begun
+
+  pub runner_in : running_in x (stays_in lines until name (subject_text who) None) ≡ one_if (runs_told x who (told name (up_to x lines)))
+  runner_in = let k = ended.0 in omega (arith, k)
+
+  -- if somebody is RUNNING after the tick, nobody has worked in it
+  pub works_alone : (y : Subject) → (told name (up_to x lines)).running ≡ Some y → worked_in x (told name (up_to x lines)).worked ≡ None
+  works_alone = ended.1

@@ -35,7 +35,7 @@ state_shown lines name who = state_of (state_after lines name (subject_text who)
 abbrev pub mode_shown : List Event → List ℕ → Mode
 mode_shown lines name = mode_of (mode_behind_all lines name None)
 
--- ---- names: none is the word of INIT or of the error handler
+-- ---- names: INIT and HANDLER are none
 
 abbrev pub IsNamed : Subject → Type 0
 IsNamed Init = Unit {0}
@@ -50,11 +50,15 @@ abbrev pub HaveNames : List Event → Type 0
 HaveNames [] = Unit {0}
 HaveNames (e ∷ es) = NamesOne e.kind × HaveNames es
 
+-- no other runner in the lines has its word
+abbrev pub HasOwnWord : List Event → Subject → Type 0
+HasOwnWord lines Init = HaveNames lines
+HasOwnWord lines Handler = HaveNames lines
+HasOwnWord lines (Process name) = is_name name ≡ true
+
 -- ---- a view and a kernel
 
--- The mode shown is the mode, and the state shown of each process is that of its record. So it is of INIT and of the error
--- handler, if no process has one of their words as its name.
+-- The mode shown is the mode, and the state shown of each runner with a word of its own is that of its record.
 pub record ShowsState (lines : List Event) (name : List ℕ) (k : Kernel) : Type 0 where
   pub mode : mode_shown lines name ≡ k.mode
-  pub processes : (p : Runner) (r : ProcessStatus) (own : List ℕ) → row_of k.processes p ≡ Some r → r.who ≡ Process own → is_name own ≡ true → state_shown lines name r.who ≡ r.state
-  pub runners : HaveNames lines → (p : Runner) (r : ProcessStatus) → row_of k.processes p ≡ Some r → IsNamed r.who → state_shown lines name r.who ≡ r.state
+  pub states : (p : Runner) (r : ProcessStatus) → row_of k.processes p ≡ Some r → HasOwnWord lines r.who → state_shown lines name r.who ≡ r.state

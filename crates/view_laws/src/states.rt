@@ -3,11 +3,9 @@
 ghost use Rattle.std.specs.Prelude.{◌≡◌, ◌<◌, ℕ, suc, true, List, None, Some};
 ghost use Rattle.apex_types.specs.Limits.{MOST_TICKS};
 ghost use Rattle.apex_types.specs.Line.{subject_text};
-ghost use Rattle.apex_types.specs.NameText.{is_name};
 ghost use Rattle.apex_types.specs.declared.device.DeviceLine.{DeviceLine};
 ghost use Rattle.apex_types.specs.declared.event.Event.{Event};
 ghost use Rattle.apex_types.specs.declared.event.Subject.{Subject};
-ghost use Rattle.apex_types.specs.declared.event.Subject.TheVariants as subject;
 ghost use Rattle.kernel_laws.specs.History.{members_after};
 ghost use Rattle.kernel_meaning.specs.Partition.{Member};
 ghost use Rattle.machine_meaning.specs.Image.{Image, Item};
@@ -19,26 +17,20 @@ ghost use Rattle.module_meaning.specs.SourceMeaning.{source_module, source_trace
 ghost use Rattle.module_meaning.specs.Table.{Partition, Table, at_number};
 ghost use Rattle.pal_meaning.specs.Program.{Program};
 ghost use Rattle.pal_meaning.specs.SourceControl.{SourceControl};
-ghost use Rattle.state_laws.specs.Told.{first_told, told};
+ghost use Rattle.state_laws.specs.Told.{told};
 ghost use Rattle.trace_stays.specs.Traces.{stays_in};
 ghost use Rattle.trace_windows.specs.Uses.{one_if};
 ghost use Rattle.view_laws.specs.Reading.{AreInOrder, up_to};
-ghost use Rattle.view_laws.specs.Shown.{HaveNames, IsNamed, ShowsState, mode_shown, state_shown};
-ghost use Rattle.view_laws.specs.Ticks.{RunInTurn, running_in, runs_told};
+ghost use Rattle.view_laws.specs.Shown.{HasOwnWord, ShowsState, mode_shown, state_shown};
+ghost use Rattle.view_laws.specs.Ticks.{running_in, runs_told};
 
-/// The state that a view shows of a process after lines is the one that these lines tell, and so is
-/// the mode of a partition. So it is for INIT and the error handler, if no process in the lines has
-/// one of their words as its name.
+/// The state that a view shows of a runner after lines is the one that these lines tell, if no other
+/// runner in the lines has its word. The mode that it shows of a partition is the one that they tell.
 pub fn lines_tell_what_is_shown()
     ensures mode { (lines : List Event) (name : List ℕ)
         → mode_shown lines name ≡ (told name lines).mode }
-    ensures process { (lines : List Event) (name own : List ℕ)
-        → is_name own ≡ true
-        → state_shown lines name (subject.Process own)
-        ≡ (told name lines).state (subject.Process own) }
-    ensures runner { (lines : List Event) (name : List ℕ) (who : Subject)
-        → IsNamed who
-        → HaveNames lines
+    ensures state { (lines : List Event) (name : List ℕ) (who : Subject)
+        → HasOwnWord lines who
         → state_shown lines name who ≡ (told name lines).state who }
 {}
 
@@ -66,13 +58,12 @@ pub fn states_are_shown()
 
 /// A tick is in a stay in RUNNING of a runner just if the runner is RUNNING after the lines of the tick,
 /// or has left RUNNING by its work in it, and then it is in one such stay. So it is in lines in order in which
-/// a runner becomes RUNNING only in a tick that nobody of its partition has spent yet.
+/// each runner becomes RUNNING in a tick that nobody of its partition has spent yet.
 pub fn stays_tell_who_runs()
     ensures { (lines : List Event) (name : List ℕ) (who : Subject) (until t : ℕ)
-        → IsNamed who
-        → HaveNames lines
+        → HasOwnWord lines who
         → AreInOrder 0 lines
-        → RunInTurn name first_told lines
+        → (told name lines).orderly ≡ true
         → t < until
         → t < MOST_TICKS
         → running_in t (stays_in lines until name (subject_text who) None)
