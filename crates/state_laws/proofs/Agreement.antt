@@ -5,6 +5,7 @@ use Rattle.std.proofs.lemmas.Bool.{eqb-true, eqb-false}
 use Rattle.std.proofs.lemmas.Option.{same_Some}
 use Rattle.apex_types.specs.Runners.{place_of}
 use Rattle.apex_types.specs.declared.codes.ProcessState.TheVariants.{Running}
+use Rattle.apex_types.specs.declared.codes.Mode.{Mode}
 use Rattle.apex_types.specs.declared.event.EventKind.{EventKind}
 use Rattle.apex_types.specs.declared.event.Subject.{Subject}
 use Rattle.apex_types.specs.declared.event.Subject.TheVariants.{Init}
@@ -51,17 +52,31 @@ pub record AgreesOn (t : Told) (rows : List ProcessStatus) (current : Option Run
 abbrev pub Agrees : Told → Processes → Type 0
 Agrees t s = AgreesOn t s.rows s.running
 
--- and the mode told is the mode
+-- and the mode told is the mode; and each runner became RUNNING in its turn
 pub record KernelAgrees (t : Told) (k : Kernel) : Type 0 where
   pub mode : t.mode ≡ k.mode
+  pub orderly : t.orderly ≡ true
   pub processes : Agrees t k.processes
 
 -- ---- a step
 
+-- what a step of processes leaves as it is told
+abbrev pub kept_told : Told → Mode × Bool
+kept_told t = (t.mode, t.orderly)
+
+pub same_mode : (a b : Mode × Bool) → a ≡ b → a.0 ≡ b.0
+same_mode a b e = ap (λ (x : Mode × Bool). x.0) e
+
+pub same_order : (a b : Mode × Bool) → a ≡ b → a.1 ≡ b.1
+same_order a b e = ap (λ (x : Mode × Bool). x.1) e
+
+pub agrees_after : (t v : Told) (k j : Kernel) → KernelAgrees t k → kept_told v ≡ kept_told t → j.mode ≡ k.mode → Agrees v j.processes → KernelAgrees v j
+agrees_after t v k j h e m a = record { mode = same_mode (kept_told v) (kept_told t) e ∙ h.mode ∙ sym m; orderly = same_order (kept_told v) (kept_told t) e ∙ h.orderly; processes = a }
+
 -- After a step: what is told now agrees with where the step leads, and in some respect the same is told as before.
 pub record GoesTo {A : Type 0} (of : Told → A) (t v : Told) (rows : List ProcessStatus) (current : Option Runner) : Type 0 where
   pub agrees : AgreesOn v rows current
-  pub mode : v.mode ≡ t.mode
+  pub mode : kept_told v ≡ kept_told t
   pub same : of v ≡ of t
 
 -- who runs, and who worked last
@@ -74,7 +89,7 @@ has_worked_last t = t.worked
 -- so it is after a step, with its lines
 pub record Goes {A : Type 0} (of : Told → A) (tick : ℕ) (t : Told) (s : Step Processes) : Type 0 where
   pub agrees : Agrees (reads tick t s.lines) s.part
-  pub mode : (reads tick t s.lines).mode ≡ t.mode
+  pub mode : kept_told (reads tick t s.lines) ≡ kept_told t
   pub same : of (reads tick t s.lines) ≡ of t
 
 module _ {A : Type 0} (of : Told → A) (tick : ℕ) where
@@ -86,7 +101,7 @@ module _ {A : Type 0} (of : Told → A) (tick : ℕ) where
       let e = reads_both tick t s.lines u.lines in
       record {
         agrees = subst (λ (v : Told). Agrees v u.part) (sym e) k.agrees;
-        mode = ap (λ (v : Told). v.mode) e ∙ k.mode ∙ h.mode;
+        mode = ap kept_told e ∙ k.mode ∙ h.mode;
         same = ap of e ∙ k.same ∙ h.same;
       }
 

@@ -1,5 +1,5 @@
 -- The lines of a Clear agree with it, whatever was told before.
-use Rattle.std.proofs.Common.{◌≡◌, ℕ, Bool, false, List, [], ◌∷◌, map, Option, Some, None, refl, sym, ap, ◌∙◌}
+use Rattle.std.proofs.Common.{◌≡◌, ℕ, Bool, true, false, List, [], ◌∷◌, map, Option, Some, None, refl, sym, ap, ◌∙◌}
 use Rattle.std.specs.Prelude.{slice_get, if◌then◌else◌}
 use Rattle.std.proofs.lemmas.Bool.{false≢true}
 use Rattle.std.proofs.lemmas.Option.{none-some}
@@ -82,11 +82,11 @@ pub record HasCleared (tick : ℕ) (t : Told) (s : Step Kernel) : Type 0 where
   pub none : (reads tick t s.lines).running ≡ None
   pub worked : (reads tick t s.lines).worked ≡ worker_or tick t.worked t.running
 
-pub clears_go : (tick : ℕ) (t : Told) (k : Kernel) (m : Mode) (c : StartCondition) → AreDistinct k.processes.rows → is_normal m ≡ false → HasCleared tick t (clears k m c)
-clears_go tick t k mode.Idle c h e = record { agrees = record { mode = refl; processes = idle_agrees k.processes.rows h _ (λ w. refl) refl }; none = refl; worked = refl }
-clears_go tick t k mode.ColdStart c h e = record { agrees = record { mode = refl; processes = started_agrees k.processes.rows h _ (λ w. refl) refl }; none = refl; worked = refl }
-clears_go tick t k mode.WarmStart c h e = record { agrees = record { mode = refl; processes = started_agrees k.processes.rows h _ (λ w. refl) refl }; none = refl; worked = refl }
-clears_go tick t k mode.Normal c h e = absurd (false≢true (sym e))
+pub clears_go : (tick : ℕ) (t : Told) (k : Kernel) (m : Mode) (c : StartCondition) → AreDistinct k.processes.rows → is_normal m ≡ false → t.orderly ≡ true → HasCleared tick t (clears k m c)
+clears_go tick t k mode.Idle c h e o = record { agrees = record { mode = refl; orderly = o; processes = idle_agrees k.processes.rows h _ (λ w. refl) refl }; none = refl; worked = refl }
+clears_go tick t k mode.ColdStart c h e o = record { agrees = record { mode = refl; orderly = o; processes = started_agrees k.processes.rows h _ (λ w. refl) refl }; none = refl; worked = refl }
+clears_go tick t k mode.WarmStart c h e o = record { agrees = record { mode = refl; orderly = o; processes = started_agrees k.processes.rows h _ (λ w. refl) refl }; none = refl; worked = refl }
+clears_go tick t k mode.Normal c h e o = absurd (false≢true (sym e))
 
 -- the same spends the tick
 pub cleared_worker : (tick : ℕ) (t : Told) (s : Step Kernel) → HasCleared tick t s → worker_by_lines tick (reads tick t s.lines) ≡ worker_by_lines tick t

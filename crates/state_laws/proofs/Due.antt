@@ -25,7 +25,7 @@ use Rattle.kernel_meaning.specs.Step.{Step, after}
 use Rattle.kernel_meaning.specs.Times as times
 use Rattle.kernel_meaning.specs.Times.{Treated, without_clear, treated_after, then_others, ends_wait, tick_of, timed_out, released_at, misses, is_past, treats_deadline, treats, due_from, mode_of_action}
 use Rattle.state_laws.specs.Told.{Told}
-use Rattle.state_laws.proofs.Agreement.{reads, reads_both, AreDistinct, AgreesOn, Agrees, Goes, runs_and_worked, in_turn, either}
+use Rattle.state_laws.proofs.Agreement.{reads, reads_both, AreDistinct, AgreesOn, Agrees, Goes, kept_told, same_order, runs_and_worked, in_turn, either}
 use Rattle.state_laws.proofs.Changes.{IsNotRunning, here, kept, out_if, released_with_goes}
 use Rattle.state_laws.proofs.Services.{still_running, runs_without_due}
 use Rattle.apex_types.specs.Runners.{place_of}
@@ -35,6 +35,7 @@ pub record Ends (tick : ℕ) (t : Told) (s : Step Processes) (m : Mode) : Type 0
   pub named : AreDistinct s.part.rows
   pub none : (reads tick t s.lines).running ≡ None
   pub worked : (reads tick t s.lines).worked ≡ t.worked
+  pub orderly : (reads tick t s.lines).orderly ≡ t.orderly
   pub other : is_normal m ≡ false
 
 -- by the mode of the Clear that the step leads to
@@ -54,6 +55,7 @@ module _ (tick : ℕ) where
         named = k.named;
         none = ap (λ (v : Told). v.running) e ∙ k.none;
         worked = ap (λ (v : Told). v.worked) e ∙ k.worked ∙ ap (λ (x : Option Subject × Option (ℕ × Subject)). x.1) h.same;
+        orderly = ap (λ (v : Told). v.orderly) e ∙ k.orderly ∙ same_order (kept_told (reads tick t s.lines)) (kept_told t) h.mode;
         other = k.other;
       }
 
@@ -98,9 +100,9 @@ module _ (tick : ℕ) where
     misses_go : (free : ℕ) (a : PartitionAction) (i : ProcessIndex) (r : ProcessStatus) → row_of s (runner.Process i) ≡ Some r → DueGoes tick t (misses free a s i r)
     misses_go (suc free) a i r there = record { agrees = missed i r there; mode = refl; same = refl }
     misses_go zero action.Ignore i r there = record { agrees = missed i r there; mode = refl; same = refl }
-    misses_go zero action.Idle i r there = let k = missed i r there in record { named = k.named; none = refl; worked = refl; other = refl }
-    misses_go zero action.WarmStart i r there = let k = missed i r there in record { named = k.named; none = refl; worked = refl; other = refl }
-    misses_go zero action.ColdStart i r there = let k = missed i r there in record { named = k.named; none = refl; worked = refl; other = refl }
+    misses_go zero action.Idle i r there = let k = missed i r there in record { named = k.named; none = refl; worked = refl; orderly = refl; other = refl }
+    misses_go zero action.WarmStart i r there = let k = missed i r there in record { named = k.named; none = refl; worked = refl; orderly = refl; other = refl }
+    misses_go zero action.ColdStart i r there = let k = missed i r there in record { named = k.named; none = refl; worked = refl; orderly = refl; other = refl }
 
     deadline_goes : (at : At) (free : ℕ) (a : PartitionAction) (i : ProcessIndex) → DueGoes tick t (treats_deadline at free a s i (row_of s (runner.Process i)))
     deadline_goes at free a i = by_row (row_of s (runner.Process i)) refl

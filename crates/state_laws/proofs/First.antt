@@ -1,5 +1,5 @@
 -- Before its first start a partition is as it is told to be before the first line.
-use Rattle.std.proofs.Common.{◌≡◌, ℕ, zero, suc, Bool, true, false, List, ◌∷◌, map, Some, refl, sym, ap, ◌∙◌, subst}
+use Rattle.std.proofs.Common.{◌≡◌, ◌≢◌, ℕ, zero, suc, Bool, true, false, List, ◌∷◌, map, Some, None, refl, sym, ap, ◌∙◌, subst}
 use Rattle.std.specs.Prelude.{◌+◌, slice_get, option_map}
 use Rattle.std.proofs.lemmas.Bool.{false≢true}
 use Rattle.std.proofs.lemmas.Option.{none-some, same_Some}
@@ -30,11 +30,11 @@ use Rattle.kernel_laws.specs.Names.{HasOwnNames}
 use Rattle.kernel_laws.proofs.OwnNames.{apart_of}
 use Rattle.state_laws.specs.Spending.{owner_in, worker}
 use Rattle.state_laws.specs.States.{TellsState}
-use Rattle.state_laws.specs.Told.{Told, first_told, told, worker_by_lines}
+use Rattle.state_laws.specs.Told.{Told, first_told, told, worked_in, worker_by_lines}
 use Rattle.state_laws.proofs.Agreement.{KernelAgrees}
 use Rattle.kernel_laws.proofs.Places.{mapped}
 use Rattle.state_laws.proofs.Members.{Stands}
-use Rattle.state_laws.proofs.Run.{run_stands, run_worker}
+use Rattle.state_laws.proofs.Run.{run_idle, run_orderly, run_stands, run_worker}
 
 -- ---- the rows of processes
 
@@ -87,6 +87,7 @@ module _ (rows : List ProcessStatus) (h : AreProcesses rows) where
   pub first_agrees : (fixed : Fixed) (objects : Objects) (ports : Ports) (has_handler : Bool) → KernelAgrees first_told (fresh_kernel fixed rows objects ports has_handler)
   first_agrees fixed objects ports has_handler = record {
     mode = refl;
+    orderly = refl;
     processes = record {
       named = record { apart = first_apart; first = λ r e. sym (ap (λ (y : ProcessStatus). y.who) (same_Some init_row r e)) };
       states = first_states;
@@ -171,3 +172,19 @@ source_worker t sources devices n (suc place) row q judged e f own g =
     let members = source_members t.costs t.schedule 1 t.partitions sources in
     run_worker (disciplines_of members (suc place)) (names_of members (suc place)) row.name place (map name_of members) (source_apart t sources judged place row q e f own) (source_module t sources) devices n
     (source_stands t sources judged place row q e f own) g
+
+module _ (t : Table) (sources : List program.Program) (devices : List DeviceLine) (n : ℕ) (judged : IsJudged t) where
+  pub source_orderly : (p : ℕ) (row : Partition) (q : program.Program) → at_number t.partitions p ≡ Some row → at_number sources p ≡ Some q → HasOwnNames q → (told row.name (source_trace t sources devices n)).orderly ≡ true
+  source_orderly zero row q e f own = absurd (none-some row e)
+  source_orderly (suc place) row q e f own =
+      let members = source_members t.costs t.schedule 1 t.partitions sources in
+      run_orderly (disciplines_of members (suc place)) (names_of members (suc place)) row.name place (map name_of members) (source_apart t sources judged place row q e f own) (source_module t sources) devices n
+      (source_stands t sources judged place row q e f own)
+
+  pub source_idle : (p : ℕ) (row : Partition) (q : program.Program) → at_number t.partitions p ≡ Some row → at_number sources p ≡ Some q → HasOwnNames q → owner_in (source_module t sources) devices n ≢ Some p
+      → worked_in n (told row.name (source_trace t sources devices (suc n))).worked ≡ None
+  source_idle zero row q e f own g = absurd (none-some row e)
+  source_idle (suc place) row q e f own g =
+      let members = source_members t.costs t.schedule 1 t.partitions sources in
+      run_idle (disciplines_of members (suc place)) (names_of members (suc place)) row.name place (map name_of members) (source_apart t sources judged place row q e f own) (source_module t sources) devices n
+      (source_stands t sources judged place row q e f own) g

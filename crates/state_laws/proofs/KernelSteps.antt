@@ -26,21 +26,21 @@ use Rattle.apex_types.specs.declared.service.Call.TheVariants as call
 use Rattle.apex_types.specs.declared.service.Service.TheVariants as service
 use Rattle.engine_meaning.specs.Engine.{Asks, Nothing, Calls, Faults, Ends}
 use Rattle.kernel_laws.specs.WhoWaits.{AreWaiting}
-use Rattle.kernel_meaning.specs.HealthServices.{report, is_message_length, create_error_handler, creates_found, is_handler_created, get_error_status, takes_error, raises, waits_or_leaves, response_of, raise_application_error, ignores, is_fault, acts_on_error, then_acts, handles, faults}
+use Rattle.kernel_meaning.specs.HealthServices.{report, is_message_length, create_error_handler, creates_found, is_handler_created, get_error_status, takes_error, raises, waits_or_leaves, response_of, raise_application_error, ignores, is_fault, acts_on_error, tells_error, then_acts, handles, faults}
 use Rattle.kernel_meaning.specs.Kernel.{Errors, Kernel, of_processes, with_errors, with_objects, with_ports}
 use Rattle.kernel_meaning.specs.Partition.{serves, treats_asked}
 use Rattle.kernel_meaning.specs.PartitionServices.{clears, next_release_of, starts_normally, mode_of, wants, is_warm, is_cold, set_partition_mode, ends_body, enters_normal}
 use Rattle.kernel_meaning.specs.PartitionServices as services
-use Rattle.kernel_meaning.specs.Processes.{Processes, row_of, is_normal, is_same, rests_found, not_running, answers}
+use Rattle.kernel_meaning.specs.Processes.{Processes, row_of, is_normal, is_same, rests_found, not_running, subject, answers}
 use Rattle.kernel_meaning.specs.ProcessServices.{number_of}
 use Rattle.kernel_meaning.specs.Sharing as sharing
 use Rattle.kernel_meaning.specs.Sharing.{Sharing, is_large_enough}
 use Rattle.apex_types.specs.declared.limits.TheConstants.{MOST_REPORT_WORDS}
 use Rattle.kernel_meaning.specs.Step.{Step, after, lifted}
 use Rattle.kernel_meaning.specs.Times.{start_all_waiting}
-use Rattle.state_laws.specs.Told.{Told, responds, preempted, worker_by_lines, is_from_outside}
+use Rattle.state_laws.specs.Told.{Told, cleared, responds, worked_in, worker_by_lines, running_or, is_from_outside}
 use Rattle.state_laws.specs.States.{who_runs}
-use Rattle.state_laws.proofs.Agreement.{reads, reads_both, IsRunning, KernelAgrees, Goes, either as either_goes}
+use Rattle.state_laws.proofs.Agreement.{agrees_after, reads, reads_both, IsRunning, KernelAgrees, Goes, either as either_goes}
 use Rattle.state_laws.proofs.Changes.{kept, rests_found_goes}
 use Rattle.state_laws.proofs.Clears.{clears_go, cleared_worker}
 use Rattle.state_laws.proofs.Objects.{objects_go, ports_go}
@@ -54,7 +54,7 @@ pub record KernelGoes {A : Type 0} (of : Told → A) (tick : ℕ) (t : Told) (s 
 
 module _ {A : Type 0} (of : Told → A) (tick : ℕ) where
   pub of_goes : (t : Told) (k : Kernel) (s : Step Processes) → KernelAgrees t k → Goes of tick t s → KernelGoes of tick t (of_processes k s)
-  of_goes t k s h g = record { agrees = record { mode = g.mode ∙ h.mode; processes = g.agrees }; same = g.same }
+  of_goes t k s h g = record { agrees = agrees_after t (reads tick t s.lines) k (of_processes k s).part h g.mode refl g.agrees; same = g.same }
 
   pub kernel_in_turn : (t : Told) (s u : Step Kernel) → KernelGoes of tick t s → KernelGoes of tick (reads tick t s.lines) u → KernelGoes of tick t (after s u)
   kernel_in_turn t s u h k =
@@ -63,22 +63,11 @@ module _ {A : Type 0} (of : Told → A) (tick : ℕ) where
 
 -- ---- responses to errors
 
--- an error from outside while nobody runs, or one that is not from outside
-pub response_same : (t : Told) (e : ErrorKind) (r : Response) → t.running ≡ None → responds t e r ≡ t
-response_same t e (response.Partition a) none = by_test (is_from_outside e) a
-  where
-    same : preempted t ≡ t
-    same = ap (λ (o : Option Subject). record t { running = o }) (sym none)
+pub same_twice : (b : Bool) (t : Told) → (if b then t else t) ≡ t
+same_twice true t = refl
+same_twice false t = refl
 
-    by_test : (b : Bool) (a : PartitionAction) → (if b then responds t error.HardwareFault (response.Partition a) else t) ≡ t
-    by_test true action.Ignore = refl
-    by_test true action.Idle = same
-    by_test true action.WarmStart = same
-    by_test true action.ColdStart = same
-    by_test false a = refl
-response_same t e response.Handler none = refl
-response_same t e (response.Module a) none = refl
-
+-- an error with which nothing is cleared
 own_response : (t : Told) (r : Response) → responds t error.ApplicationError r ≡ t
 own_response t (response.Partition a) = refl
 own_response t response.Handler = refl
@@ -108,7 +97,7 @@ module _ (tick : ℕ) (t : Told) where
     stays actions = record { agrees = h; same = refl }
 
     clears_works : (m : Mode) (c : StartCondition) → is_normal m ≡ false → Works (clears k m c)
-    clears_works m c e = let named = h.processes.named in let g = clears_go tick t k m c named e in record { agrees = g.agrees; same = cleared_worker tick t (clears k m c) g }
+    clears_works m c e = let named = h.processes.named in let g = clears_go tick t k m c named e h.orderly in record { agrees = g.agrees; same = cleared_worker tick t (clears k m c) g }
 
     of_works : (s : Step Processes) → Goes (worker_by_lines tick) tick t s → Works (of_processes k s)
     of_works s g = of_goes (worker_by_lines tick) tick t k s h g
@@ -139,6 +128,31 @@ module _ (tick : ℕ) (t : Told) where
         let how = response_of k.fixed.health k.mode (with_errors k) p e in
         ap (λ (ls : List EventKind). reads tick (responds t e how) ls) (no_lines p e words how) ∙ same how
 
+    -- an error while nobody runs: if it is one from outside, all are gone with its line, and then cleared
+    handles_works : (p : Runner) (e : ErrorKind) (words : List ℤ) → t.running ≡ None → Works (handles k p e words)
+    handles_works p e words none = by_response (response_of k.fixed.health k.mode (with_errors k) p e)
+      where
+        raised : Response → Step (Option PartitionAction)
+        raised how = after (tells_error None e (Some (subject k.processes p)) how) (waits_or_leaves p e words how)
+
+        works_then : (m : Mode) → is_normal m ≡ false → (b : Bool)
+            → KernelAgrees (reads tick (if b then cleared t else t) (clears k m condition.HmPartitionRestart).lines) (clears k m condition.HmPartitionRestart).part
+            × (worker_by_lines tick (reads tick (if b then cleared t else t) (clears k m condition.HmPartitionRestart).lines) ≡ worker_by_lines tick t)
+        works_then m other true =
+            let named = h.processes.named in
+            let g = clears_go tick (cleared t) k m condition.HmPartitionRestart named other h.orderly in
+            (g.agrees, cleared_worker tick (cleared t) (clears k m condition.HmPartitionRestart) g ∙ sym (ap (λ (o : Option Subject). running_or o (worked_in tick t.worked)) none))
+        works_then m other false = let g = clears_works m condition.HmPartitionRestart other in (g.agrees, g.same)
+
+        by_response : (how : Response) → Works (then_acts k p e (after (tells_error None e (Some (subject k.processes p)) how) (waits_or_leaves p e words how)))
+        by_response response.Handler =
+            then_acts_works p e (raised response.Handler) (ap (λ (ls : List EventKind). reads tick t ls) (no_lines p e words response.Handler))
+        by_response (response.Module a) = then_acts_works p e (raised (response.Module a)) refl
+        by_response (response.Partition action.Ignore) = then_acts_works p e (raised (response.Partition action.Ignore)) (same_twice (is_from_outside e) t)
+        by_response (response.Partition action.Idle) = let g = works_then mode.Idle refl (is_from_outside e) in record { agrees = g.0; same = g.1 }
+        by_response (response.Partition action.WarmStart) = let g = works_then mode.WarmStart refl (is_from_outside e) in record { agrees = g.0; same = g.1 }
+        by_response (response.Partition action.ColdStart) = let g = works_then mode.ColdStart refl (is_from_outside e) in record { agrees = g.0; same = g.1 }
+
     raise_reads : (p : Runner) (e : ℤ) (array : ArrayPlace) (size : ℤ) (words : List ℤ) → reads tick t (raise_application_error k.fixed.health k.mode (with_errors k) p e array size words).lines ≡ t
     raise_reads p e array size words =
         either_reads (not (int_eq e (pos 1))) _ _ refl (either_reads (not (is_message_length array.size size)) _ _ refl (raises_reads p error.ApplicationError _ (own_response t)))
@@ -148,7 +162,7 @@ module _ (tick : ℕ) (t : Told) where
   enters_works : (k : Kernel) → KernelAgrees t k → Works (enters_normal k)
   enters_works k h =
       let p = h.processes in
-      record { agrees = record { mode = refl; processes = record { named = p.named; states = p.states; running = p.running; runs = p.runs } }; same = refl }
+      record { agrees = record { mode = refl; orderly = h.orderly; processes = record { named = p.named; states = p.states; running = p.running; runs = p.runs } }; same = refl }
 
 module _ (tick : ℕ) (t : Told) (k : Kernel) (h : KernelAgrees t k) where
   abbrev Kept : Step Kernel → Type 0
@@ -198,7 +212,7 @@ module _ (tick : ℕ) (t : Told) (k : Kernel) (h : KernelAgrees t k) where
       let u = reads tick t s.lines in
       let none : u.running ≡ None = a.agrees.processes.running ∙ ap (who_runs s.part.processes.rows) (rested (row_of k.processes p) refl) in
       kernel_in_turn (worker_by_lines tick) tick t s (handles s.part p e []) a
-      (then_acts_works tick u s.part a.agrees p e (raises s.part.fixed.health s.part.mode (with_errors s.part) p e []) (raises_reads tick u s.part a.agrees p e [] (λ r. response_same u e r none)))
+      (handles_works tick u s.part a.agrees p e [] none)
     where
       rested : (o : Option ProcessStatus) → row_of k.processes p ≡ o → (rests_found k.processes p o).part.running ≡ None
       rested None there = absurd (missing there)
@@ -255,8 +269,8 @@ module _ (tick : ℕ) (t : Told) (k : Kernel) (h : KernelAgrees t k) where
       serves_works at (call.SetPartitionMode m) words = set_mode_works at p m
       serves_works at call.StopSelf words = ends_body_works p
       serves_works at (call.ReportApplicationMessage array size) words = of_works tick t k h _ (report_goes array size words)
-      serves_works at call.CreateErrorHandler words = let g = create_handler_goes in record { agrees = record { mode = g.mode ∙ h.mode; processes = g.agrees }; same = g.same }
-      serves_works at (call.GetErrorStatus array) words = let g = error_status_goes array in record { agrees = record { mode = g.mode ∙ h.mode; processes = g.agrees }; same = g.same }
+      serves_works at call.CreateErrorHandler words = let g = create_handler_goes in record { agrees = agrees_after t _ k _ h g.mode refl g.agrees; same = g.same }
+      serves_works at (call.GetErrorStatus array) words = let g = error_status_goes array in record { agrees = agrees_after t _ k _ h g.mode refl g.agrees; same = g.same }
       serves_works at (call.RaiseApplicationError e array size) words = then_acts_works tick t k h p error.ApplicationError _ (raise_reads tick t k h p e array size words)
       serves_works at (call.GetProcessId name) words = of_works tick t k h _ (get_process_id_goes tick t k.processes h.processes p name)
       serves_works at (call.GetProcessStatus id) words = of_works tick t k h _ (get_process_status_goes tick t k.processes h.processes p id)
@@ -275,8 +289,8 @@ module _ (tick : ℕ) (t : Told) (k : Kernel) (h : KernelAgrees t k) where
       serves_works at call.PeriodicWait words = of_works tick t k h _ (periodic_wait_goes tick t k.processes h.processes p)
       serves_works at call.GetTime words = record { agrees = h; same = refl }
       serves_works at (call.Replenish budget) words = of_works tick t k h _ (replenish_goes tick t k.processes h.processes p k.mode at budget)
-      serves_works at (call.Object c) words = let g = objects_go tick t (with_objects k) h.processes w p k.mode at c words in record { agrees = record { mode = g.mode ∙ h.mode; processes = g.agrees }; same = g.same }
-      serves_works at (call.Port c) words = let g = ports_go tick t (with_ports k) h.processes p k.mode at c words in record { agrees = record { mode = g.mode ∙ h.mode; processes = g.agrees }; same = g.same }
+      serves_works at (call.Object c) words = let g = objects_go tick t (with_objects k) h.processes w p k.mode at c words in record { agrees = agrees_after t _ k _ h g.mode refl g.agrees; same = g.same }
+      serves_works at (call.Port c) words = let g = ports_go tick t (with_ports k) h.processes p k.mode at c words in record { agrees = agrees_after t _ k _ h g.mode refl g.agrees; same = g.same }
 
       pub asked_works : (at : At) (a : Asks) (words : List ℤ) → Kept (treats_asked at k p a words)
       asked_works at Nothing words = stays tick t k h []

@@ -46,8 +46,8 @@ use Rattle.kernel_meaning.specs.Sharing.{Sharing}
 use Rattle.kernel_meaning.specs.Step.{Step, nothing, after}
 use Rattle.kernel_meaning.specs.Times.{mode_of_action}
 use Rattle.state_laws.specs.States.{runs_in}
-use Rattle.state_laws.specs.Told.{Told, is_it, has_worked, preempted, worker_or, moves_to, says, is_from_outside, is_ignored, responds, worker_by_lines, running_or, worked_in}
-use Rattle.state_laws.proofs.Agreement.{reads, AreDistinct, Agrees, KernelAgrees, has_worked_last, idles}
+use Rattle.state_laws.specs.Told.{Told, cleared, is_it, has_worked, preempted, worker_or, moves_to, says, is_from_outside, is_ignored, responds, worker_by_lines, running_or, worked_in}
+use Rattle.state_laws.proofs.Agreement.{agrees_after, reads, AreDistinct, Agrees, KernelAgrees, has_worked_last, idles}
 use Rattle.state_laws.proofs.Choice.{choice_goes}
 use Rattle.state_laws.proofs.Clears.{clears_go, cleared_worked}
 use Rattle.state_laws.proofs.Due.{ByClear, treats_due_goes}
@@ -97,7 +97,7 @@ module _ (tick n : ℕ) (lt : tick < n) where
   responds_before : (t : Told) (e : ErrorKind) (r : Response) → IsBefore n t.worked → IsBefore n (responds t e r).worked
   responds_before t e (level.Partition a) h = by_tests (is_from_outside e) (is_ignored a)
     where
-      by_tests : (b c : Bool) → IsBefore n (if b then (if c then t else preempted t) else t).worked
+      by_tests : (b c : Bool) → IsBefore n (if b then (if c then t else cleared t) else t).worked
       by_tests true true = h
       by_tests true false = h
       by_tests false c = h
@@ -139,7 +139,7 @@ module _ {C : Type 0} (e : Engine C) where
   acts_mode (a ∷ rest) w = acts_mode rest (act e a w) ∙ act_mode a w
 
 same_agrees : (t : Told) (k j : Kernel) → KernelAgrees t k → j.mode ≡ k.mode → j.processes ≡ k.processes → KernelAgrees t j
-same_agrees t k j h m p = record { mode = h.mode ∙ sym m; processes = subst (λ (s : Processes). Agrees t s) (sym p) h.processes }
+same_agrees t k j h m p = record { mode = h.mode ∙ sym m; orderly = h.orderly; processes = subst (λ (s : Processes). Agrees t s) (sym p) h.processes }
 
 -- ---- moves
 
@@ -178,9 +178,9 @@ module _ {C : Type 0} (e : Engine C) (at : At) where
       }
 
   -- a Clear while nobody is told to run
-  pub cleared_goes : (w : World C) (t : Told) (m : Mode) (c : StartCondition) → AreDistinct w.kernel.processes.rows → is_normal m ≡ false → t.running ≡ None → MovesTo has_worked_last now t (moved at e (clears w.kernel m c) w)
-  cleared_goes w t m c named other none =
-      let g = clears_go now t w.kernel m c named other in
+  pub cleared_goes : (w : World C) (t : Told) (m : Mode) (c : StartCondition) → AreDistinct w.kernel.processes.rows → is_normal m ≡ false → t.running ≡ None → t.orderly ≡ true → MovesTo has_worked_last now t (moved at e (clears w.kernel m c) w)
+  cleared_goes w t m c named other none order =
+      let g = clears_go now t w.kernel m c named other order in
       moved_goes has_worked_last (clears w.kernel m c) w t (record { agrees = g.agrees; same = cleared_worked now t (clears w.kernel m c) g none })
 
   -- ---- a tick
@@ -197,7 +197,8 @@ module _ {C : Type 0} (e : Engine C) (at : At) where
       let same : m.world.kernel.processes ≡ s.part = acts_same e s.actions (record w { kernel = record w.kernel { processes = s.part } }) in
       let named : AreDistinct m.world.kernel.processes.rows = subst (λ (p : Processes). AreDistinct p.rows) (sym same) g.named in
       let none : v.running ≡ None = ap (λ (u : Told). u.running) is ∙ g.none in
-      let k = cleared_goes m.world v mode condition.HmPartitionRestart named g.other none in
+      let order : v.orderly ≡ true = ap (λ (u : Told). u.orderly) is ∙ g.orderly ∙ h.orderly in
+      let k = cleared_goes m.world v mode condition.HmPartitionRestart named g.other none order in
       let both = all_both t m.lines (clearing_phase e at (Some mode) m.world).lines in
       record {
         agrees = subst (λ (u : Told). KernelAgrees u (clearing_phase e at (Some mode) m.world).world.kernel) (sym both) k.agrees;
@@ -205,12 +206,16 @@ module _ {C : Type 0} (e : Engine C) (at : At) where
         before = λ n lt b. subst (λ (u : Told). IsBefore n u.worked) (sym both) (k.before n lt (before_moved (of_processes w.kernel s) w t n lt b));
       }
 
-  prepares_goes : (w : World C) (t : Told) → KernelAgrees t w.kernel → RecordsAgree (due_phase e at w).world.kernel.processes → MovesTo has_worked_last now t (prepares e at w)
-  prepares_goes w t h agree =
+  not_in_it : (o : Option (ℕ × Subject)) → IsBefore now o → worked_in now o ≡ None
+  not_in_it None h = refl
+  not_in_it (Some w) h = ap (λ (b : Bool). if b then Some w.1 else None) (ne_eqb w.0 now (λ e. omega (arith, e, h)))
+
+  prepares_goes : (w : World C) (t : Told) → KernelAgrees t w.kernel → IsBefore now t.worked → RecordsAgree (due_phase e at w).world.kernel.processes → MovesTo has_worked_last now t (prepares e at w)
+  prepares_goes w t h b agree =
       let d = treats_due at w.kernel in
       let k = due_goes w t d.step d.clears h (treats_due_goes now at t w.kernel h.processes) in
       let m = due_phase e at w in
-      followed_goes has_worked_last t m (choice_phase e at) k (moved_goes has_worked_last (chooses_with_handler m.world.kernel) m.world (reads_all t m.lines) (choice_goes now (reads_all t m.lines) m.world.kernel k.agrees agree))
+      followed_goes has_worked_last t m (choice_phase e at) k (moved_goes has_worked_last (chooses_with_handler m.world.kernel) m.world (reads_all t m.lines) (choice_goes now (reads_all t m.lines) m.world.kernel k.agrees (ap (worked_in now) k.same ∙ not_in_it t.worked b) agree))
 
   spends_goes : (w : World C) (t : Told) (o : Option Runner) → w.kernel.processes.running ≡ o → KernelAgrees t w.kernel → AreWaiting w.kernel.processes.rows w.kernel.processes.queues → MovesTo (worker_by_lines now) now t (spends_chosen e at o w)
   spends_goes w t None is h waits = record { agrees = h; same = refl; before = λ n lt b. b }
@@ -224,11 +229,7 @@ module _ {C : Type 0} (e : Engine C) (at : At) where
   pub record TickTells (w : World C) (t : Told) : Type 0 where
     pub agrees : KernelAgrees (reads_all t (tick e at w).lines) (tick e at w).world.kernel
     pub before : (n : ℕ) → now < n → IsBefore n t.worked → IsBefore n (reads_all t (tick e at w).lines).worked
-    pub worker : IsBefore now t.worked → worker_by_lines now (reads_all t (tick e at w).lines) ≡ runs_in (prepares e at w).world.kernel
-
-  not_in_it : (o : Option (ℕ × Subject)) → IsBefore now o → worked_in now o ≡ None
-  not_in_it None h = refl
-  not_in_it (Some w) h = ap (λ (b : Bool). if b then Some w.1 else None) (ne_eqb w.0 now (λ e. omega (arith, e, h)))
+    pub worker : worker_by_lines now (reads_all t (tick e at w).lines) ≡ runs_in (prepares e at w).world.kernel
 
   alone : (o : Option Subject) → running_or o None ≡ o
   alone None = refl
@@ -256,20 +257,20 @@ module _ {C : Type 0} (e : Engine C) (at : At) where
       let k = m.world.kernel in
       moved_holds (chooses_with_handler k) m.world (chooses_holds k.mode (chosen_among k) (handler_agrees k.mode (with_errors k) agree) (handler_holds k.mode (with_errors k) (due_holds w h)))
 
-  pub tick_tells : (d : ListKey → Discipline) (names : List (List ℕ)) (n : Numbers) (w : World C) (t : Told) → IsOrdered d names n w.kernel → Hold ⊥ w.kernel.processes → KernelAgrees t w.kernel → TickTells w t
-  tick_tells d names n w t ordered h agrees =
+  pub tick_tells : (d : ListKey → Discipline) (names : List (List ℕ)) (n : Numbers) (w : World C) (t : Told) → IsOrdered d names n w.kernel → Hold ⊥ w.kernel.processes → KernelAgrees t w.kernel → IsBefore now t.worked → TickTells w t
+  tick_tells d names n w t ordered h agrees b =
       let ticked = tick_goes d names n e at w ordered in
       let g = ticked.1 in
       let m = prepares e at w in
-      let p = prepares_goes w t agrees g.due.ordered.records in
+      let p = prepares_goes w t agrees b g.due.ordered.records in
       let held = prepared_holds w h g.due.ordered.records in
       let u = reads_all t m.lines in
       let s = spends_goes m.world u m.world.kernel.processes.running refl p.agrees held.waiting in
       let is = all_both t m.lines (spending_phase e at m.world).lines in
       record {
         agrees = subst (λ (v : Told). KernelAgrees v (tick e at w).world.kernel) (sym is) s.agrees;
-        before = λ i lt b. subst (λ (v : Told). IsBefore i v.worked) (sym is) (s.before i lt (p.before i lt b));
-        worker = λ b.
+        before = λ i lt f. subst (λ (v : Told). IsBefore i v.worked) (sym is) (s.before i lt (p.before i lt f));
+        worker =
             ap (worker_by_lines now) is
             ∙ s.same
             ∙ ap (λ (o : Option (ℕ × Subject)). running_or u.running (worked_in now o)) p.same
@@ -283,10 +284,10 @@ module _ {C : Type 0} (e : Engine C) (at : At) where
   pub breaks_goes : (w : World C) (t : Told) → KernelAgrees t w.kernel → MovesTo has_worked_last now t (moved at e (breaks w.kernel) w)
   breaks_goes w t h = moved_goes has_worked_last (breaks w.kernel) w t (by_action (action_of w.kernel.fixed.health error.HardwareFault))
     where
-      clears_after : (m : Mode) → is_normal m ≡ false → KernelGoes has_worked_last now (preempted t) (clears w.kernel m condition.HmPartitionRestart)
+      clears_after : (m : Mode) → is_normal m ≡ false → KernelGoes has_worked_last now (cleared t) (clears w.kernel m condition.HmPartitionRestart)
       clears_after m other =
-          let g = clears_go now (preempted t) w.kernel m condition.HmPartitionRestart h.processes.named other in
-          record { agrees = g.agrees; same = cleared_worked now (preempted t) (clears w.kernel m condition.HmPartitionRestart) g refl }
+          let g = clears_go now (cleared t) w.kernel m condition.HmPartitionRestart h.processes.named other h.orderly in
+          record { agrees = g.agrees; same = cleared_worked now (cleared t) (clears w.kernel m condition.HmPartitionRestart) g refl }
 
       by_action : (a : PartitionAction) → KernelGoes has_worked_last now t (after (tells_error w.kernel error.HardwareFault None (level.Partition a)) (then_clears w.kernel (mode_of_action a)))
       by_action response.Ignore = record { agrees = h; same = refl }
@@ -296,7 +297,7 @@ module _ {C : Type 0} (e : Engine C) (at : At) where
 
   brought : (w : World C) (t : Told) (s : Step (Sharing Ports)) → KernelAgrees t w.kernel → Brings now t s → MovesTo has_worked_last now t (moved at e (of_ports w.kernel s) w)
   brought w t s h g = moved_goes has_worked_last (of_ports w.kernel s) w t (record {
-    agrees = record { mode = g.mode ∙ h.mode; processes = g.agrees };
+    agrees = agrees_after t _ w.kernel _ h g.mode refl g.agrees;
     same = ap (λ (x : Option Subject × Option (ℕ × Subject)). x.1) g.same;
   })
 
@@ -311,7 +312,7 @@ module _ {C : Type 0} (e : Engine C) (at : At) where
     where
       by_first : (x : Port) (ms : List (ArrayVec ℤ)) → MovesTo has_worked_last now t (moved at e (of_ports_alone w.kernel (ports.leaves_first w.kernel.ports place x ms)) w)
       by_first x [] = moved_goes has_worked_last (of_ports_alone w.kernel (ports.leaves_first w.kernel.ports place x [])) w t (record { agrees = h; same = refl })
-      by_first x (m ∷ rest) = moved_goes has_worked_last (of_ports_alone w.kernel (ports.leaves_first w.kernel.ports place x (m ∷ rest))) w t (record { agrees = record { mode = h.mode; processes = h.processes }; same = refl })
+      by_first x (m ∷ rest) = moved_goes has_worked_last (of_ports_alone w.kernel (ports.leaves_first w.kernel.ports place x (m ∷ rest))) w t (record { agrees = record { mode = h.mode; orderly = h.orderly; processes = h.processes }; same = refl })
 
       by_port : (o : Option Port) → MovesTo has_worked_last now t (moved at e (of_ports_alone w.kernel (ports.leaves_of w.kernel.ports place o)) w)
       by_port None = moved_goes has_worked_last (of_ports_alone w.kernel (ports.leaves_of w.kernel.ports place None)) w t (record { agrees = h; same = refl })

@@ -1,5 +1,5 @@
 -- In every run of a lawful image the lines tell of a partition what it is.
-use Rattle.std.proofs.Common.{◌≡◌, ℕ, zero, suc, List, [], ◌∷◌, ◌++◌, map, Some, refl, sym, ◌∙◌, subst}
+use Rattle.std.proofs.Common.{◌≡◌, ◌≢◌, ℕ, zero, suc, true, List, [], ◌∷◌, ◌++◌, map, Some, None, refl, sym, ◌∙◌, subst}
 use Rattle.std.specs.Prelude.{◌+◌, slice_get}
 use Rattle.std.proofs.lemmas.Option.{none-some, same_Some}
 use Rattle.apex_types.specs.Versions.{costs_of}
@@ -21,11 +21,11 @@ use Rattle.machine_meaning.specs.MachineMeaning.{machine_members, machine_module
 use Rattle.module_meaning.specs.Table.{at_number}
 use Rattle.state_laws.specs.Spending.{owner_in, worker}
 use Rattle.state_laws.specs.States.{TellsState}
-use Rattle.state_laws.specs.Told.{first_told, told, worker_by_lines}
+use Rattle.state_laws.specs.Told.{first_told, told, worked_in, worker_by_lines}
 use Rattle.state_laws.proofs.Agreement.{KernelAgrees}
 use Rattle.state_laws.proofs.First.{first_agrees, are_processes, tells}
 use Rattle.state_laws.proofs.Members.{Stands}
-use Rattle.state_laws.proofs.Run.{run_stands, run_worker}
+use Rattle.state_laws.proofs.Run.{run_idle, run_orderly, run_stands, run_worker}
 
 -- ---- rows beside those before them
 
@@ -86,3 +86,18 @@ image_worker image devices n (suc place) item lawful e g =
     let members = machine_members (costs_of image.version) image.schedule 1 image.items in
     run_worker (disciplines_of members (suc place)) (names_of members (suc place)) (name_in item) place (map name_in image.items) (image_apart image lawful place item e) (machine_module image) devices n
     (image_stands image lawful place item e) g
+
+module _ (image : Image) (devices : List DeviceLine) (n : ℕ) (lawful : IsLawful image) where
+  pub image_orderly : (p : ℕ) (item : Item) → at_number image.items p ≡ Some item → (told item.partition.name (machine_trace image devices n)).orderly ≡ true
+  image_orderly zero item e = absurd (none-some item e)
+  image_orderly (suc place) item e =
+      let members = machine_members (costs_of image.version) image.schedule 1 image.items in
+      run_orderly (disciplines_of members (suc place)) (names_of members (suc place)) (name_in item) place (map name_in image.items) (image_apart image lawful place item e) (machine_module image) devices n
+      (image_stands image lawful place item e)
+
+  pub image_idle : (p : ℕ) (item : Item) → at_number image.items p ≡ Some item → owner_in (machine_module image) devices n ≢ Some p → worked_in n (told item.partition.name (machine_trace image devices (suc n))).worked ≡ None
+  image_idle zero item e g = absurd (none-some item e)
+  image_idle (suc place) item e g =
+      let members = machine_members (costs_of image.version) image.schedule 1 image.items in
+      run_idle (disciplines_of members (suc place)) (names_of members (suc place)) (name_in item) place (map name_in image.items) (image_apart image lawful place item e) (machine_module image) devices n
+      (image_stands image lawful place item e) g

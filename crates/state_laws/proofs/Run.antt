@@ -1,6 +1,7 @@
 -- In every run what the lines tell of a partition agrees with it, and who spends its ticks by the lines is the chosen runner.
-use Rattle.std.proofs.Common.{◌≡◌, ◌≢◌, ◌⊎◌, inl, inr, ℕ, zero, suc, false, List, [], ◌∷◌, ◌++◌, length, map, Option, Some, None, refl, sym, ap, ◌∙◌, subst, arith, ◌<◌}
-use Rattle.std.specs.Prelude.{◌+◌, option_map, slice_get}
+use Rattle.std.proofs.Common.{◌≡◌, ◌≢◌, ◌⊎◌, inl, inr, ℕ, zero, suc, Bool, true, false, List, [], ◌∷◌, ◌++◌, length, map, Option, Some, None, refl, sym, ap, ◌∙◌, subst, arith, ◌<◌, ◌≤◌}
+use Rattle.std.specs.Prelude.{◌+◌, if◌then◌else◌, option_map, slice_get}
+use Rattle.std.proofs.lemmas.Bool.{ne_eqb}
 use Rattle.std.specs.List.{flat_map}
 use Rattle.std.proofs.lemmas.Option.{none-some, same_Some}
 use Rattle.arrayvec.specs.ArrayVec.{ArrayVec}
@@ -32,7 +33,7 @@ use Rattle.module_meaning.specs.Module.{Course, Module, Plan, as_origin, breaks_
 use Rattle.module_meaning.specs.Standing.{IsNow}
 use Rattle.module_meaning.specs.Table.{Channel, at_number}
 use Rattle.state_laws.specs.Spending.{before_owner, before_owner_from, chosen_by, owner_in, owner_of, worker, worker_at, worker_of}
-use Rattle.state_laws.specs.Told.{Told, first_told, preempted, told, told_from, worker_by_lines}
+use Rattle.state_laws.specs.Told.{Told, cleared, first_told, told, told_from, worked_in, worker_by_lines}
 use Rattle.state_laws.proofs.Agreement.{KernelAgrees, has_worked_last}
 use Rattle.state_laws.proofs.Members.{IsWell, Stands, IsOwn, steps_to, well_after, told_both, told_own, told_other, AllOf, all_own}
 use Rattle.state_laws.proofs.Moves.{IsBefore, MovesTo, reads_all, tick_tells, cleared_goes, breaks_goes, arrives_tells, admits_tells, leaves_tells}
@@ -40,6 +41,10 @@ use Rattle.state_laws.proofs.Moves.{IsBefore, MovesTo, reads_all, tick_tells, cl
 later : (n : ℕ) (o : Option (ℕ × Subject)) → IsBefore n o → IsBefore (suc n) o
 later n None h = h
 later n (Some w) h = omega (arith, h)
+
+none_in : (n : ℕ) (o : Option (ℕ × Subject)) → IsBefore n o → worked_in n o ≡ None
+none_in n None h = refl
+none_in n (Some w) h = ap (λ (b : Bool). if b then Some w.1 else None) (ne_eqb w.0 n (λ e. omega (arith, e, h)))
 
 next : (n : ℕ) → n < suc n
 next n = omega arith
@@ -188,13 +193,13 @@ module _ {C : Type 0} (d : ListKey → Discipline) (called : List (List ℕ)) (n
         ap (λ (n : List ℕ). n ∷ map name_of (map (started_member at c) ys)) (ap (λ (f : Fixed). f.name) k.fixed) ∙ ap (λ (ns : List (List ℕ)). name_of y ∷ ns) (start_names ys)
 
     -- while nobody is told to run
-    starts_to : (t u : Told) (ms : List (Member C)) → Stay t ms → u.running ≡ None → QuietTo u (starts_all at c ms)
-    starts_to t u ms h none =
+    starts_to : (t u : Told) (ms : List (Member C)) → Stay t ms → u.running ≡ None → u.orderly ≡ t.orderly → QuietTo u (starts_all at c ms)
+    starts_to t u ms h none order =
         let own = mine ms h.named in
         let x = own.0 in
         let here = own.1 in
         let well = h.own x here.0 in
-        let m = cleared_goes x.engine at x.world u mode.ColdStart c well.agrees.processes.named refl none in
+        let m = cleared_goes x.engine at x.world u mode.ColdStart c well.agrees.processes.named refl none (order ∙ well.agrees.orderly) in
         let others : (q : ℕ) (y : Member C) → q ≢ place → slice_get ms q ≡ Some y → same name (name_of y) ≡ false =
         λ q y n e. apart.others q (name_of y) n (subst (λ (ns : List (List ℕ)). slice_get ns q ≡ Some (name_of y)) h.named (slice_get-map name_of ms q ∙ ap (option_map name_of) e)) in
         let read = own_start ms place x here.0 here.1 others u in
@@ -214,7 +219,7 @@ module _ {C : Type 0} (d : ListKey → Discipline) (called : List (List ℕ)) (n
   faults_to : (at : At) (a : ModuleAction) (t : Told) (ms : List (Member C)) → Stay t ms → QuietTo t (advanced (breaks_module at a ms))
   faults_to at reaction.Ignore t ms h = record { stands = h; same = refl }
   faults_to at reaction.Shutdown t ms h = record { stands = h; same = refl }
-  faults_to at reaction.Reset t ms h = let k = starts_to (as_origin at) condition.HmModuleRestart t (preempted t) ms h refl in record { stands = k.stands; same = k.same }
+  faults_to at reaction.Reset t ms h = let k = starts_to (as_origin at) condition.HmModuleRestart t (cleared t) ms h refl refl in record { stands = k.stands; same = k.same }
 
   input_to : (plan : Plan) (at : At) (i : DeviceInput) (t : Told) (ms : List (Member C)) → Stay t ms → QuietTo t (advanced (inputs plan at i ms))
   input_to plan at (device.Message channel m) t ms h = goes_by_to at m (slice_get plan.channels channel.0) t ms h
@@ -265,7 +270,7 @@ module _ {C : Type 0} (d : ListKey → Discipline) (called : List (List ℕ)) (n
   owner_to at None t ms h b = record { stands = h; before = later at.now.0 t.worked b }
   owner_to at (Some zero) t ms h b = record { stands = h; before = later at.now.0 t.worked b }
   owner_to at (Some (suc q)) t ms h b =
-      let s = steps_to d called name place names apart t (Advances at) ms q (slice_get ms q) refl h (λ x is here well. let k = tick_tells x.engine at d called well.numbers x.world t well.ordered well.holds well.agrees in k.agrees) in
+      let s = steps_to d called name place names apart t (Advances at) ms q (slice_get ms q) refl h (λ x is here well. let k = tick_tells x.engine at d called well.numbers x.world t well.ordered well.holds well.agrees b in k.agrees) in
       record { stands = s.stands; before = by_lines s.lines }
     where
       u : Told
@@ -277,7 +282,7 @@ module _ {C : Type 0} (d : ListKey → Discipline) (called : List (List ℕ)) (n
           let x = own.1.0 in
           let f = own.1.1 in
           let well = h.own x f.0 in
-          let k = tick_tells x.engine at d called well.numbers x.world t well.ordered well.holds well.agrees in
+          let k = tick_tells x.engine at d called well.numbers x.world t well.ordered well.holds well.agrees b in
           subst (λ (v : Told). IsBefore (suc at.now.0) v.worked) (sym f.1) (k.before (suc at.now.0) (next at.now.0) (later at.now.0 t.worked b))
 
   -- the owner's runner spends it
@@ -286,10 +291,10 @@ module _ {C : Type 0} (d : ListKey → Discipline) (called : List (List ℕ)) (n
       let own = mine ms h.named in
       let x = own.0 in
       let here = own.1 in
-      let s = steps_to d called name place names apart t (Advances at) ms place (slice_get ms place) refl h (λ y is there well. let k = tick_tells y.engine at d called well.numbers y.world t well.ordered well.holds well.agrees in k.agrees) in
+      let s = steps_to d called name place names apart t (Advances at) ms place (slice_get ms place) refl h (λ y is there well. let k = tick_tells y.engine at d called well.numbers y.world t well.ordered well.holds well.agrees b in k.agrees) in
       let well = h.own x here.0 in
-      let k = tick_tells x.engine at d called well.numbers x.world t well.ordered well.holds well.agrees in
-      ap (worker_by_lines at.now.0) (s.read x refl here.0) ∙ k.worker b ∙ sym (ap (chosen_by at) here.0)
+      let k = tick_tells x.engine at d called well.numbers x.world t well.ordered well.holds well.agrees b in
+      ap (worker_by_lines at.now.0) (s.read x refl here.0) ∙ k.worker ∙ sym (ap (chosen_by at) here.0)
 
   moves_and_ticks_to : (plan : Plan) (at : At) (t : Told) (ms : List (Member C)) → Stay t ms → IsBefore at.now.0 t.worked → TicksTo at.now.0 t (advanced (moves_and_ticks plan at ms))
   moves_and_ticks_to plan at t ms h b =
@@ -373,7 +378,7 @@ module _ {C : Type 0} (d : ListKey → Discipline) (called : List (List ℕ)) (n
   run_stands m devices zero h = h
   run_stands m devices (suc n) h =
       let s = starts_all first_tick condition.NormalStart m.members in
-      let k = starts_to first_tick condition.NormalStart first_told first_told m.members h refl in
+      let k = starts_to first_tick condition.NormalStart first_told first_told m.members h refl refl in
       let u = told_from name first_told s.lines in
       let rest = run_to m.plan devices (suc n) 0 (Some first_tick) refl u s.state k.stands (subst (IsBefore 0) (sym k.same) tt) in
       subst (λ (v : Told). Stay v (members_from m.plan devices (suc n) (Some first_tick) s.state)) (sym (told_both name first_told s.lines (trace_from m.plan devices (suc n) (Some first_tick) s.state))) rest
@@ -404,10 +409,89 @@ module _ {C : Type 0} (d : ListKey → Discipline) (called : List (List ℕ)) (n
   pub run_worker : (m : Module C) (devices : List DeviceLine) (n : ℕ) → Stay first_told m.members → owner_in m devices n ≡ Some (suc place) → worker_by_lines n (told name (trace m devices (suc n))) ≡ worker m devices n
   run_worker m devices n h owns =
       let s = starts_all first_tick condition.NormalStart m.members in
-      let k = starts_to first_tick condition.NormalStart first_told first_told m.members h refl in
+      let k = starts_to first_tick condition.NormalStart first_told first_told m.members h refl refl in
       let u = told_from name first_told s.lines in
       let later = trace_from m.plan devices (suc n) (Some first_tick) s.state in
       let is : n ≡ 0 + n = omega arith in
       ap (λ (i : ℕ). worker_by_lines i (told_from name first_told (s.lines ++ later))) is
       ∙ ap (worker_by_lines (0 + n)) (told_both name first_told s.lines later)
       ∙ worker_from m.plan devices n 0 (Some first_tick) refl u s.state k.stands (subst (IsBefore 0) (sym k.same) tt) owns
+
+  -- each runner becomes RUNNING in its turn
+  pub run_orderly : (m : Module C) (devices : List DeviceLine) (n : ℕ) → Stay first_told m.members → (told name (trace m devices n)).orderly ≡ true
+  run_orderly m devices n h =
+      let s = run_stands m devices n h in
+      let own = mine (members_after m devices n) s.named in
+      let here = own.1 in
+      let well = s.own own.0 here.0 in
+      well.agrees.orderly
+
+  -- ---- a tick of another owner
+
+  -- nobody of the partition has worked in it
+  owner_idle : (at : At) (o : Option ℕ) (t : Told) (ms : List (Member C)) → Stay t ms → IsBefore at.now.0 t.worked → o ≢ Some (suc place) → IsBefore at.now.0 (told_from name t (ticks_owner at ms o).lines).worked
+  owner_idle at None t ms h b n = b
+  owner_idle at (Some zero) t ms h b n = b
+  owner_idle at (Some (suc q)) t ms h b n =
+      let s = steps_to d called name place names apart t (Advances at) ms q (slice_get ms q) refl h (λ x is here well. let k = tick_tells x.engine at d called well.numbers x.world t well.ordered well.holds well.agrees b in k.agrees) in
+      by_lines s.lines
+    where
+      u : Told
+      u = told_from name t (steps_member (makes (Advances at)) ms q (slice_get ms q)).lines
+
+      by_lines : (u ≡ t) ⊎ IsOwn d called name place names apart t (Advances at) ms q u → IsBefore at.now.0 u.worked
+      by_lines (inl e) = subst (λ (v : Told). IsBefore at.now.0 v.worked) (sym e) b
+      by_lines (inr own) = absurd (n (ap (λ (i : ℕ). Some (suc i)) own.0))
+
+  module _ (plan : Plan) (devices : List DeviceLine) (at : At) (t : Told) (ms : List (Member C)) (h : Stay t ms) (b : IsBefore at.now.0 t.worked) where
+    idle_after : (o : Option At) → (brought plan devices at t ms h b).at ≡ o → IsNow at.now.0 o
+        → owner_of plan (unless_down (brought plan devices at t ms h b) (λ a ns. goes_on a (moves_ended plan.channels a ns (ended plan.schedule a))) o).at ≢ Some (suc place)
+        → IsBefore at.now.0 (told_from name t (unless_down (brought plan devices at t ms h b) (moves_and_ticks plan) o).lines).worked
+    idle_after None is e owns = still_before plan devices at t ms h b
+    idle_after (Some a) is e owns =
+        let c = brought plan devices at t ms h b in
+        let k0 = brought_to plan devices at t ms h b in
+        let u = told_from name t c.lines in
+        let m = moves_ended plan.channels a c.state (ended plan.schedule a) in
+        let k = ended_to plan.channels a (ended plan.schedule a) u c.state k0.stands in
+        let v = told_from name u m.lines in
+        let early : IsBefore a.now.0 v.worked = subst (IsBefore a.now.0) (sym k.same) (subst (λ (n : ℕ). IsBefore n u.worked) (sym e) (still_before plan devices at t ms h b)) in
+        let last = (ticks_owner a m.state (owner plan.schedule a)).lines in
+        let w = owner_idle a (owner plan.schedule a) v m.state k.stands early owns in
+        subst (λ (x : Told). IsBefore at.now.0 x.worked) (sym (told_both name t c.lines (m.lines ++ last) ∙ told_both name u m.lines last))
+        (subst (λ (n : ℕ). IsBefore n (told_from name v last).worked) e w)
+
+    tick_idle : owner_of plan (before_owner plan at devices ms).at ≢ Some (suc place) → IsBefore at.now.0 (told_from name t (module_tick plan at devices ms).lines).worked
+    tick_idle owns = idle_after (brought plan devices at t ms h b).at refl (inputs_now at.now.0 plan (of_tick at.now.0 devices) at ms refl) owns
+
+  idle_from : (plan : Plan) (devices : List DeviceLine) (n now : ℕ) (o : Option At) → IsNow now o → (t : Told) (ms : List (Member C)) → Stay t ms → IsBefore now t.worked
+      → owner_of plan (before_owner_from plan devices n o ms).at ≢ Some (suc place) → IsBefore (now + n) (told_from name t (trace_from plan devices (suc n) o ms)).worked
+  idle_from plan devices zero now None e t ms h b owns = let is : now ≡ now + 0 = omega arith in subst (λ (i : ℕ). IsBefore i t.worked) is b
+  idle_from plan devices zero now (Some at) e t ms h b owns =
+      let c = subst (λ (i : ℕ). IsBefore i t.worked) (sym e) b in
+      let r = module_tick plan at devices ms in
+      let is : at.now.0 ≡ now + 0 = omega (arith, e) in
+      subst (λ (v : Told). IsBefore (now + 0) v.worked) (sym (told_both name t r.lines [])) (subst (λ (i : ℕ). IsBefore i (told_from name t r.lines).worked) is (tick_idle plan devices at t ms h c owns))
+  idle_from plan devices (suc n) now None e t ms h b owns = no_later now (now + suc n) t.worked (omega arith) b
+    where
+      no_later : (a c : ℕ) (w : Option (ℕ × Subject)) → a ≤ c → IsBefore a w → IsBefore c w
+      no_later a c None l f = tt
+      no_later a c (Some w) l f = omega (arith, l, f)
+  idle_from plan devices (suc n) now (Some at) e t ms h b owns =
+      let c = subst (λ (i : ℕ). IsBefore i t.worked) (sym e) b in
+      let r = module_tick plan at devices ms in
+      let k = tick_to plan devices at t ms h c in
+      let later = trace_from plan devices (suc n) (option_map next_tick r.at) r.state in
+      let is : suc at.now.0 + n ≡ now + suc n = omega (arith, e) in
+      let rest = idle_from plan devices n (suc at.now.0) (option_map next_tick r.at) (next_now at.now.0 r.at (tick_now plan devices at t ms h c)) (told_from name t r.lines) r.state k.stands k.before owns in
+      subst (λ (v : Told). IsBefore (now + suc n) v.worked) (sym (told_both name t r.lines later)) (subst (λ (i : ℕ). IsBefore i (told_from name (told_from name t r.lines) later).worked) is rest)
+
+  pub run_idle : (m : Module C) (devices : List DeviceLine) (n : ℕ) → Stay first_told m.members → owner_in m devices n ≢ Some (suc place) → worked_in n (told name (trace m devices (suc n))).worked ≡ None
+  run_idle m devices n h owns =
+      let s = starts_all first_tick condition.NormalStart m.members in
+      let k = starts_to first_tick condition.NormalStart first_told first_told m.members h refl refl in
+      let u = told_from name first_told s.lines in
+      let later = trace_from m.plan devices (suc n) (Some first_tick) s.state in
+      let is : 0 + n ≡ n = omega arith in
+      let rest = idle_from m.plan devices n 0 (Some first_tick) refl u s.state k.stands (subst (IsBefore 0) (sym k.same) tt) owns in
+      none_in n (told name (trace m devices (suc n))).worked (subst (λ (v : Told). IsBefore n v.worked) (sym (told_both name first_told s.lines later)) (subst (λ (i : ℕ). IsBefore i (told_from name u later).worked) is rest))

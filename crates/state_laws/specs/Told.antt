@@ -1,5 +1,5 @@
 -- What the lines of a trace say of the states of one partition, read in their order.
-use Rattle.std.specs.Prelude.{ℕ, ◌==◌, Bool, true, false, List, [], ◌∷◌, Option, Some, None, if◌then◌else◌}
+use Rattle.std.specs.Prelude.{ℕ, ◌==◌, ◌&&◌, Bool, true, false, not, is_some, List, [], ◌∷◌, Option, Some, None, if◌then◌else◌}
 use Rattle.apex_types.specs.declared.codes.ErrorKind.{ErrorKind}
 use Rattle.apex_types.specs.declared.codes.ErrorKind.TheVariants as error
 use Rattle.apex_types.specs.declared.codes.Mode.{Mode}
@@ -26,10 +26,12 @@ pub record Told : Type 0 where
   pub running : Option Subject
   -- the runner that was the last to leave RUNNING by its own work, and the tick in which it did
   pub worked : Option (ℕ × Subject)
+  -- each runner so far became RUNNING in a tick that nobody had spent yet
+  pub orderly : Bool
 
 -- before the first line
 abbrev pub first_told : Told
-first_told = record { mode = mode.Idle; state = λ who. Dormant; running = None; worked = None }
+first_told = record { mode = mode.Idle; state = λ who. Dormant; running = None; worked = None; orderly = true }
 
 abbrev pub is_same : Subject → Subject → Bool
 is_same Init Init = true
@@ -46,6 +48,10 @@ is_it who (Some x) = is_same who x
 abbrev pub preempted : Told → Told
 preempted t = record t { running = None }
 
+-- all are gone before any of them works in this tick
+abbrev pub cleared : Told → Told
+cleared t = record t { state = λ x. Dormant; running = None }
+
 abbrev pub worker_or : ℕ → Option (ℕ × Subject) → Option Subject → Option (ℕ × Subject)
 worker_or tick worked None = worked
 worker_or tick worked (Some who) = Some (tick, who)
@@ -54,10 +60,29 @@ worker_or tick worked (Some who) = Some (tick, who)
 abbrev pub has_worked : ℕ → Told → Told
 has_worked tick t = record t { running = None; worked = worker_or tick t.worked t.running }
 
+-- ---- who spends a tick
+
+abbrev pub worked_in : ℕ → Option (ℕ × Subject) → Option Subject
+worked_in tick None = None
+worked_in tick (Some w) = if w.0 == tick then Some w.1 else None
+
+abbrev pub running_or : Option Subject → Option Subject → Option Subject
+running_or None worked = worked
+running_or (Some who) worked = Some who
+
+-- who spends a tick of the partition, after the lines up to that tick: the runner that is RUNNING, or
+-- the one that left RUNNING by its work in this tick; or nobody
+abbrev pub worker_by_lines : ℕ → Told → Option Subject
+worker_by_lines tick t = running_or t.running (worked_in tick t.worked)
+
+-- nobody has spent the tick yet
+abbrev pub is_unspent : ℕ → Told → Bool
+is_unspent tick t = not (is_some (worker_by_lines tick t))
+
 -- ---- a state
 
 abbrev pub moves_to : ℕ → Told → Subject → ProcessState → Told
-moves_to tick t who Running = record t { running = Some who }
+moves_to tick t who Running = record t { running = Some who; orderly = t.orderly && is_unspent tick t }
 moves_to tick t who Ready = if is_it who t.running then preempted t else t
 moves_to tick t who Waiting = if is_it who t.running then has_worked tick t else t
 moves_to tick t who Dormant = if is_it who t.running then has_worked tick t else t
@@ -70,7 +95,7 @@ with_state who state t = record t { state = λ x. if is_same x who then state el
 -- at any mode but NORMAL all states are forgotten
 abbrev pub enters : ℕ → Told → Mode → Told
 enters tick t mode.Normal = record t { mode = mode.Normal }
-enters tick t m = record { mode = m; state = λ x. Dormant; running = None; worked = worker_or tick t.worked t.running }
+enters tick t m = record { mode = m; state = λ x. Dormant; running = None; worked = worker_or tick t.worked t.running; orderly = t.orderly }
 
 -- ---- an error
 
@@ -86,7 +111,7 @@ is_ignored _ = false
 
 -- the partition is cleared before the runner works
 abbrev pub responds : Told → ErrorKind → Response → Told
-responds t e (response.Partition a) = if is_from_outside e then (if is_ignored a then t else preempted t) else t
+responds t e (response.Partition a) = if is_from_outside e then (if is_ignored a then t else cleared t) else t
 responds t e _ = t
 
 -- ---- a line
@@ -99,7 +124,7 @@ says tick t (event.Error e who r) = responds t e r
 says tick t _ = t
 
 abbrev pub resets : Told → Response → Told
-resets t (response.Module reaction.Reset) = preempted t
+resets t (response.Module reaction.Reset) = cleared t
 resets t _ = t
 
 -- a line of the module: a reset clears all partitions before the runner works
@@ -121,18 +146,3 @@ told_from name t (l ∷ ls) = told_from name (with_line name t l) ls
 
 abbrev pub told : List ℕ → List Event → Told
 told name lines = told_from name first_told lines
-
--- ---- who spends a tick
-
-abbrev pub worked_in : ℕ → Option (ℕ × Subject) → Option Subject
-worked_in tick None = None
-worked_in tick (Some w) = if w.0 == tick then Some w.1 else None
-
-abbrev pub running_or : Option Subject → Option Subject → Option Subject
-running_or None worked = worked
-running_or (Some who) worked = Some who
-
--- who spends a tick of the partition, after the lines up to that tick: the runner that is RUNNING, or
--- the one that left RUNNING by its work in this tick; or nobody
-abbrev pub worker_by_lines : ℕ → Told → Option Subject
-worker_by_lines tick t = running_or t.running (worked_in tick t.worked)

@@ -1,6 +1,6 @@
 //! What the lines of every run say of the states of a partition, and of who spends its ticks.
 
-ghost use Rattle.std.specs.Prelude.{◌≡◌, ℕ, suc, List, Some};
+ghost use Rattle.std.specs.Prelude.{◌≡◌, ◌≢◌, ℕ, suc, true, List, None, Some};
 ghost use Rattle.apex_types.specs.declared.device.DeviceLine.{DeviceLine};
 ghost use Rattle.kernel_laws.specs.History.{members_after};
 ghost use Rattle.kernel_laws.specs.Names.{HasOwnNames};
@@ -16,7 +16,7 @@ ghost use Rattle.pal_meaning.specs.Program.{Program};
 ghost use Rattle.pal_meaning.specs.SourceControl.{SourceControl};
 ghost use Rattle.state_laws.specs.Spending.{owner_in, worker};
 ghost use Rattle.state_laws.specs.States.{TellsState};
-ghost use Rattle.state_laws.specs.Told.{told, worker_by_lines};
+ghost use Rattle.state_laws.specs.Told.{told, worked_in, worker_by_lines};
 
 /// After any number of ticks of any run of a lawful image, what the lines say of a partition is its
 /// state: its mode, the state of INIT, of the error handler and of each process, and who is RUNNING.
@@ -71,4 +71,41 @@ pub fn lines_tell_who_works()
         → owner_in (source_module t programs) devices n ≡ Some p
         → worker_by_lines n (told row.name (source_trace t programs devices (suc n)))
         ≡ worker (source_module t programs) devices n }
+{}
+
+/// In any such run each runner becomes RUNNING in a tick that nobody of its partition has spent yet, by
+/// the lines before it. So at most one is RUNNING, and at most one works in a tick.
+pub fn runners_run_in_turn()
+    ensures machine { (image : Image) (devices : List DeviceLine) (n p : ℕ) (item : Item)
+        → IsLawful image
+        → at_number image.items p ≡ Some item
+        → (told item.partition.name (machine_trace image devices n)).orderly ≡ true }
+    ensures source { (t : Table) (programs : List Program) (devices : List DeviceLine) (n p : ℕ)
+        (row : Partition) (program : Program)
+        → IsJudged t
+        → at_number t.partitions p ≡ Some row
+        → at_number programs p ≡ Some program
+        → HasOwnNames program
+        → (told row.name (source_trace t programs devices n)).orderly ≡ true }
+    ensures accepted { (table : List ℕ) (sources : List (List ℕ)) (t : Table)
+        (programs : List Program) (devices : List DeviceLine) (n p : ℕ) (row : Partition)
+        → IsModule table sources t programs
+        → at_number t.partitions p ≡ Some row
+        → (told row.name (source_trace t programs devices n)).orderly ≡ true }
+{}
+
+/// In a tick that another partition owns, or none, nobody of a partition works by the lines.
+pub fn only_the_owner_works()
+    ensures machine { (image : Image) (devices : List DeviceLine) (n p : ℕ) (item : Item)
+        → IsLawful image
+        → at_number image.items p ≡ Some item
+        → owner_in (machine_module image) devices n ≢ Some p
+        → worked_in n (told item.partition.name (machine_trace image devices (suc n))).worked
+        ≡ None }
+    ensures accepted { (table : List ℕ) (sources : List (List ℕ)) (t : Table)
+        (programs : List Program) (devices : List DeviceLine) (n p : ℕ) (row : Partition)
+        → IsModule table sources t programs
+        → at_number t.partitions p ≡ Some row
+        → owner_in (source_module t programs) devices n ≢ Some p
+        → worked_in n (told row.name (source_trace t programs devices (suc n))).worked ≡ None }
 {}

@@ -1,6 +1,5 @@
 -- What a module does after the lines of its trace.
 use Rattle.std.specs.Prelude.{ℕ, ◌+◌, Bool, true, false, if◌then◌else◌, nat_lt, min, List, [], ◌∷◌, ◌++◌, map, Option, Some, None, slice_get, slice_set}
-use Rattle.apex_types.specs.Line.{subject_text}
 use Rattle.apex_types.specs.declared.codes.Mode.{Mode}
 use Rattle.apex_types.specs.declared.codes.Mode.TheVariants as mode
 use Rattle.apex_types.specs.declared.codes.ModuleAction.TheVariants as action
@@ -12,6 +11,7 @@ use Rattle.apex_types.specs.declared.event.Event.{Event}
 use Rattle.apex_types.specs.declared.event.EventKind.{EventKind}
 use Rattle.apex_types.specs.declared.event.EventKind.TheVariants as event
 use Rattle.apex_types.specs.declared.event.Subject.{Subject}
+use Rattle.apex_types.specs.declared.event.Subject.TheVariants as subject
 use Rattle.apex_types.specs.Limits.{MOST_TICKS}
 use Rattle.engine_meaning.specs.Digits.{same}
 use Rattle.trace_stays.specs.Clearing.{clears}
@@ -53,9 +53,16 @@ running_in (Some o) = o.running
 abbrev pub running_at : ℕ → List Owner → Option Subject
 running_at place owners = running_in (slice_get owners place)
 
+-- both are INIT, both are the error handler, or both are the process with a name
+abbrev pub is_same_runner : Subject → Subject → Bool
+is_same_runner subject.Init subject.Init = true
+is_same_runner subject.Handler subject.Handler = true
+is_same_runner (subject.Process name) (subject.Process other) = same name other
+is_same_runner _ _ = false
+
 abbrev pub is_running : Subject → Option Subject → Bool
 is_running who None = false
-is_running who (Some running) = same (subject_text running) (subject_text who)
+is_running who (Some running) = is_same_runner who running
 
 -- now this process is RUNNING in the partition, or none is
 abbrev pub with_running : ℕ → Option Subject → List Owner → List Owner

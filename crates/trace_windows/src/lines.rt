@@ -3,7 +3,7 @@
 ghost use Rattle.std.specs.Prelude.{◌≡◌, ◌-◌, [], map, OnOk, IfOk};
 ghost use Rattle.trace_windows.specs.Counts.{HasTotal};
 ghost use Rattle.trace_windows.specs.Runs.{HasPassed, first};
-ghost use Rattle.trace_windows.specs.Standings.{at_first, cleared_if, entered, halted, in_run, is_running, left, place_in, running_at, standing_of, stopped, turned, with_line, with_module, with_own, with_running, without_process};
+ghost use Rattle.trace_windows.specs.Standings.{at_first, cleared_if, entered, halted, in_run, is_running, is_same_runner, left, place_in, running_at, standing_of, stopped, turned, with_line, with_module, with_own, with_running, without_process};
 ghost use Rattle.window_table.specs.Schedules.{schedule_of};
 
 use crate::counted::Counted;
@@ -14,7 +14,7 @@ use apex_types::{
     Event, EventKind, Mode, ModuleAction, Name, ProcessState, Response, Subject, Ticks,
 };
 use std::alloc::Global;
-use trace_stays::{clears, is_same_subject};
+use trace_stays::clears;
 use window_table::Schedule;
 
 impl Shares {
@@ -257,7 +257,19 @@ fn is_running(who: &Subject, running: &Option<Subject>) -> bool
     ensures { result ≡ is_running who.now running.now }
 {
     match running {
-        Some(running) => is_same_subject(running, who),
+        Some(running) => is_same_runner(who, running),
         None => false,
+    }
+}
+
+/// Returns true if both are INIT, the error handler, or the process with one name.
+fn is_same_runner(one: &Subject, other: &Subject) -> bool
+    ensures { result ≡ is_same_runner one.now other.now }
+{
+    match (one, other) {
+        (Subject::Init, Subject::Init) => true,
+        (Subject::Handler, Subject::Handler) => true,
+        (Subject::Process(one), Subject::Process(other)) => one.as_bytes() == other.as_bytes(),
+        _ => false,
     }
 }

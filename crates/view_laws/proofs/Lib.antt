@@ -1,0 +1,8 @@
+pub mod Owners
+pub mod Told
+pub mod Lines
+pub mod Run
+pub mod Shown
+pub mod Stays
+pub mod Running
+pub mod OfRuns

@@ -1,0 +1,4 @@
+pub mod Reading
+pub mod Spent
+pub mod Shown
+pub mod Ticks

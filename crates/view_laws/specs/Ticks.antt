@@ -1,0 +1,51 @@
+-- In which ticks a view shows that a runner is RUNNING, in which the lines tell it, and in which it is so.
+use Rattle.std.specs.Prelude.{◌+◌, ◌==◌, ℕ, Bool, true, false, ◌&&◌, ◌||◌, nat_le, nat_lt, List, [], ◌∷◌, Option, Some, None}
+use Rattle.apex_types.specs.declared.codes.ProcessState.{ProcessState}
+use Rattle.apex_types.specs.declared.codes.ProcessState.TheVariants as state
+use Rattle.apex_types.specs.declared.device.DeviceLine.{DeviceLine}
+use Rattle.apex_types.specs.declared.event.Subject.{Subject}
+use Rattle.kernel_meaning.specs.Partition.{Member}
+use Rattle.module_meaning.specs.Module.{Module}
+use Rattle.state_laws.specs.Spending.{owner_in, worker}
+use Rattle.state_laws.specs.States.{runs_in}
+use Rattle.state_laws.specs.Told.{Told, is_it, worked_in}
+use Rattle.trace_stays.specs.declared.span.Span.{Span}
+use Rattle.trace_stays.specs.declared.stay.Stay.{Stay}
+use Rattle.trace_windows.specs.Uses.{one_if}
+
+-- ---- stays
+
+abbrev pub is_running : ProcessState → Bool
+is_running state.Running = true
+is_running state.Dormant = false
+is_running state.Ready = false
+is_running state.Waiting = false
+
+abbrev pub has_tick : ℕ → Span → Bool
+has_tick t s = nat_le s.from.0 t && nat_lt t s.until.0
+
+-- how many of these stays are in RUNNING and have this tick
+abbrev pub running_in : ℕ → List Stay → ℕ
+running_in t [] = 0
+running_in t (s ∷ ss) = one_if (is_running s.state && has_tick t s.span) + running_in t ss
+
+-- ---- lines
+
+-- after the lines up to a tick the runner is RUNNING, or it was the last to leave RUNNING by its work, and did so in this tick
+abbrev pub runs_told : ℕ → Subject → Told → Bool
+runs_told t who u = is_it who u.running || is_it who (worked_in t u.worked)
+
+-- ---- a run
+
+-- whether a tick is a partition's own
+abbrev pub is_owned : ℕ → Option ℕ → Bool
+is_owned p None = false
+is_owned p (Some q) = q == p
+
+-- in a tick of its partition the runner spends it; in another one it is the current runner after the tick
+abbrev pub runs_if : Bool → Subject → (worker current : Option Subject) → Bool
+runs_if true who worker current = is_it who worker
+runs_if false who worker current = is_it who current
+
+abbrev pub runs_in_tick : {C : Type 0} → Module C → List DeviceLine → ℕ → Subject → ℕ → Member C → Bool
+runs_in_tick m devices p who t after = runs_if (is_owned p (owner_in m devices t)) who (worker m devices t) (runs_in after.world.kernel)

@@ -1,0 +1,102 @@
+//! What the views show as states and modes.
+
+ghost use Rattle.std.specs.Prelude.{◌≡◌, ◌<◌, ◌≤◌, ℕ, suc, true, List, None, Some};
+ghost use Rattle.apex_types.specs.Limits.{MOST_TICKS};
+ghost use Rattle.apex_types.specs.Line.{subject_text};
+ghost use Rattle.apex_types.specs.declared.device.DeviceLine.{DeviceLine};
+ghost use Rattle.apex_types.specs.declared.event.Event.{Event};
+ghost use Rattle.apex_types.specs.declared.event.Subject.{Subject};
+ghost use Rattle.kernel_laws.specs.History.{members_after};
+ghost use Rattle.kernel_meaning.specs.Partition.{Member};
+ghost use Rattle.machine_meaning.specs.Image.{Image, Item};
+ghost use Rattle.machine_meaning.specs.ImageLimits.{IsLawful};
+ghost use Rattle.machine_meaning.specs.MachineControl.{MachineControl};
+ghost use Rattle.machine_meaning.specs.MachineMeaning.{machine_module, machine_trace};
+ghost use Rattle.module_meaning.specs.Accepted.{IsModule};
+ghost use Rattle.module_meaning.specs.SourceMeaning.{source_module, source_trace};
+ghost use Rattle.module_meaning.specs.Table.{Partition, Table, at_number};
+ghost use Rattle.pal_meaning.specs.Program.{Program};
+ghost use Rattle.pal_meaning.specs.SourceControl.{SourceControl};
+ghost use Rattle.state_laws.specs.Told.{told};
+ghost use Rattle.trace_stays.specs.Traces.{stays_in};
+ghost use Rattle.trace_windows.specs.Uses.{one_if};
+ghost use Rattle.view_laws.specs.Reading.{AreInOrder, up_to};
+ghost use Rattle.view_laws.specs.Shown.{HasOwnWord, ShowsState, mode_shown, state_shown};
+ghost use Rattle.view_laws.specs.Ticks.{running_in, runs_in_tick, runs_told};
+
+/// The state that a view shows of a runner after lines is the one that these lines tell, if no other
+/// runner in the lines has its word. The mode that it shows of a partition is the one that they tell.
+pub fn lines_tell_what_is_shown()
+    ensures mode { (lines : List Event) (name : List ℕ)
+        → mode_shown lines name ≡ (told name lines).mode }
+    ensures state { (lines : List Event) (name : List ℕ) (who : Subject)
+        → HasOwnWord lines who
+        → state_shown lines name who ≡ (told name lines).state who }
+{}
+
+/// In any run of a lawful image and of an accepted module a view shows after the lines up to a tick
+/// what the kernel's state is after this tick: the mode of each partition, and the state of each
+/// process, of INIT and of the error handler.
+pub fn states_are_shown()
+    ensures machine { (image : Image) (devices : List DeviceLine) (n t p : ℕ) (item : Item)
+        (x : Member MachineControl)
+        → IsLawful image
+        → t < n
+        → at_number image.items p ≡ Some item
+        → at_number (members_after (machine_module image) devices (suc t)) p ≡ Some x
+        → ShowsState (up_to t (machine_trace image devices n)) item.partition.name
+        x.world.kernel }
+    ensures accepted { (table : List ℕ) (sources : List (List ℕ)) (t : Table)
+        (programs : List Program) (devices : List DeviceLine) (n i p : ℕ) (row : Partition)
+        (x : Member SourceControl)
+        → IsModule table sources t programs
+        → i < n
+        → at_number t.partitions p ≡ Some row
+        → at_number (members_after (source_module t programs) devices (suc i)) p ≡ Some x
+        → ShowsState (up_to i (source_trace t programs devices n)) row.name x.world.kernel }
+{}
+
+/// A tick is in a stay in RUNNING of a runner just if the runner is RUNNING after the lines of the tick,
+/// or has left RUNNING by its work in it, and then it is in one such stay. So it is in lines in order in which
+/// each runner becomes RUNNING in a tick that nobody of its partition has spent yet.
+pub fn stays_tell_who_runs()
+    ensures { (lines : List Event) (name : List ℕ) (who : Subject) (until t : ℕ)
+        → HasOwnWord lines who
+        → AreInOrder 0 lines
+        → (told name lines).orderly ≡ true
+        → t < until
+        → t < MOST_TICKS
+        → running_in t (stays_in lines until name (subject_text who) None)
+        ≡ one_if (runs_told t who (told name (up_to t lines))) }
+{}
+
+/// In any run of a lawful image and of an accepted module a tick is in a stay in RUNNING of a runner just
+/// if the runner spends it, or, in a tick that is not its partition's, is the current runner after it. Then it
+/// is in one such stay.
+pub fn stays_are_runs()
+    ensures machine { (image : Image) (devices : List DeviceLine) (n until t p : ℕ) (item : Item)
+        (who : Subject) (x : Member MachineControl)
+        → IsLawful image
+        → t < n
+        → t < until
+        → n ≤ MOST_TICKS
+        → at_number image.items p ≡ Some item
+        → at_number (members_after (machine_module image) devices (suc t)) p ≡ Some x
+        → HasOwnWord (machine_trace image devices n) who
+        → running_in t
+        (stays_in (machine_trace image devices n) until item.partition.name (subject_text who) None)
+        ≡ one_if (runs_in_tick (machine_module image) devices p who t x) }
+    ensures accepted { (table : List ℕ) (sources : List (List ℕ)) (t : Table)
+        (programs : List Program) (devices : List DeviceLine) (n until i p : ℕ) (row : Partition)
+        (who : Subject) (x : Member SourceControl)
+        → IsModule table sources t programs
+        → i < n
+        → i < until
+        → n ≤ MOST_TICKS
+        → at_number t.partitions p ≡ Some row
+        → at_number (members_after (source_module t programs) devices (suc i)) p ≡ Some x
+        → HasOwnWord (source_trace t programs devices n) who
+        → running_in i
+        (stays_in (source_trace t programs devices n) until row.name (subject_text who) None)
+        ≡ one_if (runs_in_tick (source_module t programs) devices p who i x) }
+{}
