@@ -279,12 +279,12 @@ module _ (x : ℕ) (few : x < MOST_TICKS) where
     later_tick : (z v : ℕ) (held : Option Held) (r : Option Subject) (w : Option (ℕ × Subject)) (c : ℕ) → z ≤ v → Runs z held r w c → Runs v held r w c
     later_tick z v held r w c l h = elim (cases_lt z v) [
       | inl low ↦ record {
-          runs = h.runs;
-          count = h.count;
-          free = λ y e. sym (not_in z v w low h.before);
-          since = λ k e. elim (h.since k e) [ inl a ↦ inl (omega (arith, a, l)) | inr a ↦ let is = a.0 in inl (omega (arith, is, low)) ];
-          before = later_before z v w l h.before;
-        }
+        runs = h.runs;
+        count = h.count;
+        free = λ y e. sym (not_in z v w low h.before);
+        since = λ k e. elim (h.since k e) [ inl a ↦ inl (omega (arith, a, l)) | inr a ↦ let is = a.0 in inl (omega (arith, is, low)) ];
+        before = later_before z v w l h.before;
+      }
       | inr high ↦ let is : z ≡ v = omega (arith, l, high) in subst (λ (i : ℕ). Runs i held r w c) is h
     ]
 
