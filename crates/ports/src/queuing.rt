@@ -93,7 +93,7 @@ fn send(
             discipline: port.discipline(),
             array: None,
         };
-        return table.block(request, limit, waiting, message, out);
+        return table.block(request, limit, waiting, message.as_slice(), out);
     }
     table.answer(request.caller, service, ReturnCode::NoError, &[], out);
     ports.push_message(place, message);
@@ -187,7 +187,7 @@ fn receive(
         discipline,
         array: Some(array),
     };
-    table.block(request, limit, waiting, &Words::new(), out);
+    table.block(request, limit, waiting, &[], out);
 }
 
 /// RECEIVE_QUEUING_MESSAGE (ARINC 653 Part 1, interpartition communication): takes the first

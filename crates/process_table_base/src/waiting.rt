@@ -1,6 +1,7 @@
 //! The processes that wait for an object or a port, and how they are released.
 
-ghost use Rattle.std.specs.Prelude.{◌≡◌, ◌<◌, ◌+◌, ◌*◌, ◌++◌, ℕ, length, true, IfSome, Some, slice_set};
+ghost use Rattle.std.specs.Prelude.{◌≡◌, ◌≤◌, ◌<◌, ◌+◌, ◌*◌, ◌++◌, ℕ, length, true, IfSome, Some, slice_set};
+ghost use Rattle.apex_types.specs.Limits.{MOST_WORDS};
 ghost use Rattle.apex_types.specs.Room.{HasRoom, Grows};
 ghost use Rattle.apex_types.specs.Runners.{place_of};
 ghost use Rattle.apex_types.specs.declared.codes.Discipline.{Discipline};
@@ -10,6 +11,7 @@ ghost use Rattle.kernel_meaning.specs.Processes as processes;
 ghost use Rattle.kernel_meaning.specs.Queues.{list_at};
 ghost use Rattle.kernel_meaning.specs.Made.{IsMade};
 ghost use Rattle.kernel_meaning.specs.Sharing as meaning;
+ghost use Rattle.kernel_meaning.specs.Step.{message as words_of};
 ghost use Rattle.kernel_laws.specs.WaitingOrder.{AreQueues};
 ghost use Rattle.process_table_base.specs.Bounds.{IsBounded};
 ghost use Rattle.process_table_base.specs.FoundView.{pair_of};
@@ -23,16 +25,18 @@ use crate::request::Request;
 use crate::table::ProcessTable;
 use apex_types::{
     ActionKind, ArrayPlace, Entry, ListKey, MOST_RUNNERS, Out, ProcessIndex, ProcessStatus,
-    ReturnCode, Runner, Wait, Waiting, Words, copied, refill,
+    ReturnCode, Runner, Wait, Waiting, Words, copied,
 };
 use links::Entries;
 
-/// Stores the message of `process`, if the process exists.
-fn put_message(handed: &mut Vec<Words>, process: ProcessIndex, message: &Words)
-    ensures { handed.new.items ≡ slice_set handed.old.items process.0 message.now }
+/// Stores the message of `process`, if the process exists. Writes exactly the words that it gets.
+fn put_message(handed: &mut Vec<Words>, process: ProcessIndex, message: &[i64])
+    requires { length message.now ≤ MOST_WORDS }
+    ensures { handed.new.items ≡ slice_set handed.old.items process.0 (words_of message.now) }
 {
     if let Some(place) = handed.get_mut(usize::from(process.0)) {
-        refill(place, message);
+        place.clear();
+        place.try_extend_from_slice(message).unwrap();
     }
 }
 
@@ -110,9 +114,10 @@ impl ProcessTable {
     }
 
     /// Adds a process to the list of its object, with the message of its call.
-    fn enter(&mut self, runner: Runner, waiting: Waiting, message: &Words, row: &ProcessStatus)
-        requires { place_of runner < MOST_RUNNERS }
-        ensures { self.new ≡ meaning.enters self.old runner waiting message.now row.now }
+    fn enter(&mut self, runner: Runner, waiting: Waiting, message: &[i64], row: &ProcessStatus)
+        requires runner { place_of runner < MOST_RUNNERS }
+        requires few { length message.now ≤ MOST_WORDS }
+        ensures { self.new ≡ meaning.enters self.old runner waiting (words_of message.now) row.now }
     {
         if let Runner::Process(process) = runner {
             let entry = Entry {
@@ -124,20 +129,22 @@ impl ProcessTable {
         }
     }
 
-    /// Blocks the caller for at most `limit` ticks. NOT_AVAILABLE: the limit is 0; INVALID_MODE:
-    /// the caller may not wait.
+    /// Blocks the caller, with the message of its call, for at most `limit` ticks. NOT_AVAILABLE: the
+    /// limit is 0; INVALID_MODE: the caller may not wait.
     pub fn block(
         &mut self,
         request: Request,
         limit: i64,
         waiting: Waiting,
-        message: &Words,
+        message: &[i64],
         out: &mut Out,
     )
         requires limit { is_duration limit ≡ true }
+        requires few { length message.now ≤ MOST_WORDS }
         requires room { HasRoom 1 1 out.old }
         ensures step { IsMade
-            (meaning.blocks request.moment.at self.old request.caller limit waiting message.now)
+            (meaning.blocks request.moment.at self.old request.caller limit waiting
+            (words_of message.now))
             self.new out.old out.new }
         ensures grows { Grows 1 1 out.old out.new }
     {

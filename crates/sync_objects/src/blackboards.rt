@@ -181,7 +181,7 @@ fn read(
         discipline: Discipline::Fifo,
         array: Some(array),
     };
-    table.block(request, limit, waiting, &Words::new(), out);
+    table.block(request, limit, waiting, &[], out);
 }
 
 /// READ_BLACKBOARD (ARINC 653 Part 1, intrapartition communication): copies the displayed message

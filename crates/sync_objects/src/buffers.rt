@@ -96,7 +96,7 @@ fn send(
             discipline: buffer.row.discipline,
             array: None,
         };
-        return table.block(request, limit, waiting, message, out);
+        return table.block(request, limit, waiting, message.as_slice(), out);
     }
     table.answer(request.caller, service, ReturnCode::NoError, &[], out);
     match table.first_waiting(list) {
@@ -219,7 +219,7 @@ fn receive(
         discipline,
         array: Some(array),
     };
-    table.block(request, limit, waiting, &Words::new(), out);
+    table.block(request, limit, waiting, &[], out);
 }
 
 /// RECEIVE_BUFFER (ARINC 653 Part 1, intrapartition communication): takes the first message of a

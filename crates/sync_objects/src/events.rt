@@ -7,7 +7,7 @@ ghost use Rattle.kernel_meaning.specs.Made.{IsMade};
 ghost use Rattle.kernel_meaning.specs.Sharing.{both};
 ghost use Rattle.process_table_base.specs.declared.rooms.TheConstants.{ACTIONS_TO_RELEASE_ALL, LINES_TO_RELEASE_ALL};
 
-use apex_types::{Discipline, ListKey, Out, ReturnCode, Service, Waiting, Words};
+use apex_types::{Discipline, ListKey, Out, ReturnCode, Service, Waiting};
 use process_table_base::{ProcessTable, Request, is_duration};
 use sync_objects_base::Objects;
 
@@ -141,7 +141,7 @@ pub fn wait_event(
         discipline: Discipline::Fifo,
         array: None,
     };
-    table.block(request, limit, waiting, &Words::new(), out);
+    table.block(request, limit, waiting, &[], out);
 }
 
 /// 0 for down, 1 for up.

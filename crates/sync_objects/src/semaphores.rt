@@ -6,7 +6,7 @@ ghost use Rattle.kernel_meaning.specs.SemaphoreServices as meaning;
 ghost use Rattle.kernel_meaning.specs.Made.{IsMade};
 ghost use Rattle.kernel_meaning.specs.Sharing.{both};
 
-use apex_types::{ListKey, Out, ReturnCode, Service, Waiting, Words};
+use apex_types::{ListKey, Out, ReturnCode, Service, Waiting};
 use process_table_base::{ProcessTable, Request, is_duration};
 use sync_objects_base::Objects;
 
@@ -95,7 +95,7 @@ pub fn wait_semaphore(
         discipline: semaphore.discipline(),
         array: None,
     };
-    table.block(request, limit, waiting, &Words::new(), out);
+    table.block(request, limit, waiting, &[], out);
 }
 
 /// SIGNAL_SEMAPHORE (ARINC 653 Part 1, intrapartition communication): releases the first process
