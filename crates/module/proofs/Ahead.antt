@@ -7,7 +7,7 @@ use Rattle.module.specs.Machines.{HasGoneOn}
 use Rattle.module.specs.Watched.{text_to}
 use Rattle.module.proofs.Machines.{ticks_are_the_trace}
 use Rattle.module.proofs.Standing.{none_down, tick_text}
-use Rattle.module.proofs.Texts.{text_append}
+use Rattle.lone_partition.proofs.Texts.{text_append}
 
 -- the text of k more ticks
 abbrev pub text_on : Image → List DeviceLine → ℕ → Standing MachineControl → List ℕ

@@ -1,5 +1,5 @@
 -- A tick of a machine within a run.
-use Rattle.module.proofs.Prelude.{◌≡◌, ◌<◌, ◌≤◌, ◌+◌, ◌-◌, ℕ, zero, suc, true, false, List, Option, Result, Ok, Err, inl, inr, refl, sym, ap, ◌∙◌, append-nil, arith, Appends-nil, Appends, MOST_TICKS, text_of, TakesBeginning, DeviceLine, Event, IsUnderWay, under_way_more, under_way_fails, Image, of_tick, machine_module, machine_trace, Machine, HaveTicked, fresh_machine, Elapsed, after, elapse, lines_of, ticks, RunFault}
+use Rattle.module.proofs.Prelude.{still, ◌≡◌, ◌<◌, ◌≤◌, ◌+◌, ◌-◌, ℕ, zero, suc, true, false, List, Option, Result, Ok, Err, inl, inr, refl, sym, ap, ◌∙◌, append-nil, arith, Appends-nil, Appends, MOST_TICKS, text_of, TakesBeginning, DeviceLine, Event, IsUnderWay, under_way_more, under_way_fails, Image, of_tick, machine_module, machine_trace, Machine, HaveTicked, fresh_machine, Elapsed, after, elapse, lines_of, ticks, RunFault}
 use Rattle.std.proofs.Common.{[], subst}
 use Rattle.std.proofs.KnownBytes.{Appends-kept}
 use Rattle.std.specs.Io.KnownBytes.{Keeps}
