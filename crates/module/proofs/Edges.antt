@@ -211,21 +211,17 @@ lift_behind plan lines n origin s told ms from h =
     subst (λ (o : Option ℕ). LeadsBehind plan lines n (record { members = s.members; now = s.now; origin = o }) told (record { members = ms; now = s.now + n; origin = o })) (sym from) h
 
 -- the ticks of a piece
-pub run_piece : {C : Type 0} {old new : Sent} (plan : Plan) (lines : List DeviceLine) (k n origin place : ℕ) (s : Standing C) (ms : List (Member C)) → s.origin ≡ Some origin
-    → place < length s.members → 0 < n → n ≤ k → AreFrom (s.now + k) lines
+pub run_piece : {C : Type 0} {old new : Sent} (plan : Plan) (lines : List DeviceLine) (k n origin place : ℕ) (s : Standing C) (ms : List (Member C)) (o : Option (Member C)) → slice_get s.members place ≡ o
+    → place < length s.members → s.origin ≡ Some origin → 0 < n → n ≤ k → AreFrom (s.now + k) lines
     → ((i : ℕ) → i < k → owner plan.schedule (tick_from origin (s.now + i)) ≡ Some (suc place)) → ((i : ℕ) → 0 < i → i < k → EndsQuietly plan origin s.members (suc place) (s.now + i))
-    → IsMade (steps_member (ticks_by n (tick_from origin s.now)) s.members place (slice_get s.members place)) ms old new
+    → IsMade (steps_member (ticks_by n (tick_from origin s.now)) s.members place o) ms old new
     → HasPassedSomeBehind plan lines k s (record { members = ms; now = s.now + n; origin = s.origin }) old new n
-run_piece {C = C} {old = old} {new = new} plan lines k n origin place s ms from there some within order owned over made = by_owner (slice_get s.members place) refl where
-  step = ticks_by n (tick_from origin s.now)
-
-  by_owner : (o : Option (Member C)) → slice_get s.members place ≡ o → HasPassedSomeBehind plan lines k s (record { members = ms; now = s.now + n; origin = s.origin }) old new n
-  by_owner None e = absurd (none_there s.members place there e)
-  by_owner (Some x) e =
-      let its = subst (λ (o : Option (Member C)). IsMade (steps_member step s.members place o) ms old new) e made in
-      let leads = subst (λ (xs : List (Member C)). LeadsBehind plan lines n (standing_at s.members s.now origin) (step x).lines (standing_at xs (s.now + n) origin)) (sym its.state)
-      (owner_leads plan lines k n s.now origin place s.members x e some within order owned over) in
-      (some, within, refl, record { told = (step x).lines; leads = lift_behind plan lines n origin s (step x).lines ms from leads; sent = its.sent })
+run_piece plan lines k n origin place s ms None e there from some within order owned over made = absurd (none_there s.members place there e)
+run_piece plan lines k n origin place s ms (Some x) e there from some within order owned over made =
+    let a = ticks_by n (tick_from origin s.now) x in
+    let leads = subst (λ (xs : List (Member _)). LeadsBehind plan lines n (standing_at s.members s.now origin) a.lines (standing_at xs (s.now + n) origin)) (sym made.state)
+    (owner_leads plan lines k n s.now origin place s.members x e some within order owned over) in
+    (some, within, refl, record { told = a.lines; leads = lift_behind plan lines n origin s a.lines ms from leads; sent = made.sent })
 
 -- ticks that no partition owns
 pub run_nobody : {C : Type 0} (plan : Plan) (lines : List DeviceLine) (k origin : ℕ) (s : Standing C) (sent : Sent) (o : Option ℕ) → s.origin ≡ Some origin → 0 < k → AreFrom (s.now + k) lines
