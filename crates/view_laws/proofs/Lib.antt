@@ -4,5 +4,5 @@ pub mod Lines
 pub mod Run
 pub mod Shown
 pub mod Stays
-pub mod Running
 pub mod OfRuns
+pub mod Running

@@ -75,28 +75,26 @@ pub fn stays_tell_who_runs()
 /// is in one such stay.
 pub fn stays_are_runs()
     ensures machine { (image : Image) (devices : List DeviceLine) (n until t p : ℕ) (item : Item)
-        (who : Subject) (x : Member MachineControl)
+        (who : Subject)
         → IsLawful image
         → t < n
         → t < until
         → n ≤ MOST_TICKS
         → at_number image.items p ≡ Some item
-        → at_number (members_after (machine_module image) devices (suc t)) p ≡ Some x
         → HasOwnWord (machine_trace image devices n) who
         → running_in t
         (stays_in (machine_trace image devices n) until item.partition.name (subject_text who) None)
-        ≡ one_if (runs_in_tick (machine_module image) devices p who t x) }
+        ≡ one_if (runs_in_tick (machine_module image) devices p who t) }
     ensures accepted { (table : List ℕ) (sources : List (List ℕ)) (t : Table)
         (programs : List Program) (devices : List DeviceLine) (n until i p : ℕ) (row : Partition)
-        (who : Subject) (x : Member SourceControl)
+        (who : Subject)
         → IsModule table sources t programs
         → i < n
         → i < until
         → n ≤ MOST_TICKS
         → at_number t.partitions p ≡ Some row
-        → at_number (members_after (source_module t programs) devices (suc i)) p ≡ Some x
         → HasOwnWord (source_trace t programs devices n) who
         → running_in i
         (stays_in (source_trace t programs devices n) until row.name (subject_text who) None)
-        ≡ one_if (runs_in_tick (source_module t programs) devices p who i x) }
+        ≡ one_if (runs_in_tick (source_module t programs) devices p who i) }
 {}
