@@ -6,3 +6,5 @@ pub mod Shown
 pub mod Stays
 pub mod OfRuns
 pub mod Running
+pub mod Sums
+pub mod Numbers
