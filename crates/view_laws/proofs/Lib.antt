@@ -7,4 +7,5 @@ pub mod Stays
 pub mod OfRuns
 pub mod Running
 pub mod Sums
-pub mod Numbers
+pub mod Tallies
+pub mod Counted

@@ -2,3 +2,4 @@ pub mod Reading
 pub mod Spent
 pub mod Shown
 pub mod Ticks
+pub mod Counted

@@ -24,6 +24,7 @@ use Rattle.trace_view.specs.declared.states.StateTicks.{StateTicks}
 use Rattle.trace_view.specs.declared.tally.Activation.{Activation}
 use Rattle.trace_view.specs.declared.tally.Tally.{Tally}
 use Rattle.trace_view.specs.declared.tally.Turn.{Turn}
+use Rattle.view_laws.specs.Counted.{AreBeforeTick}
 
 -- ---- a turn adds the ticks of the stay that it ends
 
@@ -101,12 +102,7 @@ and_added window (Some stay) rest = refl
 -- ---- all lines, which are before the end
 
 module _ (window closing : Span) (begin : window.from.0 ≡ closing.from.0) (close : closing.until.0 ≤ window.until.0) (fits : closing.until.0 < 18446744073709551615) (name word : List ℕ) where
-  -- each line is before the end
-  abbrev pub AreEarly : List Event → Type 0
-  AreEarly [] = Unit {0}
-  AreEarly (e ∷ es) = (e.tick.0 < closing.until.0) × AreEarly es
-
-  abbrev IsEarly : Option Held → Type 0
+  abbrev pub IsEarly : Option Held → Type 0
   IsEarly None = Unit {0}
   IsEarly (Some h) = h.since.0 ≤ closing.until.0
 
@@ -164,7 +160,7 @@ module _ (window closing : Span) (begin : window.from.0 ≡ closing.from.0) (clo
   with_early None z held l h = h
   with_early (Some n) z held l h = held_early held n z l h
 
-  pub all_counted : (lines : List Event) (p : Process) → AreEarly lines → IsEarly p.held
+  pub all_counted : (lines : List Event) (p : Process) → AreBeforeTick closing.until.0 lines → IsEarly p.held
       → capped (ticks_running (process_ended closing (process_in window lines name word p))) ≡ capped (ticks_running p + ticks_in_state state.Running closing (stays_in lines closing.until.0 name word p.held))
   all_counted [] p early h =
       added closing (stay_left p.held closing.until.0) p.tally ∙ ap (λ (k : ℕ). capped (ticks_running p + k)) (last (stay_left p.held closing.until.0))
