@@ -1,7 +1,7 @@
 -- The ticks in RUNNING that a summary counts for a runner of a run are those in which it runs.
-use Rattle.std.proofs.Common.{◌≡◌, ◌<◌, ◌≤◌, ℕ, zero, suc, max, min, Bool, true, false, List, [], ◌∷◌, ◌⊎◌, inl, inr, Option, Some, None, refl, sym, ap, ◌∙◌, subst, arith}
+use Rattle.std.proofs.Common.{◌≡◌, ◌<◌, ◌≤◌, ℕ, zero, suc, Bool, true, false, List, [], ◌∷◌, inl, inr, Some, None, refl, sym, ap, ◌∙◌, subst, arith}
 use Rattle.std.specs.Prelude.{◌+◌, ◌-◌, nat_lt, if◌then◌else◌}
-use Rattle.std.proofs.lemmas.Bool.{cases_lt, le-ltb, lt-ltb, ltb-false, ltb-true}
+use Rattle.std.proofs.lemmas.Bool.{cases_lt, le-ltb, ltb-true}
 use Rattle.apex_types.specs.Limits.{MOST_TICKS}
 use Rattle.apex_types.specs.Line.{subject_text}
 use Rattle.apex_types.specs.declared.codes.ProcessState.{ProcessState}
@@ -22,7 +22,7 @@ use Rattle.trace_stays.specs.Stays.{span}
 use Rattle.trace_stays.specs.Traces.{stays_in}
 use Rattle.trace_stays.specs.declared.span.Span.{Span}
 use Rattle.trace_stays.specs.declared.stay.Stay.{Stay}
-use Rattle.trace_view.specs.Counting.{capped, ticks_in}
+use Rattle.trace_view.specs.Counting.{ticks_in}
 use Rattle.trace_view.specs.Processes as processes
 use Rattle.trace_view.specs.Turns.{ticks_if, ticks_in_state}
 use Rattle.trace_view.specs.Whole.{process_in}

@@ -177,9 +177,9 @@ pub image_uses : (image : Image) (devices : List DeviceLine) (n t : ℕ) → IsL
 image_uses image devices n t lawful l few =
     run_uses (machine_module image) (names_of_image image) devices n t (image_many image) (image_all_apart image lawful) l few
     (λ p name e owns.
-        let r = named_row name_of_item image.items p name e in
-        let c = r.1 in
-        subst (λ (x : List ℕ). worker_by_lines t (told x (machine_trace image devices (suc t))) ≡ worker (machine_module image) devices t) c.1 (image_worker image devices t p r.0 lawful c.0 owns))
+    let r = named_row name_of_item image.items p name e in
+    let c = r.1 in
+    subst (λ (x : List ℕ). worker_by_lines t (told x (machine_trace image devices (suc t))) ≡ worker (machine_module image) devices t) c.1 (image_worker image devices t p r.0 lawful c.0 owns))
 
 -- ---- modules
 
@@ -200,9 +200,9 @@ pub module_uses : (table : List ℕ) (sources : List (List ℕ)) (t : Table) (pr
 module_uses table sources t programs devices n i accepted l few =
     run_uses (source_module t programs) (names_of_table t) devices n i (module_many table sources t programs accepted) apart l few
     (λ p name e owns.
-        let r = named_row name_of_row t.partitions p name e in
-        let c = r.1 in
-        subst (λ (x : List ℕ). worker_by_lines i (told x (source_trace t programs devices (suc i))) ≡ worker (source_module t programs) devices i) c.1 (module_worker table sources t programs devices i accepted p r.0 c.0 owns))
+    let r = named_row name_of_row t.partitions p name e in
+    let c = r.1 in
+    subst (λ (x : List ℕ). worker_by_lines i (told x (source_trace t programs devices (suc i))) ≡ worker (source_module t programs) devices i) c.1 (module_worker table sources t programs devices i accepted p r.0 c.0 owns))
   where
     apart : AreApart (names_of_table t)
     apart = subst AreApart (sourced t.costs t.schedule 1 t.partitions sources programs accepted.accepted) (all_apart accepted.rows.0 t programs accepted.rows.2)

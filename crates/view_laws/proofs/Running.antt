@@ -1,7 +1,7 @@
 -- In which ticks a view shows in a run that a runner is RUNNING.
-use Rattle.std.proofs.Common.{◌≡◌, ◌≢◌, ◌<◌, ◌≤◌, ℕ, zero, suc, Bool, true, false, List, Option, Some, None, refl, sym, ap, ◌∙◌, subst, arith}
-use Rattle.std.specs.Prelude.{◌+◌, ◌==◌, ◌||◌}
-use Rattle.std.proofs.lemmas.Bool.{eqb-true, ne_eqb, eq-eqb, false≢true}
+use Rattle.std.proofs.Common.{◌≡◌, ◌≢◌, ◌<◌, ◌≤◌, ℕ, suc, Bool, true, false, List, Option, Some, None, refl, sym, ap, ◌∙◌, subst, arith}
+use Rattle.std.specs.Prelude.{◌||◌}
+use Rattle.std.proofs.lemmas.Bool.{eqb-true, eq-eqb, false≢true}
 use Rattle.std.proofs.lemmas.List.{length-map}
 use Rattle.std.proofs.lemmas.Option.{none-some, same_Some}
 use Rattle.apex_types.specs.Limits.{MOST_TICKS}
@@ -20,7 +20,7 @@ use Rattle.module_meaning.specs.SourceMeaning.{source_module, source_trace}
 use Rattle.module_meaning.specs.Table.{Partition, Table, at_number}
 use Rattle.pal_meaning.specs.Program.{Program}
 use Rattle.state_laws.specs.Spending.{owner_in, worker}
-use Rattle.state_laws.specs.States.{TellsState, runs_in}
+use Rattle.state_laws.specs.States.{TellsState}
 use Rattle.state_laws.specs.Told.{Told, is_it, told, worked_in, worker_by_lines, running_or}
 use Rattle.state_laws.proofs.OfImages.{image_idle, image_orderly, image_tells, image_worker}
 use Rattle.state_laws.proofs.OfModules.{module_idle, module_orderly, module_tells, module_worker}

@@ -1,5 +1,5 @@
 -- A view shows just in those ticks that a runner is RUNNING in which the lines tell it.
-use Rattle.std.proofs.Common.{◌≡◌, ◌<◌, ◌≤◌, ℕ, zero, suc, max, Bool, true, false, not, ◌⊎◌, inl, inr, List, [], ◌∷◌, ◌++◌, Option, Some, None, refl, sym, ap, ◌∙◌, subst, arith}
+use Rattle.std.proofs.Common.{◌≡◌, ◌<◌, ◌≤◌, ℕ, suc, max, Bool, true, false, not, ◌⊎◌, inl, inr, List, [], ◌∷◌, ◌++◌, Option, Some, None, refl, sym, ap, ◌∙◌, subst, arith}
 use Rattle.std.specs.Prelude.{◌+◌, ◌==◌, ◌&&◌, ◌||◌, nat_le, nat_lt, if◌then◌else◌, is_some}
 use Rattle.std.proofs.lemmas.Bool.{and_left, and_parts, and_right, cases_eq, cases_lt, eq-eqb, ne_eqb, false≢true, le-leb, le-ltb, lt-leb, lt-ltb, ltb-false, ltb-true}
 use Rattle.std.proofs.lemmas.Option.{none-some, same_Some}
@@ -24,7 +24,7 @@ use Rattle.state_laws.proofs.Moves.{IsBefore}
 use Rattle.state_laws.proofs.Subjects.{same_itself, same_subject}
 use Rattle.trace_stays.specs.Clearing.{starts_by}
 use Rattle.trace_stays.specs.Following.{and_one, held_with, next_by, next_if, next_in, next_of_all, stay_with}
-use Rattle.trace_stays.specs.Stays.{begins_at, behind, held_behind, left_at, stay_ended, stay_left, stay_until, tick}
+use Rattle.trace_stays.specs.Stays.{begins_at, behind, held_behind, left_at, stay_ended, stay_until, tick}
 use Rattle.trace_stays.specs.Traces.{stays_in, with_line}
 use Rattle.trace_stays.specs.declared.next.Next.{Next}
 use Rattle.trace_stays.specs.declared.next.Next.TheVariants.{Enters, Gone, Cleared}
@@ -279,12 +279,12 @@ module _ (x : ℕ) (few : x < MOST_TICKS) where
     later_tick : (z v : ℕ) (held : Option Held) (r : Option Subject) (w : Option (ℕ × Subject)) (c : ℕ) → z ≤ v → Runs z held r w c → Runs v held r w c
     later_tick z v held r w c l h = elim (cases_lt z v) [
       | inl low ↦ record {
-          runs = h.runs;
-          count = h.count;
-          free = λ y e. sym (not_in z v w low h.before);
-          since = λ k e. elim (h.since k e) [ inl a ↦ inl (omega (arith, a, l)) | inr a ↦ let is = a.0 in inl (omega (arith, is, low)) ];
-          before = later_before z v w l h.before;
-        }
+        runs = h.runs;
+        count = h.count;
+        free = λ y e. sym (not_in z v w low h.before);
+        since = λ k e. elim (h.since k e) [ inl a ↦ inl (omega (arith, a, l)) | inr a ↦ let is = a.0 in inl (omega (arith, is, low)) ];
+        before = later_before z v w l h.before;
+      }
       | inr high ↦ let is : z ≡ v = omega (arith, l, high) in subst (λ (i : ℕ). Runs i held r w c) is h
     ]
 

@@ -1,5 +1,5 @@
 -- The ticks that a window has in common with stays, one after another.
-use Rattle.std.proofs.Common.{◌≡◌, ◌<◌, ◌≤◌, ℕ, zero, suc, max, min, Bool, true, false, List, [], ◌∷◌, ◌⊎◌, inl, inr, refl, sym, ap, ◌∙◌, arith}
+use Rattle.std.proofs.Common.{◌≡◌, ◌<◌, ◌≤◌, ℕ, zero, suc, max, min, Bool, true, false, List, [], ◌∷◌, inl, inr, refl, ap, ◌∙◌, arith}
 use Rattle.std.specs.Prelude.{◌+◌, ◌-◌, ◌&&◌, nat_le, nat_lt}
 use Rattle.std.proofs.lemmas.Bool.{and_left, cases_lt, le-leb, le-ltb, lt-leb, lt-ltb}
 use Rattle.apex_types.specs.declared.codes.ProcessState.{ProcessState}
@@ -43,13 +43,13 @@ one_tick a b from n = elim (cases_lt (from + n) a) [
       let test = ap one_if (and_left (nat_le a (from + n)) (nat_lt (from + n) b) (lt-leb a (from + n) early)) in
       omega (arith, early, test)
   | inr here ↦ elim (cases_lt (from + n) b) [
-      | inl inside ↦
-          let test = ap (λ (c : Bool). one_if (c && nat_lt (from + n) b)) (le-leb a (from + n) here) ∙ ap one_if (lt-ltb (from + n) b inside) in
-          omega (arith, here, inside, test)
-      | inr late ↦
-          let test = ap (λ (c : Bool). one_if (c && nat_lt (from + n) b)) (le-leb a (from + n) here) ∙ ap one_if (le-ltb (from + n) b late) in
-          omega (arith, here, late, test)
-    ]
+    | inl inside ↦
+        let test = ap (λ (c : Bool). one_if (c && nat_lt (from + n) b)) (le-leb a (from + n) here) ∙ ap one_if (lt-ltb (from + n) b inside) in
+        omega (arith, here, inside, test)
+    | inr late ↦
+        let test = ap (λ (c : Bool). one_if (c && nat_lt (from + n) b)) (le-leb a (from + n) here) ∙ ap one_if (le-ltb (from + n) b late) in
+        omega (arith, here, late, test)
+  ]
 ]
 
 stay_ticks : (s : Span) (from n : ℕ) → sum_of (λ t. one_if (has_tick t s)) from n ≡ ticks_in (span from (from + n)) s

@@ -1,5 +1,5 @@
 -- The ticks in RUNNING that a summary counts for a process are those of its stays.
-use Rattle.std.proofs.Common.{◌≡◌, ◌<◌, ◌≤◌, ℕ, zero, suc, max, min, Bool, true, false, List, [], ◌∷◌, ◌++◌, Option, Some, None, refl, sym, ap, ◌∙◌, subst, arith}
+use Rattle.std.proofs.Common.{◌≡◌, ◌<◌, ◌≤◌, ℕ, max, min, Bool, true, false, List, [], ◌∷◌, ◌++◌, Option, Some, None, refl, sym, ap, ◌∙◌, subst, arith}
 use Rattle.std.specs.Prelude.{◌+◌, ◌-◌, if◌then◌else◌}
 use Rattle.std.proofs.lemmas.Bool.{lt-ltb}
 use Rattle.apex_types.specs.declared.codes.ProcessState.{ProcessState}
@@ -8,16 +8,16 @@ use Rattle.apex_types.specs.declared.event.Event.{Event}
 use Rattle.apex_types.specs.declared.event.EventKind.{EventKind}
 use Rattle.apex_types.specs.declared.event.EventKind.TheVariants as event
 use Rattle.trace_stays.specs.Following.{and_one, held_with, next_by, stay_with}
-use Rattle.trace_stays.specs.Stays.{begins_at, behind, held_behind, left_at, span, stay_ended, stay_left, stay_of, stay_until, tick}
-use Rattle.trace_stays.specs.Traces.{stays_in, with_line}
+use Rattle.trace_stays.specs.Stays.{begins_at, held_behind, left_at, span, stay_ended, stay_left, stay_until, tick}
+use Rattle.trace_stays.specs.Traces.{stays_in}
 use Rattle.trace_stays.specs.declared.next.Next.{Next}
 use Rattle.trace_stays.specs.declared.next.Next.TheVariants.{Enters, Gone, Cleared}
 use Rattle.trace_stays.specs.declared.span.Span.{Span}
 use Rattle.trace_stays.specs.declared.stay.Held.{Held}
 use Rattle.trace_stays.specs.declared.stay.Stay.{Stay}
-use Rattle.trace_view.specs.Counting.{capped, ticks_in, with_stay, with_ticks}
-use Rattle.trace_view.specs.Processes.{Process, counted, counts, process_after, process_behind, process_ended, turn_of, turned_if, with_one, with_turn}
-use Rattle.trace_view.specs.Tallies.{begun, begun_if, ended_at, ended_running, entered, has_tick, is_read, over, run, run_if, turned, with_ended}
+use Rattle.trace_view.specs.Counting.{capped, ticks_in, with_ticks}
+use Rattle.trace_view.specs.Processes.{Process, counted, counts, process_behind, process_ended, turn_of, turned_if, with_one}
+use Rattle.trace_view.specs.Tallies.{begun, begun_if, ended_at, ended_running, entered, has_tick, over, run, run_if, with_ended}
 use Rattle.trace_view.specs.Turns.{ticks_if, ticks_in_state}
 use Rattle.trace_view.specs.Whole.{process_in}
 use Rattle.trace_view.specs.declared.states.StateTicks.{StateTicks}

@@ -5,3 +5,4 @@
 pub mod numbers;
 pub mod states;
 pub mod uses;
+pub mod words;
