@@ -9,3 +9,5 @@ pub mod Running
 pub mod Sums
 pub mod Tallies
 pub mod Counted
+pub mod Modes
+pub mod ModesOfRuns

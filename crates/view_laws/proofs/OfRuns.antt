@@ -183,7 +183,7 @@ image_uses image devices n t lawful l few =
 
 -- ---- modules
 
-sourced : (costs : Costs) (s : Schedule) (number : ℕ) (rows : List Partition) (sources : List (List ℕ)) (programs : List Program) → AreAccepted rows sources programs → map name_of (source_members costs s number rows programs) ≡ map name_of_row rows
+pub sourced : (costs : Costs) (s : Schedule) (number : ℕ) (rows : List Partition) (sources : List (List ℕ)) (programs : List Program) → AreAccepted rows sources programs → map name_of (source_members costs s number rows programs) ≡ map name_of_row rows
 sourced costs s number [] [] [] h = refl
 sourced costs s number [] [] (q ∷ qs) h = absurd h
 sourced costs s number [] (t ∷ ts) qs h = absurd h
