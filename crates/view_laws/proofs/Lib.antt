@@ -4,5 +4,10 @@ pub mod Lines
 pub mod Run
 pub mod Shown
 pub mod Stays
-pub mod Running
 pub mod OfRuns
+pub mod Running
+pub mod Sums
+pub mod Tallies
+pub mod Counted
+pub mod Modes
+pub mod ModesOfRuns

@@ -51,6 +51,14 @@ past (x ∷ xs) [] i l e = refl
 past (x ∷ xs) (y ∷ ys) zero l e = absurd (none-some x (sym e))
 past (x ∷ xs) (y ∷ ys) (suc i) l e = past xs ys i (omega (arith, l)) e
 
+pub there_too : {A B : Type 0} (xs : List A) (ys : List B) (p : ℕ) (x : A) → length xs ≡ length ys → at_number xs p ≡ Some x → (y : B) × (at_number ys p ≡ Some y)
+there_too xs ys zero x l e = absurd (none-some x e)
+there_too [] [] (suc i) x l e = absurd (none-some x e)
+there_too [] (y ∷ ys) (suc i) x l e = absurd (none-some x e)
+there_too (z ∷ xs) [] (suc i) x l e = absurd (omega (arith, l))
+there_too (z ∷ xs) (y ∷ ys) (suc zero) x l e = (y, refl)
+there_too (z ∷ xs) (y ∷ ys) (suc (suc i)) x l e = there_too xs ys (suc i) x (omega (arith, l)) e
+
 no_number : {A B : Type 0} (xs : List A) (ys : List B) (p : ℕ) → length xs ≡ length ys → at_number xs p ≡ None → at_number ys p ≡ None
 no_number xs ys zero l e = refl
 no_number xs ys (suc i) l e = past xs ys i l e
@@ -159,23 +167,23 @@ named_row f xs (suc i) name e = by_row (slice_get xs i) refl
 
 -- ---- images
 
+pub image_many : (image : Image) → length (names_of_image image) ≡ length (machine_members (costs_of image.version) image.schedule 1 image.items)
+image_many image =
+    let a = ap (λ (ns : List (List ℕ)). length ns) (members_named (costs_of image.version) image.schedule 1 image.items) in
+    sym a ∙ length-map (machine_members (costs_of image.version) image.schedule 1 image.items) name_of
+
 pub image_uses : (image : Image) (devices : List DeviceLine) (n t : ℕ) → IsLawful image → t < n → n ≤ MOST_TICKS
     → use_of image.schedule (at_first (names_of_image image)) (machine_trace image devices n) t ≡ use_in (machine_module image) devices t
 image_uses image devices n t lawful l few =
-    run_uses (machine_module image) (names_of_image image) devices n t many (image_all_apart image lawful) l few
+    run_uses (machine_module image) (names_of_image image) devices n t (image_many image) (image_all_apart image lawful) l few
     (λ p name e owns.
     let r = named_row name_of_item image.items p name e in
     let c = r.1 in
     subst (λ (x : List ℕ). worker_by_lines t (told x (machine_trace image devices (suc t))) ≡ worker (machine_module image) devices t) c.1 (image_worker image devices t p r.0 lawful c.0 owns))
-  where
-    many : length (names_of_image image) ≡ length (machine_members (costs_of image.version) image.schedule 1 image.items)
-    many =
-        let a = ap (λ (ns : List (List ℕ)). length ns) (members_named (costs_of image.version) image.schedule 1 image.items) in
-        sym a ∙ length-map (machine_members (costs_of image.version) image.schedule 1 image.items) name_of
 
 -- ---- modules
 
-sourced : (costs : Costs) (s : Schedule) (number : ℕ) (rows : List Partition) (sources : List (List ℕ)) (programs : List Program) → AreAccepted rows sources programs → map name_of (source_members costs s number rows programs) ≡ map name_of_row rows
+pub sourced : (costs : Costs) (s : Schedule) (number : ℕ) (rows : List Partition) (sources : List (List ℕ)) (programs : List Program) → AreAccepted rows sources programs → map name_of (source_members costs s number rows programs) ≡ map name_of_row rows
 sourced costs s number [] [] [] h = refl
 sourced costs s number [] [] (q ∷ qs) h = absurd h
 sourced costs s number [] (t ∷ ts) qs h = absurd h
@@ -183,20 +191,18 @@ sourced costs s number (r ∷ rs) [] qs h = absurd h
 sourced costs s number (r ∷ rs) (t ∷ ts) [] h = absurd h
 sourced costs s number (r ∷ rs) (t ∷ ts) (q ∷ qs) h = ap (λ (ns : List (List ℕ)). r.name ∷ ns) (sourced costs s (number + 1) rs ts qs h.1)
 
+pub module_many : (table : List ℕ) (sources : List (List ℕ)) (t : Table) (programs : List Program) → IsModule table sources t programs → length (names_of_table t) ≡ length (source_members t.costs t.schedule 1 t.partitions programs)
+module_many table sources t programs accepted =
+    sym (ap (λ (ns : List (List ℕ)). length ns) (sourced t.costs t.schedule 1 t.partitions sources programs accepted.accepted)) ∙ length-map (source_members t.costs t.schedule 1 t.partitions programs) name_of
+
 pub module_uses : (table : List ℕ) (sources : List (List ℕ)) (t : Table) (programs : List Program) (devices : List DeviceLine) (n i : ℕ) → IsModule table sources t programs → i < n → n ≤ MOST_TICKS
     → use_of t.schedule (at_first (names_of_table t)) (source_trace t programs devices n) i ≡ use_in (source_module t programs) devices i
 module_uses table sources t programs devices n i accepted l few =
-    run_uses (source_module t programs) (names_of_table t) devices n i many apart l few
+    run_uses (source_module t programs) (names_of_table t) devices n i (module_many table sources t programs accepted) apart l few
     (λ p name e owns.
     let r = named_row name_of_row t.partitions p name e in
     let c = r.1 in
     subst (λ (x : List ℕ). worker_by_lines i (told x (source_trace t programs devices (suc i))) ≡ worker (source_module t programs) devices i) c.1 (module_worker table sources t programs devices i accepted p r.0 c.0 owns))
   where
-    same_names : map name_of (source_members t.costs t.schedule 1 t.partitions programs) ≡ names_of_table t
-    same_names = sourced t.costs t.schedule 1 t.partitions sources programs accepted.accepted
-
-    many : length (names_of_table t) ≡ length (source_members t.costs t.schedule 1 t.partitions programs)
-    many = sym (ap (λ (ns : List (List ℕ)). length ns) same_names) ∙ length-map (source_members t.costs t.schedule 1 t.partitions programs) name_of
-
     apart : AreApart (names_of_table t)
-    apart = subst AreApart same_names (all_apart accepted.rows.0 t programs accepted.rows.2)
+    apart = subst AreApart (sourced t.costs t.schedule 1 t.partitions sources programs accepted.accepted) (all_apart accepted.rows.0 t programs accepted.rows.2)

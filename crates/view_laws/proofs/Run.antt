@@ -22,7 +22,7 @@ use Rattle.apex_types.specs.declared.identity.Runner.{Runner}
 use Rattle.apex_types.specs.declared.row.ChannelEnd.{ChannelEnd}
 use Rattle.apex_types.specs.declared.row.ChannelEnd.TheVariants as ends
 use Rattle.isolation.proofs.Now.{inputs_in_tick, tick_in}
-use Rattle.kernel_laws.specs.History.{Move, Starts, BreaksDown, Arrives, Leaves, Admits, GoesOut, Advances, makes}
+use Rattle.kernel_laws.specs.History.{Move, Starts, BreaksDown, Arrives, Leaves, Admits, GoesOut, Advances, makes, members_after, members_from}
 use Rattle.engine_meaning.specs.Engine.{Engine}
 use Rattle.kernel_meaning.specs.HealthServices.{breaks, then_clears}
 use Rattle.kernel_meaning.specs.Kernel.{Kernel, of_ports, of_ports_alone, of_processes, with_ports}
@@ -447,3 +447,15 @@ module _ {C : Type 0} (m : Module C) (devices : List DeviceLine) where
 
   pub run_count : (n : ℕ) → length (before_owner_in m devices n).state ≡ length m.members
   run_count n = from_count m.plan devices n (Some first_tick) started.state ∙ started_quiet.kept
+
+  -- as many partitions after n ticks
+  members_count : (n : ℕ) (o : Option At) (ms : List (Member C)) → length (members_from m.plan devices n o ms) ≡ length ms
+  members_count zero o ms = refl
+  members_count (suc n) None ms = refl
+  members_count (suc n) (Some at) ms =
+      let r = module_tick m.plan at devices ms in
+      members_count n (option_map next_tick r.at) r.state ∙ (tick_leads m.plan devices at ms).kept
+
+  pub run_members : (n : ℕ) → length (members_after m devices n) ≡ length m.members
+  run_members zero = refl
+  run_members (suc n) = members_count (suc n) (Some first_tick) started.state ∙ started_quiet.kept

@@ -1,5 +1,5 @@
 -- A view shows just in those ticks that a runner is RUNNING in which the lines tell it.
-use Rattle.std.proofs.Common.{◌≡◌, ◌<◌, ◌≤◌, ℕ, zero, suc, max, Bool, true, false, not, ◌⊎◌, inl, inr, List, [], ◌∷◌, ◌++◌, Option, Some, None, refl, sym, ap, ◌∙◌, subst, arith}
+use Rattle.std.proofs.Common.{◌≡◌, ◌<◌, ◌≤◌, ℕ, suc, max, Bool, true, false, not, ◌⊎◌, inl, inr, List, [], ◌∷◌, ◌++◌, Option, Some, None, refl, sym, ap, ◌∙◌, subst, arith}
 use Rattle.std.specs.Prelude.{◌+◌, ◌==◌, ◌&&◌, ◌||◌, nat_le, nat_lt, if◌then◌else◌, is_some}
 use Rattle.std.proofs.lemmas.Bool.{and_left, and_parts, and_right, cases_eq, cases_lt, eq-eqb, ne_eqb, false≢true, le-leb, le-ltb, lt-leb, lt-ltb, ltb-false, ltb-true}
 use Rattle.std.proofs.lemmas.Option.{none-some, same_Some}
@@ -24,7 +24,7 @@ use Rattle.state_laws.proofs.Moves.{IsBefore}
 use Rattle.state_laws.proofs.Subjects.{same_itself, same_subject}
 use Rattle.trace_stays.specs.Clearing.{starts_by}
 use Rattle.trace_stays.specs.Following.{and_one, held_with, next_by, next_if, next_in, next_of_all, stay_with}
-use Rattle.trace_stays.specs.Stays.{begins_at, behind, held_behind, left_at, stay_ended, stay_left, stay_until, tick}
+use Rattle.trace_stays.specs.Stays.{begins_at, behind, held_behind, left_at, stay_ended, stay_until, tick}
 use Rattle.trace_stays.specs.Traces.{stays_in, with_line}
 use Rattle.trace_stays.specs.declared.next.Next.{Next}
 use Rattle.trace_stays.specs.declared.next.Next.TheVariants.{Enters, Gone, Cleared}

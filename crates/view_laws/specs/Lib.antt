@@ -2,3 +2,5 @@ pub mod Reading
 pub mod Spent
 pub mod Shown
 pub mod Ticks
+pub mod Modes
+pub mod Counted

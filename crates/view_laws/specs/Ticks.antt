@@ -1,11 +1,13 @@
 -- In which ticks a view shows that a runner is RUNNING, in which the lines tell it, and in which it is so.
-use Rattle.std.specs.Prelude.{◌+◌, ◌==◌, ℕ, Bool, true, false, ◌&&◌, ◌||◌, nat_le, nat_lt, List, [], ◌∷◌, Option, Some, None}
+use Rattle.std.specs.Prelude.{◌+◌, ◌==◌, ℕ, zero, suc, Bool, true, false, ◌&&◌, ◌||◌, nat_le, nat_lt, List, [], ◌∷◌, Option, Some, None}
 use Rattle.apex_types.specs.declared.codes.ProcessState.{ProcessState}
 use Rattle.apex_types.specs.declared.codes.ProcessState.TheVariants as state
 use Rattle.apex_types.specs.declared.device.DeviceLine.{DeviceLine}
 use Rattle.apex_types.specs.declared.event.Subject.{Subject}
+use Rattle.kernel_laws.specs.History.{members_after}
 use Rattle.kernel_meaning.specs.Partition.{Member}
 use Rattle.module_meaning.specs.Module.{Module}
+use Rattle.module_meaning.specs.Table.{at_number}
 use Rattle.state_laws.specs.Spending.{owner_in, worker}
 use Rattle.state_laws.specs.States.{runs_in}
 use Rattle.state_laws.specs.Told.{Told, is_it, worked_in}
@@ -47,5 +49,15 @@ abbrev pub runs_if : Bool → Subject → (worker current : Option Subject) → 
 runs_if true who worker current = is_it who worker
 runs_if false who worker current = is_it who current
 
-abbrev pub runs_in_tick : {C : Type 0} → Module C → List DeviceLine → ℕ → Subject → ℕ → Member C → Bool
-runs_in_tick m devices p who t after = runs_if (is_owned p (owner_in m devices t)) who (worker m devices t) (runs_in after.world.kernel)
+abbrev pub current_in : {C : Type 0} → Option (Member C) → Option Subject
+current_in None = None
+current_in (Some x) = runs_in x.world.kernel
+
+-- in tick t of a run a runner of partition p runs
+abbrev pub runs_in_tick : {C : Type 0} → Module C → List DeviceLine → ℕ → Subject → ℕ → Bool
+runs_in_tick m devices p who t = runs_if (is_owned p (owner_in m devices t)) who (worker m devices t) (current_in (at_number (members_after m devices (suc t)) p))
+
+-- how many of n ticks from one on pass a test
+abbrev pub ticks_when : (ℕ → Bool) → (from n : ℕ) → ℕ
+ticks_when test from zero = 0
+ticks_when test from (suc n) = ticks_when test from n + one_if (test (from + n))

@@ -3,6 +3,7 @@
 ghost use Rattle.std.specs.Prelude.{◌≡◌, ◌<◌, ◌≤◌, ℕ, suc, true, List, None, Some};
 ghost use Rattle.apex_types.specs.Limits.{MOST_TICKS};
 ghost use Rattle.apex_types.specs.Line.{subject_text};
+ghost use Rattle.apex_types.specs.declared.codes.Mode.{Mode};
 ghost use Rattle.apex_types.specs.declared.device.DeviceLine.{DeviceLine};
 ghost use Rattle.apex_types.specs.declared.event.Event.{Event};
 ghost use Rattle.apex_types.specs.declared.event.Subject.{Subject};
@@ -18,8 +19,9 @@ ghost use Rattle.module_meaning.specs.Table.{Partition, Table, at_number};
 ghost use Rattle.pal_meaning.specs.Program.{Program};
 ghost use Rattle.pal_meaning.specs.SourceControl.{SourceControl};
 ghost use Rattle.state_laws.specs.Told.{told};
-ghost use Rattle.trace_stays.specs.Traces.{stays_in};
+ghost use Rattle.trace_stays.specs.Traces.{mode_behind_all, modes_in, stays_in};
 ghost use Rattle.trace_windows.specs.Uses.{one_if};
+ghost use Rattle.view_laws.specs.Modes.{is_held, is_same_mode, mode_in};
 ghost use Rattle.view_laws.specs.Reading.{AreInOrder, up_to};
 ghost use Rattle.view_laws.specs.Shown.{HasOwnWord, ShowsState, mode_shown, state_shown};
 ghost use Rattle.view_laws.specs.Ticks.{running_in, runs_in_tick, runs_told};
@@ -75,28 +77,60 @@ pub fn stays_tell_who_runs()
 /// is in one such stay.
 pub fn stays_are_runs()
     ensures machine { (image : Image) (devices : List DeviceLine) (n until t p : ℕ) (item : Item)
-        (who : Subject) (x : Member MachineControl)
+        (who : Subject)
         → IsLawful image
         → t < n
         → t < until
         → n ≤ MOST_TICKS
         → at_number image.items p ≡ Some item
-        → at_number (members_after (machine_module image) devices (suc t)) p ≡ Some x
         → HasOwnWord (machine_trace image devices n) who
         → running_in t
         (stays_in (machine_trace image devices n) until item.partition.name (subject_text who) None)
-        ≡ one_if (runs_in_tick (machine_module image) devices p who t x) }
+        ≡ one_if (runs_in_tick (machine_module image) devices p who t) }
     ensures accepted { (table : List ℕ) (sources : List (List ℕ)) (t : Table)
         (programs : List Program) (devices : List DeviceLine) (n until i p : ℕ) (row : Partition)
-        (who : Subject) (x : Member SourceControl)
+        (who : Subject)
         → IsModule table sources t programs
         → i < n
         → i < until
         → n ≤ MOST_TICKS
         → at_number t.partitions p ≡ Some row
-        → at_number (members_after (source_module t programs) devices (suc i)) p ≡ Some x
         → HasOwnWord (source_trace t programs devices n) who
         → running_in i
         (stays_in (source_trace t programs devices n) until row.name (subject_text who) None)
-        ≡ one_if (runs_in_tick (source_module t programs) devices p who i x) }
+        ≡ one_if (runs_in_tick (source_module t programs) devices p who i) }
+{}
+
+/// A tick is in one stay of a partition in the mode that the lines up to it lead to, and in none in
+/// another mode.
+pub fn stays_tell_the_mode()
+    ensures { (lines : List Event) (name : List ℕ) (m : Mode) (until t : ℕ)
+        → AreInOrder 0 lines
+        → t < until
+        → mode_in m t (modes_in lines until name None)
+        ≡ one_if (is_held m (mode_behind_all (up_to t lines) name None)) }
+{}
+
+/// In any run of a lawful image and of an accepted module a tick is in one stay of each partition in
+/// the mode that the partition has after it, and in none in another mode.
+pub fn stays_are_modes()
+    ensures machine { (image : Image) (devices : List DeviceLine) (n until t p : ℕ) (item : Item)
+        (x : Member MachineControl) (m : Mode)
+        → IsLawful image
+        → t < n
+        → t < until
+        → at_number image.items p ≡ Some item
+        → at_number (members_after (machine_module image) devices (suc t)) p ≡ Some x
+        → mode_in m t (modes_in (machine_trace image devices n) until item.partition.name None)
+        ≡ one_if (is_same_mode m x.world.kernel.mode) }
+    ensures accepted { (table : List ℕ) (sources : List (List ℕ)) (t : Table)
+        (programs : List Program) (devices : List DeviceLine) (n until i p : ℕ) (row : Partition)
+        (x : Member SourceControl) (m : Mode)
+        → IsModule table sources t programs
+        → i < n
+        → i < until
+        → at_number t.partitions p ≡ Some row
+        → at_number (members_after (source_module t programs) devices (suc i)) p ≡ Some x
+        → mode_in m i (modes_in (source_trace t programs devices n) until row.name None)
+        ≡ one_if (is_same_mode m x.world.kernel.mode) }
 {}
