@@ -117,7 +117,7 @@ names_up_to t (e ∷ es) h = by_test (nat_lt t e.tick.0) (names_up_to t es h.1)
     by_test true k = tt
     by_test false k = (h.0, k)
 
-word_up_to : (t : ℕ) (lines : List Event) (who : Subject) → HasOwnWord lines who → HasOwnWord (up_to t lines) who
+pub word_up_to : (t : ℕ) (lines : List Event) (who : Subject) → HasOwnWord lines who → HasOwnWord (up_to t lines) who
 word_up_to t lines Init h = names_up_to t lines h
 word_up_to t lines Handler h = names_up_to t lines h
 word_up_to t lines (Process own) h = h

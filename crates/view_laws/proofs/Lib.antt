@@ -11,3 +11,5 @@ pub mod Tallies
 pub mod Counted
 pub mod Modes
 pub mod ModesOfRuns
+pub mod Stated
+pub mod StatesOfRuns
