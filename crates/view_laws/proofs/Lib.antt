@@ -13,3 +13,4 @@ pub mod Modes
 pub mod ModesOfRuns
 pub mod Stated
 pub mod StatesOfRuns
+pub mod ModeTallies
