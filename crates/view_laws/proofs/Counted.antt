@@ -105,7 +105,7 @@ read_up_to window t from (e ∷ es) name word p is order = by_test (nat_lt t e.t
     by_test true f rest = let a = ltb-true t e.tick.0 f in unread window (e ∷ es) name word p (omega (arith, a, is), order.1)
     by_test false f rest = rest
 
-before_tick : (t : ℕ) (lines : List Event) → AreUpTo t lines → AreBeforeTick (suc t) lines
+pub before_tick : (t : ℕ) (lines : List Event) → AreUpTo t lines → AreBeforeTick (suc t) lines
 before_tick t [] h = tt
 before_tick t (e ∷ es) h = let a = h.0 in (omega (arith, a), before_tick t es h.1)
 

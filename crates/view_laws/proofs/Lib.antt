@@ -14,3 +14,4 @@ pub mod ModesOfRuns
 pub mod Stated
 pub mod StatesOfRuns
 pub mod ModeTallies
+pub mod ModesCounted

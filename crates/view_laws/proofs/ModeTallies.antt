@@ -1,16 +1,15 @@
 -- The ticks in a mode that a summary counts for a partition are those of its stays in the mode.
-use Rattle.std.proofs.Common.{◌≡◌, ◌<◌, ◌≤◌, ℕ, zero, suc, max, min, Bool, true, false, List, [], ◌∷◌, ◌++◌, Option, Some, None, refl, sym, ap, ◌∙◌, subst, ◌⊎◌, inl, inr, arith}
+use Rattle.std.proofs.Common.{◌≡◌, ◌<◌, ◌≤◌, ℕ, suc, Bool, true, false, List, [], ◌∷◌, ◌++◌, Option, Some, None, refl, sym, ap, ◌∙◌, subst, inl, inr, arith}
 use Rattle.std.specs.Prelude.{◌+◌, ◌-◌, ◌&&◌, nat_lt, if◌then◌else◌}
-use Rattle.std.proofs.lemmas.Bool.{cases_lt, le-ltb, lt-ltb, ltb-false, ltb-true}
+use Rattle.std.proofs.lemmas.Bool.{cases_lt, le-ltb, lt-ltb, ltb-true}
 use Rattle.apex_types.specs.Limits.{MOST_TICKS}
 use Rattle.apex_types.specs.declared.codes.Mode.{Mode}
 use Rattle.apex_types.specs.declared.codes.Mode.TheVariants as mode
 use Rattle.apex_types.specs.declared.event.Event.{Event}
 use Rattle.apex_types.specs.declared.event.EventKind.{EventKind}
 use Rattle.apex_types.specs.declared.event.EventKind.TheVariants as event
-use Rattle.engine_meaning.specs.Digits.{same}
 use Rattle.trace_stays.specs.Following.{and_one, is_of}
-use Rattle.trace_stays.specs.Stays.{mode_behind, mode_ended, span, tick}
+use Rattle.trace_stays.specs.Stays.{mode_ended, span}
 use Rattle.trace_stays.specs.Traces.{mode_with_line, modes_in}
 use Rattle.trace_stays.specs.declared.span.Span.{Span}
 use Rattle.trace_stays.specs.declared.stay.HeldMode.{HeldMode}
