@@ -105,7 +105,7 @@ read_up_to window t from (e ∷ es) name word p is order = by_test (nat_lt t e.t
     by_test true f rest = let a = ltb-true t e.tick.0 f in unread window (e ∷ es) name word p (omega (arith, a, is), order.1)
     by_test false f rest = rest
 
-before_tick : (t : ℕ) (lines : List Event) → AreUpTo t lines → AreBeforeTick (suc t) lines
+pub before_tick : (t : ℕ) (lines : List Event) → AreUpTo t lines → AreBeforeTick (suc t) lines
 before_tick t [] h = tt
 before_tick t (e ∷ es) h = let a = h.0 in (omega (arith, a), before_tick t es h.1)
 
@@ -117,7 +117,7 @@ names_up_to t (e ∷ es) h = by_test (nat_lt t e.tick.0) (names_up_to t es h.1)
     by_test true k = tt
     by_test false k = (h.0, k)
 
-word_up_to : (t : ℕ) (lines : List Event) (who : Subject) → HasOwnWord lines who → HasOwnWord (up_to t lines) who
+pub word_up_to : (t : ℕ) (lines : List Event) (who : Subject) → HasOwnWord lines who → HasOwnWord (up_to t lines) who
 word_up_to t lines Init h = names_up_to t lines h
 word_up_to t lines Handler h = names_up_to t lines h
 word_up_to t lines (Process own) h = h

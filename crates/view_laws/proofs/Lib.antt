@@ -11,3 +11,7 @@ pub mod Tallies
 pub mod Counted
 pub mod Modes
 pub mod ModesOfRuns
+pub mod Stated
+pub mod StatesOfRuns
+pub mod ModeTallies
+pub mod ModesCounted

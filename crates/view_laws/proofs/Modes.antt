@@ -20,19 +20,19 @@ use Rattle.view_laws.specs.Ticks.{has_tick}
 
 -- ---- the mode that a line says
 
-abbrev said_if : Bool → EventKind → Option Mode
+abbrev pub said_if : Bool → EventKind → Option Mode
 said_if true (event.Mode m) = Some m
 said_if b kind = None
 
-abbrev after_said : Option Mode → ℕ → Option HeldMode → Option HeldMode
+abbrev pub after_said : Option Mode → ℕ → Option HeldMode → Option HeldMode
 after_said None z held = held
 after_said (Some m) z held = mode_behind held m z
 
-abbrev over_said : Option Mode → ℕ → Option HeldMode → Option ModeStay
+abbrev pub over_said : Option Mode → ℕ → Option HeldMode → Option ModeStay
 over_said None z held = None
 over_said (Some m) z held = mode_ended held z
 
-said_after : (b : Bool) (kind : EventKind) (z : ℕ) (held : Option HeldMode) → (if b then following.mode_in kind z held else held) ≡ after_said (said_if b kind) z held
+pub said_after : (b : Bool) (kind : EventKind) (z : ℕ) (held : Option HeldMode) → (if b then following.mode_in kind z held else held) ≡ after_said (said_if b kind) z held
 said_after false kind z held = refl
 said_after true (event.Mode m) z held = refl
 said_after true (event.State who s) z held = refl
@@ -44,7 +44,7 @@ said_after true (event.Arrive port words) z held = refl
 said_after true (event.Lost port words) z held = refl
 said_after true (event.Out channel words) z held = refl
 
-said_over : (b : Bool) (kind : EventKind) (z : ℕ) (held : Option HeldMode) → (if b then following.mode_stay_in kind z held else None) ≡ over_said (said_if b kind) z held
+pub said_over : (b : Bool) (kind : EventKind) (z : ℕ) (held : Option HeldMode) → (if b then following.mode_stay_in kind z held else None) ≡ over_said (said_if b kind) z held
 said_over false kind z held = refl
 said_over true (event.Mode m) z held = refl
 said_over true (event.State who s) z held = refl

@@ -42,11 +42,11 @@ by_worker : (who : Subject) (r o : Option Subject) → ((y : Subject) → r ≡ 
 by_worker who None o alone = refl
 by_worker who (Some y) o alone = ap (λ (x : Option Subject). is_it who (Some y) || is_it who x) (alone y refl) ∙ or_nothing (is_it who (Some y))
 
-owned_so : (p : ℕ) (o : Option ℕ) → is_owned p o ≡ true → o ≡ Some p
+pub owned_so : (p : ℕ) (o : Option ℕ) → is_owned p o ≡ true → o ≡ Some p
 owned_so p None e = absurd (false≢true e)
 owned_so p (Some q) e = ap Some (eqb-true q p e)
 
-not_owned : (p : ℕ) (o : Option ℕ) → is_owned p o ≡ false → o ≢ Some p
+pub not_owned : (p : ℕ) (o : Option ℕ) → is_owned p o ≡ false → o ≢ Some p
 not_owned p None e f = none-some p f
 not_owned p (Some q) e f = false≢true (sym e ∙ eq-eqb q p (same_Some q p f))
 

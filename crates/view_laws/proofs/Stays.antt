@@ -25,7 +25,7 @@ use Rattle.state_laws.proofs.Subjects.{same_itself, same_subject}
 use Rattle.trace_stays.specs.Clearing.{starts_by}
 use Rattle.trace_stays.specs.Following.{and_one, held_with, next_by, next_if, next_in, next_of_all, stay_with}
 use Rattle.trace_stays.specs.Stays.{begins_at, behind, held_behind, left_at, stay_ended, stay_until, tick}
-use Rattle.trace_stays.specs.Traces.{stays_in, with_line}
+use Rattle.trace_stays.specs.Traces.{state_after, stays_in, with_line}
 use Rattle.trace_stays.specs.declared.next.Next.{Next}
 use Rattle.trace_stays.specs.declared.next.Next.TheVariants.{Enters, Gone, Cleared}
 use Rattle.trace_stays.specs.declared.stay.Held.{Held}
@@ -196,7 +196,7 @@ module _ (x : ℕ) (few : x < MOST_TICKS) where
   behind_late : (z : ℕ) → x < z → x < behind z
   behind_late z l = omega (arith, l, few)
 
-  left_late : (s : ProcessState) (n : Next) (z : ℕ) → x < z → x < left_at s n z
+  pub left_late : (s : ProcessState) (n : Next) (z : ℕ) → x < z → x < left_at s n z
   left_late state.Dormant n z l = l
   left_late state.Ready n z l = l
   left_late state.Waiting n z l = l
@@ -207,10 +207,10 @@ module _ (x : ℕ) (few : x < MOST_TICKS) where
   left_late state.Running Gone z l = behind_late z l
   left_late state.Running Cleared z l = l
 
-  has_late : (a : Bool) (from until : ℕ) → x < until → one_if (a && (nat_le from x && nat_lt x until)) ≡ one_if (a && nat_le from x)
+  pub has_late : (a : Bool) (from until : ℕ) → x < until → one_if (a && (nat_le from x && nat_lt x until)) ≡ one_if (a && nat_le from x)
   has_late a from until l = ap (λ (b : Bool). one_if (a && (nat_le from x && b))) (lt-ltb x until l) ∙ ap (λ (b : Bool). one_if (a && b)) (and_true (nat_le from x))
 
-  begins_late : (o : Option Held) (s : ProcessState) (z : ℕ) → x < z → x < begins_at o (Enters s) z
+  pub begins_late : (o : Option Held) (s : ProcessState) (z : ℕ) → x < z → x < begins_at o (Enters s) z
   begins_late None s z l = l
   begins_late (Some h) s z l = let k = left_late h.state (Enters s) z l in omega (arith, k)
 
@@ -244,7 +244,7 @@ module _ (x : ℕ) (few : x < MOST_TICKS) where
 
   -- ---- lines up to the tick
 
-  not_there : (from until : ℕ) → until ≤ x → (nat_le from x && nat_lt x (max from until)) ≡ false
+  pub not_there : (from until : ℕ) → until ≤ x → (nat_le from x && nat_lt x (max from until)) ≡ false
   not_there from until l = elim (cases_lt x from) [
     | inl low ↦ and_left (nat_le from x) (nat_lt x (max from until)) (lt-leb from x low)
     | inr high ↦ and_right (nat_le from x) (nat_lt x (max from until)) (le-ltb x (max from until) (omega (arith, l, high)))
@@ -617,9 +617,11 @@ module _ (x : ℕ) (few : x < MOST_TICKS) where
 
     -- ---- a tick
 
-    -- so many stays have the tick; and if somebody is RUNNING, nobody has worked in it
-    abbrev pub IsShown : ℕ → Told → Type 0
-    IsShown n u = (n ≡ one_if (runs_told x who u)) × ((y : Subject) → u.running ≡ Some y → worked_in x u.worked ≡ None)
+    -- so many stays have the tick; if somebody is RUNNING, nobody has worked in it; and the state held has the tick, unless the runner has worked in it
+    abbrev pub IsShown : ℕ → Told → Option Held → Type 0
+    IsShown n u held =
+        (n ≡ one_if (runs_told x who u)) × ((y : Subject) → u.running ≡ Some y → worked_in x u.worked ≡ None)
+        × ((h : Held) → held ≡ Some h → (h.since.0 ≤ x) ⊎ ((h.since.0 ≡ suc x) × (is_it who (worked_in x u.worked) ≡ true)))
 
     at_last : (held : Option Held) (t : Told) (c : ℕ) → Told_at x held t c → c + shows_now held ≡ one_if (runs_told x who t)
     at_last held t c h = by_test (is_it who t.running) refl
@@ -649,11 +651,11 @@ module _ (x : ℕ) (few : x < MOST_TICKS) where
             omega (arith, k, a)
 
     shown_told : (lines : List Event) (until : ℕ) (name : List ℕ) (z : ℕ) (held : Option Held) (t : Told) (c : ℕ) → z ≤ x → x < until → AreInOrder z lines → AreToldApart who lines → RunInTurn name t lines → Told_at z held t c
-        → IsShown (c + running_in x (stays_in lines until name (subject_text who) held)) (told_from name t (up_to x lines))
+        → IsShown (c + running_in x (stays_in lines until name (subject_text who) held)) (told_from name t (up_to x lines)) (state_after (up_to x lines) name (subject_text who) held)
     shown_told [] until name z held t c l u order apart free h =
         let a = late [] until name (subject_text who) held tt u in
         let k = later_tick z x held t.running t.worked c l h in
-        (ap (λ (n : ℕ). c + n) a ∙ at_last held t c k, k.free)
+        (ap (λ (n : ℕ). c + n) a ∙ at_last held t c k, k.free, k.since)
     shown_told (e ∷ es) until name z held t c l u order apart free h =
         by_test (nat_lt x e.tick.0) refl
         (λ low k. shown_told es until name e.tick.0 (with_line e name (subject_text who) held) (reading.with_line name t e) (c + counted (stay_with (next_by e.partition e.kind name (subject_text who)) e.tick.0 held)) low u order.1 apart.1 free.1 k)
@@ -665,13 +667,13 @@ module _ (x : ℕ) (few : x < MOST_TICKS) where
         over = counted (stay_with (next_by e.partition e.kind name (subject_text who)) e.tick.0 held)
 
         by_test : (b : Bool) → nat_lt x e.tick.0 ≡ b
-            → (e.tick.0 ≤ x → Told_at e.tick.0 new (reading.with_line name t e) (c + over) → IsShown (c + over + running_in x (stays_in es until name (subject_text who) new)) (told_from name (reading.with_line name t e) (up_to x es)))
-            → IsShown (c + running_in x (stays_in (e ∷ es) until name (subject_text who) held)) (told_from name t (if b then [] else e ∷ up_to x es))
+            → (e.tick.0 ≤ x → Told_at e.tick.0 new (reading.with_line name t e) (c + over) → IsShown (c + over + running_in x (stays_in es until name (subject_text who) new)) (told_from name (reading.with_line name t e) (up_to x es)) (state_after (up_to x es) name (subject_text who) new))
+            → IsShown (c + running_in x (stays_in (e ∷ es) until name (subject_text who) held)) (told_from name t (if b then [] else e ∷ up_to x es)) (state_after (if b then [] else e ∷ up_to x es) name (subject_text who) held)
         by_test true f later =
             let after = ltb-true x e.tick.0 f in
             let a = late (e ∷ es) until name (subject_text who) held (omega (arith, after), order.1) u in
             let k = later_tick z x held t.running t.worked c l h in
-            (ap (λ (n : ℕ). c + n) a ∙ at_last held t c k, k.free)
+            (ap (λ (n : ℕ). c + n) a ∙ at_last held t c k, k.free, k.since)
         by_test false f later =
             let low : e.tick.0 ≤ x = ltb-false x e.tick.0 f in
             let there = later_tick z e.tick.0 held t.running t.worked c order.0 h in
@@ -680,13 +682,13 @@ module _ (x : ℕ) (few : x < MOST_TICKS) where
             let rest = later low k in
             let parts = and_counted (stay_with next e.tick.0 held) (stays_in es until name (subject_text who) (with_line e name (subject_text who) held)) in
             let all = rest.0 in
-            (omega (arith, all, parts), rest.1)
+            (omega (arith, all, parts), rest.1, rest.2)
 
 module _ (lines : List Event) (until : ℕ) (name : List ℕ) (who : Subject) (x : ℕ) (own : HasOwnWord lines who) (order : AreInOrder 0 lines) (orderly : (told name lines).orderly ≡ true) (u : x < until) (few : x < MOST_TICKS) where
   begun : Runs x few who 0 None None None 0
   begun = record { runs = refl; count = refl; free = λ y e. absurd (none-some y e); since = λ k e. absurd (none-some k e); before = tt }
 
-  ended : IsShown x few who (0 + running_in x (stays_in lines until name (subject_text who) None)) (told name (up_to x lines))
+  ended : IsShown x few who (0 + running_in x (stays_in lines until name (subject_text who) None)) (told name (up_to x lines)) (state_after (up_to x lines) name (subject_text who) None)
   ended = shown_told x few who lines until name 0 None first_told 0 (omega arith) u order (own_word who lines own) (lines_in_turn name lines first_told orderly).1 begun
 
   pub runner_in : running_in x (stays_in lines until name (subject_text who) None) ≡ one_if (runs_told x who (told name (up_to x lines)))
@@ -695,3 +697,7 @@ module _ (lines : List Event) (until : ℕ) (name : List ℕ) (who : Subject) (x
   -- if somebody is RUNNING after the tick, nobody has worked in it
   pub works_alone : (y : Subject) → (told name (up_to x lines)).running ≡ Some y → worked_in x (told name (up_to x lines)).worked ≡ None
   works_alone = ended.1
+
+  -- the state held has the tick, unless the runner has worked in it
+  pub state_since : is_it who (worked_in x (told name (up_to x lines)).worked) ≡ false → (h : Held) → state_after (up_to x lines) name (subject_text who) None ≡ Some h → h.since.0 ≤ x
+  state_since rests h e = elim (ended.2 h e) [ inl a ↦ a | inr a ↦ absurd (false≢true (sym rests ∙ a.1)) ]

@@ -17,11 +17,11 @@ abbrev pub sum_of : (ℕ → ℕ) → (from n : ℕ) → ℕ
 sum_of f from zero = 0
 sum_of f from (suc n) = sum_of f from n + f (from + n)
 
-sum_both : (f g : ℕ → ℕ) (from n : ℕ) → sum_of (λ t. f t + g t) from n ≡ sum_of f from n + sum_of g from n
+pub sum_both : (f g : ℕ → ℕ) (from n : ℕ) → sum_of (λ t. f t + g t) from n ≡ sum_of f from n + sum_of g from n
 sum_both f g from zero = omega arith
 sum_both f g from (suc n) = let k = sum_both f g from n in omega (arith, k)
 
-sum_none : (from n : ℕ) → sum_of (λ t. 0) from n ≡ 0
+pub sum_none : (from n : ℕ) → sum_of (λ t. 0) from n ≡ 0
 sum_none from zero = refl
 sum_none from (suc n) = let k = sum_none from n in omega (arith, k)
 
@@ -52,7 +52,7 @@ one_tick a b from n = elim (cases_lt (from + n) a) [
   ]
 ]
 
-stay_ticks : (s : Span) (from n : ℕ) → sum_of (λ t. one_if (has_tick t s)) from n ≡ ticks_in (span from (from + n)) s
+pub stay_ticks : (s : Span) (from n : ℕ) → sum_of (λ t. one_if (has_tick t s)) from n ≡ ticks_in (span from (from + n)) s
 stay_ticks s from zero = omega arith
 stay_ticks s from (suc n) = ap (λ (k : ℕ). k + one_if (has_tick (from + n) s)) (stay_ticks s from n) ∙ one_tick s.from.0 s.until.0 from n
 

@@ -31,6 +31,25 @@ abbrev pub running_in : ℕ → List Stay → ℕ
 running_in t [] = 0
 running_in t (s ∷ ss) = one_if (is_running s.state && has_tick t s.span) + running_in t ss
 
+-- the runner is there, and is not RUNNING
+abbrev pub is_resting : ProcessState → Bool
+is_resting state.Ready = true
+is_resting state.Waiting = true
+is_resting state.Running = false
+is_resting state.Dormant = false
+
+abbrev pub is_same_state : ProcessState → ProcessState → Bool
+is_same_state state.Running state.Running = true
+is_same_state state.Dormant state.Dormant = true
+is_same_state state.Ready state.Ready = true
+is_same_state state.Waiting state.Waiting = true
+is_same_state _ _ = false
+
+-- how many are in this state and have it
+abbrev pub state_in : ProcessState → ℕ → List Stay → ℕ
+state_in wanted t [] = 0
+state_in wanted t (s ∷ ss) = one_if (is_same_state wanted s.state && has_tick t s.span) + state_in wanted t ss
+
 -- ---- lines
 
 -- after the lines up to a tick the runner is RUNNING, or it was the last to leave RUNNING by its work, and did so in this tick
@@ -56,6 +75,10 @@ current_in (Some x) = runs_in x.world.kernel
 -- in tick t of a run a runner of partition p runs
 abbrev pub runs_in_tick : {C : Type 0} → Module C → List DeviceLine → ℕ → Subject → ℕ → Bool
 runs_in_tick m devices p who t = runs_if (is_owned p (owner_in m devices t)) who (worker m devices t) (current_in (at_number (members_after m devices (suc t)) p))
+
+-- in tick t of a run it spends the tick
+abbrev pub works_in_tick : {C : Type 0} → Module C → List DeviceLine → ℕ → Subject → ℕ → Bool
+works_in_tick m devices p who t = is_owned p (owner_in m devices t) && is_it who (worker m devices t)
 
 -- how many of n ticks from one on pass a test
 abbrev pub ticks_when : (ℕ → Bool) → (from n : ℕ) → ℕ

@@ -1,14 +1,18 @@
 //! What the views show as states and modes.
 
-ghost use Rattle.std.specs.Prelude.{◌≡◌, ◌<◌, ◌≤◌, ℕ, suc, true, List, None, Some};
+ghost use Rattle.std.specs.Prelude.{◌≡◌, ◌<◌, ◌≤◌, ℕ, suc, false, true, List, None, Some};
 ghost use Rattle.apex_types.specs.Limits.{MOST_TICKS};
 ghost use Rattle.apex_types.specs.Line.{subject_text};
 ghost use Rattle.apex_types.specs.declared.codes.Mode.{Mode};
+ghost use Rattle.apex_types.specs.declared.codes.ProcessState.{ProcessState};
 ghost use Rattle.apex_types.specs.declared.device.DeviceLine.{DeviceLine};
 ghost use Rattle.apex_types.specs.declared.event.Event.{Event};
 ghost use Rattle.apex_types.specs.declared.event.Subject.{Subject};
+ghost use Rattle.apex_types.specs.declared.identity.Runner.{Runner};
+ghost use Rattle.apex_types.specs.declared.process.ProcessStatus.{ProcessStatus};
 ghost use Rattle.kernel_laws.specs.History.{members_after};
 ghost use Rattle.kernel_meaning.specs.Partition.{Member};
+ghost use Rattle.kernel_meaning.specs.Processes.{row_of};
 ghost use Rattle.machine_meaning.specs.Image.{Image, Item};
 ghost use Rattle.machine_meaning.specs.ImageLimits.{IsLawful};
 ghost use Rattle.machine_meaning.specs.MachineControl.{MachineControl};
@@ -24,7 +28,7 @@ ghost use Rattle.trace_windows.specs.Uses.{one_if};
 ghost use Rattle.view_laws.specs.Modes.{is_held, is_same_mode, mode_in};
 ghost use Rattle.view_laws.specs.Reading.{AreInOrder, up_to};
 ghost use Rattle.view_laws.specs.Shown.{HasOwnWord, ShowsState, mode_shown, state_shown};
-ghost use Rattle.view_laws.specs.Ticks.{running_in, runs_in_tick, runs_told};
+ghost use Rattle.view_laws.specs.Ticks.{is_resting, is_same_state, running_in, runs_in_tick, runs_told, state_in, works_in_tick};
 
 /// The state that a view shows of a runner after lines is the one that these lines tell, if no other
 /// runner in the lines has its word. The mode that it shows of a partition is the one that they tell.
@@ -99,6 +103,43 @@ pub fn stays_are_runs()
         → running_in i
         (stays_in (source_trace t programs devices n) until row.name (subject_text who) None)
         ≡ one_if (runs_in_tick (source_module t programs) devices p who i) }
+{}
+
+/// In any run of a lawful image and of an accepted module a tick that a runner does not spend is in one
+/// stay of the runner in READY or WAITING if this is its state after the tick, and else in none.
+pub fn stays_are_states()
+    ensures machine { (image : Image) (devices : List DeviceLine) (n until t p : ℕ) (item : Item)
+        (x : Member MachineControl) (q : Runner) (r : ProcessStatus) (wanted : ProcessState)
+        → IsLawful image
+        → t < n
+        → t < until
+        → n ≤ MOST_TICKS
+        → at_number image.items p ≡ Some item
+        → at_number (members_after (machine_module image) devices (suc t)) p ≡ Some x
+        → row_of x.world.kernel.processes q ≡ Some r
+        → HasOwnWord (machine_trace image devices n) r.who
+        → is_resting wanted ≡ true
+        → works_in_tick (machine_module image) devices p r.who t ≡ false
+        → state_in wanted t
+        (stays_in (machine_trace image devices n) until item.partition.name
+        (subject_text r.who) None)
+        ≡ one_if (is_same_state wanted r.state) }
+    ensures accepted { (table : List ℕ) (sources : List (List ℕ)) (t : Table)
+        (programs : List Program) (devices : List DeviceLine) (n until i p : ℕ) (part : Partition)
+        (x : Member SourceControl) (q : Runner) (r : ProcessStatus) (wanted : ProcessState)
+        → IsModule table sources t programs
+        → i < n
+        → i < until
+        → n ≤ MOST_TICKS
+        → at_number t.partitions p ≡ Some part
+        → at_number (members_after (source_module t programs) devices (suc i)) p ≡ Some x
+        → row_of x.world.kernel.processes q ≡ Some r
+        → HasOwnWord (source_trace t programs devices n) r.who
+        → is_resting wanted ≡ true
+        → works_in_tick (source_module t programs) devices p r.who i ≡ false
+        → state_in wanted i
+        (stays_in (source_trace t programs devices n) until part.name (subject_text r.who) None)
+        ≡ one_if (is_same_state wanted r.state) }
 {}
 
 /// A tick is in one stay of a partition in the mode that the lines up to it lead to, and in none in
