@@ -219,6 +219,7 @@ impl Service {
     }
 
     /// The name of this service in the standard, as traces and source texts have it.
+    #[inline(always)]
     pub fn word(self) -> &'static str
         ensures word { result.now ≡ service_word self }
         ensures short { length result.now ≤ 26 }
@@ -227,6 +228,7 @@ impl Service {
     }
 
     /// The kinds of the arguments of this service, in order.
+    #[inline(always)]
     pub fn arguments(self) -> &'static [ArgumentKind]
         ensures kinds { result.now ≡ arguments_of self }
         ensures few { length result.now ≤ 4 }
@@ -236,6 +238,7 @@ impl Service {
 
     /// The number of words of this service's arguments: an array argument takes two, its place and
     /// its size.
+    #[inline(always)]
     pub fn argument_words(self) -> u32
         ensures { result ≡ argument_words self }
     {
@@ -244,6 +247,7 @@ impl Service {
 
     /// The number of words that this service returns: the code and the outputs; STOP_SELF returns
     /// none.
+    #[inline(always)]
     pub fn answer_words(self) -> u8
         ensures words { result ≡ answer_words self }
         ensures few { result ≤ 7 }

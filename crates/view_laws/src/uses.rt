@@ -1,6 +1,6 @@
 //! What the views count for each tick.
 
-ghost use Rattle.std.specs.Prelude.{◌≡◌, ◌<◌, ◌≤◌, ◌-◌, ℕ, suc, List};
+ghost use Rattle.std.specs.Prelude.{◌≡◌, ◌<◌, ◌≤◌, ℕ, suc, List};
 ghost use Rattle.apex_types.specs.Limits.{MOST_TICKS};
 ghost use Rattle.apex_types.specs.declared.device.DeviceLine.{DeviceLine};
 ghost use Rattle.apex_types.specs.declared.event.Event.{Event};
@@ -13,15 +13,13 @@ ghost use Rattle.module_meaning.specs.SourceMeaning.{source_module, source_trace
 ghost use Rattle.module_meaning.specs.Table.{Table};
 ghost use Rattle.pal_meaning.specs.Program.{Program};
 ghost use Rattle.state_laws.specs.Spending.{owner_in};
-ghost use Rattle.trace_windows.specs.Counts.{ticks_for};
 ghost use Rattle.trace_windows.specs.Frames as frames;
 ghost use Rattle.trace_windows.specs.Runs.{AreBefore, AreSharesOf};
 ghost use Rattle.trace_windows.specs.Standings.{at_first};
-ghost use Rattle.trace_windows.specs.Uses.{ticks_used, use_of};
+ghost use Rattle.trace_windows.specs.Uses.{use_of};
 ghost use Rattle.trace_windows.specs.declared.counted.Row.{Row};
-ghost use Rattle.trace_windows.specs.declared.usage.Use.{Use};
 ghost use Rattle.view_laws.specs.Reading.{AreInOrder, HaveOwnNames, up_to, use_told};
-ghost use Rattle.view_laws.specs.Spent.{names_of_image, names_of_table, use_in};
+ghost use Rattle.view_laws.specs.Spent.{AreSpent, names_of_image, names_of_table, use_in};
 
 /// What the views count for a tick is what the lines up to it tell: after a shutdown nothing, in no
 /// window nothing, and else the runner of the owner that spends it by its lines, or nobody.
@@ -75,8 +73,7 @@ pub fn shares_are_spent()
         → n ≤ MOST_TICKS
         → AreSharesOf image.schedule (names_of_image image) from until
         (machine_trace image devices n) rows
-        → (u : Use) → ticks_for u rows
-        ≡ ticks_used (use_in (machine_module image) devices) u from (until - from) }
+        → AreSpent (machine_module image) devices from until rows }
     ensures accepted { (table : List ℕ) (sources : List (List ℕ)) (t : Table)
         (programs : List Program) (devices : List DeviceLine) (n from until : ℕ) (rows : List Row)
         → IsModule table sources t programs
@@ -84,8 +81,7 @@ pub fn shares_are_spent()
         → n ≤ MOST_TICKS
         → AreSharesOf t.schedule (names_of_table t) from until (source_trace t programs devices n)
         rows
-        → (u : Use) → ticks_for u rows
-        ≡ ticks_used (use_in (source_module t programs) devices) u from (until - from) }
+        → AreSpent (source_module t programs) devices from until rows }
 {}
 
 /// The lines of a run are in the order of their ticks and none is behind its last tick. Those up to
