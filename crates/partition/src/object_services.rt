@@ -29,18 +29,18 @@ pub(crate) fn serve_objects(
     table: &mut ProcessTable,
     objects: &mut Objects,
     request: Request,
-    call: ObjectCall,
+    call: &ObjectCall,
     words: &Words,
     out: &mut Out,
 )
     requires room { HasRoom LINES_TO_SERVE ACTIONS_TO_SERVE out.old }
     ensures step { IsMade
         (serves_objects request.mode request.moment.at (both table.old objects.old)
-        request.caller call words.now.items)
+        request.caller call.now words.now.items)
         (both table.new objects.new) out.old out.new }
     ensures grows { Grows LINES_TO_SERVE ACTIONS_TO_SERVE out.old out.new }
 {
-    match call {
+    match *call {
         ObjectCall::CreateBuffer { name } => create_buffer(table, objects, request, name, out),
         ObjectCall::SendBuffer {
             buffer,

@@ -20,18 +20,18 @@ pub(crate) fn serve_ports(
     table: &mut ProcessTable,
     ports: &mut Ports,
     request: Request,
-    call: PortCall,
+    call: &PortCall,
     words: &Words,
     out: &mut Out,
 )
     requires room { HasRoom LINES_TO_SERVE ACTIONS_TO_SERVE out.old }
     ensures step { IsMade
         (meaning.serves_ports request.mode request.moment.at (both table.old ports.old)
-        request.caller call words.now.items)
+        request.caller call.now words.now.items)
         (both table.new ports.new) out.old out.new }
     ensures grows { Grows LINES_TO_SERVE ACTIONS_TO_SERVE out.old out.new }
 {
-    match call {
+    match *call {
         PortCall::CreateSamplingPort { name } => {
             create_sampling_port(table, ports, request, name, out)
         }

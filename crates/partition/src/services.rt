@@ -51,7 +51,7 @@ impl Kernel {
     {
         match outcome {
             Outcome::Busy | Outcome::Local => {}
-            Outcome::Call(call) => self.serve(moment, runner, *call, words, out),
+            Outcome::Call(call) => self.serve(moment, runner, call, words, out),
             Outcome::Fault(error) => self.fault(runner, *error, out),
             Outcome::End => self.end_body(runner, out),
         }
@@ -59,14 +59,14 @@ impl Kernel {
 
     /// Serves a call; `words` are those that it passes. Calls on objects and on ports have a
     /// separate dispatch.
-    fn serve(&mut self, moment: Moment, caller: Runner, call: Call, words: &Words, out: &mut Out)
+    fn serve(&mut self, moment: Moment, caller: Runner, call: &Call, words: &Words, out: &mut Out)
         requires room { HasRoom LINES_TO_SERVE ACTIONS_TO_SERVE out.old }
-        ensures step { IsMade (meaning.serves moment.at self.old caller call words.now.items)
+        ensures step { IsMade (meaning.serves moment.at self.old caller call.now words.now.items)
             self.new out.old out.new }
         ensures grows { Grows LINES_TO_SERVE ACTIONS_TO_SERVE out.old out.new }
     {
         let request = self.request(moment, caller);
-        match call {
+        match *call {
             Call::GetPartitionStatus => self.get_partition_status(caller, out),
             Call::SetPartitionMode { mode } => self.set_partition_mode(moment, caller, mode, out),
             Call::StopSelf => self.end_body(caller, out),
@@ -119,7 +119,7 @@ impl Kernel {
             Call::PeriodicWait => periodic_wait(&mut self.processes, request, out),
             Call::GetTime => get_time(&self.processes, request, out),
             Call::Replenish { budget } => replenish(&mut self.processes, request, budget, out),
-            Call::Object(call) => serve_objects(
+            Call::Object(ref call) => serve_objects(
                 &mut self.processes,
                 &mut self.objects,
                 request,
@@ -127,7 +127,7 @@ impl Kernel {
                 words,
                 out,
             ),
-            Call::Port(call) => serve_ports(
+            Call::Port(ref call) => serve_ports(
                 &mut self.processes,
                 &mut self.ports,
                 request,

@@ -270,6 +270,7 @@ impl<E: Executor> Partition<E> {
 
 /// Takes the words that a call passes: those of its array, at most those of a message. They are
 /// copied into memory that is there, since most calls pass none.
+#[inline(always)]
 #[tactic(auto, using(kernel_laws::proofs::Numbers::handed_words))]
 pub(crate) fn hand<E: Executor>(handed: &mut Words, executor: &E, mem: &E::Mem, outcome: &Outcome)
     ensures { handed.new.items ≡ meaning.given (asks_of outcome.now) (E.words mem.now) }

@@ -1,11 +1,5 @@
-use Rattle.std.proofs.Common.{rules}
-use Rattle.apex_types.proofs.TickCosts.{too_few, too_many}
-use Rattle.apex_types.proofs.cost.Costs.from_order.Goals.{in_default-via-then-costs-lt15, in_default-via-else-costs-lt15+else-costs-lt16}
+use Rattle.apex_types.proofs.TickCosts.{in_order}
 use Rattle.apex_types.proofs.cost.Costs.from_order.Goals as goal
 
-pub returns-in_default : goal.returns-in_default
-returns-in_default c =
-    elim c.in_default.branch [
-      | in_default-via-then-costs-lt15 w ↦ too_few c.args.costs.now (search rules)
-      | in_default-via-else-costs-lt15+else-costs-lt16 w ↦ too_many c.args.costs.now (search rules)
-    ]
+pub returns-in-len15 : goal.returns-in-len15
+returns-in-len15 c = in_order c.args.costs.now c.in-len15.len_at_least c.in-len15.len_below _ _ _ _ _ _ _ _ _ _ _ _ _ _ _ c.literal-item.is c.scalar-item.is c.array-item.is c.add-item.is c.mul-item.is c.div-item.is c.logic-item.is c.branch-item.is c.jump-item.is c.call-item.is c.ret-item.is c.create-item.is c.message-item.is c.service-item.is c.end-item.is
