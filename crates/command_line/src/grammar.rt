@@ -7,7 +7,7 @@ ghost use Rattle.command_words.specs.Grammar.{IsCommand};
 ghost use Rattle.command_line.specs.Words.{mb_app};
 
 use clap::{Command, Error};
-use command_words::{Argument, CommandRow, Program};
+use command_words::{Argument, CommandRow, ExitStatus, Page, Program};
 use std::alloc::{AllocError, Global};
 
 static PROGRAM: Program = Program {
@@ -18,6 +18,27 @@ static PROGRAM: Program = Program {
     commands: &[
         CHECK, BUILD, RUN, REPLAY, INPUTS, COST, DIS, UPGRADE, LOAD, LINT,
     ],
+    statuses: &[DONE, REFUSED, NO_COMMAND, FOUND],
+};
+
+const DONE: ExitStatus = ExitStatus {
+    number: 0,
+    meaning: "What was asked for is done, or help is written",
+};
+
+const REFUSED: ExitStatus = ExitStatus {
+    number: 1,
+    meaning: "It is refused, with one line on standard error",
+};
+
+const NO_COMMAND: ExitStatus = ExitStatus {
+    number: 2,
+    meaning: "The words are no command; a usage is on standard error",
+};
+
+const FOUND: ExitStatus = ExitStatus {
+    number: 3,
+    meaning: "lint has found something, or no line came for which run --until waits",
 };
 
 const CHECK: CommandRow = CommandRow {
@@ -209,6 +230,11 @@ pub fn grammar<'a>(alloc: Global) -> Result<Command<'a>, AllocError>
     ensures { IfOk result (λ command. IsCommand command mb_app) }
 {
     PROGRAM.grammar(alloc)
+}
+
+/// The text of a page of the program's own words.
+pub fn page_text(alloc: Global, page: Page) -> Result<String, AllocError> {
+    PROGRAM.page(alloc, page)
 }
 
 /// The usage error of a word that is no number of ticks, of the command of that name.

@@ -74,6 +74,7 @@ tick_wrong name rows (Refused refusal.TooMany) is h = absurd h
 tick_wrong name rows (Refused (refusal.Crowded shapes from until elements)) is h = absurd h
 tick_wrong name rows (Refused (refusal.Table fault shown)) is h = absurd h
 tick_wrong name rows (Refused (refusal.Foreign partition)) is h = absurd h
+tick_wrong name rows (Refused (refusal.Unknown line)) is h = absurd h
 tick_wrong name rows (Refused refusal.Memory) is h = tt
 tick_wrong name rows (Refused refusal.Write) is h = absurd h
 
@@ -87,6 +88,7 @@ kind_wrong name rows (Refused refusal.TooMany) is h = absurd h
 kind_wrong name rows (Refused (refusal.Crowded shapes from until elements)) is h = absurd h
 kind_wrong name rows (Refused (refusal.Table fault shown)) is h = absurd h
 kind_wrong name rows (Refused (refusal.Foreign partition)) is h = absurd h
+kind_wrong name rows (Refused (refusal.Unknown line)) is h = absurd h
 kind_wrong name rows (Refused refusal.Memory) is h = tt
 kind_wrong name rows (Refused refusal.Write) is h = absurd h
 
@@ -100,12 +102,13 @@ limit_wrong rows (Refused refusal.TooMany) h = absurd h
 limit_wrong rows (Refused (refusal.Crowded shapes from until elements)) h = absurd h
 limit_wrong rows (Refused (refusal.Table fault shown)) h = absurd h
 limit_wrong rows (Refused (refusal.Foreign partition)) h = absurd h
+limit_wrong rows (Refused (refusal.Unknown line)) h = absurd h
 limit_wrong rows (Refused refusal.Memory) h = tt
 limit_wrong rows (Refused refusal.Write) h = absurd h
 
 -- the word is no width of a picture
 pub width_wrong : (rows : List Row) (f : Failure Refusal) → IsWidthFailure (first_of (codes "width") rows) f → IsWordsFailure rows f
-width_wrong rows (Usage e) h = (inr (inr (inr (inr (inr h.0)))), h.1)
+width_wrong rows (Usage e) h = (inr (inr (inr (inr (inr (inl h.0))))), h.1)
 width_wrong rows (Refused (refusal.Open shown)) h = absurd h
 width_wrong rows (Refused (refusal.Read shown)) h = absurd h
 width_wrong rows (Refused (refusal.Line number shown)) h = absurd h
@@ -114,6 +117,7 @@ width_wrong rows (Refused refusal.TooMany) h = absurd h
 width_wrong rows (Refused (refusal.Crowded shapes from until elements)) h = absurd h
 width_wrong rows (Refused (refusal.Table fault shown)) h = absurd h
 width_wrong rows (Refused (refusal.Foreign partition)) h = absurd h
+width_wrong rows (Refused (refusal.Unknown line)) h = absurd h
 width_wrong rows (Refused refusal.Memory) h = tt
 width_wrong rows (Refused refusal.Write) h = absurd h
 
@@ -128,6 +132,7 @@ end_wrong rows from end (Refused refusal.TooMany) is h = absurd h
 end_wrong rows from end (Refused (refusal.Crowded shapes first until elements)) is h = absurd h
 end_wrong rows from end (Refused (refusal.Table fault shown)) is h = absurd h
 end_wrong rows from end (Refused (refusal.Foreign partition)) is h = absurd h
+end_wrong rows from end (Refused (refusal.Unknown line)) is h = absurd h
 end_wrong rows from end (Refused refusal.Memory) is h = tt
 end_wrong rows from end (Refused refusal.Write) is h = absurd h
 
@@ -150,6 +155,7 @@ run_wrong rows (Refused refusal.TooMany) h = absurd h
 run_wrong rows (Refused (refusal.Crowded shapes from until elements)) h = absurd h
 run_wrong rows (Refused (refusal.Table fault shown)) h = absurd h
 run_wrong rows (Refused (refusal.Foreign partition)) h = absurd h
+run_wrong rows (Refused (refusal.Unknown line)) h = absurd h
 run_wrong rows (Refused refusal.Memory) h = tt
 run_wrong rows (Refused refusal.Write) h = absurd h
 
@@ -173,6 +179,7 @@ nothing_asked kinds own entered answer none same h = go answer (subst (λ o. IfE
     go (Err (Refused (refusal.Crowded shapes from until elements))) h = h
     go (Err (Refused (refusal.Table fault shown))) h = h
     go (Err (Refused (refusal.Foreign partition))) h = h
+    go (Err (Refused (refusal.Unknown line))) h = h
     go (Err (Refused refusal.Memory)) h = tt
     go (Err (Refused refusal.Write)) h = h
     go (Err (Usage e)) h = inr (none, h.0, h.1)

@@ -19,7 +19,7 @@ use Rattle.command_words.specs.declared.failure.Failure.TheVariants.{Refused, Us
 use Rattle.view_command.specs.declared.views.Outcome.{Outcome}
 use Rattle.view_command.specs.declared.views.Outcome.TheVariants.{Shown, Found}
 use Rattle.view_command.specs.declared.refusal.Refusal.{Refusal}
-use Rattle.view_command.specs.declared.refusal.Refusal.TheVariants.{Open, Read, Line, Late, TooMany, Crowded, Table, Foreign, Memory, Write}
+use Rattle.view_command.specs.declared.refusal.Refusal.TheVariants.{Open, Read, Line, Late, TooMany, Crowded, Table, Foreign, Unknown, Memory, Write}
 
 -- ---- why a trace is not shown; memory may run out at every step
 
@@ -46,6 +46,7 @@ IsRefused texts ran name before after (Late number shown) = IsUntouched before a
 IsRefused texts ran name before after TooMany = IsUntouched before after
 IsRefused texts ran name before after (Crowded shapes from until elements) = IsUntouched before after
 IsRefused texts ran name before after (Foreign partition) = IsUntouched before after
+IsRefused texts ran name before after (Unknown line) = IsUntouched before after
 IsRefused texts ran name before after (Table fault shown) = ⊥
 IsRefused texts ran name before after Memory = IsUntouched before after
 
@@ -84,10 +85,10 @@ IsRefusedOf texts entered before after r =
     ⊎ IsTableRefused texts (table_of entered) before after r ⊎ IsDumpRefused texts entered before after r
 
 -- Both traces were read to their ends, if they were compared; else the trace was, with no line after the end of its
--- run, and so was the module table, if one is asked for.
+-- run. So was the module table, if one is asked for.
 abbrev pub AreTracesIn : Option Contents → Entered → Type 0
 AreTracesIn texts entered =
-    (IsDiff entered → IsTraceIn texts None (trace_of entered) × IsTraceIn texts None (other_of entered))
+    (IsDiff entered → IsTraceIn texts None (trace_of entered) × IsTraceIn texts None (other_of entered) × IsTableAsked texts (table_of entered))
     × ((IsDiff entered → ⊥) → IsTraceIn texts (ran_of entered) (trace_of entered) × IsTableAsked texts (table_of entered))
 
 -- ---- the words, for which the library of command lines reports these errors

@@ -32,6 +32,7 @@ abbrev pub IsOfPicture : Shown → Type 0
 IsOfPicture (shown.Table summary) = ⊥
 IsOfPicture (shown.Rows summary) = ⊥
 IsOfPicture (shown.Picture picture width windows) = Unit {0}
+IsOfPicture (shown.Saved wires names) = ⊥
 IsOfPicture (shown.Page page windows) = ⊥
 IsOfPicture (shown.Lines listing) = ⊥
 IsOfPicture (shown.Check check) = ⊥

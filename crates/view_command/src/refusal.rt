@@ -45,6 +45,8 @@ pub enum Refusal {
     },
     /// The module table has no partition of this name, and the trace has.
     Foreign(Name),
+    /// Neither the trace nor the module table has a name that is asked for, as this text says.
+    Unknown(String),
     Memory,
     /// Standard output took no more bytes.
     Write,
@@ -94,6 +96,7 @@ impl fmt::Display for Refusal {
                 "mbview: the trace has a partition that the module table has not: {}",
                 partition.as_str()
             ),
+            Refusal::Unknown(line) => write!(f, "mbview: {line}"),
             Refusal::Memory => write!(f, "mbview: there is too little memory"),
             Refusal::Write => write!(f, "mbview: the output cannot be written"),
         }

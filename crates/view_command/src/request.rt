@@ -6,11 +6,11 @@ ghost use Rattle.clap.specs.Matches.{found_of};
 ghost use Rattle.clap.specs.Simple.{subcommand_of, subcommand_rows_of};
 ghost use Rattle.clap.specs.Walk.{rows_of};
 ghost use Rattle.view_command.specs.Answers.{IsFailureOfWords, IsNothingAsked, IsWordsFailure};
-ghost use Rattle.view_command.specs.Orders.{IsCompared, IsNoView, IsRequest, IsShown};
+ghost use Rattle.view_command.specs.Orders.{IsCompared, IsDumped, IsNoView, IsRequest, IsShown};
 ghost use Rattle.view_command.specs.Words.{view_app};
 
 use crate::comparing::Pair;
-use crate::grammar::{grammar, no_command};
+use crate::grammar::{grammar, no_command, one_input};
 use crate::options::{checked, chosen, named, text, ticks, width};
 use crate::refusal::Refusal;
 use crate::views::View;
@@ -47,6 +47,8 @@ pub struct Showing {
     pub ran: Option<Ticks>,
     /// What lines have to name, so that the view reads them.
     pub kept: Filter,
+    /// Whether a process without a line is refused, also where its name is like no other.
+    pub is_strict: bool,
 }
 
 /// The request in the words.
@@ -69,7 +71,7 @@ fn requested(alloc: Global, matches: &ArgMatches<'_>) -> Result<Request, Failure
 {
     match matches.subcommand() {
         Some(("diff", found)) => compared(alloc, found),
-        Some(("vcd", found)) => Ok(Request::Dump(showing_in(alloc, "vcd", found)?)),
+        Some(("vcd", found)) => dumped(alloc, found),
         Some((command, found)) => match view_of(alloc, command, found)? {
             Some(view) => Ok(Request::Show(view, showing_in(alloc, command, found)?)),
             None => Err(Failure::Usage(no_command(alloc)?)),
@@ -96,6 +98,19 @@ fn view_of(
         _ => return Ok(None),
     };
     Ok(Some(view))
+}
+
+/// A dump, or a saved view of it.
+fn dumped(alloc: Global, found: &ArgMatches<'_>) -> Result<Request, Failure<Refusal>>
+    ensures request { IfOk result (IsDumped (rows_of (found_of found.now))) }
+    ensures failed { IfErr result (λ f. IsWordsFailure (rows_of (found_of found.now)) f) }
+{
+    let showing = showing_in(alloc, "vcd", found)?;
+    if word(found, "gtkw") == "true" {
+        Ok(Request::Show(View::Saved, showing))
+    } else {
+        Ok(Request::Dump(showing))
+    }
 }
 
 /// How a summary is written.
@@ -127,6 +142,7 @@ fn showing_in(
         to: asked.to,
         ran: asked.ran,
         kept,
+        is_strict: word(found, "known") == "true",
     })
 }
 
@@ -135,9 +151,14 @@ fn compared(alloc: Global, found: &ArgMatches<'_>) -> Result<Request, Failure<Re
     ensures request { IfOk result (IsCompared (rows_of (found_of found.now))) }
     ensures failed { IfErr result (λ f. IsWordsFailure (rows_of (found_of found.now)) f) }
 {
+    let (first, second) = (word(found, "TRACE"), word(found, "OTHER"));
+    if first == "-" && second == "-" {
+        return Err(Failure::Usage(one_input(alloc)?));
+    }
     Ok(Request::Compare(Pair {
-        first: String::from_str(alloc, word(found, "TRACE"))?,
-        second: String::from_str(alloc, word(found, "OTHER"))?,
+        first: String::from_str(alloc, first)?,
+        second: String::from_str(alloc, second)?,
         partition: text(alloc, found, "partition")?,
+        table: text(alloc, found, "table")?,
     }))
 }

@@ -8,6 +8,7 @@ ghost use Rattle.view_command.specs.Orders.{asked_text, number_of};
 ghost use Rattle.view_command.specs.States.{state};
 ghost use Rattle.view_command.specs.Texts.{IsTableAsked, IsTraceIn, IsTraceOf, is_late};
 
+use crate::naming::{Named, Names};
 use crate::opening::{Opened, called, open_text};
 use crate::refusal::Refusal;
 use crate::request::Showing;
@@ -50,11 +51,15 @@ pub fn show<F: Sources, O: Stream>(
     let table = table_asked(alloc, &request.table, sources)?;
     let trace = request.trace.as_str();
     let text = open_text(alloc, trace, sources)?;
-    let mut shown = match Shown::new(alloc, view, request.from, request.to, table) {
+    let names = Names::of_view(alloc, &request.kept, request.is_strict, &table)?;
+    let taker = match Shown::new(alloc, view, request.from, request.to, table) {
         Ok(shown) => shown,
         Err(fault) => return Err(of_view(fault)),
     };
-    read_all(alloc, text, request.ran, &request.kept, &mut shown)?;
+    let mut named = Named { taker, names };
+    read_all(alloc, text, request.ran, &request.kept, &mut named)?;
+    let Named { taker: shown, names } = named;
+    names.check(alloc)?;
     let outcome = shown.outcome();
     let bytes = match shown.into_bytes(alloc, called(trace)) {
         Ok(bytes) => bytes,

@@ -5,7 +5,7 @@ ghost use Rattle.view_command.specs.Views.{IsOfPicture, outcome_of, shares_fault
 ghost use Rattle.trace_picture.specs.declared.excess.Excess.{Excess};
 ghost use Rattle.view_command.specs.declared.views.ViewFault.TheVariants as fault;
 
-use crate::windows::{page_windows, shares_of, windows_of};
+use crate::windows::{names_asked, page_windows, shares_of, windows_of};
 use apex_types::{Event, Name, Ticks};
 use std::alloc::{AllocError, Global};
 use std::io;
@@ -15,6 +15,7 @@ use trace_picture::{Excess, Picture, PictureFault, Width};
 use trace_stays::MemoryFull;
 use trace_view::Summary;
 use trace_windows::{SharesFault, Windows, WindowsFault};
+use wave_dump::{Wires, saved_view};
 use window_table::ModuleTable;
 
 /// The most windows, and ticks between them, of a picture, which also counts its elements.
@@ -29,6 +30,8 @@ pub enum View {
     Rows,
     /// A picture of this width.
     Picture(Width),
+    /// A saved view of its dump.
+    Saved,
     /// A page for a browser.
     Page,
     /// The chosen lines, unchanged.
@@ -71,6 +74,8 @@ pub enum Shown {
     Rows(Summary),
     /// The picture and its width, and the windows of the module table, if one is given.
     Picture(Picture, Width, Option<Windows>),
+    /// The variables of the dump, and the partitions of the module table.
+    Saved(Wires, Vec<Name>),
     /// The page, and its windows.
     Page(Page, Vec<u8>),
     Lines(Listing),
@@ -106,6 +111,9 @@ impl Shown {
             View::Picture(width) => {
                 let windows = windows_of(alloc, table, (from, to), MOST_OF_PICTURE)?;
                 Shown::Picture(Picture::new(alloc, from, to), width, windows)
+            }
+            View::Saved => {
+                Shown::Saved(Wires::new(alloc, from, to), names_asked(alloc, &table)?)
             }
             View::Page => Shown::Page(Page::new(alloc, to), page_windows(alloc, &table)?),
             View::Lines(filter) => Shown::Lines(Listing::new(alloc, filter)),
@@ -144,6 +152,9 @@ impl Shown {
                 read_windows(windows, event)?;
                 picture.add(event)?
             }
+            Shown::Saved(wires, _) => {
+                wires.add(event)?;
+            }
             Shown::Page(page, _) => page.add(event)?,
             Shown::Lines(listing) => listing.add(event)?,
             Shown::Check(check) => check.add(event)?,
@@ -173,6 +184,9 @@ impl Shown {
             Shown::Rows(summary) => bytes = summary.finish()?.sheet(alloc)?,
             Shown::Picture(picture, width, windows) => {
                 write_picture(picture, width, windows, name, &mut bytes)?
+            }
+            Shown::Saved(wires, names) => {
+                bytes = saved_view(alloc, &wires, names.as_slice())?.into_bytes()
             }
             Shown::Page(page, windows) => bytes = page.into_text(windows.as_slice())?,
             Shown::Lines(listing) => bytes = listing.into_text(),

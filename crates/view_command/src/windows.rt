@@ -94,6 +94,14 @@ fn names(alloc: Global, table: &ModuleTable) -> Result<Vec<Name>, AllocError>
     Ok(names)
 }
 
+/// The names of the partitions of a table, if there is one.
+pub fn names_asked(alloc: Global, table: &Option<ModuleTable>) -> Result<Vec<Name>, AllocError> {
+    match table {
+        Some(table) => names(alloc, table),
+        None => Ok(Vec::new(alloc)),
+    }
+}
+
 /// Counts by the windows of a table, if there is one. The ticks `from` and later count.
 pub fn shares_of(
     alloc: Global,
