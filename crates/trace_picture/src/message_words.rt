@@ -89,22 +89,27 @@ impl Room {
         }
     }
 
+    /// Returns true if the room ends on the axis.
+    fn is_on_axis(self, drawing: &Drawing) -> bool {
+        self.right.0 <= drawing.axis.end().0
+    }
+
     /// Returns true if the room ends on the axis, and no other shape is in it. What follows is tried
     /// first, since the next message is near where there are many.
     fn is_free(self, drawing: &Drawing, earlier: &[Shape], later: &[Shape]) -> bool {
-        !(drawing.axis.end().0 < self.right.0
-            || later.iter().any(|shape| self.is_taken_by(drawing, shape))
-            || earlier.iter().any(|shape| self.is_taken_by(drawing, shape)))
+        self.is_on_axis(drawing)
+            && !(later.iter().any(|shape| self.is_taken_by(drawing, shape))
+                || earlier.iter().any(|shape| self.is_taken_by(drawing, shape)))
     }
 
     /// Returns true if the room ends on the axis, and neither a text nor a flag is in it.
     fn covers_nothing(self, drawing: &Drawing, texts: &[Room]) -> bool {
-        !(drawing.axis.end().0 < self.right.0
-            || texts.iter().any(|other| self.overlaps(*other))
-            || drawing.shapes.iter().any(|shape| match shape {
-                Shape::Flag(flag) => self.has_flag(drawing, flag),
-                _ => false,
-            }))
+        self.is_on_axis(drawing)
+            && !(texts.iter().any(|other| self.overlaps(*other))
+                || drawing.shapes.iter().any(|shape| match shape {
+                    Shape::Flag(flag) => self.has_flag(drawing, flag),
+                    _ => false,
+                }))
     }
 
     /// Returns true if two rooms have a place in common.

@@ -127,7 +127,9 @@ fn draw_window_names(
     for (place, stretch) in stretches.iter().enumerate() {
         if let Some(label) = Label::of(axis, windows, stretch) {
             let later = &stretches[place + 1..];
-            if label.fits() || (label.may_extend(axis, free) && !label.covers(axis, windows, later)) {
+            if label.fits()
+                || (label.may_extend(axis, free) && !label.covers(axis, windows, later))
+            {
                 let (left, line) = (label.left + NAME_RIGHT, top + NAME_DOWN);
                 draw_text(page, "mode", left, line, label.name)?;
                 free = label.end;
@@ -167,8 +169,8 @@ pub fn draw_windows(page: &mut Page, drawing: &Drawing) -> Result<(), AllocError
     let (Some(windows), Some(top)) = (&drawing.windows, drawing.rows.windows) else {
         return Ok(());
     };
-    for stretch in windows.stretches() {
-        draw_window(page, drawing, windows, stretch)?;
+    for window in windows.stretches() {
+        draw_window(page, drawing, windows, window)?;
     }
     draw_window_names(page, drawing, windows, top)
 }

@@ -7,6 +7,7 @@ pub mod Faults
 pub mod Lines
 pub mod Orders
 pub mod Pages
+pub mod Slips
 pub mod States
 pub mod Texts
 pub mod Views

@@ -111,8 +111,17 @@ fn compare<F: Sources, O: Stream>(
     let other = open_text(alloc, second, sources)?;
     let mut comparison = Comparison::new(alloc);
     let mut names = Names::of_partition(alloc, &pair.partition, table)?;
-    read_both(alloc, one, other, &pair.partition, &mut comparison, &mut names)?;
-    names.check(alloc)?;
+    read_both(
+        alloc,
+        one,
+        other,
+        &pair.partition,
+        &mut comparison,
+        &mut names,
+    )?;
+    if let Some(line) = names.unknown(alloc)? {
+        return Err(Refusal::Unknown(line));
+    }
     let differences = comparison.finish()?;
     let text = report(alloc, differences.as_slice())?;
     write_bytes(out, text.as_slice())?;

@@ -157,8 +157,13 @@ pub fn dump<F: Sources, O: Stream>(
     let taker = Found::new(alloc, request, table, sources.is_file(trace))?;
     let mut named = Named { taker, names };
     read_all(alloc, text, request.ran, &request.kept, &mut named)?;
-    let Named { taker: found, names } = named;
-    names.check(alloc)?;
+    let Named {
+        taker: found,
+        names,
+    } = named;
+    if let Some(line) = names.unknown(alloc)? {
+        return Err(Refusal::Unknown(line));
+    }
     read_again(alloc, request, found, sources, out)?;
     Ok(Outcome::Shown)
 }

@@ -124,15 +124,7 @@ const LIST: CommandRow = CommandRow {
     about: "Writes the lines of the trace that have all that is asked for, as they stand",
     example: "Example: mbview list trace.txt --partition a --kind STATE,HM",
     arguments: &[
-        TRACE,
-        FROM,
-        TO,
-        PARTITION,
-        PROCESS,
-        KIND,
-        PORT,
-        KNOWN,
-        NAMES,
+        TRACE, FROM, TO, PARTITION, PROCESS, KIND, PORT, KNOWN, NAMES,
     ],
 };
 

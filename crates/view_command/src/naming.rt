@@ -1,6 +1,5 @@
 //! The names that options ask for: a trace or its module table has to have them.
 
-use crate::refusal::Refusal;
 use crate::search::Search;
 use crate::views::{TakeEvents, ViewFault};
 use apex_types::{Event, Name, Subject};
@@ -106,29 +105,29 @@ impl Names {
         }
     }
 
-    /// Refuses a partition, a port or a channel that nothing has. A process may just not have run, so it
-    /// is refused where its name looks like a slip, or if the words ask for that.
+    /// What is said of a partition, a port or a channel that nothing has. A process may just not have run,
+    /// so it is told where its name looks like a slip, or if the words ask for that.
     ///
     /// # Errors
     ///
-    /// There is no such name, or memory ran out.
-    pub fn check(&self, alloc: Global) -> Result<(), Refusal> {
+    /// Memory ran out.
+    pub fn unknown(&self, alloc: Global) -> Result<Option<String>, AllocError> {
         if let Some(search) = &self.partition {
             if search.is_missed() {
-                return Err(Refusal::Unknown(search.line(alloc, "partition")?));
+                return Ok(Some(search.line(alloc, "partition")?));
             }
         }
         if let Some(search) = &self.port {
             if search.is_missed() {
-                return Err(Refusal::Unknown(search.line(alloc, "port or channel")?));
+                return Ok(Some(search.line(alloc, "port or channel")?));
             }
         }
         if let Some(search) = &self.process {
             if search.is_slip() || (self.is_strict && search.is_missed()) {
-                return Err(Refusal::Unknown(search.line(alloc, "process")?));
+                return Ok(Some(search.line(alloc, "process")?));
             }
         }
-        Ok(())
+        Ok(None)
     }
 }
 

@@ -58,8 +58,13 @@ pub fn show<F: Sources, O: Stream>(
     };
     let mut named = Named { taker, names };
     read_all(alloc, text, request.ran, &request.kept, &mut named)?;
-    let Named { taker: shown, names } = named;
-    names.check(alloc)?;
+    let Named {
+        taker: shown,
+        names,
+    } = named;
+    if let Some(line) = names.unknown(alloc)? {
+        return Err(Refusal::Unknown(line));
+    }
     let outcome = shown.outcome();
     let bytes = match shown.into_bytes(alloc, called(trace)) {
         Ok(bytes) => bytes,
