@@ -9,12 +9,12 @@ use Rattle.clap.specs.declared.error.kind.ErrorKind.{ErrorKind}
 use Rattle.clap.specs.declared.error.kind.ErrorKind.TheVariants as kind
 use Rattle.clap.specs.declared.parser.matches.Found.{Found}
 use Rattle.clap.proofs.WalkLemmas.{first_value-rows}
-use Rattle.command_words.specs.Found.{Entered, words_at}
+use Rattle.command_words.specs.Found.{Entered, word_at, words_at}
 use Rattle.command_words.specs.Kinds.{IsMistake}
 use Rattle.command_words.specs.Numbers.{ReadsNumber, number_in}
 use Rattle.command_words.specs.declared.failure.Failure.{Failure}
 use Rattle.command_words.specs.declared.failure.Failure.TheVariants.{Refused, Usage}
-use Rattle.view_command.specs.Answers.{IsEndFailure, IsFailureOfWords, IsKindFailure, IsLimitFailure, IsNothingAsked, IsRunFailure, IsTickFailure, IsWidthFailure, IsWordsFailure}
+use Rattle.view_command.specs.Answers.{IsEndFailure, IsFailureOfWords, IsInputFailure, IsKindFailure, IsLimitFailure, IsNothingAsked, IsRunFailure, IsTickFailure, IsWidthFailure, IsWordsFailure}
 use Rattle.text_lines.specs.Pieces.{pieces_of}
 use Rattle.trace_lines.specs.KindSets.{no_kinds, with_words}
 use Rattle.trace_lines.specs.declared.kinds.Kinds.{Kinds}
@@ -120,6 +120,21 @@ width_wrong rows (Refused (refusal.Foreign partition)) h = absurd h
 width_wrong rows (Refused (refusal.Unknown line)) h = absurd h
 width_wrong rows (Refused refusal.Memory) h = tt
 width_wrong rows (Refused refusal.Write) h = absurd h
+
+-- both traces are the standard input
+pub inputs_wrong : (rows : List Row) (first second : List ℕ) (f : Failure Refusal) → first ≡ word_at (codes "TRACE") rows → second ≡ word_at (codes "OTHER") rows → IsInputFailure first second f → IsWordsFailure rows f
+inputs_wrong rows first second (Usage e) one two h = (inr (inr (inr (inr (inr (inr (sym one ∙ h.0, sym two ∙ h.1)))))), h.2)
+inputs_wrong rows first second (Refused (refusal.Open shown)) one two h = absurd h
+inputs_wrong rows first second (Refused (refusal.Read shown)) one two h = absurd h
+inputs_wrong rows first second (Refused (refusal.Line number shown)) one two h = absurd h
+inputs_wrong rows first second (Refused (refusal.Late number shown)) one two h = absurd h
+inputs_wrong rows first second (Refused refusal.TooMany) one two h = absurd h
+inputs_wrong rows first second (Refused (refusal.Crowded shapes from until elements)) one two h = absurd h
+inputs_wrong rows first second (Refused (refusal.Table fault shown)) one two h = absurd h
+inputs_wrong rows first second (Refused (refusal.Foreign partition)) one two h = absurd h
+inputs_wrong rows first second (Refused (refusal.Unknown line)) one two h = absurd h
+inputs_wrong rows first second (Refused refusal.Memory) one two h = tt
+inputs_wrong rows first second (Refused refusal.Write) one two h = absurd h
 
 -- the words for ticks leave none
 pub end_wrong : (rows : List Row) (from : ℕ) (end : Option ℕ) (f : Failure Refusal) → (EndsBefore from end → AreWrongTicks rows) → IsEndFailure from end f → IsWordsFailure rows f

@@ -1,5 +1,5 @@
 -- The meaning of each exit status.
-use Rattle.std.specs.Prelude.{◌≡◌, ◌⊎◌, ◌≤◌, ℕ, List, [], ◌∷◌, ◌++◌, Option, Some, None, Result, Ok, Err, string_bytes}
+use Rattle.std.specs.Prelude.{◌≡◌, ◌⊎◌, ◌≤◌, ℕ, List, [], ◌∷◌, ◌++◌, Option, Some, None, Result, Ok, Err, codes, string_bytes}
 use Rattle.clap.specs.Kinds.{Kinds, IsAmong}
 use Rattle.clap.specs.Values.{kind_of}
 use Rattle.command_words.specs.Found.{Entered}
@@ -132,6 +132,12 @@ abbrev pub IsLimitFailure : List (List ℕ) → Failure Refusal → Type 0
 IsLimitFailure words (Refused Memory) = Unit {0}
 IsLimitFailure words (Refused _) = ⊥
 IsLimitFailure words (Usage error) = IsNoLimit words × IsMistake (kind_of error)
+
+-- both traces are the standard input, or memory ran out
+abbrev pub IsInputFailure : List ℕ → List ℕ → Failure Refusal → Type 0
+IsInputFailure first second (Refused Memory) = Unit {0}
+IsInputFailure first second (Refused _) = ⊥
+IsInputFailure first second (Usage error) = (first ≡ codes "-") × (second ≡ codes "-") × IsMistake (kind_of error)
 
 -- the words of options are wrong, or memory ran out
 abbrev pub IsWordsFailure : List Row → Failure Refusal → Type 0

@@ -5,7 +5,7 @@ ghost use Rattle.clap.specs.Faults.{fault_of};
 ghost use Rattle.clap.specs.Matches.{found_of};
 ghost use Rattle.clap.specs.Simple.{subcommand_of, subcommand_rows_of};
 ghost use Rattle.clap.specs.Walk.{rows_of};
-ghost use Rattle.view_command.specs.Answers.{IsFailureOfWords, IsNothingAsked, IsWordsFailure};
+ghost use Rattle.view_command.specs.Answers.{IsFailureOfWords, IsInputFailure, IsNothingAsked, IsWordsFailure};
 ghost use Rattle.view_command.specs.Orders.{IsCompared, IsDumped, IsNoView, IsRequest, IsShown};
 ghost use Rattle.view_command.specs.Words.{view_app};
 
@@ -146,15 +146,23 @@ fn showing_in(
     })
 }
 
+/// Checks that not both traces are the standard input, which is read once.
+fn check_inputs(alloc: Global, first: &str, second: &str) -> Result<(), Failure<Refusal>>
+    ensures { IfErr result (λ f. IsInputFailure first.now second.now f) }
+{
+    if first == "-" && second == "-" {
+        return Err(Failure::Usage(one_input(alloc)?));
+    }
+    Ok(())
+}
+
 /// The traces that were found.
 fn compared(alloc: Global, found: &ArgMatches<'_>) -> Result<Request, Failure<Refusal>>
     ensures request { IfOk result (IsCompared (rows_of (found_of found.now))) }
     ensures failed { IfErr result (λ f. IsWordsFailure (rows_of (found_of found.now)) f) }
 {
     let (first, second) = (word(found, "TRACE"), word(found, "OTHER"));
-    if first == "-" && second == "-" {
-        return Err(Failure::Usage(one_input(alloc)?));
-    }
+    check_inputs(alloc, first, second)?;
     Ok(Request::Compare(Pair {
         first: String::from_str(alloc, first)?,
         second: String::from_str(alloc, second)?,
