@@ -2,7 +2,7 @@
 
 use crate::search::Search;
 use crate::views::{TakeEvents, ViewFault};
-use apex_types::{Event, Name, Subject};
+use apex_types::{Event, EventKind, Name, Subject};
 use std::alloc::{AllocError, Global};
 use trace_lines::{Filter, route_in, subject_in};
 use window_table::ModuleTable;
@@ -99,10 +99,7 @@ impl Names {
     pub fn see(&mut self, event: &Event) -> Result<(), AllocError> {
         see_name(&mut self.partition, &event.partition)?;
         see_name(&mut self.port, &route_in(&event.kind))?;
-        match subject_in(&event.kind) {
-            Some(Subject::Process(name)) => see_name(&mut self.process, &Some(name)),
-            _ => Ok(()),
-        }
+        see_name(&mut self.process, &process_in(&event.kind))
     }
 
     /// What is said of a partition, a port or a channel that nothing has. A process may just not have run,
@@ -144,6 +141,14 @@ fn search(
             Ok(Some(Search::new(alloc, asked, is_found)?))
         }
         None => Ok(None),
+    }
+}
+
+/// The name of the process that a line is about, if it has one of its own.
+fn process_in(kind: &EventKind) -> Option<Name> {
+    match subject_in(kind) {
+        Some(Subject::Process(name)) => Some(name),
+        _ => None,
     }
 }
 
