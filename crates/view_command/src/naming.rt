@@ -146,8 +146,9 @@ fn search(
 
 /// The name of the process that a line is about, if it has one of its own.
 fn process_in(kind: &EventKind) -> Option<Name> {
-    match subject_in(kind) {
-        Some(Subject::Process(name)) => Some(name),
+    let who = subject_in(kind);
+    match &who {
+        Some(Subject::Process(name)) => Some(*name),
         _ => None,
     }
 }
