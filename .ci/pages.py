@@ -22,7 +22,7 @@ VSCODE = ROOT / "editors/vscode/syntaxes/pal.tmLanguage.json"
 NAMES = {"13b", "Crate", "DrainKeeps", "linux", "option_append", "set_word", "PORT_MOVE", "PORT_ARRIVE", "PORT_LOST", "CHANNEL_OUT", "PORT_MOVE_WORD"}
 NAMES |= {"start_condition", "always_out_of_memory", "upgrade_always_out_of_memory"}
 PATHS = {"./-", "arrayvec/uses"}
-PLACES = re.compile(r"\b(?:NAME|FILE|FUNCTION|EDIT|PID|TICK)\b|(?:^|/)out/")
+PLACES = re.compile(r"\b(?:NAME|FILE|FUNCTION|EDIT|PID|TICK|PREFIX)\b|(?:^|/)out/")
 LINK = re.compile(r"\[(?:[^\[\]]|\[[^\[\]]*\](?:\([^()]*\))?)*\]\(([^()\s]+)\)")
 
 

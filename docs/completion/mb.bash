@@ -1,6 +1,6 @@
 # Completion of the words of mb for bash.
 _mb() {
-    local word=${COMP_WORDS[COMP_CWORD]} commands=' check build run replay inputs cost dis upgrade load lint help' options=''
+    local word=${COMP_WORDS[COMP_CWORD]} commands=' check build run replay inputs state cost dis upgrade load lint help' options=''
     case ${COMP_WORDS[1]} in
         help) options=' --man --completion' ;;
         check) options=' --explain --explain-json -h --help' ;;
@@ -8,6 +8,7 @@ _mb() {
         run) options=' --explain --explain-json --progress --until -h --help' ;;
         replay) options=' --explain --explain-json -h --help' ;;
         inputs) options=' --explain --explain-json --progress -h --help' ;;
+        state) options=' --explain --explain-json --json --partition -h --help' ;;
         cost) options=' --explain --explain-json -h --help' ;;
         dis) options=' --explain --explain-json -h --help' ;;
         upgrade) options=' --explain --explain-json -h --help' ;;

@@ -3,13 +3,13 @@ _mbview() {
     local word=${COMP_WORDS[COMP_CWORD]} commands=' summary svg vcd list check diff html help' options=''
     case ${COMP_WORDS[1]} in
         help) options=' --man --completion' ;;
-        summary) options=' --from --to --partition --process --kind --port --ticks --table --csv -h --help' ;;
-        svg) options=' --from --to --partition --process --kind --port --ticks --table --width -h --help' ;;
-        vcd) options=' --from --to --partition --process --kind --port --ticks --table -h --help' ;;
-        list) options=' --from --to --partition --process --kind --port -h --help' ;;
-        check) options=' --from --to --partition --no --at-most --missed -h --help' ;;
-        diff) options=' --partition -h --help' ;;
-        html) options=' --partition --process --kind --port --ticks --table -h --help' ;;
+        summary) options=' --from --to --partition --process --kind --port --known --ticks --table --csv -h --help' ;;
+        svg) options=' --from --to --partition --process --kind --port --known --ticks --table --width -h --help' ;;
+        vcd) options=' --from --to --partition --process --kind --port --known --ticks --table --gtkw -h --help' ;;
+        list) options=' --from --to --partition --process --kind --port --known --table -h --help' ;;
+        check) options=' --from --to --partition --no --at-most --missed --table -h --help' ;;
+        diff) options=' --partition --table -h --help' ;;
+        html) options=' --partition --process --kind --port --known --ticks --table -h --help' ;;
         help) options='' ;;
         *) options=' -h --help -V --version' ;;
     esac

@@ -15,6 +15,7 @@ from pal.grammar import number_of
 from pal.judge import objects_of, process_rows, read_source
 from processor import INSTRUCTIONS, Machine, ticks_of
 from refusal import Refusal
+from state import State, json_row, text_row
 from table import read_table
 
 # An expression of 64 levels is read by some thousand calls within each other.
@@ -70,7 +71,7 @@ class Folder:
     """The commands over the files of a folder. In place of an image there may be a table and its sources, with commas between them."""
 
     def __init__(self, path="."):
-        self.path = Path(path)
+        self.path, self.kept = Path(path), None
 
     def read(self, name):
         try:
@@ -126,6 +127,27 @@ class Folder:
             raise Refusal("inputs")
         return "".join(module.inputs).encode("ascii")
 
+    def state(self, *words):
+        form, only, files = text_row, None, []
+        words = iter(words)
+        for word in words:
+            if word == "--json":
+                form = json_row
+            elif word == "--partition":
+                only = next(words)
+            else:
+                files.append(word)
+        road, devices, tick = self.begin(*files)
+        number = None if only is None else number_of_partition(road.table, only)
+        return State(self.module_before(road, devices, tick), tick, number, form).text()
+
+    def module_before(self, road, devices, tick):
+        """The module after so many ticks: that of the command before, if it is not past this tick."""
+        if self.kept is None or self.kept[:2] != (road, devices) or self.kept[2].now > tick:
+            self.kept = road, devices, Module(road.table, road.make, read_devices(devices, road.table), Trace())
+        self.kept[2].run(tick)
+        return self.kept[2]
+
     def replay(self, image, partition, text, ticks):
         road, text, ticks = self.begin(image, text, ticks)
         number, trace = number_of_partition(road.table, partition), Trace()
@@ -150,7 +172,7 @@ class Folder:
 
 COMMANDS = {
     "check": Folder.check, "build": Folder.build, "upgrade": Folder.upgrade, "run": Folder.run, "inputs": Folder.inputs,
-    "replay": Folder.replay, "dis": Folder.dis, "cost": Folder.cost,
+    "state": Folder.state, "replay": Folder.replay, "dis": Folder.dis, "cost": Folder.cost,
 }
 
 

@@ -24,14 +24,14 @@ class Clock:
 
     def __init__(self, schedule, lines):
         self.schedule, self.lines, self.place = schedule, lines, 0
-        self.is_shut = False
+        self.now, self.is_shut = 0, False
 
     def run(self, ticks):
-        if ticks > 0:
+        """Makes the ticks up to this number; some may be made already."""
+        if self.now == 0 and ticks > 0:
             self.start(0, NORMAL_START)
-        now = 0
-        while now < ticks and not self.is_shut:
-            now = self.go_on(now, ticks)
+        while self.now < ticks and not self.is_shut:
+            self.now = self.go_on(self.now, ticks)
 
     def start(self, now, condition):
         for it in self.partitions.values():
@@ -69,6 +69,11 @@ class Clock:
         elif action == "RESET":
             self.schedule.origin = now
             self.start(now, HM_MODULE_RESTART)
+
+    def is_quiet(self):
+        """Whether nothing happens any more."""
+        lasting = all(it.sleeps() and it.next_due() == FOREVER for it in self.partitions.values())
+        return self.is_shut or (self.now > 0 and lasting and self.place == len(self.lines))
 
     def next_waking(self, now):
         """The first tick in which something is due, where all partitions sleep."""

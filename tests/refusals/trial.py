@@ -79,6 +79,8 @@ def commands(sources, partition, ticks):
         "until": ["run", "image", "devices", str(ticks), "--until", partition, "MODE", "NORMAL"],
         "inputs": ["inputs", "image", partition, "devices", str(ticks)],
         "replay": ["replay", "image", partition, "inputs", str(ticks)],
+        "state": ["state", "image", "devices", str(ticks)],
+        "state of one": ["state", "--json", "--partition", partition, "image", "devices", str(ticks)],
     }
 
 

@@ -9,6 +9,7 @@ use Rattle.machine_meaning.specs.MachineMeaning.{verdict_for}
 use Rattle.module_meaning.specs.Table.{Partition}
 use Rattle.module.specs.Replays.{IsInputRefusal, Replays}
 use Rattle.module.specs.Runs.{IsDeviceRefusal, Runs}
+use Rattle.module.specs.States.{States, Wanted}
 use Rattle.module.specs.Telling.{AreRunInputs, IsDeviceRefusalBeside, Tells}
 use Rattle.module.specs.declared.fault.RunFault.{RunFault}
 use Rattle.module.specs.declared.fault.RunFault.TheVariants as run
@@ -22,7 +23,7 @@ use Rattle.text_beginnings.proofs.Inputs.{same_device_text, same_replay_text}
 use Rattle.module.specs.Running.{IsRefused}
 use Rattle.module.specs.Upgrades.{IsUpgraded}
 use Rattle.command_line.specs.Stops.{RunsUntil}
-use Rattle.command_line.specs.Done.{AreInputsOf, ImageAndText, IsImageIn, IsReplayOf, IsRunOf, IsTraced, IsUpgradedIn}
+use Rattle.command_line.specs.Done.{AreInputsOf, ImageAndText, IsImageIn, IsReplayOf, IsRunOf, IsStateOf, IsTraced, IsUpgradedIn}
 use Rattle.command_line.specs.declared.outcome.Outcome.{Outcome}
 use Rattle.command_line.specs.declared.outcome.Outcome.TheVariants.{Usual, Remarkable}
 use Rattle.command_line.specs.Reading.{IsHeld}
@@ -169,6 +170,24 @@ pub inputs_of_whole : {files : Option Contents} {image devices image_read text_r
     → Tells (image_at image_read) name text_read n old new answer → AreInputsOf g.given name n old new answer
 inputs_of_whole {text_read = text_read} g name n old new answer h =
     tells_alike (image_at g.given.image_bytes) name text_read g.given.text_bytes n old new answer g.same_devices (subst (λ read. Tells read name text_read n old new answer) (sym g.same_image) h)
+
+states_alike : (read : Result Image Fault) (devices whole : List ℕ) (n : ℕ) (wanted : Wanted) (old new : Option (List ℕ)) (answer : Result (Unit {0}) RunFault)
+    → ((i : Image) → verdict_for i whole ≡ verdict_for i devices) → States read devices n wanted old new answer → States read whole n wanted old new answer
+states_alike read devices whole n wanted old new (Ok x) same (image, lines, r, text, is, out) =
+    (image, lines, record { loaded = r.loaded; taken = same image ∙ r.taken; few = r.few }, text, is, out)
+states_alike read devices whole n wanted old new (Err run.Write) same (image, lines, r, text, is, out) =
+    (image, lines, record { loaded = r.loaded; taken = same image ∙ r.taken; few = r.few }, text, is, out)
+states_alike read devices whole n wanted old new (Err (run.Device f)) same (few, refused, kept) = (few, refusal_alike read devices whole f same refused, kept)
+states_alike read devices whole n wanted old new (Err run.Ticks) same h = h
+states_alike read devices whole n wanted old new (Err (run.Image f)) same h = h
+states_alike read devices whole n wanted old new (Err run.Partition) same h = h
+states_alike read devices whole n wanted old new (Err run.Memory) same h = h
+states_alike read devices whole n wanted old new (Err run.Failed) same h = absurd h
+
+pub state_of_whole : {files : Option Contents} {image devices image_read text_read : List ℕ} (g : Given files image devices image_read text_read) (wanted : Wanted) (n : ℕ) (old new : Option (List ℕ)) (answer : Result (Unit {0}) RunFault)
+    → States (image_at image_read) text_read n wanted old new answer → IsStateOf g.given wanted n old new answer
+state_of_whole {text_read = text_read} g wanted n old new answer h =
+    states_alike (image_at g.given.image_bytes) text_read g.given.text_bytes n wanted old new answer g.same_devices (subst (λ read. States read text_read n wanted old new answer) (sym g.same_image) h)
 
 -- ---- only an image
 

@@ -1,5 +1,5 @@
 -- The note on a refused source, and on a program that is too long.
-use Rattle.std.proofs.Common.{◌≡◌, ℕ, List, Option, Some, None, IfSome, subst, ap, ◌∙◌}
+use Rattle.std.proofs.Common.{◌≡◌, ℕ, List, Option, Some, None, IfSome, string_bytes, subst, sym, ap, ◌∙◌}
 use Rattle.finding_lines.specs.Reports.{Form, Report}
 use Rattle.module_meaning.specs.Table.{Table}
 use Rattle.module_meaning.specs.Accepted.{IsTable}
@@ -10,8 +10,10 @@ use Rattle.compiler.specs.declared.fault.CompileFault.{CompileFault}
 use Rattle.command_line.specs.Explanation.{IsLengthExplanation, IsSourceExplanation}
 use Rattle.module.specs.Costs.{AreCosts}
 use Rattle.module.specs.declared.costing.PartitionCosts.{PartitionCosts}
-use Rattle.command_line.specs.Explained.{Costed, IsExplained, IsExplainedWith, IsLengthExplained, IsLengthExplainedWith, IsNoted, Source, costed_of, form_in, report_on, source_of}
+use Rattle.command_line.specs.Explained.{Costed, IsExplained, IsExplainedWith, IsLengthExplained, IsLengthExplainedWith, IsNoteOf, IsNoted, IsNotedAs, IsNotedBy, Source, costed_of, form_in, report_on, source_of}
 use Rattle.module.specs.Lines.{build_line}
+use Rattle.command_line.specs.declared.explaining.Note.{Note}
+use Rattle.command_line.specs.declared.explaining.Note.TheVariants.{Explained, Unwanted, Wanted}
 use Rattle.command_line.specs.declared.explaining.Style.{Style}
 
 -- with the table of the text
@@ -53,3 +55,16 @@ pub of_length : {A : Type 0} {reason : CompileFault} (view : A → List ℕ) (st
 of_length view style file table files sources fault name form (Some a) is same told =
     rw (is) (subst (λ f. IsLengthExplained f table files sources name (view a)) (same ∙ ap (λ d. form_in style (build_line d)) is) told)
 of_length view style file table files sources fault name form None is same told = tt
+
+-- ---- what is noted of an explanation
+
+pub noted_by : (is : Style → List ℕ → Type 0) (style : Style) (text : List ℕ) (note : Note) → IsNotedAs style text note → is style text → IsNotedBy is (Wanted style) note
+noted_by is style text (Explained told more) same explained = subst (λ t. is style t) (sym same) explained
+noted_by is style text (Wanted other) same explained = same
+noted_by is style text Unwanted same explained = same
+
+pub note_of : (file table : List ℕ) (files sources : List (List ℕ)) (fault : BuildFault) (style : Style) (text : List ℕ) (note : Note)
+    → IsNotedAs style text note → IsNoted style file table files sources fault text → IsNoteOf file table files sources fault (Wanted style) note
+note_of file table files sources fault style text (Explained told more) same explained = subst (λ t. IsNoted style file table files sources fault t) (sym same) explained
+note_of file table files sources fault style text (Wanted other) same explained = same
+note_of file table files sources fault style text Unwanted same explained = same

@@ -12,6 +12,7 @@ use Rattle.module.specs.Costs.{AreCosts}
 use Rattle.module.specs.Promises.{Means}
 use Rattle.module.specs.Replays.{Replays}
 use Rattle.module.specs.Runs.{Runs}
+use Rattle.module.specs.States.{States, Wanted}
 use Rattle.module.specs.Telling.{Tells}
 use Rattle.module.specs.Upgrades.{IsUpgraded}
 use Rattle.module.specs.declared.costing.PartitionCosts.{PartitionCosts}
@@ -22,7 +23,7 @@ use Rattle.streams.specs.Contents.{Contents, Holds, HoldAll, Spares}
 use Rattle.streams.specs.Reads.{IsUnread, Reads}
 use Rattle.text_beginnings.specs.declared.beginning.TheConstants.{MOST_TABLE_BYTES}
 use Rattle.command_line.specs.Stops.{RunsUntil}
-use Rattle.command_line.specs.Orders.{Order, First, Check, Build, Run, Replay, Inputs, Cost, Dis, Upgrade, Load, Lint, Dashed}
+use Rattle.command_line.specs.Orders.{Order, First, Check, Build, Run, Replay, Inputs, ShowState, Cost, Dis, Upgrade, Load, Lint, Dashed}
 use Rattle.command_line.specs.Loading.{AreLoaded, IsLoadOfText, IsTextOf, Shown}
 use Rattle.command_line.specs.Linting.{AreFound, IsReadModule}
 use Rattle.command_line.specs.declared.linting.ReadModule.{ReadModule}
@@ -138,6 +139,10 @@ IsReplayOf given partition n old new answer = Replays (image_at given.image_byte
 abbrev pub AreInputsOf : {files : Option Contents} {image devices : List ℕ} → ImageAndText files image devices → List ℕ → ℕ → Option (List ℕ) → Option (List ℕ) → Result (Unit {0}) InputsFault → Type 0
 AreInputsOf given partition n old new answer = Tells (image_at given.image_bytes) partition given.text_bytes n old new answer
 
+-- the output, with this result, of the state before tick n
+abbrev pub IsStateOf : {files : Option Contents} {image devices : List ℕ} → ImageAndText files image devices → Wanted → ℕ → Option (List ℕ) → Option (List ℕ) → Result (Unit {0}) RunFault → Type 0
+IsStateOf given wanted n old new answer = States (image_at given.image_bytes) given.text_bytes n wanted old new answer
+
 -- the output of the run of the stored module with this result
 abbrev pub IsFirstRun : Option (List ℕ) → Option (List ℕ) → Result (Unit {0}) BuildAndRunFault → Type 0
 IsFirstRun old new answer = Means TABLE.now (SOURCE.now ∷ []) [] TICKS old new answer
@@ -158,6 +163,11 @@ IsReplayDone image partition inputs n before after =
 abbrev pub AreInputsDone : List ℕ → List ℕ → List ℕ → ℕ → State → State → Type 0
 AreInputsDone image partition devices n before after =
     (after.files ≡ before.files) × (given : ImageAndText before.files image devices) × AreInputsOf given partition n before.out.taken after.out.taken is_ok
+
+-- the state was written that the module of an image has before tick n
+abbrev pub IsStateDone : List ℕ → List ℕ → Wanted → ℕ → State → State → Type 0
+IsStateDone image devices wanted n before after =
+    (after.files ≡ before.files) × (given : ImageAndText before.files image devices) × IsStateOf given wanted n before.out.taken after.out.taken is_ok
 
 -- An image was built and written as the file of this name, and no other file was touched. This file is none of those that were
 -- read by then, the table and the sources among them.
@@ -183,6 +193,7 @@ IsDone (Build table name sources) before after =
 IsDone (Run image devices ticks until) before after = IsNumeral 10 ticks × IsRunDone image devices until (digits_value 10 ticks) Usual before after
 IsDone (Replay image partition inputs ticks) before after = IsNumeral 10 ticks × IsReplayDone image partition inputs (digits_value 10 ticks) before after
 IsDone (Inputs image partition devices ticks) before after = IsNumeral 10 ticks × AreInputsDone image partition devices (digits_value 10 ticks) before after
+IsDone (ShowState image devices tick wanted) before after = IsNumeral 10 tick × IsStateDone image devices wanted (digits_value 10 tick) before after
 IsDone (Cost table sources) before after =
     (after.files ≡ before.files) × (costs : List PartitionCosts) × AreCosted before.files table sources costs × Appends before.out.taken after.out.taken (costs_text costs)
 IsDone (Dis name) before after =

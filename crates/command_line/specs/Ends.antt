@@ -6,10 +6,11 @@ use Rattle.clap.specs.Values.{kind_of}
 use Rattle.clap.specs.declared.error.kind.ErrorKind.TheVariants.{ValueValidation}
 use Rattle.command_words.specs.declared.failure.Failure.{Failure}
 use Rattle.command_words.specs.declared.failure.Failure.TheVariants.{Refused, Usage}
+use Rattle.module.specs.States.{Wanted}
 use Rattle.streams.specs.States.{IsFlushed}
-use Rattle.command_line.specs.Done.{AreInputsDone, IsDoneWith, IsReplayDone, IsRunDone}
+use Rattle.command_line.specs.Done.{AreInputsDone, IsDoneWith, IsReplayDone, IsRunDone, IsStateDone}
 use Rattle.command_line.specs.Orders.{Order}
-use Rattle.command_line.specs.Refusals.{AreInputsRefused, HasWrongWord, IsRefused, IsReplayRefused, IsRunRefused}
+use Rattle.command_line.specs.Refusals.{AreInputsRefused, HasWrongWord, IsRefused, IsReplayRefused, IsRunRefused, IsStateRefused}
 use Rattle.command_line.specs.States.{IsUntouched, State}
 use Rattle.command_line.specs.Told.{IsOfFailed}
 use Rattle.command_line.specs.declared.outcome.Outcome.{Outcome}
@@ -40,6 +41,11 @@ abbrev pub EndsInputs : List ℕ → List ℕ → List ℕ → ℕ → State →
 EndsInputs image partition devices n before after (Ok Usual) = AreInputsDone image partition devices n before after × IsWell before after
 EndsInputs image partition devices n before after (Ok Remarkable) = ⊥
 EndsInputs image partition devices n before after (Err r) = AreInputsRefused image partition devices n before after r × IsOfFailed before.failed after.failed r
+
+abbrev pub EndsState : List ℕ → List ℕ → Wanted → ℕ → State → State → Result Outcome Refusal → Type 0
+EndsState image devices wanted n before after (Ok Usual) = IsStateDone image devices wanted n before after × IsWell before after
+EndsState image devices wanted n before after (Ok Remarkable) = ⊥
+EndsState image devices wanted n before after (Err r) = IsStateRefused image devices wanted n before after r × IsOfFailed before.failed after.failed r
 
 -- ---- words
 

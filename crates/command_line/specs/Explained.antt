@@ -7,9 +7,10 @@ use Rattle.finding_lines.specs.Lines.{rule_line}
 use Rattle.finding_lines.specs.Reports.{Form, Report, json, plain}
 use Rattle.image.specs.declared.fault.ImageFault.{ImageFault}
 use Rattle.module_meaning.specs.Table.{Partition, Table}
-use Rattle.command_line.specs.Explanation.{IsLengthExplanation, IsSourceExplanation, IsTableExplanation}
+use Rattle.command_line.specs.Explanation.{explanation, IsLengthExplanation, IsSourceExplanation, IsTableExplanation}
 use Rattle.command_line.specs.Files.{IsDeviceExplanation, IsImageExplanation, IsReplayExplanation}
 use Rattle.command_line.specs.Sentences.{command_sentence, device_sentence, file_sentence, image_sentence, replay_sentence, source_sentence, table_sentence}
+use Rattle.command_line.specs.declared.explanations.sentences.CommandFault.{CommandFault}
 use Rattle.command_line.specs.declared.explanations.sentences.CommandFault.TheVariants as command
 use Rattle.module_meaning.specs.Accepted.{IsTable}
 use Rattle.module.specs.Costs.{AreCosts}
@@ -76,12 +77,12 @@ sentence_of (LongTable name) = command_sentence command.LongTable
 sentence_of Memory = command_sentence command.Memory
 sentence_of Write = command_sentence command.Write
 
--- Only the line, or the line and its explanation: what was noted, or else the sentence.
+-- Only the line, or the line and its explanation: what was noted, with what else is wrong, or else the sentence.
 abbrev pub told_text : Bool → Refusal → Note → List ℕ
 told_text false r note = line_of r ++ 10 ∷ []
 told_text true r Unwanted = line_of r ++ 10 ∷ sentence_of r ++ 10 ∷ []
 told_text true r (Wanted style) = line_of r ++ 10 ∷ sentence_of r ++ 10 ∷ []
-told_text true r (Explained text) = line_of r ++ 10 ∷ string_bytes text
+told_text true r (Explained text more) = line_of r ++ 10 ∷ string_bytes text ++ string_bytes more
 
 -- ---- how a refusal is explained
 
@@ -99,12 +100,16 @@ object_of r = rule_line (rule_of r) (rule_of r) (sentence_of r)
 
 -- If objects were wanted and none is noted, there may be that of the refusal.
 abbrev pub IsObjectOf : Refusal → Note → Note → Type 0
-IsObjectOf r (Wanted styled.Json) (Explained text) = string_bytes text ≡ object_of r
+IsObjectOf r (Wanted styled.Json) (Explained text more) = string_bytes text ≡ object_of r
 IsObjectOf r old new = new ≡ old
 
 abbrev pub IsCompleted : Result Outcome (Failure Refusal) → Note → Note → Type 0
 IsCompleted (Err (Refused r)) old new = IsObjectOf r old new
 IsCompleted outcome old new = new ≡ old
+
+-- the sentence of a rule, or nothing for objects, which have none
+abbrev pub sentence_in : Style → CommandFault → List ℕ
+sentence_in style fault = explanation (form_in style []) (command_sentence fault) []
 
 -- ---- the note on a refused source or table
 
@@ -164,11 +169,17 @@ abbrev pub IsNoted : Style → List ℕ → List ℕ → List (List ℕ) → Lis
 IsNoted style file table files sources (build.Table fault) text = IsTableExplanation (report_in style (build_line (build.Table fault)) file) table fault text
 IsNoted style file table files sources (build.Pal name fault) text = IsExplained (form_in style (build_line (build.Pal name fault))) table files sources name fault text
 IsNoted style file table files sources (build.Compile name fault) text = IsLengthExplained (form_in style (build_line (build.Compile name fault))) table files sources name text
+IsNoted style file table files sources build.Sources text = text ≡ sentence_in style command.Sources
 IsNoted style file table files sources fault text = ⊥
+
+-- This explanation may be noted, where one is wanted in a style.
+abbrev pub IsNotedAs : Style → List ℕ → Note → Type 0
+IsNotedAs style text (Explained told more) = string_bytes told ≡ text
+IsNotedAs style text note = note ≡ Wanted style
 
 -- If an explanation was wanted, the refused table or source may be explained.
 abbrev pub IsNoteOf : List ℕ → List ℕ → List (List ℕ) → List (List ℕ) → BuildFault → Note → Note → Type 0
-IsNoteOf file table files sources fault (Wanted style) (Explained text) = IsNoted style file table files sources fault (string_bytes text)
+IsNoteOf file table files sources fault (Wanted style) (Explained text more) = IsNoted style file table files sources fault (string_bytes text)
 IsNoteOf file table files sources fault old new = new ≡ old
 
 -- ---- the note on a refused image, device text or replay text
@@ -185,7 +196,7 @@ files_of f = record { image_name = f.image_name.now; image = f.image.now; text_n
 
 -- If an explanation was wanted in a style, there may be one of which this is so.
 abbrev pub IsNotedBy : (Style → List ℕ → Type 0) → Note → Note → Type 0
-IsNotedBy is (Wanted style) (Explained text) = is style (string_bytes text)
+IsNotedBy is (Wanted style) (Explained text more) = is style (string_bytes text)
 IsNotedBy is old new = new ≡ old
 
 -- the text explains the refusal of the image
@@ -202,9 +213,11 @@ IsOfRun style f fault text = ⊥
 abbrev pub IsOfReplay : Style → Files → List ℕ → RunFault → List ℕ → Type 0
 IsOfReplay style f partition (run.Image fault) text = IsOfImage style f.image_name f.image fault text
 IsOfReplay style f partition (run.Device fault) text = IsReplayExplanation (report_in style (run_line (run.Device fault)) f.text_name) f.image partition f.text fault text
+IsOfReplay style f partition run.Partition text = text ≡ sentence_in style command.Partition
 IsOfReplay style f partition fault text = ⊥
 
 abbrev pub IsOfInputs : Style → Files → InputsFault → List ℕ → Type 0
 IsOfInputs style f (inputs.Image fault) text = IsOfImage style f.image_name f.image fault text
 IsOfInputs style f (inputs.Device fault) text = IsDeviceExplanation (report_in style (inputs_line (inputs.Device fault)) f.text_name) f.image f.text fault text
+IsOfInputs style f inputs.Partition text = text ≡ sentence_in style command.Partition
 IsOfInputs style f fault text = ⊥

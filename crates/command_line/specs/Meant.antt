@@ -1,9 +1,11 @@
 -- What an order of the code asks for.
-use Rattle.std.specs.Prelude.{map}
+use Rattle.std.specs.Prelude.{map, option_map}
 use Rattle.command_line.specs.Orders as asked
+use Rattle.module.specs.States.{Wanted}
 use Rattle.command_line.specs.declared.order.InputsWords.{InputsWords}
 use Rattle.command_line.specs.declared.order.ReplayWords.{ReplayWords}
 use Rattle.command_line.specs.declared.order.RunWords.{RunWords}
+use Rattle.command_line.specs.declared.order.StateWords.{StateWords}
 use Rattle.command_line.specs.declared.order.Order.{Order}
 use Rattle.command_line.specs.declared.order.Order.TheVariants as order
 
@@ -16,6 +18,12 @@ replay_meant words = asked.Replay words.image.now words.partition.now words.inpu
 abbrev pub inputs_meant : InputsWords → asked.Order
 inputs_meant words = asked.Inputs words.image.now words.partition.now words.devices.now words.ticks.now
 
+abbrev pub wanted_in : StateWords → Wanted
+wanted_in words = record { form = words.form; partition = option_map (λ s. s.now) words.partition }
+
+abbrev pub state_meant : StateWords → asked.Order
+state_meant words = asked.ShowState words.image.now words.devices.now words.tick.now (wanted_in words)
+
 abbrev pub meant : Order → asked.Order
 meant order.First = asked.First
 meant (order.Check names) = asked.Check names.table.now (map (λ s. s.now) names.sources.now)
@@ -23,6 +31,7 @@ meant (order.Build names image) = asked.Build names.table.now image.now (map (λ
 meant (order.Run words is_watched) = run_meant words
 meant (order.Replay words) = replay_meant words
 meant (order.Inputs words is_watched) = inputs_meant words
+meant (order.State words) = state_meant words
 meant (order.Cost names) = asked.Cost names.table.now (map (λ s. s.now) names.sources.now)
 meant (order.Dis image) = asked.Dis image.now
 meant (order.Upgrade old new) = asked.Upgrade old.now new.now

@@ -2,12 +2,15 @@
 use Rattle.std.specs.Prelude.{◌||◌, ℕ, Bool, false, List, [], ◌∷◌, Some, None, if◌then◌else◌, codes}
 use Rattle.std.specs.List.{list_any}
 use Rattle.std.specs.Str.{bytes_eq}
-use Rattle.clap.specs.Walk.{Row}
+use Rattle.clap.specs.Walk.{Row, first_of}
 use Rattle.command_words.specs.Found.{Entered, word_at, words_at}
 use Rattle.command_line.specs.declared.explaining.Style.{Style}
 use Rattle.command_line.specs.declared.explaining.Style.TheVariants.{Json, Plain}
 use Rattle.command_line.specs.declared.form.Form.{Form}
 use Rattle.command_line.specs.declared.form.Form.TheVariants.{Tables, Rows, Picture}
+use Rattle.module.specs.States.{Wanted}
+use Rattle.state_rows.specs.declared.row.Form.{Form as RowForm}
+use Rattle.state_rows.specs.declared.row.Form.TheVariants as row_form
 
 -- files and partitions are named; ticks are a word; a run may wait for a line with some words;
 -- if a word is only `-`, nothing is asked for
@@ -18,6 +21,7 @@ pub data Order : Type 0 where
   Run : (image : List ℕ) (devices : List ℕ) (ticks : List ℕ) (until : List (List ℕ)) → Order
   Replay : (image : List ℕ) (partition : List ℕ) (inputs : List ℕ) (ticks : List ℕ) → Order
   Inputs : (image : List ℕ) (partition : List ℕ) (devices : List ℕ) (ticks : List ℕ) → Order
+  ShowState : (image : List ℕ) (devices : List ℕ) (tick : List ℕ) (wanted : Wanted) → Order
   Cost : (table : List ℕ) (sources : List (List ℕ)) → Order
   Dis : (image : List ℕ) → Order
   Upgrade : (old : List ℕ) (new : List ℕ) → Order
@@ -57,6 +61,17 @@ is_flagged name rows = bytes_eq (word_at name rows) (codes "true")
 abbrev pub form_of : List Row → Form
 form_of rows = if is_flagged (codes "svg") rows then Picture else if is_flagged (codes "csv") rows then Rows else Tables
 
+-- the rows of a state as text or, with a flag, as JSON
+abbrev pub row_form_of : List Row → RowForm
+row_form_of rows = if is_flagged (codes "json") rows then row_form.Json else row_form.Text
+
+-- those of all partitions, or of the module and the one that is named
+abbrev pub wanted_of : List Row → Wanted
+wanted_of rows = record { form = row_form_of rows; partition = first_of (codes "partition") rows }
+
+abbrev pub state_of : List Row → Order
+state_of rows = ShowState (word_at (codes "IMAGE") rows) (word_at (codes "DEVICES") rows) (word_at (codes "TICK") rows) (wanted_of rows)
+
 abbrev pub load_of : List Row → Order
 load_of rows = Load (form_of rows) (word_at (codes "TABLE") rows) (words_at (codes "SOURCE") rows)
 
@@ -71,6 +86,7 @@ order_named name rows =
     else if bytes_eq name (codes "run") then run_of rows
     else if bytes_eq name (codes "replay") then replay_of rows
     else if bytes_eq name (codes "inputs") then inputs_of rows
+    else if bytes_eq name (codes "state") then state_of rows
     else if bytes_eq name (codes "cost") then cost_of rows
     else if bytes_eq name (codes "dis") then dis_of rows
     else if bytes_eq name (codes "upgrade") then upgrade_of rows
@@ -87,7 +103,7 @@ order_by_name (Some entered) = order_named entered.0 entered.1
 -- waits for
 abbrev pub named : List (List ℕ)
 named =
-    codes "TABLE" ∷ codes "SOURCE" ∷ codes "IMAGE" ∷ codes "DEVICES" ∷ codes "PARTITION" ∷ codes "INPUTS" ∷ codes "TICKS" ∷ codes "OLD" ∷ codes "NEW" ∷ []
+    codes "TABLE" ∷ codes "SOURCE" ∷ codes "IMAGE" ∷ codes "DEVICES" ∷ codes "PARTITION" ∷ codes "INPUTS" ∷ codes "TICKS" ∷ codes "TICK" ∷ codes "OLD" ∷ codes "NEW" ∷ []
 
 abbrev pub is_dash : List ℕ → Bool
 is_dash word = bytes_eq word (codes "-")

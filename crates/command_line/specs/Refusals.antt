@@ -10,6 +10,7 @@ use Rattle.command_line.specs.Costs.{costs_text}
 use Rattle.module.specs.Refusals.{IsRefusal}
 use Rattle.module.specs.Costs.{IsCostRefusal}
 use Rattle.module.specs.Running as promises
+use Rattle.module.specs.States.{Wanted}
 use Rattle.module.specs.declared.costing.PartitionCosts.{PartitionCosts}
 use Rattle.module.specs.declared.fault.BuildAndRunFault.{BuildAndRunFault}
 use Rattle.module.specs.declared.fault.BuildAndRunFault.TheVariants as both
@@ -18,8 +19,8 @@ use Rattle.module.specs.declared.inputs_fault.InputsFault.TheVariants as input_f
 use Rattle.module.specs.declared.fault.RunFault.{RunFault}
 use Rattle.module.specs.declared.fault.RunFault.TheVariants as faults
 use Rattle.streams.specs.Contents.{Contents, Holds, Spares}
-use Rattle.command_line.specs.Done.{Texts, IsTableIn, IsLongTable, IsBuilt, AreCosted, AreFoundIn, IsLoadIn, IsImageIn, IsImageWritten, IsUpgradedIn, ImageAndText, IsRunOf, IsRunDone, IsReplayOf, IsReplayDone, AreInputsOf, AreInputsDone, IsFirstRun, is_ok}
-use Rattle.command_line.specs.Orders.{Order, First as first, Check as check, Build as build, Run as run, Replay as replay, Inputs as inputs, Cost as cost, Dis as dis, Upgrade as upgrade, Load as load, Lint as lint, Dashed as dashed}
+use Rattle.command_line.specs.Done.{Texts, IsTableIn, IsLongTable, IsBuilt, AreCosted, AreFoundIn, IsLoadIn, IsImageIn, IsImageWritten, IsUpgradedIn, ImageAndText, IsRunOf, IsRunDone, IsReplayOf, IsReplayDone, AreInputsOf, AreInputsDone, IsStateOf, IsStateDone, IsFirstRun, is_ok}
+use Rattle.command_line.specs.Orders.{Order, First as first, Check as check, Build as build, Run as run, Replay as replay, Inputs as inputs, ShowState as show_state, Cost as cost, Dis as dis, Upgrade as upgrade, Load as load, Lint as lint, Dashed as dashed}
 use Rattle.command_line.specs.Loading.{IsRefusedTable, Shown}
 use Rattle.lint.specs.Sentences.{findings_text}
 use Rattle.lint.specs.declared.report.PartitionFindings.{PartitionFindings}
@@ -148,6 +149,16 @@ AreInputsRefused image partition devices n before after Memory = IsUntouched bef
 AreInputsRefused image partition devices n before after Write = HasFailed before.out after.out × AreInputsDone image partition devices n before after
 AreInputsRefused image partition devices n before after _ = ⊥
 
+-- why the state before tick n is refused
+abbrev pub IsStateRefused : List ℕ → List ℕ → Wanted → ℕ → State → State → Refusal → Type 0
+IsStateRefused image devices wanted n before after (File name reason) = IsUntouched before after × IsFirstUnread before.files (image ∷ devices ∷ []) (string_bytes name)
+IsStateRefused image devices wanted n before after (Run fault) =
+    HasFailedBy fault before.out after.out × (after.files ≡ before.files)
+    × (given : ImageAndText before.files image devices) × IsStateOf given wanted n before.out.taken after.out.taken (Err fault)
+IsStateRefused image devices wanted n before after Memory = IsUntouched before after
+IsStateRefused image devices wanted n before after Write = HasFailed before.out after.out × IsStateDone image devices wanted n before after
+IsStateRefused image devices wanted n before after _ = ⊥
+
 -- why the run of the stored module is refused, over standard output
 abbrev pub IsStoredRefused : Seen → Seen → Refusal → Type 0
 IsStoredRefused old new (Build fault) = (new.failures ≡ old.failures) × IsFirstRun old.taken new.taken (Err (both.Build fault))
@@ -202,6 +213,8 @@ IsRefused (replay image partition text ticks) before after r =
     (IsNumeral 10 ticks ⊎ (r ≡ Memory)) × IsReplayRefused image partition text (digits_value 10 ticks) before after r
 IsRefused (inputs image partition devices ticks) before after r =
     (IsNumeral 10 ticks ⊎ (r ≡ Memory)) × AreInputsRefused image partition devices (digits_value 10 ticks) before after r
+IsRefused (show_state image devices tick wanted) before after r =
+    (IsNumeral 10 tick ⊎ (r ≡ Memory)) × IsStateRefused image devices wanted (digits_value 10 tick) before after r
 IsRefused dashed before after r = IsUntouched before after × (r ≡ Memory)
 
 -- ---- the words
@@ -211,5 +224,6 @@ abbrev pub HasWrongWord : Order → Type 0
 HasWrongWord (run image devices ticks until) = IsNumeral 10 ticks → ⊥
 HasWrongWord (replay image partition text ticks) = IsNumeral 10 ticks → ⊥
 HasWrongWord (inputs image partition devices ticks) = IsNumeral 10 ticks → ⊥
+HasWrongWord (show_state image devices tick wanted) = IsNumeral 10 tick → ⊥
 HasWrongWord dashed = Unit {0}
 HasWrongWord _ = ⊥

@@ -73,7 +73,7 @@ command_sentence command.Write = codes "Standard output took no more bytes."
 
 -- a file that was not opened, read or written
 abbrev pub file_sentence : Reason → List ℕ
-file_sentence reason.Missing = codes "The file cannot be opened, read or written: nothing has this name."
+file_sentence reason.Missing = codes "The file cannot be opened, read or written: nothing has this name, or a folder in it is missing."
 file_sentence reason.Folder = codes "The file cannot be opened, read or written: it is a folder."
 file_sentence reason.Denied = codes "The file cannot be opened, read or written: it is not allowed."
 file_sentence reason.Unwritable = codes "The file cannot be opened, read or written: nothing can be written there."

@@ -2,7 +2,7 @@
 use Rattle.std.specs.Prelude.{ℕ, List, codes}
 use Rattle.clap.specs.Simple.{App, new_app, with_rule, with_subcommand}
 use Rattle.clap.specs.Walk.{Rule}
-use Rattle.command_words.specs.Grammar.{any_words_rule, flag_rule, sequence_rule, versioned, word_rule, words_rule}
+use Rattle.command_words.specs.Grammar.{any_words_rule, flag_rule, option_rule, sequence_rule, versioned, word_rule, words_rule}
 
 -- the flag that asks for an explanation of a refusal
 abbrev pub explain_rule : Rule
@@ -43,6 +43,12 @@ replay_app = with_rule (with_rule (partition_app (explained_app (codes "replay")
 abbrev pub inputs_app : App
 inputs_app = with_rule (with_rule (partition_app (watched_app (codes "inputs"))) (word_rule (codes "DEVICES"))) (word_rule (codes "TICKS"))
 
+abbrev pub state_flags_app : App
+state_flags_app = with_rule (with_rule (explained_app (codes "state")) (flag_rule (codes "json"))) (option_rule (codes "partition"))
+
+abbrev pub state_app : App
+state_app = with_rule (with_rule (with_rule state_flags_app (word_rule (codes "IMAGE"))) (word_rule (codes "DEVICES"))) (word_rule (codes "TICK"))
+
 abbrev pub cost_app : App
 cost_app = with_rule (with_rule (explained_app (codes "cost")) (word_rule (codes "TABLE"))) (words_rule (codes "SOURCE"))
 
@@ -67,5 +73,5 @@ top_app = versioned (new_app (codes "mb"))
 
 abbrev pub mb_app : App
 mb_app =
-    with_subcommand (with_subcommand (with_subcommand (with_subcommand (with_subcommand (with_subcommand (with_subcommand (with_subcommand (with_subcommand (with_subcommand
-    top_app check_app.top) build_app.top) run_app.top) replay_app.top) inputs_app.top) cost_app.top) dis_app.top) upgrade_app.top) load_app.top) lint_app.top
+    with_subcommand (with_subcommand (with_subcommand (with_subcommand (with_subcommand (with_subcommand (with_subcommand (with_subcommand (with_subcommand (with_subcommand (with_subcommand
+    top_app check_app.top) build_app.top) run_app.top) replay_app.top) inputs_app.top) state_app.top) cost_app.top) dis_app.top) upgrade_app.top) load_app.top) lint_app.top

@@ -25,6 +25,7 @@ use crate::refusal::Refusal;
 use crate::replaying::{inputs, replay};
 use crate::running::{run, run_stored};
 use crate::showing::{cost, dis};
+use crate::stating::show_state;
 use crate::words::spelled;
 use clap::ArgMatches;
 use command_words::Failure;
@@ -171,6 +172,7 @@ fn obey_order<F: Files, O: Stream, W: Watch>(
             begin_if(is_watched, watch);
             inputs(alloc, words, files, out, watch, note)
         }
+        Order::State { words } => show_state(alloc, words, files, out, note),
         Order::Cost { names } => ended(cost(alloc, names, files, out, note)),
         Order::Dis { image } => ended(dis(alloc, image, files, out, note)),
         Order::Upgrade { old, new } => ended(upgrade(alloc, old, new, files, out, note)),

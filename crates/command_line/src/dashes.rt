@@ -11,7 +11,7 @@ use clap::ArgMatches;
 
 /// The arguments that name a file or a partition, or give a number of ticks. A run that waits for a
 /// line takes `-` as a word of this line.
-static NAMED: [&str; 9] = [
+static NAMED: [&str; 10] = [
     "TABLE",
     "SOURCE",
     "IMAGE",
@@ -19,6 +19,7 @@ static NAMED: [&str; 9] = [
     "PARTITION",
     "INPUTS",
     "TICKS",
+    "TICK",
     "OLD",
     "NEW",
 ];

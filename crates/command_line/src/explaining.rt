@@ -5,12 +5,12 @@ ghost use Rattle.module.specs.Costs.{AreCosts};
 ghost use Rattle.module_meaning.specs.Accepted.{IsTable};
 ghost use Rattle.window_table.specs.Views.{partition_view, table_of};
 ghost use Rattle.finding_lines.specs.Reports.{form_of, report_of};
-ghost use Rattle.command_line.specs.Explained.{IsCompleted, IsExplained, IsExplainedWith, IsLengthExplained, IsLengthExplainedWith, IsNoted, IsNotedBy, IsNoteOf, IsOfImage, IsOfInputs, IsOfReplay, IsOfRun, build_sentence, costed_file, costed_of, files_of, form_in, inputs_sentence, object_of, report_in, report_on, run_sentence, sentence_of, sentence_of_replay, source_file, source_of, told_text};
+ghost use Rattle.command_line.specs.Explained.{IsCompleted, IsExplained, IsExplainedWith, IsLengthExplained, IsLengthExplainedWith, IsNoted, IsNotedAs, IsNotedBy, IsNoteOf, IsOfImage, IsOfInputs, IsOfReplay, IsOfRun, build_sentence, costed_file, costed_of, files_of, form_in, inputs_sentence, object_of, report_in, report_on, run_sentence, sentence_in, sentence_of, sentence_of_replay, source_file, source_of, told_text};
 
 use crate::explanations::{
-    CommandFault, command_sentence, device_sentence, explain_devices, explain_image,
-    explain_inputs, explain_length, explain_source, explain_table, file_sentence, image_sentence,
-    replay_sentence, source_sentence, table_sentence,
+    CommandFault, ModuleTexts, command_sentence, device_sentence, explain_devices, explain_image,
+    explain_inputs, explain_length, explain_rest, explain_source, explain_table, explanation_of,
+    file_sentence, image_sentence, partitions_of, replay_sentence, source_sentence, table_sentence,
 };
 use crate::order::ModuleNames;
 use crate::outcome::Outcome;
@@ -62,8 +62,8 @@ pub enum Note {
     Unwanted,
     /// No file is refused so far.
     Wanted(Style),
-    /// The lines that explain the refusal of a file, to their end.
-    Explained(String),
+    /// The lines that explain the refusal of a file, to their end, and what else is wrong.
+    Explained(String, String),
 }
 
 impl Note {
@@ -88,7 +88,7 @@ impl Note {
             return;
         };
         if let Ok(text) = object_of(alloc, refusal) {
-            *self = Note::Explained(text);
+            *self = Note::Explained(text, String::new(alloc));
         }
     }
 
@@ -110,7 +110,29 @@ impl Note {
             return;
         };
         if let Some(text) = explanation(alloc, style, names, table, sources, fault) {
-            *self = Note::Explained(text);
+            let module = ModuleTexts {
+                names,
+                table,
+                sources,
+            };
+            let more = explain_rest(alloc, style == Style::Plain, module, fault);
+            *self = noted_as(alloc, style, text, more);
+        }
+    }
+}
+
+/// The note of an explanation and of what else is wrong, if one of them has lines.
+fn noted_as(alloc: Global, style: Style, text: String, more: Option<String>) -> Note
+    ensures { IsNotedAs style (string_bytes text) result }
+{
+    match more {
+        Some(more) => Note::Explained(text, more),
+        None => {
+            if text.is_empty() {
+                Note::Wanted(style)
+            } else {
+                Note::Explained(text, String::new(alloc))
+            }
         }
     }
 }
@@ -141,7 +163,7 @@ impl Note {
             return;
         };
         if let Some(text) = image_explanation(alloc, style, file, bytes, fault) {
-            *self = Note::Explained(text);
+            *self = Note::Explained(text, String::new(alloc));
         }
     }
 
@@ -155,7 +177,7 @@ impl Note {
             return;
         };
         if let Some(text) = run_explanation(alloc, style, files, fault) {
-            *self = Note::Explained(text);
+            *self = Note::Explained(text, String::new(alloc));
         }
     }
 
@@ -176,13 +198,21 @@ impl Note {
             return;
         };
         if let Some(text) = replay_explanation(alloc, style, files, partition, fault) {
-            *self = Note::Explained(text);
+            let is_lacking = lacks_partition(fault);
+            let known = partition_lines(alloc, style, files, partition, is_lacking);
+            *self = noted_as(alloc, style, text, known);
         }
     }
 
     /// Notes the explanation of inputs whose image or device text is refused, if it is wanted and there
     /// is memory for it.
-    pub fn explain_inputs(&mut self, alloc: Global, files: RunFiles<'_>, fault: &InputsFault)
+    pub fn explain_inputs(
+        &mut self,
+        alloc: Global,
+        files: RunFiles<'_>,
+        partition: &str,
+        fault: &InputsFault,
+    )
         ensures { IsNotedBy (λ style. IsOfInputs style (files_of files.entry) fault.now) self.old
             self.new }
     {
@@ -190,9 +220,41 @@ impl Note {
             return;
         };
         if let Some(text) = inputs_explanation(alloc, style, files, fault) {
-            *self = Note::Explained(text);
+            let is_lacking = lacks_partition_of_inputs(fault);
+            let known = partition_lines(alloc, style, files, partition, is_lacking);
+            *self = noted_as(alloc, style, text, known);
         }
     }
+}
+
+fn lacks_partition(fault: &RunFault) -> bool {
+    matches!(fault, RunFault::Partition)
+}
+
+fn lacks_partition_of_inputs(fault: &InputsFault) -> bool {
+    matches!(fault, InputsFault::Partition)
+}
+
+/// The partitions of an image that lacks this one, if there is memory for it.
+fn partition_lines(
+    alloc: Global,
+    style: Style,
+    files: RunFiles<'_>,
+    partition: &str,
+    is_lacking: bool,
+) -> Option<String> {
+    if !is_lacking {
+        return None;
+    }
+    let report = style.report("partition", files.image_name);
+    partitions_of(alloc, report, files.image, partition)
+}
+
+/// The sentence of a rule, where objects are not wanted, if there is memory for it.
+fn sentence_only(alloc: Global, style: Style, fault: CommandFault) -> Option<String>
+    ensures { IfSome result (λ text. string_bytes text ≡ sentence_in style fault) }
+{
+    explanation_of(alloc, style.form(""), command_sentence(fault), "")
 }
 
 /// The explanation of a refused image, if there is memory for it.
@@ -256,6 +318,7 @@ fn replay_explanation(
             let report = style.report(rule.as_str(), files.text_name);
             explain_inputs(alloc, report, files.image, partition, files.text, *device)
         }
+        RunFault::Partition => sentence_only(alloc, style, CommandFault::Partition),
         _ => None,
     }
 }
@@ -279,6 +342,7 @@ fn inputs_explanation(
             let report = style.report(rule.as_str(), files.text_name);
             explain_devices(alloc, report, files.image, files.text, *device)
         }
+        InputsFault::Partition => sentence_only(alloc, style, CommandFault::Partition),
         _ => None,
     }
 }
@@ -321,6 +385,7 @@ fn explanation(
             let rule = shown.as_str();
             length_explained(alloc, style.form(rule), table, given, partition)
         }
+        BuildFault::Sources => sentence_only(alloc, style, CommandFault::Sources),
         _ => None,
     }
 }
@@ -591,7 +656,7 @@ impl fmt::Display for Told {
             return writeln!(f, "{refusal}");
         }
         match &self.noted.note {
-            Note::Explained(text) => write!(f, "{refusal}\n{text}"),
+            Note::Explained(text, more) => write!(f, "{refusal}\n{text}{more}"),
             Note::Unwanted | Note::Wanted(_) => writeln!(f, "{refusal}\n{}", sentence_of(refusal)),
         }
     }

@@ -3,11 +3,14 @@
 
 mod explanation;
 mod files;
+mod further;
 mod report;
 mod sentences;
 
 pub use explanation::{explain_length, explain_source, explain_table};
 pub use files::{explain_devices, explain_image, explain_inputs};
+pub use further::{ModuleTexts, explain_rest, partitions_of};
+pub use report::explanation as explanation_of;
 pub use sentences::{
     CommandFault, command_sentence, device_sentence, file_sentence, image_sentence,
     replay_sentence, source_sentence, table_sentence,

@@ -7,17 +7,38 @@ ghost use Rattle.command_words.specs.Grammar.{IsCommand};
 ghost use Rattle.command_line.specs.Words.{mb_app};
 
 use clap::{Command, Error};
-use command_words::{Argument, CommandRow, Program};
+use command_words::{Argument, CommandRow, ExitStatus, Page, Program};
 use std::alloc::{AllocError, Global};
 
 static PROGRAM: Program = Program {
     name: "mb",
-    about: "Builds ARINC 653 modules and runs them; without a command, runs a stored first module",
-    example: "Example: mb build table.toml module.image a.pal b.pal",
+    about: "Builds ARINC 653 modules and runs them; with --explain a refused command says why; without a command, runs a stored first module",
+    example: "Example: mb build table.toml module.image a.pal b.pal\nManual: mb help --man | man -l -",
     wants_command: false,
     commands: &[
-        CHECK, BUILD, RUN, REPLAY, INPUTS, COST, DIS, UPGRADE, LOAD, LINT,
+        CHECK, BUILD, RUN, REPLAY, INPUTS, STATE, COST, DIS, UPGRADE, LOAD, LINT,
     ],
+    statuses: &[DONE, REFUSED, NO_COMMAND, FOUND],
+};
+
+const DONE: ExitStatus = ExitStatus {
+    number: 0,
+    meaning: "What was asked for is done, or help is written",
+};
+
+const REFUSED: ExitStatus = ExitStatus {
+    number: 1,
+    meaning: "It is refused, with one line on standard error",
+};
+
+const NO_COMMAND: ExitStatus = ExitStatus {
+    number: 2,
+    meaning: "The words are no command; a usage is on standard error",
+};
+
+const FOUND: ExitStatus = ExitStatus {
+    number: 3,
+    meaning: "lint has found something, or no line came for which run --until waits",
 };
 
 const CHECK: CommandRow = CommandRow {
@@ -94,6 +115,31 @@ const INPUTS: CommandRow = CommandRow {
         PARTITION,
         DEVICES,
         TICKS,
+    ],
+};
+
+const STATE: CommandRow = CommandRow {
+    name: "state",
+    about: "Runs an image and writes the state of its module before a tick, a row a thing",
+    example: "Example: mb state --partition b module.image devices.txt 150",
+    arguments: &[
+        EXPLAIN,
+        EXPLAIN_JSON,
+        Argument::Flag {
+            name: "json",
+            help: "Writes each row as a JSON object",
+        },
+        Argument::Option {
+            name: "partition",
+            value: "PARTITION",
+            help: "Writes only the rows of the module and of this partition",
+        },
+        IMAGE,
+        DEVICES,
+        Argument::Word {
+            name: "TICK",
+            help: "The tick before which the state is shown, at most 1099511627776",
+        },
     ],
 };
 
@@ -211,12 +257,31 @@ pub fn grammar<'a>(alloc: Global) -> Result<Command<'a>, AllocError>
     PROGRAM.grammar(alloc)
 }
 
+/// The text of a page of the program's own words.
+pub fn page_text(alloc: Global, page: Page) -> Result<String, AllocError> {
+    PROGRAM.page(alloc, page)
+}
+
 /// The usage error of a word that is no number of ticks, of the command of that name.
 pub fn bad_ticks(alloc: Global, name: &str, word: &str) -> Result<Error, AllocError>
     ensures { IfOk result (λ error. kind_of error ≡ ValueValidation) }
 {
+    bad_number(alloc, name, "TICKS", word)
+}
+
+/// The usage error of a word that is no tick, of the command that shows a state.
+pub fn bad_tick(alloc: Global, word: &str) -> Result<Error, AllocError>
+    ensures { IfOk result (λ error. kind_of error ≡ ValueValidation) }
+{
+    bad_number(alloc, "state", "TICK", word)
+}
+
+/// The usage error of a word for an argument that is no number.
+fn bad_number(alloc: Global, name: &str, argument: &str, word: &str) -> Result<Error, AllocError>
+    ensures { IfOk result (λ error. kind_of error ≡ ValueValidation) }
+{
     let message = format!(in alloc;
-        "invalid value '{word}' for '<TICKS>': one or more digits, at most 1099511627776"
+        "invalid value '{word}' for '<{argument}>': one or more digits, at most 1099511627776"
     )?;
     PROGRAM.usage_error(alloc, name, message.as_str())
 }

@@ -34,6 +34,7 @@ mod refusal;
 mod replaying;
 mod running;
 mod showing;
+mod stating;
 mod stopping;
 mod telling;
 mod words;

@@ -1,16 +1,17 @@
 //! What the words of a command line ask for.
 
-ghost use Rattle.std.specs.Prelude.{◌≡◌, codes, map};
+ghost use Rattle.std.specs.Prelude.{◌≡◌, codes, map, option_map};
 ghost use Rattle.clap.specs.Matches.{found_of};
 ghost use Rattle.clap.specs.Simple.{subcommand_rows_of};
-ghost use Rattle.clap.specs.Walk.{rows_of};
-ghost use Rattle.command_line.specs.Meant.{inputs_meant, meant, replay_meant, run_meant};
+ghost use Rattle.clap.specs.Walk.{first_of, rows_of};
+ghost use Rattle.command_line.specs.Meant.{inputs_meant, meant, replay_meant, run_meant, state_meant};
 ghost use Rattle.command_line.specs.Orders as spec;
 ghost use Rattle.command_words.specs.Found.{word_at, words_at};
 
 use crate::form::Form;
 use clap::ArgMatches;
 use command_words::word;
+use state_rows::Form as RowForm;
 
 /// The files of a module: its table and its sources.
 #[derive(Clone, Copy)]
@@ -46,6 +47,16 @@ pub struct InputsWords<'a> {
     pub ticks: &'a str,
 }
 
+/// The words of `mb state`: two names, the tick, and which rows are wanted.
+#[derive(Clone, Copy)]
+pub struct StateWords<'a> {
+    pub image: &'a str,
+    pub devices: &'a str,
+    pub tick: &'a str,
+    pub form: RowForm,
+    pub partition: Option<&'a str>,
+}
+
 /// The words of a command, and the number in its word for ticks.
 #[derive(Clone, Copy)]
 pub struct Timed<W> {
@@ -75,6 +86,9 @@ pub enum Order<'a> {
     Inputs {
         words: InputsWords<'a>,
         is_watched: bool,
+    },
+    State {
+        words: StateWords<'a>,
     },
     Cost {
         names: ModuleNames<'a>,
@@ -127,6 +141,9 @@ fn order_named<'a, 'w: 'a>(name: &str, found: &'a ArgMatches<'w>) -> Order<'a>
         "inputs" => Order::Inputs {
             words: inputs_words(found),
             is_watched: is_flagged(found, "progress"),
+        },
+        "state" => Order::State {
+            words: state_words(found),
         },
         "cost" => Order::Cost {
             names: module_names(found),
@@ -197,6 +214,26 @@ fn inputs_words<'a, 'w: 'a>(found: &'a ArgMatches<'w>) -> InputsWords<'a>
     }
 }
 
+/// The words of `mb state`.
+fn state_words<'a, 'w: 'a>(found: &'a ArgMatches<'w>) -> StateWords<'a>
+    ensures { state_meant result ≡ spec.state_of (rows_of (found_of found.now)) }
+{
+    StateWords {
+        image: word(found, "IMAGE"),
+        devices: word(found, "DEVICES"),
+        tick: word(found, "TICK"),
+        form: row_form_of(found),
+        partition: word_if_any(found, "partition"),
+    }
+}
+
+/// The word that was found for the option `name`, if there is one.
+fn word_if_any<'a>(found: &ArgMatches<'a>, name: &str) -> Option<&'a str>
+    ensures { option_map (λ s. s.now) result ≡ first_of name.now (rows_of (found_of found.now)) }
+{
+    found.get_str(name)
+}
+
 /// The words that were found for the argument `name`, or none if there are no such words.
 fn words<'a, 'w: 'a>(found: &'a ArgMatches<'w>, name: &str) -> &'a [&'a str]
     ensures { map (λ s. s.now) result.now ≡ words_at name.now (rows_of (found_of found.now)) }
@@ -221,5 +258,16 @@ fn form_of(found: &ArgMatches<'_>) -> Form
         Form::Rows
     } else {
         Form::Tables
+    }
+}
+
+/// How the rows of a state are to be written.
+fn row_form_of(found: &ArgMatches<'_>) -> RowForm
+    ensures { result ≡ spec.row_form_of (rows_of (found_of found.now)) }
+{
+    if is_flagged(found, "json") {
+        RowForm::Json
+    } else {
+        RowForm::Text
     }
 }

@@ -4,10 +4,10 @@ ghost use Rattle.std.specs.Prelude.{◌-◌, ◌^◌, ◌<◌, IfErr, OnOk};
 ghost use Rattle.command_line.specs.Pages.{IsPageRefused, IsPageTold, IsPageWritten};
 ghost use Rattle.streams.specs.States.{seen};
 
-use crate::grammar::grammar;
+use crate::grammar::page_text;
 use crate::refusal::Refusal;
-use command_words::{Page, page_text};
-use std::alloc::{AllocError, Global};
+use command_words::Page;
+use std::alloc::Global;
 use streams::{Stream, tell_line, write_text};
 
 /// Writes a page to `out`, and returns the exit status. If it is not written, the line of the refusal
@@ -39,11 +39,6 @@ fn write_page<O: Stream>(alloc: Global, page: Page, out: &mut O) -> Result<(), R
         (λ r. IsPageRefused (seen O.taken O.failures O.is_flushed out.old)
         (seen O.taken O.failures O.is_flushed out.new) r) }
 {
-    let text = text_of(alloc, page)?;
+    let text = page_text(alloc, page)?;
     Ok(write_text(out, text.as_str())?)
-}
-
-/// The text of a page.
-fn text_of(alloc: Global, page: Page) -> Result<String, AllocError> {
-    page_text(alloc, page, grammar(alloc)?)
 }

@@ -132,7 +132,7 @@ fn inputs_named<F: Files, O: Stream, W: Watch>(
         ticks: wanted.ticks,
     };
     if let Err(fault) = module::inputs_watched(alloc, given.image, brought, out, watch) {
-        note.explain_inputs(alloc, given, &fault);
+        note.explain_inputs(alloc, given, words.partition, &fault);
         return Err(Refusal::Inputs(fault));
     }
     out.flush()?;

@@ -1,14 +1,20 @@
 //! The manual page of a program, as `man` reads it.
 
+use crate::table::ExitStatus;
 use clap::{Arg, Command};
 use std::alloc::{AllocError, Global};
 
-/// The manual page of a program: what it does, its options, and its commands with their words.
+/// The manual page of a program: what it does, its options, its commands with their words, and what its
+/// exit statuses mean.
 ///
 /// # Errors
 ///
 /// Only if memory runs out.
-pub fn manual(alloc: Global, program: &Command<'_>) -> Result<String, AllocError> {
+pub fn manual(
+    alloc: Global,
+    program: &Command<'_>,
+    statuses: &[ExitStatus],
+) -> Result<String, AllocError> {
     let name = program.get_name();
     let version = program.get_version().unwrap_or("");
     let about = escaped(alloc, program.get_about().unwrap_or(""))?;
@@ -17,7 +23,9 @@ pub fn manual(alloc: Global, program: &Command<'_>) -> Result<String, AllocError
     for command in program.get_subcommands() {
         commands.push_str(&command_lines(alloc, name, command)?)?;
     }
-    let (about, options, commands) = (about.as_str(), options.as_str(), commands.as_str());
+    let statuses = status_lines(alloc, statuses)?;
+    let (about, options) = (about.as_str(), options.as_str());
+    let (commands, statuses) = (commands.as_str(), statuses.as_str());
     format!(in alloc;
         ".TH {name} 1 \"\" \"{name} {version}\" \"\"\n\
          .SH NAME\n{name} \\- {about}\n\
@@ -27,8 +35,20 @@ pub fn manual(alloc: Global, program: &Command<'_>) -> Result<String, AllocError
          .SH PAGES\n\
          .TP\n\\fB{name} help \\-\\-man\\fR\nWrites this page.\n\
          .TP\n\\fB{name} help \\-\\-completion bash\\fR\n\
-         Writes the completion of these words for bash.\n"
+         Writes the completion of these words for bash.\n\
+         .SH EXIT STATUS\n{statuses}"
     )
+}
+
+/// What exit statuses mean.
+fn status_lines(alloc: Global, statuses: &[ExitStatus]) -> Result<String, AllocError> {
+    let mut text = String::new(alloc);
+    for status in statuses {
+        let meaning = escaped(alloc, status.meaning)?;
+        let (number, meaning) = (status.number, meaning.as_str());
+        text.push_str(&format!(in alloc; ".TP\n{number}\n{meaning}.\n")?)?;
+    }
+    Ok(text)
 }
 
 /// A command: its words in a line, what it does, and what its words mean.

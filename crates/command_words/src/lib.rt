@@ -14,7 +14,7 @@ mod words;
 
 pub use failure::{Failure, WantOfMemory};
 pub use number::number_of;
-pub use page::{Page, page_of, page_text};
-pub use table::{Argument, CommandRow, Program};
+pub use page::{Page, page_of};
+pub use table::{Argument, CommandRow, ExitStatus, Program};
 pub use usage::tell_usage;
 pub use words::word;

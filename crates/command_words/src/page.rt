@@ -3,10 +3,6 @@
 ghost use Rattle.std.specs.Prelude.{◌≡◌, map};
 ghost use Rattle.command_words.specs.Pages as spec;
 
-use crate::completing::completion;
-use crate::describing::manual;
-use clap::Command;
-use std::alloc::{AllocError, Global};
 use std::convert::AsStr;
 
 /// A page that a program writes of its words.
@@ -47,19 +43,5 @@ fn completion_of(help: &str, page: &str, shell: &str) -> Option<Page>
         Some(Page::Bash)
     } else {
         None
-    }
-}
-
-/// The text of a page of a program with these commands. `docs/man` and `docs/completion` hold it.
-///
-/// # Errors
-///
-/// Only if memory runs out.
-pub fn page_text(alloc: Global, page: Page, commands: Command<'_>) -> Result<String, AllocError> {
-    let mut commands = commands;
-    commands.build()?;
-    match page {
-        Page::Manual => manual(alloc, &commands),
-        Page::Bash => completion(alloc, &commands),
     }
 }

@@ -6,6 +6,9 @@ ghost use Rattle.clap.specs.Walk.{rule_of};
 ghost use Rattle.clap.specs.declared.error.kind.ErrorKind.TheVariants.{ValueValidation};
 ghost use Rattle.command_words.specs.Grammar.{IsCommand, any_words_rule, command_app, flag_rule, option_rule, pair_rule, program_app, rule, sequence_rule, top_app, word_rule, words_rule};
 
+use crate::completing::completion;
+use crate::describing::manual;
+use crate::page::Page;
 use clap::error::ErrorKind;
 use clap::{Arg, ArgAction, Command, Error};
 use std::alloc::{AllocError, Global};
@@ -74,6 +77,15 @@ pub struct Program {
     /// Whether words without a command are a mistake.
     pub wants_command: bool,
     pub commands: &'static [CommandRow],
+    /// What its exit statuses mean, in their order.
+    pub statuses: &'static [ExitStatus],
+}
+
+/// An exit status of a program, and what it means.
+#[derive(Clone, Copy)]
+pub struct ExitStatus {
+    pub number: u8,
+    pub meaning: &'static str,
 }
 
 impl Program {
@@ -86,22 +98,38 @@ impl Program {
     pub fn grammar<'a>(&self, alloc: Global) -> Result<Command<'a>, AllocError>
         ensures { IfOk result (λ command. IsCommand command (program_app self.now)) }
     {
-        let mut program = self.top(alloc);
+        let mut program = self.top(alloc)?;
         for row in self.commands {
             program = program.subcommand(row.command(alloc)?)?;
         }
         Ok(program)
     }
 
-    /// The program without its commands.
-    fn top<'a>(&self, alloc: Global) -> Command<'a>
-        ensures { IsCommand result (top_app self.now) }
+    /// The program without its commands. A usage has the program's own name, and not that of the file
+    /// that was started.
+    fn top<'a>(&self, alloc: Global) -> Result<Command<'a>, AllocError>
+        ensures { IfOk result (λ command. IsCommand command (top_app self.now)) }
     {
         Command::new(alloc, self.name)
             .version(VERSION)
             .about(self.about)
             .after_help(self.example)
             .subcommand_required(self.wants_command)
+            .bin_name(self.name)
+    }
+
+    /// The text of a page of the program. `docs/man` and `docs/completion` hold it.
+    ///
+    /// # Errors
+    ///
+    /// Only if memory runs out.
+    pub fn page(&self, alloc: Global, page: Page) -> Result<String, AllocError> {
+        let mut commands = self.grammar(alloc)?;
+        commands.build()?;
+        match page {
+            Page::Manual => manual(alloc, &commands, self.statuses),
+            Page::Bash => completion(alloc, &commands),
+        }
     }
 
     /// The usage error of a wrong word of the command of that name.
@@ -131,7 +159,7 @@ impl Program {
                 return row.command(alloc);
             }
         }
-        Ok(self.top(alloc))
+        self.top(alloc)
     }
 }
 

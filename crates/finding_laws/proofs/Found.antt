@@ -5,7 +5,7 @@ use Rattle.std.specs.List.{list_any}
 use Rattle.module_meaning.specs.TableRules.{is_outside_cost, exceeds_counts, exceeds_kind, exceeds_port, exceeds_partition, exceeds_rows, exceeds_window, exceeds_channel, is_count_outside, overlaps_after}
 use Rattle.apex_types.specs.declared.limits.TheConstants.{MOST_COST, MOST_PARTITIONS}
 use Rattle.finding_laws.specs.Any.{has_any}
-use Rattle.table_findings.specs.Limits.{below, channel_at, partition_row as row_of_partition, port_at, channel_limits, channels_from, costs_at, costs_limits, count, counts, kind, limits, name, outside, partition_limits, partitions_from, port_limits, ports_from, sizes, times, window_limits, windows_from}
+use Rattle.table_findings.specs.Limits.{below, channel_at, partition_row as row_of_partition, port_at, channel_limits, channels_from, costs_at, costs_limits, count, counts, kind, limits, most_period, name, outside, partition_limits, partitions_from, port_limits, ports_from, sizes, times, window_limits, windows_from}
 use Rattle.table_findings.specs.Schedule.{early, late, partition_at, window_at, odd_period, odd_periods, odd_periods_from, overlaps_from, placed, window_end}
 use Rattle.table_findings.specs.Subjects.{Costs}
 
@@ -78,8 +78,19 @@ partition_parts : (a t d e : Bool) → ((a || t) || d) || e ≡ a || (t || (d ||
 partition_parts true t d e = refl
 partition_parts false t d e = or_assoc t d e
 
+-- the second is looked at where the first does not hold
+or_unless : (a b : Bool) → a || b ≡ a || cond a false b
+or_unless true b = refl
+or_unless false b = refl
+
+unless_any : (a b : Bool) (xs : List Finding) → b ≡ has_any xs → cond a false b ≡ has_any (cond a [] xs)
+unless_any true b xs h = refl
+unless_any false b xs h = h
+
 times_any : (s : Subject) (frame : ℤ) (p : PartitionText) → exceeds_times frame p ≡ has_any (times s frame p)
-times_any s frame p = two _ _ _ _ (outside_any s (codes "period") 1 frame p.period) (outside_any s (codes "duration") 0 p.period p.duration)
+times_any s frame p =
+    or_unless (is_outside 1 frame p.period) (is_outside 0 p.period p.duration)
+    ∙ two _ _ _ _ (outside_any s (codes "period") 1 frame p.period) (unless_any (is_outside 1 frame p.period) _ _ (outside_any s (codes "duration") 0 p.period p.duration))
 
 partition_any : (frame : ℤ) (i : ℕ) (p : PartitionText) → exceeds_partition frame p ≡ has_any (partition_limits frame i p)
 unfolding exceeds_partition
@@ -152,14 +163,6 @@ limit_parts false false false true p = refl
 limit_parts false false false false true = refl
 limit_parts false false false false false = refl
 
-pub limits_any : (t : TableText) → AreFew t.costs → exceeds_limits t ≡ has_any (limits t)
-unfolding exceeds_rows
-limits_any t few =
-    limit_parts (exceeds_counts t) (list_any exceeds_window t.windows) (list_any exceeds_channel t.channels) (has_costs_outside t.costs) (list_any (exceeds_partition t.frame) t.partitions)
-    ∙ two _ _ _ _ (counts_any t) (two _ _ _ _ (costs_any t.costs few) (two _ _ _ _ (partitions_any t.frame 0 t.partitions) (two _ _ _ _ (windows_any 0 t.windows) (channels_any 0 t.channels))))
-
--- ---- periods
-
 pub or_first : (a b : Bool) → a || b ≡ false → a ≡ false
 or_first true b h = h
 or_first false b h = refl
@@ -167,6 +170,27 @@ or_first false b h = refl
 pub or_second : (a b : Bool) → a || b ≡ false → b ≡ false
 or_second true b h = absurd (false≢true (sym h))
 or_second false b h = h
+
+-- what is looked at by another measure only where something is found before
+with_first : (a r k b c : Bool) → (a ≡ false → b ≡ c) → ((a || r) || k) || b ≡ ((a || r) || k) || c
+with_first true r k b c h = refl
+with_first false r k b c h = ap (λ (x : Bool). (r || k) || x) (h refl)
+
+-- a frame within its limits is the greatest period
+frame_kept : (t : TableText) → exceeds_counts t ≡ false → most_period t.frame ≡ t.frame
+unfolding exceeds_counts
+frame_kept t kept =
+    let first = or_first (is_outside 1 (pos MOST_FRAME_TICKS) t.frame) _ (or_first _ (is_count_outside 1 MOST_WINDOWS t.windows) (or_first _ (is_count_outside 0 MOST_CHANNELS t.channels) kept)) in
+    ap (λ (b : Bool). cond b (pos MOST_FRAME_TICKS) t.frame) first
+
+pub limits_any : (t : TableText) → AreFew t.costs → exceeds_limits t ≡ has_any (limits t)
+unfolding exceeds_rows
+limits_any t few =
+    with_first (exceeds_counts t) (list_any exceeds_window t.windows || list_any exceeds_channel t.channels) (has_costs_outside t.costs) (list_any (exceeds_partition t.frame) t.partitions) (list_any (exceeds_partition (most_period t.frame)) t.partitions) (λ kept. ap (λ (frame : ℤ). list_any (exceeds_partition frame) t.partitions) (sym (frame_kept t kept)))
+    ∙ limit_parts (exceeds_counts t) (list_any exceeds_window t.windows) (list_any exceeds_channel t.channels) (has_costs_outside t.costs) (list_any (exceeds_partition (most_period t.frame)) t.partitions)
+    ∙ two _ _ _ _ (counts_any t) (two _ _ _ _ (costs_any t.costs few) (two _ _ _ _ (partitions_any (most_period t.frame) 0 t.partitions) (two _ _ _ _ (windows_any 0 t.windows) (channels_any 0 t.channels))))
+
+-- ---- periods
 
 odd_any : (frame i : ℕ) (p : PartitionText) → (nat_abs p.period == 0) ≡ false → not (frame % nat_abs p.period == 0) ≡ has_any (odd_period frame i p)
 odd_any frame i p there =

@@ -29,6 +29,13 @@ impl TomlPlaces {
         Some(TomlPlaces { entries })
     }
 
+    /// The entries, in the order of the text.
+    pub fn entries(&self) -> &[Entry]
+        ensures { entries_of result.now ≡ entries_in self.now }
+    {
+        self.entries.as_slice()
+    }
+
     /// The first entry at a path or below it.
     #[tactic(auto, using(std::proofs::lemmas::List::drop_more))]
     pub fn first_at(&self, path: &[Step<'_>]) -> Option<&Entry>

@@ -1,6 +1,6 @@
 //! The errors that wait for the error handler of a partition.
 
-ghost use Rattle.std.specs.Prelude.{◌≡◌, ◌≤◌, ◌-◌, drop, length, slice_get, IfOk, IsNone};
+ghost use Rattle.std.specs.Prelude.{◌≡◌, ◌≤◌, ◌-◌, drop, length, option_map, slice_get, IfOk, IsNone};
 ghost use Rattle.apex_types.specs.Limits.{MOST_ERRORS, MOST_WORDS};
 ghost use Rattle.kernel_meaning.specs.Kernel as meaning;
 ghost use Rattle.kernel_meaning.specs.HealthServices.{is_waiting};
@@ -72,10 +72,24 @@ impl Errors {
     }
 
     /// Whether the partition's source has an error handler.
-    pub(crate) fn has_handler(&self) -> bool
+    pub fn has_handler(&self) -> bool
         ensures { result ≡ self.now.has_handler }
     {
         self.has_handler
+    }
+
+    /// The number of waiting errors.
+    pub fn count(&self) -> usize
+        ensures { result ≡ length self.now.waiting }
+    {
+        self.waiting.len()
+    }
+
+    /// The waiting error that has `before` errors before it.
+    pub fn waiting_after(&self, before: usize) -> Option<&WaitingError>
+        ensures { option_map (λ error. error.now) result ≡ slice_get self.now.waiting before }
+    {
+        self.waiting.get(before)
     }
 
     /// Whether an error waits.

@@ -9,7 +9,7 @@ ghost use Rattle.image_findings.specs.Views.{names_of};
 use crate::finding::Wrong;
 use crate::first::first_wrong;
 use crate::names::Names;
-use crate::phrases::{Said, advice};
+use crate::phrases::{Said, advice, odd_byte_advice};
 use finding_lines::{Report, lines_at};
 use std::alloc::{AllocError, Global};
 
@@ -52,7 +52,10 @@ fn wrong_lines(
         what: wrong.what,
     };
     let said = format!(in alloc; "{said}")?;
-    let advice = advice(alloc, names, wrong.what)?;
     let offset = text.len().saturating_sub(wrong.left);
+    let advice = match odd_byte_advice(text, offset) {
+        Some(advice) => String::from_str(alloc, advice)?,
+        None => advice(alloc, names, wrong.what)?,
+    };
     lines_at(alloc, report, text, offset, said.as_str(), advice.as_str())
 }

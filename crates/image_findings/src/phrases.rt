@@ -95,6 +95,30 @@ fn said_of<W: fmt::Write>(f: &mut fmt::Formatter<W>, text: &[u8], said: &str) ->
     write!(f, "`{text}` {said}")
 }
 
+/// What is advised for a byte that no line has and nobody sees, in the line at an offset of a text.
+pub fn odd_byte_advice(text: &[u8], offset: usize) -> Option<&'static str> {
+    let (before, ahead) = text.split_at(offset.min(text.len()));
+    let begun = before
+        .iter()
+        .rev()
+        .take_while(|byte| **byte != b'\n')
+        .count();
+    let length = ahead.iter().take_while(|byte| **byte != b'\n').count();
+    let (_, line) = before.split_at(before.len().saturating_sub(begun));
+    let (rest, _) = ahead.split_at(length.min(ahead.len()));
+    if text.starts_with(b"\xEF\xBB\xBF") && before.len() == begun {
+        Some("Save the text without a byte order mark.")
+    } else if line.starts_with(b"#") || rest.starts_with(b"#") {
+        None
+    } else if line.contains(&b'\t') || rest.contains(&b'\t') {
+        Some("Write one space in place of each tab.")
+    } else if line.contains(&0) || rest.contains(&0) {
+        Some("Leave the NUL out.")
+    } else {
+        None
+    }
+}
+
 /// What is advised for a wrong line of a text with these names.
 ///
 /// # Errors

@@ -6,6 +6,7 @@ ghost use Rattle.apex_types.specs.declared.codes.Discipline.TheVariants as disci
 ghost use Rattle.kernel_meaning.specs.Queues.{list_in};
 ghost use Rattle.links.specs.Lists.{IsInNone, emptied_each, joins_in, moves_to, put_in, without_in_each};
 ghost use Rattle.kernel_laws.specs.Ready.{times_listed};
+ghost use Rattle.links.specs.Levels.{in_order};
 ghost use Rattle.links.specs.OneHome.{once_at};
 
 use crate::entries::{Entries, MOST_WAITING};
@@ -68,6 +69,13 @@ impl Links {
         ensures { result.items ≡ list_in self.now list.0 }
     {
         lists::copy_at(&self.lists, list)
+    }
+
+    /// The entries of all lists, one list after another. `AllocError`: out of memory.
+    pub fn all(&self, alloc: Global) -> Result<Vec<Entry>, AllocError>
+        ensures { IfOk result (λ entries. entries.items ≡ in_order self.now) }
+    {
+        lists::copy_all(alloc, &self.lists)
     }
 
     /// The list that contains a process, once; no other list does.

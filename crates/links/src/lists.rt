@@ -5,6 +5,7 @@ ghost use Rattle.apex_types.specs.Limits.{MOST_PROCESSES};
 ghost use Rattle.kernel_meaning.specs.Queues.{without};
 ghost use Rattle.kernel_meaning.specs.Queues.{joined, list_in};
 ghost use Rattle.kernel_laws.specs.Ready.{times_listed};
+ghost use Rattle.links.specs.Levels.{in_order};
 ghost use Rattle.links.specs.Lists.{emptied_each, put_in};
 ghost use Rattle.links.specs.OneHome.{entries_of};
 
@@ -67,6 +68,18 @@ pub(crate) fn copy_at(lists: &[Entries], list: ListId) -> Entries
         Some(entries) => copy_of(entries),
         None => Entries::new(),
     }
+}
+
+/// The entries of all lists, one list after another. `AllocError`: out of memory.
+#[tactic(auto, using(std::proofs::lemmas::List::drop_more))]
+pub(crate) fn copy_all(alloc: Global, lists: &[Entries]) -> Result<Vec<Entry>, AllocError>
+    ensures { IfOk result (λ all. all.items ≡ in_order (map entries_of lists.now)) }
+{
+    let mut all = Vec::new(alloc);
+    for list in lists {
+        all.extend_from_slice(list.as_slice())?;
+    }
+    Ok(all)
 }
 
 /// Removes a process from `list`, which contains it at most once.

@@ -54,6 +54,13 @@ impl ReadyLists {
         }
     }
 
+    /// All entries in their order. `AllocError`: out of memory.
+    pub fn entries(&self, alloc: Global) -> Result<Vec<Entry>, AllocError>
+        ensures { IfOk result (λ entries. entries.items ≡ self.now) }
+    {
+        self.lists.all(alloc)
+    }
+
     /// Removes a process that is no longer ready.
     #[inline(always)]
     pub fn remove(&mut self, process: ProcessIndex)

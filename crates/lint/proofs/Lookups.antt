@@ -10,7 +10,7 @@ use Rattle.pal_base.specs.declared.syntax.Declaration as code
 use Rattle.pal_meaning.specs.Syntax as written
 use Rattle.lint.specs.Arrays.{declared, declared_at, is_of_kind, words_in, words_or_none}
 use Rattle.lint.specs.Measures.{words_numbered, words_of_kind}
-use Rattle.lint.specs.Uses.{is_name}
+use Rattle.lint.specs.Plain.{is_name}
 use Rattle.lint.specs.declared.declarations.Measure.{Measure}
 
 -- ---- by name

@@ -11,6 +11,7 @@ use Rattle.indexmap.specs.IndexSet.{insert_key}
 use Rattle.pal.proofs.Tables.{eq_sym}
 use Rattle.pal_meaning.specs.Syntax as written
 use Rattle.lint.specs.Lives.{found}
+use Rattle.lint.specs.Mentions.{Mention, Read, Element, Apply, Write, ByZero, Test, Ask, Leave, Endless, is_mentioned, names_in}
 use Rattle.lint.specs.Unused.{is_used, unused, unused_declaration, unused_declarations}
 use Rattle.lint.specs.Views.{Found, unless}
 use Rattle.lint.specs.declared.finding.FindingKind.{FindingKind}
@@ -86,6 +87,22 @@ one_more_item seen p xs i x old new whole some is grown before = one_more seen p
 
 pub no_more : {A B : Type 0} (seen : A → B) (p : B → Bool) (xs : List A) (i : ℕ) (now whole : Bool) → length xs ≤ i → (now || list_any p (map seen (drop i xs))) ≡ whole → now ≡ whole
 no_more seen p xs i now whole over h = sym (or_false now) ∙ ap (λ (b : Bool). now || b) (sym (at_drop_all (λ (ys : List _). list_any p (map seen ys)) xs i over)) ∙ h
+
+-- a name of a mention is among the names
+one_name : (q : List ℕ) (m : Mention) (ms : List Mention) → is_used (names_in (m ∷ ms)) q ≡ (is_mentioned q m || is_used (names_in ms) q)
+one_name q (Read name) ms = refl
+one_name q (Element name index) ms = refl
+one_name q (Apply name arguments) ms = refl
+one_name q (Write name thing) ms = refl
+one_name q ByZero ms = refl
+one_name q Test ms = refl
+one_name q (Ask may_wait) ms = refl
+one_name q Leave ms = refl
+one_name q Endless ms = refl
+
+pub by_names : (q : List ℕ) (ms : List Mention) → list_any (is_mentioned q) ms ≡ is_used (names_in ms) q
+by_names q [] = refl
+by_names q (m ∷ ms) = ap (λ (b : Bool). is_mentioned q m || b) (by_names q ms) ∙ sym (one_name q m ms)
 
 -- ---- the same names, the same findings
 

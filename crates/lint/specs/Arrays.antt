@@ -1,15 +1,16 @@
--- Calls whose array is smaller than the messages that the object may store in it.
-use Rattle.std.specs.Prelude.{ℕ, ◌-◌, Bool, true, false, ◌&&◌, ◌==◌, nat_lt, List, [], ◌∷◌, Option, Some, None, option_map, if◌then◌else◌, flat_map}
+-- Arrays: smaller than the messages that a service stores in them, longer than those that it sends, and indices beyond their ends.
+use Rattle.std.specs.Prelude.{ℕ, ◌-◌, Bool, true, false, not, ◌&&◌, ◌==◌, nat_lt, List, [], ◌∷◌, Option, Some, None, option_map, if◌then◌else◌}
 use Rattle.std.specs.Str.{bytes_eq}
 use Rattle.apex_types.specs.declared.denotation.ObjectKind.{ObjectKind}
 use Rattle.apex_types.specs.declared.denotation.ObjectKind.TheVariants as object
 use Rattle.apex_types.specs.declared.row.PortRow.{PortRow}
 use Rattle.pal_meaning.specs.Syntax as written
 use Rattle.pal_meaning.specs.WellFormed.{is_same_kind}
-use Rattle.lint.specs.Calls.{Call, second_plain}
+use Rattle.lint.specs.Calls.{Call}
+use Rattle.lint.specs.Plain.{number_in, name_in, second_plain, third_plain}
 use Rattle.lint.specs.Ports.{port_of_id}
-use Rattle.lint.specs.Services.{stored_kind}
-use Rattle.lint.specs.Uses.{Id, Numbered, Named, Unseen, name_in, subject_of}
+use Rattle.lint.specs.Services.{sent_kind, stored_kind}
+use Rattle.lint.specs.Uses.{Id, Numbered, Named}
 use Rattle.lint.specs.Views.{Found, if_so}
 use Rattle.lint.specs.declared.finding.FindingKind.TheVariants as finding
 
@@ -52,7 +53,7 @@ size_or_none (Some k) = size_in k
 abbrev pub object_of : List written.Declaration → ObjectKind → Id → Option written.Kind
 object_of ds kind (Numbered n) = declared_at kind n ds
 object_of ds kind (Named other name) = if is_same_kind other kind then declared name ds else None
-object_of ds kind Unseen = None
+object_of ds kind _ = None
 
 abbrev pub is_port : ObjectKind → Bool
 is_port object.Port = true
@@ -80,10 +81,21 @@ abbrev pub small_array_of : List PortRow → List written.Declaration → Option
 small_array_of ports ds None c = []
 small_array_of ports ds (Some kind) c =
     let array = name_in (second_plain c.arguments) in
-    if_so (is_less (array_of ds array) (words_of ports ds kind (subject_of c))) (record { kind = finding.SmallArray; subject = name_or_none array })
+    if_so (is_less (array_of ds array) (words_of ports ds kind c.id)) (record { kind = finding.SmallArray; subject = name_or_none array })
 
 abbrev pub small_array : List PortRow → List written.Declaration → Call → List Found
 small_array ports ds c = small_array_of ports ds (stored_kind c.service) c
 
-abbrev pub small_arrays : List PortRow → List written.Declaration → List Call → List Found
-small_arrays ports ds calls = flat_map (small_array ports ds) calls
+-- of a call whose service sends a message from its array: the length that is written is above the words of a message
+abbrev pub long_length_of : List PortRow → List written.Declaration → Option ObjectKind → Call → List Found
+long_length_of ports ds None c = []
+long_length_of ports ds (Some kind) c =
+    if_so (is_less (words_of ports ds kind c.id) (number_in (third_plain c.arguments))) (record { kind = finding.LongLength; subject = name_or_none (name_in (second_plain c.arguments)) })
+
+abbrev pub long_length : List PortRow → List written.Declaration → Call → List Found
+long_length ports ds c = long_length_of ports ds (sent_kind c.service) c
+
+-- an index, as it is written, that is not below the size of the array
+abbrev pub is_beyond : Option ℕ → Option ℕ → Bool
+is_beyond (Some size) (Some index) = not (nat_lt index size)
+is_beyond _ _ = false

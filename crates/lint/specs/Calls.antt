@@ -1,36 +1,16 @@
--- The calls of services in a body, in the order of the text, with what was created last before each.
+-- The calls of services in a body, in the order of the text, with what the first argument of each means.
 use Rattle.std.specs.Prelude.{ℕ, List, [], ◌∷◌, ◌++◌, Option, Some, None, if◌then◌else◌, flat_map}
 use Rattle.std.specs.List.{list_any}
 use Rattle.std.specs.Str.{bytes_eq}
 use Rattle.apex_types.specs.declared.denotation.ObjectKind.{ObjectKind}
 use Rattle.apex_types.specs.declared.service.Service.{Service}
 use Rattle.pal_meaning.specs.Syntax as written
+use Rattle.lint.specs.Mentions.{Mention, Write, all_mentions, mentions_of}
+use Rattle.lint.specs.Plain.{Plain, Word, plains, first_of}
 use Rattle.lint.specs.Services.{numbered_kind}
+use Rattle.lint.specs.Uses.{Created, Id, Scope, id_of}
 
--- An argument, as far as it is looked at: a number as it is written, just a name, or anything else.
-pub data Plain : Type 0 where
-  Literal : Option ℕ → Plain
-  Word : List ℕ → Plain
-  Other : Plain
-
-abbrev pub plain : written.Expr → Plain
-plain (written.Number value) = Literal value
-plain (written.Name name) = Word name
-plain _ = Other
-
-abbrev pub plains : written.Exprs → List Plain
-plains written.NoExpr = []
-plains (written.MoreExprs first rest) = plain first ∷ plains rest
-
--- the first of some, the second, and the last
-abbrev pub first_of : List Plain → Option Plain
-first_of [] = None
-first_of (x ∷ xs) = Some x
-
-abbrev pub second_plain : List Plain → Option Plain
-second_plain [] = None
-second_plain (x ∷ xs) = first_of xs
-
+-- the second of some names
 abbrev pub head_of : List (List ℕ) → Option (List ℕ)
 head_of [] = None
 head_of (x ∷ xs) = Some x
@@ -39,22 +19,11 @@ abbrev pub second_of : List (List ℕ) → Option (List ℕ)
 second_of [] = None
 second_of (x ∷ xs) = head_of xs
 
-abbrev pub last_or : Option Plain → List Plain → Option Plain
-last_or last [] = last
-last_or last (x ∷ xs) = last_or (Some x) xs
-
--- an object, a port or a process, and the variable that got its number
-pub record Created : Type 0 where
-  pub kind : ObjectKind
-  pub object : List ℕ
-  pub variable : List ℕ
-
--- A call of a service. `created` is what the last statement before it in the same block that created or found something
--- by its name has put into a variable, if no statement between the two writes this variable or has a block.
+-- A call of a service, and what its first argument means.
 pub record Call : Type 0 where
   pub service : Service
   pub arguments : List Plain
-  pub created : Option Created
+  pub id : Id
 
 -- what a service creates or finds by its name, with the variable that gets the number
 abbrev pub numbered : Option ObjectKind → Option Plain → Option (List ℕ) → Option Created
@@ -79,36 +48,56 @@ left_by created (written.IfElse test block other) = None
 left_by created (written.While test block) = None
 left_by created _ = created
 
+-- `created` is what the last statement before it in the same block that created or found something by its name has put into a
+-- variable, if no statement between the two writes this variable or has a block.
 abbrev mutual
-  pub calls_behind : Option Created → written.Block → List Call
-  calls_behind created written.NoStmt = []
-  calls_behind created (written.MoreStmts s rest) = calls_in created s ++ calls_behind (left_by created s) rest
+  pub calls_behind : Scope → (created : Option Created) → written.Block → List Call
+  calls_behind scope created written.NoStmt = []
+  calls_behind scope created (written.MoreStmts s rest) = calls_in scope created s ++ calls_behind scope (left_by created s) rest
 
-  pub calls_in : Option Created → written.Stmt → List Call
-  calls_in created (written.CallService service arguments targets) = record { service = service; arguments = plains arguments; created = created } ∷ []
-  calls_in created (written.If test block) = calls_behind None block
-  calls_in created (written.IfElse test block other) = calls_behind None block ++ calls_behind None other
-  calls_in created (written.While test block) = calls_behind None block
-  calls_in created _ = []
+  pub calls_in : Scope → (created : Option Created) → written.Stmt → List Call
+  calls_in scope created (written.CallService service arguments targets) =
+      record { service = service; arguments = plains arguments; id = id_of scope created (first_of (plains arguments)) } ∷ []
+  calls_in scope created (written.If test block) = calls_behind scope None block
+  calls_in scope created (written.IfElse test block other) = calls_behind scope None block ++ calls_behind scope None other
+  calls_in scope created (written.While test block) = calls_behind scope None block
+  calls_in scope created _ = []
 
--- the calls of a body, and of each body of a program
-abbrev pub calls_of : written.Body → List Call
-calls_of b = calls_behind None b.block
+-- The calls of a body with these parameters, and of each body of a program. All statements of the program do what `program` says.
+abbrev pub calls_of : (program : List Mention) → (parameters : List (List ℕ)) → written.Body → List Call
+calls_of program parameters b = calls_behind (record { parameters = parameters; locals = b.locals; own = mentions_of b; program = program }) None b.block
 
-abbrev pub calls_of_handler : Option written.StackBody → List Call
-calls_of_handler None = []
-calls_of_handler (Some b) = calls_of b.body
+abbrev pub calls_of_handler : (program : List Mention) → Option written.StackBody → List Call
+calls_of_handler program None = []
+calls_of_handler program (Some b) = calls_of program [] b.body
 
-abbrev pub calls_of_kind : written.Kind → List Call
-calls_of_kind (written.Procedure parameters body) = calls_of body
-calls_of_kind _ = []
+abbrev pub calls_of_kind : (program : List Mention) → written.Kind → List Call
+calls_of_kind program (written.Procedure parameters body) = calls_of program parameters body
+calls_of_kind program _ = []
 
-abbrev pub calls_of_processes : List written.Process → List Call
-calls_of_processes processes = flat_map (λ p. calls_of p.body) processes
+abbrev pub calls_of_processes : (program : List Mention) → List written.Process → List Call
+calls_of_processes program processes = flat_map (λ p. calls_of program [] p.body) processes
 
-abbrev pub calls_of_procedures : List written.Declaration → List Call
-calls_of_procedures declarations = flat_map (λ d. calls_of_kind d.kind) declarations
+abbrev pub calls_of_procedures : (program : List Mention) → List written.Declaration → List Call
+calls_of_procedures program declarations = flat_map (λ d. calls_of_kind program d.kind) declarations
+
+-- ---- of a program
+
+-- a first value is a write, too
+abbrev pub first_value : written.Kind → List ℕ → List Mention
+first_value (written.Variable (Some value)) name = Write name None ∷ []
+first_value _ name = []
+
+abbrev pub first_values : List written.Declaration → List Mention
+first_values ds = flat_map (λ d. first_value d.kind d.name) ds
+
+-- what all statements of the program do, and its first values
+abbrev pub done_in : written.Program → List Mention
+done_in p = first_values p.declarations ++ all_mentions p
 
 -- the calls of INIT, of the handler, of the processes and of the procedures
+abbrev pub calls_of_init : written.Program → List Call
+calls_of_init p = calls_of (done_in p) [] p.init.body
+
 abbrev pub all_calls : written.Program → List Call
-all_calls p = calls_of p.init.body ++ calls_of_handler p.handler ++ calls_of_processes p.processes ++ calls_of_procedures p.declarations
+all_calls p = calls_of_init p ++ calls_of_handler (done_in p) p.handler ++ calls_of_processes (done_in p) p.processes ++ calls_of_procedures (done_in p) p.declarations

@@ -1,10 +1,15 @@
-pub mod Calls
+pub mod Plain
 pub mod Services
-pub mod Views
+pub mod Mentions
 pub mod Uses
+pub mod Calls
+pub mod Views
 pub mod Seen
 pub mod Ports
 pub mod Arrays
+pub mod Does
+pub mod Recursion
+pub mod DoingView
 pub mod Lives
 pub mod Slow
 pub mod Unused

@@ -6,23 +6,30 @@ use Rattle.apex_types.specs.declared.denotation.ObjectKind.{ObjectKind}
 use Rattle.apex_types.specs.declared.denotation.ObjectKind.TheVariants as object
 use Rattle.pal_meaning.specs.Syntax as written
 use Rattle.pal_meaning.specs.WellFormed.{is_same_kind}
-use Rattle.lint.specs.Calls.{Call, calls_of, calls_of_procedures, first_of, last_or}
-use Rattle.lint.specs.Services.{created_kind, is_start, is_set_mode, is_periodic_wait, is_handler_creation, always_waits, has_time_out}
-use Rattle.lint.specs.Uses.{name_in, is_name, is_zero, may_be, may_be_number, subject_of}
-use Rattle.lint.specs.Views.{Found}
+use Rattle.lint.specs.Calls.{Call, calls_of, calls_of_init, calls_of_procedures, done_in}
+use Rattle.lint.specs.Mentions.{Mention}
+use Rattle.lint.specs.Plain.{first_of, is_name, is_zero, last_or, name_in}
+use Rattle.lint.specs.Services.{created_kind, is_start, is_set_mode, is_periodic_wait, is_handler_creation, is_error_status, always_waits, has_time_out, awaited_kind, signalled_kind}
+use Rattle.lint.specs.Uses.{may_be, may_be_number, means}
+use Rattle.lint.specs.Arrays.{is_less}
+use Rattle.lint.specs.Views.{Found, if_so}
 use Rattle.lint.specs.declared.finding.FindingKind.{FindingKind}
 use Rattle.lint.specs.declared.finding.FindingKind.TheVariants as finding
 
 -- ---- calls that are looked for
 
 -- a call that creates what has this kind and name; that creates the handler; that may start the process of this number and name;
--- that may enter NORMAL; that waits for the next release
+-- that may enter NORMAL; that waits for the next release; that takes an error; that waits for the object of this kind, number and
+-- name; that may signal or set it
 pub data Wanted : Type 0 where
   Creation : ObjectKind → List ℕ → Wanted
   HandlerCreation : Wanted
   Start : ℕ → List ℕ → Wanted
   NormalMode : Wanted
   PeriodicWait : Wanted
+  ErrorStatus : Wanted
+  Wait : ObjectKind → ℕ → List ℕ → Wanted
+  Signal : ObjectKind → ℕ → List ℕ → Wanted
 
 abbrev pub is_kind : ObjectKind → Option ObjectKind → Bool
 is_kind kind None = false
@@ -31,9 +38,12 @@ is_kind kind (Some other) = is_same_kind other kind
 abbrev pub meets : Wanted → Call → Bool
 meets (Creation kind name) c = is_kind kind (created_kind c.service) && is_name name (name_in (first_of c.arguments))
 meets HandlerCreation c = is_handler_creation c.service
-meets (Start number name) c = is_start c.service && may_be object.Process number name (subject_of c)
-meets NormalMode c = is_set_mode c.service && may_be_number 3 (subject_of c)
+meets (Start number name) c = is_start c.service && may_be object.Process number name c.id
+meets NormalMode c = is_set_mode c.service && may_be_number 3 c.id
 meets PeriodicWait c = is_periodic_wait c.service
+meets ErrorStatus c = is_error_status c.service
+meets (Wait kind number name) c = is_kind kind (awaited_kind c.service) && means kind number name c.id
+meets (Signal kind number name) c = is_kind kind (signalled_kind c.service) && may_be kind number name c.id
 
 -- the finding, if none of the calls is as wanted
 abbrev pub lacking : Wanted → List Call → Found → List Found
@@ -76,16 +86,44 @@ never_started calls number (p ∷ ps) = lacking (Start number p.name) calls (fou
 
 -- no call in INIT or in a procedure may enter NORMAL
 abbrev pub never_normal : written.Program → List Found
-never_normal p = lacking NormalMode (calls_of p.init.body ++ calls_of_procedures p.declarations) (found finding.NeverNormal [])
+never_normal p = lacking NormalMode (calls_of_init p ++ calls_of_procedures (done_in p) p.declarations) (found finding.NeverNormal [])
+
+-- ---- signals
+
+-- a semaphore or an event that a call waits for, and that no call may signal or set
+abbrev pub never_signalled : List Call → ObjectKind → (number : ℕ) → List ℕ → List Found
+never_signalled calls kind number name =
+    if list_any (meets (Wait kind number name)) calls then lacking (Signal kind number name) calls (found finding.NeverSignalled name) else []
+
+-- those of a kind, the first of which has this number
+abbrev pub all_never_signalled : List Call → ObjectKind → (number : ℕ) → List written.Declaration → List Found
+all_never_signalled calls kind number [] = []
+all_never_signalled calls kind number (d ∷ ds) =
+    if is_kind kind (object_kind d.kind) then never_signalled calls kind number d.name ++ all_never_signalled calls kind (number + 1) ds
+    else all_never_signalled calls kind number ds
+
+-- ---- the handler
+
+-- a handler that takes no error, nor does a procedure
+abbrev pub takes_no_error : List Mention → List Call → Option written.StackBody → List Found
+takes_no_error done procedures None = []
+takes_no_error done procedures (Some b) = lacking ErrorStatus (calls_of done [] b.body ++ procedures) (found finding.NoErrorStatus [])
 
 -- ---- periods
 
 -- a periodic process that does not wait for its next release, nor does a procedure
-abbrev pub without_wait : List Call → written.Process → List Found
-without_wait procedures p = if p.period.negative then [] else lacking PeriodicWait (calls_of p.body ++ procedures) (found finding.NoPeriodicWait p.name)
+abbrev pub without_wait : List Mention → List Call → written.Process → List Found
+without_wait done procedures p = if p.period.negative then [] else lacking PeriodicWait (calls_of done [] p.body ++ procedures) (found finding.NoPeriodicWait p.name)
 
-abbrev pub without_waits : List Call → List written.Process → List Found
-without_waits procedures ps = flat_map (without_wait procedures) ps
+abbrev pub without_waits : List Mention → List Call → List written.Process → List Found
+without_waits done procedures ps = flat_map (without_wait done procedures) ps
+
+-- a process whose time capacity is above its period
+abbrev pub is_longer : written.Integer → written.Integer → Bool
+is_longer capacity period = not capacity.negative && not period.negative && is_less period.magnitude capacity.magnitude
+
+abbrev pub long_capacity : written.Process → List Found
+long_capacity p = if_so (is_longer p.capacity p.period) (found finding.LongCapacity p.name)
 
 -- ---- INIT
 
@@ -97,4 +135,4 @@ abbrev pub wait_in_init : Call → List Found
 wait_in_init c = if waits c then found finding.WaitInInit (service_word c.service) ∷ [] else []
 
 abbrev pub waits_in_init : written.Program → List Found
-waits_in_init p = flat_map wait_in_init (calls_of p.init.body)
+waits_in_init p = flat_map wait_in_init (calls_of_init p)

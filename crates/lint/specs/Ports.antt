@@ -1,6 +1,6 @@
 -- What is wrong about the ports of a source: those that the partition's row has not, those of the row that the source does not
 -- declare, and calls that contradict the row.
-use Rattle.std.specs.Prelude.{ℕ, ◌+◌, Bool, true, false, not, nat_lt, List, [], ◌∷◌, Option, Some, None, find, if◌then◌else◌, flat_map}
+use Rattle.std.specs.Prelude.{ℕ, ◌+◌, Bool, true, false, not, nat_lt, List, [], ◌∷◌, ◌++◌, Option, Some, None, find, if◌then◌else◌, flat_map}
 use Rattle.std.specs.List.{list_any}
 use Rattle.std.specs.Str.{bytes_eq}
 use Rattle.apex_types.specs.declared.denotation.ObjectKind.{ObjectKind}
@@ -10,10 +10,11 @@ use Rattle.apex_types.specs.declared.row.PortDirection.TheVariants.{Source, Dest
 use Rattle.apex_types.specs.declared.row.PortRow.{PortRow}
 use Rattle.module_meaning.specs.Table.{Partition, at_number, is_queuing}
 use Rattle.pal_meaning.specs.Syntax as written
-use Rattle.lint.specs.Calls.{Call, first_of}
+use Rattle.lint.specs.Calls.{Call}
+use Rattle.lint.specs.Plain.{first_of, name_in}
 use Rattle.lint.specs.Services.{port_kind, port_direction, numbered_kind}
-use Rattle.lint.specs.Uses.{Id, Numbered, Named, Unseen, name_in, subject_of}
-use Rattle.lint.specs.Views.{Found}
+use Rattle.lint.specs.Uses.{Id, Numbered, Named}
+use Rattle.lint.specs.Views.{Found, if_so}
 use Rattle.lint.specs.declared.finding.FindingKind.{FindingKind}
 use Rattle.lint.specs.declared.finding.FindingKind.TheVariants as finding
 
@@ -67,8 +68,7 @@ port_named ports name = find (λ row. bytes_eq row.name name) ports
 abbrev pub port_of_id : List PortRow → Id → Option PortRow
 port_of_id ports (Numbered n) = at_number ports n
 port_of_id ports (Named object.Port name) = port_named ports name
-port_of_id ports (Named _ name) = None
-port_of_id ports Unseen = None
+port_of_id ports _ = None
 
 abbrev pub port_of_name : List PortRow → Option (List ℕ) → Option PortRow
 port_of_name ports (Some name) = port_named ports name
@@ -78,7 +78,7 @@ port_of_name ports None = None
 -- port that the argument denotes.
 abbrev pub port_of_call : List PortRow → Option ObjectKind → Call → Option PortRow
 port_of_call ports (Some kind) c = port_of_name ports (name_in (first_of c.arguments))
-port_of_call ports None c = port_of_id ports (subject_of c)
+port_of_call ports None c = port_of_id ports c.id
 
 abbrev pub differ : Bool → Bool → Bool
 differ true b = not b
@@ -97,23 +97,16 @@ contradicts_direction (Some Source) Destination = true
 contradicts_direction (Some Destination) Source = true
 contradicts_direction (Some Destination) Destination = false
 
--- what is wrong about the use of a port, if anything
-abbrev pub wrong_kind_of : Option Bool → Option PortDirection → PortRow → Option FindingKind
-wrong_kind_of queuing direction row =
-    if contradicts_kind queuing row then Some finding.WrongKind else if contradicts_direction direction row.direction then Some finding.WrongDirection else None
-
-abbrev pub found_at : PortRow → Option FindingKind → List Found
-found_at row None = []
-found_at row (Some k) = record { kind = k; subject = row.name } ∷ []
-
 abbrev pub wrong_use_of : Call → Option PortRow → List Found
 wrong_use_of c None = []
-wrong_use_of c (Some row) = found_at row (wrong_kind_of (port_kind c.service) (port_direction c.service) row)
+wrong_use_of c (Some row) =
+    if_so (contradicts_kind (port_kind c.service) row) (record { kind = finding.WrongKind; subject = row.name })
+    ++ if_so (contradicts_direction (port_direction c.service) row.direction) (record { kind = finding.WrongDirection; subject = row.name })
 
 abbrev pub is_for_ports : Option Bool → Bool
 is_for_ports None = false
 is_for_ports (Some queuing) = true
 
--- A call on a port is for ports of the other kind, or of the other direction.
+-- A call on a port is for ports of the other kind, or of the other direction, or both.
 abbrev pub wrong_use : List PortRow → Call → List Found
 wrong_use ports c = if is_for_ports (port_kind c.service) then wrong_use_of c (port_of_call ports (numbered_kind c.service) c) else []

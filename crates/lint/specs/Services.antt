@@ -37,6 +37,57 @@ stored_kind service.ReadSamplingMessage = Some object.Port
 stored_kind service.ReceiveQueuingMessage = Some object.Port
 stored_kind _ = None
 
+-- the kind of what takes the message that a service sends from its array
+abbrev pub sent_kind : Service → Option ObjectKind
+sent_kind service.SendBuffer = Some object.Buffer
+sent_kind service.DisplayBlackboard = Some object.Blackboard
+sent_kind service.WriteSamplingMessage = Some object.Port
+sent_kind service.SendQueuingMessage = Some object.Port
+sent_kind _ = None
+
+-- the kind of what a process waits for that another process signals or sets, and the kind of what a service signals or sets
+abbrev pub awaited_kind : Service → Option ObjectKind
+awaited_kind service.WaitSemaphore = Some object.Semaphore
+awaited_kind service.WaitEvent = Some object.Event
+awaited_kind _ = None
+
+abbrev pub signalled_kind : Service → Option ObjectKind
+signalled_kind service.SignalSemaphore = Some object.Semaphore
+signalled_kind service.SetEvent = Some object.Event
+signalled_kind _ = None
+
+-- its first argument is the number of an object, a port or a process
+abbrev pub takes_number : Service → Bool
+takes_number service.GetProcessStatus = true
+takes_number service.SetPriority = true
+takes_number service.Suspend = true
+takes_number service.Resume = true
+takes_number service.Stop = true
+takes_number service.Start = true
+takes_number service.DelayedStart = true
+takes_number service.SendBuffer = true
+takes_number service.ReceiveBuffer = true
+takes_number service.GetBufferStatus = true
+takes_number service.DisplayBlackboard = true
+takes_number service.ReadBlackboard = true
+takes_number service.ClearBlackboard = true
+takes_number service.GetBlackboardStatus = true
+takes_number service.WaitSemaphore = true
+takes_number service.SignalSemaphore = true
+takes_number service.GetSemaphoreStatus = true
+takes_number service.SetEvent = true
+takes_number service.ResetEvent = true
+takes_number service.WaitEvent = true
+takes_number service.GetEventStatus = true
+takes_number service.WriteSamplingMessage = true
+takes_number service.ReadSamplingMessage = true
+takes_number service.GetSamplingPortStatus = true
+takes_number service.SendQueuingMessage = true
+takes_number service.ReceiveQueuingMessage = true
+takes_number service.GetQueuingPortStatus = true
+takes_number service.ClearQueuingPort = true
+takes_number _ = false
+
 -- it starts the process of a number
 abbrev pub is_start : Service → Bool
 is_start service.Start = true
@@ -54,6 +105,16 @@ is_periodic_wait _ = false
 abbrev pub is_handler_creation : Service → Bool
 is_handler_creation service.CreateErrorHandler = true
 is_handler_creation _ = false
+
+abbrev pub is_error_status : Service → Bool
+is_error_status service.GetErrorStatus = true
+is_error_status _ = false
+
+-- who asks for it ends, or may end
+abbrev pub ends_caller : Service → Bool
+ends_caller service.StopSelf = true
+ends_caller service.SetPartitionMode = true
+ends_caller _ = false
 
 -- the process that asks for it waits, whatever its arguments are
 abbrev pub always_waits : Service → Bool

@@ -1,19 +1,21 @@
-//! Calls whose array is smaller than the messages that they may store in it.
+//! Arrays that are smaller than the messages that services store in them, lengths above those of the
+//! messages that they send, and indices beyond an array.
 
-ghost use Rattle.std.specs.Prelude.{◌≡◌, ◌++◌, option_map, OnOk};
+ghost use Rattle.std.specs.Prelude.{◌≡◌, ◌++◌, ℕ, List, option_map, OnOk};
 ghost use Rattle.pal_base.specs.View.{id_text, texts};
 ghost use Rattle.lint.specs.Arrays as meant;
 ghost use Rattle.lint.specs.DeclarationsView.{declared_in};
-ghost use Rattle.lint.specs.Seen.{id_seen};
-ghost use Rattle.lint.specs.Views.{call_of, calls_seen, found_all};
+ghost use Rattle.lint.specs.Plain.{name_in, number_in, second_plain, third_plain};
+ghost use Rattle.lint.specs.Views.{call_of, found_all, id_seen};
 
-use crate::calls::{Call, second_plain};
+use crate::calls::Call;
 use crate::declarations::Declarations;
 use crate::finding::{Finding, FindingKind, add_if};
 use crate::names::text_of;
+use crate::plain::{name_in, number_in, second_plain, third_plain};
 use crate::port_rules::port_of_id;
-use crate::services::stored_kind;
-use crate::uses::{Id, is_same_kind, name_in, subject_of};
+use crate::services::{sent_kind, stored_kind};
+use crate::uses::{Id, is_same_kind};
 use apex_types::{ObjectKind, PortRow};
 use indexmap::IndexSet;
 use pal_base::syntax::NameId;
@@ -39,7 +41,7 @@ fn object_words(
                 None
             }
         }
-        Id::Unseen => None,
+        _ => None,
     }
 }
 
@@ -65,7 +67,7 @@ fn words_of(
 }
 
 /// The size of the array that an argument names.
-fn array_of(
+pub fn array_of(
     names: &IndexSet<String>,
     declarations: &Declarations<'_>,
     name: Option<NameId>,
@@ -80,7 +82,7 @@ fn array_of(
 }
 
 /// Returns true if both are known, and the size is less than the words.
-fn is_less(size: Option<u64>, words: Option<u64>) -> bool
+pub fn is_less(size: Option<u64>, words: Option<u64>) -> bool
     ensures { result ≡ meant.is_less size words }
 {
     match (size, words) {
@@ -90,7 +92,7 @@ fn is_less(size: Option<u64>, words: Option<u64>) -> bool
 }
 
 /// The text of a name; empty if there is none.
-fn text_or_none(names: &IndexSet<String>, name: Option<NameId>) -> &str
+pub fn text_or_none(names: &IndexSet<String>, name: Option<NameId>) -> &str
     ensures { result.now
         ≡ meant.name_or_none (option_map (id_text (texts names.now.keys)) name) }
 {
@@ -101,7 +103,7 @@ fn text_or_none(names: &IndexSet<String>, name: Option<NameId>) -> &str
 }
 
 /// Adds a call whose array is smaller than the messages that it may store in it.
-fn add_small_array<'a>(
+pub fn add_small_array<'a>(
     names: &'a IndexSet<String>,
     ports: &[PortRow],
     declarations: &Declarations<'_>,
@@ -118,7 +120,7 @@ fn add_small_array<'a>(
     };
     let array = name_in(second_plain(call.arguments));
     let size = array_of(names, declarations, array);
-    let words = words_of(names, ports, declarations, kind, subject_of(names, call));
+    let words = words_of(names, ports, declarations, kind, call.id);
     let finding = Finding {
         line: call.line,
         kind: FindingKind::SmallArray,
@@ -127,22 +129,54 @@ fn add_small_array<'a>(
     add_if(is_less(size, words), finding, findings)
 }
 
-/// Adds the calls whose arrays are smaller than the messages that they may store in them.
-#[tactic(auto, using(std::proofs::lemmas::List::drop_more))]
-pub fn add_small_arrays<'a>(
+/// The name that is the array of a call.
+fn array_in(call: &Call<'_>) -> Option<NameId>
+    ensures { (names : List (List ℕ))
+        → option_map (id_text names) result
+        ≡ name_in (second_plain (call_of names call.now).arguments) }
+{
+    name_in(second_plain(call.arguments))
+}
+
+/// The number that is the length of the message of a call.
+fn length_in(call: &Call<'_>) -> Option<u64>
+    ensures { (names : List (List ℕ))
+        → result ≡ number_in (third_plain (call_of names call.now).arguments) }
+{
+    number_in(third_plain(call.arguments))
+}
+
+/// Adds a call with a length that is above the words of the messages that it may send.
+pub fn add_long_length<'a>(
     names: &'a IndexSet<String>,
     ports: &[PortRow],
     declarations: &Declarations<'_>,
-    calls: &[Call<'_>],
+    call: &Call<'_>,
     findings: &mut Vec<Finding<'a>>,
 ) -> Result<(), AllocError>
     ensures { OnOk result
         (found_all findings.new.items
         ≡ found_all findings.old.items
-        ++ meant.small_arrays ports.now (declared_in declarations.now) (calls_seen (texts names.now.keys) calls.now)) }
+        ++ meant.long_length ports.now (declared_in declarations.now) (call_of (texts names.now.keys) call.now)) }
 {
-    for call in calls {
-        add_small_array(names, ports, declarations, call, findings)?;
+    let Some(kind) = sent_kind(call.service) else {
+        return Ok(());
+    };
+    let words = words_of(names, ports, declarations, kind, call.id);
+    let finding = Finding {
+        line: call.line,
+        kind: FindingKind::LongLength,
+        subject: text_or_none(names, array_in(call)),
+    };
+    add_if(is_less(words, length_in(call)), finding, findings)
+}
+
+/// Returns true if both are known, and the index is not below the size.
+pub fn is_beyond(size: Option<u64>, index: Option<u64>) -> bool
+    ensures { result ≡ meant.is_beyond size index }
+{
+    match (size, index) {
+        (Some(size), Some(index)) => size <= index,
+        _ => false,
     }
-    Ok(())
 }

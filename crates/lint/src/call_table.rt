@@ -8,12 +8,13 @@ ghost use Rattle.lint.specs.Unused.{is_used};
 ghost use Rattle.lint.specs.UsedNames.{used_names};
 ghost use Rattle.lint.specs.Views.{call_of, calls_seen};
 
-use crate::calls::{Call, first_plain};
+use crate::calls::Call;
 use crate::names::text_of;
+use crate::plain::{first_plain, name_in};
 use crate::services::created_kind;
 use crate::starts::Starts;
 use crate::used::Used;
-use crate::uses::{is_same_kind, name_in};
+use crate::uses::is_same_kind;
 use apex_types::ObjectKind;
 use indexmap::IndexSet;
 use std::alloc::{AllocError, Global};
@@ -93,7 +94,7 @@ impl<'a> CallTable<'a> {
 }
 
 /// Returns true if both kinds are the same.
-fn is_kind(kind: ObjectKind, created: Option<ObjectKind>) -> bool
+pub fn is_kind(kind: ObjectKind, created: Option<ObjectKind>) -> bool
     ensures { result ≡ meant.is_kind kind created }
 {
     match created {

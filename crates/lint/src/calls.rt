@@ -1,110 +1,31 @@
 //! The calls of services in the bodies of a source.
 
-ghost use Rattle.std.specs.Prelude.{◌≡◌, ◌++◌, ◌||◌, [], ℕ, List, map, option_map, OnOk, IfOk};
-ghost use Rattle.std.specs.List.{list_any};
-ghost use Rattle.std.specs.Str.{bytes_eq};
-ghost use Rattle.pal_base.specs.View.{texts, id_text, name_of, number_of, expr_of, exprs_of, kind_of, block_of, body_of, stack_body_of, process_of, declaration_of, declared_of};
+ghost use Rattle.std.specs.Prelude.{◌≡◌, ◌++◌, [], ℕ, List, None, map, option_map, OnOk, IfOk};
+ghost use Rattle.pal_base.specs.View.{texts, id_text, name_of, exprs_of, kind_of, block_of, body_of, stack_body_of, process_of, declaration_of, declared_of};
+ghost use Rattle.pal_base.specs.WrittenView.{program_of};
 ghost use Rattle.lint.specs.Calls as meant;
-ghost use Rattle.lint.specs.Views.{plain_of, created_of, calls_seen};
+ghost use Rattle.lint.specs.Views.{plain_of, created_of, calls_seen, mentions_seen, scope_of};
 
-use crate::names::is_same_name;
+use crate::mentions::{Mention, add_all, mentions_of};
+use crate::names::has_name;
+use crate::plain::{Plain, first_plain};
 use crate::services::numbered_kind;
+use crate::uses::{Created, Id, Scope, id_of};
 use apex_types::{ObjectKind, Service};
 use indexmap::IndexSet;
 use pal_base::syntax::{
-    Body, Declaration, DeclarationKind, Expr, Identifier, NameId, Natural, Numeral, Process,
-    StackBody, Stmt, StmtKind,
+    Body, Declaration, DeclarationKind, Expr, Identifier, NameId, Process, Program, StackBody,
+    Stmt, StmtKind,
 };
-use std::alloc::AllocError;
+use std::alloc::{AllocError, Global};
 
-/// An object, a port or a process, and the variable that got its number.
-#[derive(Clone, Copy)]
-pub struct Created {
-    pub kind: ObjectKind,
-    pub object: NameId,
-    pub variable: NameId,
-}
-
-/// A call of a service, the line of its word, and what was created last before it in its block.
+/// A call of a service, the line of its word, and what its first argument means.
 #[derive(Clone, Copy)]
 pub struct Call<'a> {
     pub line: u32,
     pub service: Service,
     pub arguments: &'a [Expr],
-    pub created: Option<Created>,
-}
-
-/// An argument, as far as it is looked at.
-#[derive(Clone, Copy)]
-pub enum Plain {
-    /// A number as it is written; none above 2^63 - 1.
-    Literal(Option<u64>),
-    Name(NameId),
-    Other,
-}
-
-/// The value of a number; none if it is above 2^63 - 1.
-pub fn value_of(number: &Numeral) -> Option<u64>
-    ensures { result ≡ number_of number.now }
-{
-    match number.magnitude {
-        Natural::Within(value) if 0 <= value => Some(value as u64),
-        _ => None,
-    }
-}
-
-/// An argument, as far as it is looked at.
-fn argument_of(argument: &Expr) -> Plain
-    ensures { (names : List (List ℕ))
-        → plain_of names result ≡ meant.plain (expr_of names argument.now) }
-{
-    match argument {
-        Expr::Number(number) => Plain::Literal(value_of(number)),
-        Expr::Name(name) => Plain::Name(name.name),
-        Expr::Element(_, _) => Plain::Other,
-        Expr::Apply(_, _) => Plain::Other,
-        Expr::Parenthesis(_) => Plain::Other,
-        Expr::Unary(_, _) => Plain::Other,
-        Expr::Chain(_, _) => Plain::Other,
-    }
-}
-
-/// The first of some arguments.
-pub fn first_plain(arguments: &[Expr]) -> Option<Plain>
-    ensures { (names : List (List ℕ))
-        → option_map (plain_of names) result
-        ≡ meant.first_of (meant.plains (exprs_of names arguments.now)) }
-{
-    match arguments.split_first() {
-        Some((first, _)) => Some(argument_of(first)),
-        None => None,
-    }
-}
-
-/// The second of some arguments.
-pub fn second_plain(arguments: &[Expr]) -> Option<Plain>
-    ensures { (names : List (List ℕ))
-        → option_map (plain_of names) result
-        ≡ meant.second_plain (meant.plains (exprs_of names arguments.now)) }
-{
-    match arguments.split_first() {
-        Some((_, others)) => first_plain(others),
-        None => None,
-    }
-}
-
-/// The last of some arguments.
-#[tactic(auto, using(std::proofs::lemmas::List::drop_more))]
-pub fn last_plain(arguments: &[Expr]) -> Option<Plain>
-    ensures { (names : List (List ℕ))
-        → option_map (plain_of names) result
-        ≡ meant.last_or None (meant.plains (exprs_of names arguments.now)) }
-{
-    let mut last = None;
-    for argument in arguments {
-        last = Some(argument_of(argument));
-    }
-    last
+    pub id: Id,
 }
 
 /// The second of some targets.
@@ -141,20 +62,6 @@ fn numbered(
         }),
         _ => None,
     }
-}
-
-/// Returns true if one of these names has the same text as a name.
-fn has_name(names: &IndexSet<String>, list: &[Identifier], name: NameId) -> bool
-    ensures { result
-        ≡ list_any (λ other. bytes_eq other (id_text (texts names.now.keys) name))
-        (map (name_of (texts names.now.keys)) list.now) }
-{
-    for other in list {
-        if is_same_name(names, other.name, name) {
-            return true;
-        }
-    }
-    false
 }
 
 /// What was created last, unless one of these variables is written.
@@ -201,54 +108,58 @@ fn left_by(
     }
 }
 
-/// Adds the calls of a block.
+/// Adds the calls of a block of a body.
 #[cycle(block_calls)]
 fn add_block<'a>(
     names: &IndexSet<String>,
+    scope: &Scope<'_, '_, '_>,
     calls: &mut Vec<Call<'a>>,
     block: &'a [Stmt],
 ) -> Result<(), AllocError>
     ensures { OnOk result
         (calls_seen (texts names.now.keys) calls.new.items
         ≡ calls_seen (texts names.now.keys) calls.old.items
-        ++ meant.calls_behind None (block_of (texts names.now.keys) block.now)) }
+        ++ meant.calls_behind (scope_of (texts names.now.keys) scope.now) None
+        (block_of (texts names.now.keys) block.now)) }
 {
     let mut created = None;
     for statement in block {
-        add_statement(names, calls, created, statement.line, &statement.kind)?;
+        add_statement(names, scope, calls, created, statement)?;
         created = left_by(names, created, &statement.kind);
     }
     Ok(())
 }
 
-/// Adds the calls of a statement.
+/// Adds the calls of a statement of a body.
 #[cycle(block_calls)]
 fn add_statement<'a>(
     names: &IndexSet<String>,
+    scope: &Scope<'_, '_, '_>,
     calls: &mut Vec<Call<'a>>,
     created: Option<Created>,
-    line: u32,
-    statement: &'a StmtKind,
+    statement: &'a Stmt,
 ) -> Result<(), AllocError>
     ensures { OnOk result
         (calls_seen (texts names.now.keys) calls.new.items
         ≡ calls_seen (texts names.now.keys) calls.old.items
-        ++ meant.calls_in (option_map (created_of (texts names.now.keys)) created)
-        (kind_of (texts names.now.keys) statement.now)) }
+        ++ meant.calls_in (scope_of (texts names.now.keys) scope.now)
+        (option_map (created_of (texts names.now.keys)) created)
+        (kind_of (texts names.now.keys) statement.now.kind)) }
 {
-    match statement {
-        StmtKind::If(_, block) => add_block(names, calls, block),
+    match &statement.kind {
+        StmtKind::If(_, block) => add_block(names, scope, calls, block),
         StmtKind::IfElse(_, block, other) => {
-            add_block(names, calls, block)?;
-            add_block(names, calls, other)
+            add_block(names, scope, calls, block)?;
+            add_block(names, scope, calls, other)
         }
-        StmtKind::While(_, block) => add_block(names, calls, block),
+        StmtKind::While(_, block) => add_block(names, scope, calls, block),
         StmtKind::CallService(service, arguments, _) => {
+            let id = id_of(names, scope, created, first_plain(arguments));
             calls.push(Call {
-                line,
+                line: statement.line,
                 service: *service,
                 arguments,
-                created,
+                id,
             })?;
             Ok(())
         }
@@ -259,88 +170,207 @@ fn add_statement<'a>(
     }
 }
 
-/// Adds the calls of a body.
-pub fn add_body<'a>(
+/// Adds the calls of a body with these parameters, in a program that does this.
+fn add_body<'a>(
+    alloc: Global,
     names: &IndexSet<String>,
-    calls: &mut Vec<Call<'a>>,
+    done: &[Mention<'a>],
+    parameters: &'a [Identifier],
     body: &'a Body,
+    calls: &mut Vec<Call<'a>>,
 ) -> Result<(), AllocError>
     ensures { OnOk result
         (calls_seen (texts names.now.keys) calls.new.items
         ≡ calls_seen (texts names.now.keys) calls.old.items
-        ++ meant.calls_of (body_of (texts names.now.keys) body.now)) }
+        ++ meant.calls_of (mentions_seen (texts names.now.keys) done.now)
+        (map (name_of (texts names.now.keys)) parameters.now)
+        (body_of (texts names.now.keys) body.now)) }
 {
-    add_block(names, calls, &body.statements)
+    let own = mentions_of(alloc, names, body)?;
+    let scope = Scope {
+        parameters,
+        locals: &body.locals,
+        own: &own,
+        program: done,
+    };
+    add_block(names, &scope, calls, &body.statements)
+}
+
+/// The calls of a body without parameters, in a program that does this.
+pub fn calls_of<'a>(
+    alloc: Global,
+    names: &IndexSet<String>,
+    done: &[Mention<'a>],
+    body: &'a Body,
+) -> Result<Vec<Call<'a>>, AllocError>
+    ensures { IfOk result
+        (λ calls. calls_seen (texts names.now.keys) calls.items
+        ≡ meant.calls_of (mentions_seen (texts names.now.keys) done.now) []
+        (body_of (texts names.now.keys) body.now)) }
+{
+    let mut calls = Vec::new(alloc);
+    add_body(alloc, names, done, &[], body, &mut calls)?;
+    Ok(calls)
 }
 
 /// Adds the calls of the handler, if there is one.
-pub fn add_handler<'a>(
+fn add_handler<'a>(
+    alloc: Global,
     names: &IndexSet<String>,
-    calls: &mut Vec<Call<'a>>,
+    done: &[Mention<'a>],
     handler: &'a Option<StackBody>,
+    calls: &mut Vec<Call<'a>>,
 ) -> Result<(), AllocError>
     ensures { OnOk result
         (calls_seen (texts names.now.keys) calls.new.items
         ≡ calls_seen (texts names.now.keys) calls.old.items
-        ++ meant.calls_of_handler
+        ++ meant.calls_of_handler (mentions_seen (texts names.now.keys) done.now)
         (option_map (stack_body_of (texts names.now.keys)) handler.now)) }
 {
     match handler {
-        Some(handler) => add_body(names, calls, &handler.body),
+        Some(handler) => add_body(alloc, names, done, &[], &handler.body, calls),
         None => Ok(()),
     }
 }
 
 /// Adds the calls of processes.
 #[tactic(auto, using(std::proofs::lemmas::List::drop_more))]
-pub fn add_processes<'a>(
+fn add_processes<'a>(
+    alloc: Global,
     names: &IndexSet<String>,
-    calls: &mut Vec<Call<'a>>,
+    done: &[Mention<'a>],
     processes: &'a [Process],
+    calls: &mut Vec<Call<'a>>,
 ) -> Result<(), AllocError>
     ensures { OnOk result
         (calls_seen (texts names.now.keys) calls.new.items
         ≡ calls_seen (texts names.now.keys) calls.old.items
-        ++ meant.calls_of_processes (map (process_of (texts names.now.keys)) processes.now)) }
+        ++ meant.calls_of_processes (mentions_seen (texts names.now.keys) done.now)
+        (map (process_of (texts names.now.keys)) processes.now)) }
 {
     for process in processes {
-        add_body(names, calls, &process.body)?;
+        add_body(alloc, names, done, &[], &process.body, calls)?;
     }
     Ok(())
 }
 
 /// Adds the calls of a procedure, if the declaration is one.
 fn add_procedure<'a>(
+    alloc: Global,
     names: &IndexSet<String>,
-    calls: &mut Vec<Call<'a>>,
+    done: &[Mention<'a>],
     kind: &'a DeclarationKind,
+    calls: &mut Vec<Call<'a>>,
 ) -> Result<(), AllocError>
     ensures { OnOk result
         (calls_seen (texts names.now.keys) calls.new.items
         ≡ calls_seen (texts names.now.keys) calls.old.items
-        ++ meant.calls_of_kind (declared_of (texts names.now.keys) kind.now)) }
+        ++ meant.calls_of_kind (mentions_seen (texts names.now.keys) done.now)
+        (declared_of (texts names.now.keys) kind.now)) }
 {
     match kind {
-        DeclarationKind::Procedure { body, .. } => add_body(names, calls, body),
+        DeclarationKind::Procedure { parameters, body } => {
+            add_body(alloc, names, done, parameters, body, calls)
+        }
         _ => Ok(()),
     }
 }
 
-/// Adds the calls of the procedures among declarations.
+/// Adds the calls of the procedures among declarations, in a program that does this.
 #[tactic(auto, using(std::proofs::lemmas::List::drop_more))]
 pub fn add_procedures<'a>(
+    alloc: Global,
     names: &IndexSet<String>,
-    calls: &mut Vec<Call<'a>>,
+    done: &[Mention<'a>],
     declarations: &'a [Declaration],
+    calls: &mut Vec<Call<'a>>,
 ) -> Result<(), AllocError>
     ensures { OnOk result
         (calls_seen (texts names.now.keys) calls.new.items
         ≡ calls_seen (texts names.now.keys) calls.old.items
-        ++ meant.calls_of_procedures
+        ++ meant.calls_of_procedures (mentions_seen (texts names.now.keys) done.now)
         (map (declaration_of (texts names.now.keys)) declarations.now)) }
 {
     for declaration in declarations {
-        add_procedure(names, calls, &declaration.kind)?;
+        add_procedure(alloc, names, done, &declaration.kind, calls)?;
     }
     Ok(())
+}
+
+/// Adds the first value of a variable, if the declaration has one.
+fn add_first_value<'a>(
+    declaration: &Declaration,
+    mentions: &mut Vec<Mention<'a>>,
+) -> Result<(), AllocError>
+    ensures { OnOk result
+        ((names : List (List ℕ))
+        → mentions_seen names mentions.new.items
+        ≡ mentions_seen names mentions.old.items
+        ++ meant.first_value (declared_of names declaration.now.kind)
+        (name_of names declaration.now.name)) }
+{
+    match &declaration.kind {
+        DeclarationKind::Variable(Some(_)) => {
+            mentions.push(Mention::Write(declaration.name.name, None))?;
+            Ok(())
+        }
+        DeclarationKind::Variable(None) => Ok(()),
+        DeclarationKind::Array { .. } => Ok(()),
+        DeclarationKind::Semaphore { .. } => Ok(()),
+        DeclarationKind::Event => Ok(()),
+        DeclarationKind::Buffer { .. } => Ok(()),
+        DeclarationKind::Blackboard { .. } => Ok(()),
+        DeclarationKind::Port => Ok(()),
+        DeclarationKind::Procedure { .. } => Ok(()),
+    }
+}
+
+/// Adds the first values of variables.
+#[tactic(auto, using(std::proofs::lemmas::List::drop_more))]
+fn add_first_values<'a>(
+    names: &IndexSet<String>,
+    declarations: &[Declaration],
+    mentions: &mut Vec<Mention<'a>>,
+) -> Result<(), AllocError>
+    ensures { OnOk result
+        (mentions_seen (texts names.now.keys) mentions.new.items
+        ≡ mentions_seen (texts names.now.keys) mentions.old.items
+        ++ meant.first_values (map (declaration_of (texts names.now.keys)) declarations.now)) }
+{
+    for declaration in declarations {
+        add_first_value(declaration, mentions)?;
+    }
+    Ok(())
+}
+
+/// What the statements of a program do, and its first values.
+pub fn done_in(alloc: Global, program: &Program) -> Result<Vec<Mention<'_>>, AllocError>
+    ensures { IfOk result
+        (λ mentions. mentions_seen (texts program.now.names.keys) mentions.items
+        ≡ meant.done_in (program_of program.now)) }
+{
+    let mut mentions = Vec::new(alloc);
+    add_first_values(&program.names, &program.declarations, &mut mentions)?;
+    add_all(&mut mentions, program)?;
+    Ok(mentions)
+}
+
+/// The calls of all bodies of a program that does this.
+pub fn all_calls<'a>(
+    alloc: Global,
+    program: &'a Program,
+    done: &[Mention<'a>],
+) -> Result<Vec<Call<'a>>, AllocError>
+    requires { mentions_seen (texts program.now.names.keys) done.now
+        ≡ meant.done_in (program_of program.now) }
+    ensures { IfOk result
+        (λ calls. calls_seen (texts program.now.names.keys) calls.items
+        ≡ meant.all_calls (program_of program.now)) }
+{
+    let names = &program.names;
+    let mut calls = calls_of(alloc, names, done, &program.init.body)?;
+    add_handler(alloc, names, done, &program.handler, &mut calls)?;
+    add_processes(alloc, names, done, &program.processes, &mut calls)?;
+    add_procedures(alloc, names, done, &program.declarations, &mut calls)?;
+    Ok(calls)
 }

@@ -8,8 +8,8 @@ ghost use Rattle.pal_base.specs.View.{declaration_of, declared_of, texts};
 ghost use Rattle.lint.specs.Arrays as meant;
 ghost use Rattle.lint.specs.Measures.{AreMeasured, object_words, words_numbered, words_of_kind};
 
-use crate::calls::value_of;
 use crate::names::text_of;
+use crate::plain::value_of;
 use crate::uses::is_same_kind;
 use apex_types::ObjectKind;
 use indexmap::{IndexMap, IndexSet};

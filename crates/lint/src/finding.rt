@@ -20,16 +20,34 @@ pub enum FindingKind {
     WrongDirection,
     /// A service stores messages in an array that is smaller than they may be.
     SmallArray,
+    /// The length of a message that a service sends is written, and above the words of a message.
+    LongLength,
+    /// A service takes a variable for the number of something, and nothing writes it.
+    UnsetNumber,
+    /// An index is written that is beyond its array.
+    BadIndex,
+    /// The divisor is written as 0.
+    DivisionByZero,
+    /// A loop has no end, and nothing in it waits.
+    EndlessLoop,
+    /// A procedure calls itself, and nothing ends that.
+    EndlessRecursion,
     /// No call creates what is declared.
     NeverCreated,
     /// No call creates the handler.
     HandlerNeverCreated,
     /// No call may start the process.
     NeverStarted,
+    /// A call waits for a semaphore or an event, and no call may signal or set it.
+    NeverSignalled,
     /// No call in INIT or in a procedure may enter NORMAL.
     NeverNormal,
     /// A periodic process has no call of PERIODIC_WAIT, nor has a procedure.
     NoPeriodicWait,
+    /// The time capacity of a process is above its period.
+    LongCapacity,
+    /// The handler has no call of GET_ERROR_STATUS, nor has a procedure.
+    NoErrorStatus,
     /// INIT calls a service that waits.
     WaitInInit,
     /// No statement names a variable or an array; or a local, in its body.

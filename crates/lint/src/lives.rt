@@ -1,21 +1,22 @@
 //! What is never created, started or ended in its first round, and what waits where nothing may.
 
 ghost use Rattle.std.specs.Prelude.{◌≡◌, ◌++◌, [], ℕ, List, map, flat_map, option_map, OnOk};
-ghost use Rattle.pal_base.specs.View.{declaration_of, declared_of, name_of, process_of, stack_body_of, texts};
-ghost use Rattle.lint.specs.Calls.{calls_of_procedures};
+ghost use Rattle.pal_base.specs.View.{declaration_of, declared_of, integer_of, name_of, process_of, stack_body_of, texts};
 ghost use Rattle.lint.specs.Lives as meant;
-ghost use Rattle.lint.specs.Views.{call_of, calls_seen, found_all};
+ghost use Rattle.lint.specs.Views.{call_of, calls_seen, found_all, mentions_seen};
 
-use crate::call_table::CallTable;
-use crate::calls::{Call, add_body, add_procedures, last_plain};
+use crate::arrays::is_less;
+use crate::call_table::{CallTable, is_kind};
+use crate::calls::{Call, add_procedures, calls_of};
 use crate::finding::{Finding, FindingKind, add_if, add_unless};
+use crate::mentions::Mention;
 use crate::names::text_of;
+use crate::plain::{is_zero, last_plain, value_of};
 use crate::services::{always_waits, has_time_out};
-use crate::uses::is_zero;
-use crate::wanted::{Wanted, expect, is_met};
+use crate::wanted::{Wanted, expect, is_met, is_met_in_either};
 use apex_types::ObjectKind;
 use indexmap::IndexSet;
-use pal_base::syntax::{Declaration, DeclarationKind, Identifier, Process, StackBody};
+use pal_base::syntax::{Declaration, DeclarationKind, Identifier, Numeral, Process, StackBody};
 use std::alloc::{AllocError, Global};
 
 /// The kind of object that a declaration makes known.
@@ -196,72 +197,172 @@ pub fn add_never_normal<'a>(
     expect(names, Wanted::NormalMode, calls, finding, findings)
 }
 
-/// Adds a periodic process whose body has no call of PERIODIC_WAIT.
-fn add_without_wait<'a>(
-    alloc: Global,
+/// Adds a semaphore or an event that a call waits for, and that no call may signal or set.
+fn add_never_signalled<'a>(
     names: &'a IndexSet<String>,
-    process: &Process,
+    calls: &[Call<'_>],
+    kind: ObjectKind,
+    number: u64,
+    name: Identifier,
     findings: &mut Vec<Finding<'a>>,
 ) -> Result<(), AllocError>
     ensures { OnOk result
         (found_all findings.new.items
         ≡ found_all findings.old.items
-        ++ meant.without_wait [] (process_of (texts names.now.keys) process.now)) }
+        ++ meant.never_signalled (calls_seen (texts names.now.keys) calls.now) kind number
+        (name_of (texts names.now.keys) name)) }
+{
+    if !is_met(names, Wanted::Wait(kind, number, name.name), calls) {
+        return Ok(());
+    }
+    let finding = Finding {
+        line: name.line,
+        kind: FindingKind::NeverSignalled,
+        subject: text_of(names, name.name),
+    };
+    let wanted = Wanted::Signal(kind, number, name.name);
+    expect(names, wanted, calls, finding, findings)
+}
+
+/// Adds the semaphores or the events that calls wait for, and that no call may signal or set. Those
+/// of a kind are numbered from 1.
+#[tactic(auto, using(std::proofs::lemmas::List::drop_more))]
+pub fn add_all_never_signalled<'a>(
+    names: &'a IndexSet<String>,
+    calls: &[Call<'_>],
+    kind: ObjectKind,
+    declarations: &[Declaration],
+    findings: &mut Vec<Finding<'a>>,
+) -> Result<(), AllocError>
+    ensures { OnOk result
+        (found_all findings.new.items
+        ≡ found_all findings.old.items
+        ++ meant.all_never_signalled (calls_seen (texts names.now.keys) calls.now) kind 1
+        (map (declaration_of (texts names.now.keys)) declarations.now)) }
+{
+    let mut number: u64 = 1;
+    for declaration in declarations {
+        if is_kind(kind, object_kind(&declaration.kind)) {
+            add_never_signalled(names, calls, kind, number, declaration.name, findings)?;
+            number += 1;
+        }
+    }
+    Ok(())
+}
+
+/// Adds a periodic process that does not wait for its next release, nor does a procedure. The calls
+/// are those of the procedures.
+fn add_without_wait<'a, 'p>(
+    alloc: Global,
+    names: &'a IndexSet<String>,
+    done: &[Mention<'p>],
+    calls: &[Call<'_>],
+    process: &'p Process,
+    findings: &mut Vec<Finding<'a>>,
+) -> Result<(), AllocError>
+    ensures { OnOk result
+        (found_all findings.new.items
+        ≡ found_all findings.old.items
+        ++ meant.without_wait (mentions_seen (texts names.now.keys) done.now)
+        (calls_seen (texts names.now.keys) calls.now)
+        (process_of (texts names.now.keys) process.now)) }
 {
     if process.period.negative {
         return Ok(());
     }
-    let mut calls = Vec::new(alloc);
-    add_body(names, &mut calls, &process.body)?;
+    let own = calls_of(alloc, names, done, &process.body)?;
     let finding = Finding {
         line: process.line,
         kind: FindingKind::NoPeriodicWait,
         subject: text_of(names, process.name.name),
     };
-    expect(names, Wanted::PeriodicWait, &calls, finding, findings)
+    let waits = is_met_in_either(names, Wanted::PeriodicWait, &own, calls);
+    add_unless(waits, finding, findings)
 }
 
-/// Adds the periodic processes whose bodies have no call of PERIODIC_WAIT.
+/// Adds the periodic processes that do not wait for their next release. The calls are those of the
+/// procedures.
 #[tactic(auto, using(std::proofs::lemmas::List::drop_more))]
-fn add_each_without_wait<'a>(
+pub fn add_without_waits<'a, 'p>(
     alloc: Global,
     names: &'a IndexSet<String>,
-    processes: &[Process],
+    done: &[Mention<'p>],
+    calls: &[Call<'_>],
+    processes: &'p [Process],
     findings: &mut Vec<Finding<'a>>,
 ) -> Result<(), AllocError>
     ensures { OnOk result
         (found_all findings.new.items
         ≡ found_all findings.old.items
-        ++ meant.without_waits [] (map (process_of (texts names.now.keys)) processes.now)) }
+        ++ meant.without_waits (mentions_seen (texts names.now.keys) done.now)
+        (calls_seen (texts names.now.keys) calls.now)
+        (map (process_of (texts names.now.keys)) processes.now)) }
 {
     for process in processes {
-        add_without_wait(alloc, names, process, findings)?;
+        add_without_wait(alloc, names, done, calls, process, findings)?;
     }
     Ok(())
 }
 
-/// Adds the periodic processes that do not wait for their next release, as long as no procedure
-/// does.
-pub fn add_without_waits<'a>(
-    alloc: Global,
+/// Returns true if a time capacity is above a period.
+fn is_longer(capacity: &Numeral, period: &Numeral) -> bool
+    ensures { result ≡ meant.is_longer (integer_of capacity.now) (integer_of period.now) }
+{
+    !capacity.negative && !period.negative && is_less(value_of(period), value_of(capacity))
+}
+
+/// Adds the processes whose time capacity is above their period.
+#[tactic(auto, using(std::proofs::lemmas::List::drop_more))]
+pub fn add_long_capacities<'a>(
     names: &'a IndexSet<String>,
-    declarations: &[Declaration],
     processes: &[Process],
     findings: &mut Vec<Finding<'a>>,
 ) -> Result<(), AllocError>
     ensures { OnOk result
         (found_all findings.new.items
         ≡ found_all findings.old.items
-        ++ meant.without_waits
-        (calls_of_procedures (map (declaration_of (texts names.now.keys)) declarations.now))
-        (map (process_of (texts names.now.keys)) processes.now)) }
+        ++ flat_map meant.long_capacity (map (process_of (texts names.now.keys)) processes.now)) }
 {
-    let mut calls = Vec::new(alloc);
-    add_procedures(names, &mut calls, declarations)?;
-    if is_met(names, Wanted::PeriodicWait, &calls) {
-        return Ok(());
+    for process in processes {
+        let finding = Finding {
+            line: process.line,
+            kind: FindingKind::LongCapacity,
+            subject: text_of(names, process.name.name),
+        };
+        let longer = is_longer(&process.capacity, &process.period);
+        add_if(longer, finding, findings)?;
     }
-    add_each_without_wait(alloc, names, processes, findings)
+    Ok(())
+}
+
+/// Adds the handler, if neither it nor a procedure takes an error. The calls are those of the
+/// procedures.
+pub fn add_no_error_status<'a, 'p>(
+    alloc: Global,
+    names: &'a IndexSet<String>,
+    done: &[Mention<'p>],
+    calls: &[Call<'_>],
+    handler: &'p Option<StackBody>,
+    findings: &mut Vec<Finding<'a>>,
+) -> Result<(), AllocError>
+    ensures { OnOk result
+        (found_all findings.new.items
+        ≡ found_all findings.old.items
+        ++ meant.takes_no_error (mentions_seen (texts names.now.keys) done.now)
+        (calls_seen (texts names.now.keys) calls.now)
+        (option_map (stack_body_of (texts names.now.keys)) handler.now)) }
+{
+    let Some(handler) = handler else {
+        return Ok(());
+    };
+    let finding = Finding {
+        line: handler.line,
+        kind: FindingKind::NoErrorStatus,
+        subject: "",
+    };
+    let own = calls_of(alloc, names, done, &handler.body)?;
+    let takes = is_met_in_either(names, Wanted::ErrorStatus, &own, calls);
+    add_unless(takes, finding, findings)
 }
 
 /// Returns true if a service waits, or if its time-out is not written as 0.

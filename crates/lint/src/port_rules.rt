@@ -1,19 +1,19 @@
 //! What is wrong about the ports of a source.
 
-ghost use Rattle.std.specs.Prelude.{◌≡◌, ◌≤◌, ◌++◌, ℕ, List, map, flat_map, option_map, option_copied, OnOk, if◌then◌else◌};
+ghost use Rattle.std.specs.Prelude.{◌≡◌, ◌≤◌, ◌++◌, ℕ, List, map, option_map, option_copied, OnOk, if◌then◌else◌};
 ghost use Rattle.module_meaning.specs.Table.{at_number};
 ghost use Rattle.pal_base.specs.View.{declaration_of, declared_of, id_text, name_of, texts};
 ghost use Rattle.window_table.specs.Views.{partition_view};
 ghost use Rattle.lint.specs.Ports as meant;
-ghost use Rattle.lint.specs.Seen.{id_seen};
 ghost use Rattle.lint.specs.Services.{numbered_kind};
-ghost use Rattle.lint.specs.Views.{call_of, calls_seen, found_all};
+ghost use Rattle.lint.specs.Views.{call_of, found_all, id_seen};
 
-use crate::calls::{Call, first_plain};
+use crate::calls::Call;
 use crate::finding::{Finding, FindingKind, add_if, add_unless};
 use crate::names::text_of;
+use crate::plain::{first_plain, name_in};
 use crate::services::{numbered_kind, port_direction, port_kind};
-use crate::uses::{Id, name_in, subject_of};
+use crate::uses::Id;
 use apex_types::{ObjectKind, PortDirection, PortKind, PortRow};
 use indexmap::IndexSet;
 use pal_base::syntax::{Declaration, DeclarationKind, NameId};
@@ -272,7 +272,7 @@ fn port_of_call<'a>(
 {
     match numbered_kind(call.service) {
         Some(_) => port_of_name(names, ports, name_in(first_plain(call.arguments))),
-        None => port_of_id(names, ports, subject_of(names, call)),
+        None => port_of_id(names, ports, call.id),
     }
 }
 
@@ -300,25 +300,9 @@ fn contradicts_direction(wanted: Option<PortDirection>, direction: PortDirection
     }
 }
 
-/// What is wrong about the use of a port by a service, if anything.
-fn wrong_use(
-    queuing: Option<bool>,
-    direction: Option<PortDirection>,
-    row: &PortRow,
-) -> Option<FindingKind>
-    ensures { result ≡ meant.wrong_kind_of queuing direction row.now }
-{
-    if contradicts_kind(queuing, row) {
-        Some(FindingKind::WrongKind)
-    } else if contradicts_direction(direction, row.direction) {
-        Some(FindingKind::WrongDirection)
-    } else {
-        None
-    }
-}
-
-/// Adds a call on a port that is for ports of the other kind or direction.
-fn add_wrong_use<'a>(
+/// Adds a call on a port that is for ports of the other kind, and one that is for ports of the
+/// other direction.
+pub fn add_wrong_use<'a>(
     names: &IndexSet<String>,
     ports: &'a [PortRow],
     call: &Call<'_>,
@@ -336,32 +320,13 @@ fn add_wrong_use<'a>(
     let Some(row) = port_of_call(names, ports, call) else {
         return Ok(());
     };
-    let Some(kind) = wrong_use(queuing, port_direction(call.service), row) else {
-        return Ok(());
-    };
-    findings.push(Finding {
+    let finding = Finding {
         line: call.line,
-        kind,
+        kind: FindingKind::WrongKind,
         subject: row.name.as_str(),
-    })?;
-    Ok(())
-}
-
-/// Adds the calls on ports that are for ports of the other kind or direction.
-#[tactic(auto, using(std::proofs::lemmas::List::drop_more))]
-pub fn add_wrong_uses<'a>(
-    names: &IndexSet<String>,
-    ports: &'a [PortRow],
-    calls: &[Call<'_>],
-    findings: &mut Vec<Finding<'a>>,
-) -> Result<(), AllocError>
-    ensures { OnOk result
-        (found_all findings.new.items
-        ≡ found_all findings.old.items
-        ++ flat_map (meant.wrong_use ports.now) (calls_seen (texts names.now.keys) calls.now)) }
-{
-    for call in calls {
-        add_wrong_use(names, ports, call, findings)?;
-    }
-    Ok(())
+    };
+    add_if(contradicts_kind(queuing, row), finding, findings)?;
+    let wrong = contradicts_direction(port_direction(call.service), row.direction);
+    let kind = FindingKind::WrongDirection;
+    add_if(wrong, Finding { kind, ..finding }, findings)
 }

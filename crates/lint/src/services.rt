@@ -49,6 +49,77 @@ pub fn stored_kind(service: Service) -> Option<ObjectKind>
     }
 }
 
+/// The kind of what takes the message that a service sends from its array.
+pub fn sent_kind(service: Service) -> Option<ObjectKind>
+    ensures { result ≡ meant.sent_kind service }
+{
+    match service {
+        Service::SendBuffer => Some(ObjectKind::Buffer),
+        Service::DisplayBlackboard => Some(ObjectKind::Blackboard),
+        Service::WriteSamplingMessage | Service::SendQueuingMessage => Some(ObjectKind::Port),
+        _ => None,
+    }
+}
+
+/// The kind of what a process waits for that another process signals or sets.
+pub fn awaited_kind(service: Service) -> Option<ObjectKind>
+    ensures { result ≡ meant.awaited_kind service }
+{
+    match service {
+        Service::WaitSemaphore => Some(ObjectKind::Semaphore),
+        Service::WaitEvent => Some(ObjectKind::Event),
+        _ => None,
+    }
+}
+
+/// The kind of what a service signals or sets.
+pub fn signalled_kind(service: Service) -> Option<ObjectKind>
+    ensures { result ≡ meant.signalled_kind service }
+{
+    match service {
+        Service::SignalSemaphore => Some(ObjectKind::Semaphore),
+        Service::SetEvent => Some(ObjectKind::Event),
+        _ => None,
+    }
+}
+
+/// Returns true if the first argument of a service is the number of an object, a port or a process.
+pub fn takes_number(service: Service) -> bool
+    ensures { result ≡ meant.takes_number service }
+{
+    match service {
+        Service::GetProcessStatus
+        | Service::SetPriority
+        | Service::Suspend
+        | Service::Resume
+        | Service::Stop
+        | Service::Start
+        | Service::DelayedStart => true,
+        Service::SendBuffer
+        | Service::ReceiveBuffer
+        | Service::GetBufferStatus
+        | Service::DisplayBlackboard
+        | Service::ReadBlackboard
+        | Service::ClearBlackboard
+        | Service::GetBlackboardStatus => true,
+        Service::WaitSemaphore
+        | Service::SignalSemaphore
+        | Service::GetSemaphoreStatus
+        | Service::SetEvent
+        | Service::ResetEvent
+        | Service::WaitEvent
+        | Service::GetEventStatus => true,
+        Service::WriteSamplingMessage
+        | Service::ReadSamplingMessage
+        | Service::GetSamplingPortStatus
+        | Service::SendQueuingMessage
+        | Service::ReceiveQueuingMessage
+        | Service::GetQueuingPortStatus
+        | Service::ClearQueuingPort => true,
+        _ => false,
+    }
+}
+
 /// Returns true if a service starts the process of a number.
 pub fn is_start(service: Service) -> bool
     ensures { result ≡ meant.is_start service }
@@ -75,6 +146,20 @@ pub fn is_handler_creation(service: Service) -> bool
     ensures { result ≡ meant.is_handler_creation service }
 {
     matches!(service, Service::CreateErrorHandler)
+}
+
+/// Returns true if a service takes an error.
+pub fn is_error_status(service: Service) -> bool
+    ensures { result ≡ meant.is_error_status service }
+{
+    matches!(service, Service::GetErrorStatus)
+}
+
+/// Returns true if who asks for a service ends, or may end.
+pub fn ends_caller(service: Service) -> bool
+    ensures { result ≡ meant.ends_caller service }
+{
+    matches!(service, Service::StopSelf | Service::SetPartitionMode)
 }
 
 /// Returns true if the caller of a service waits, whatever its arguments are.

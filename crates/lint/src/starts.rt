@@ -5,16 +5,15 @@ ghost use Rattle.std.specs.List.{list_any};
 ghost use Rattle.apex_types.specs.declared.denotation.ObjectKind.TheVariants as object;
 ghost use Rattle.pal_base.specs.View.{texts};
 ghost use Rattle.lint.specs.Lives as meant;
-ghost use Rattle.lint.specs.Seen.{id_seen};
 ghost use Rattle.lint.specs.Started.{is_started};
 ghost use Rattle.lint.specs.Uses.{may_be};
-ghost use Rattle.lint.specs.Views.{call_of, calls_seen};
+ghost use Rattle.lint.specs.Views.{call_of, calls_seen, id_seen};
 
 use crate::calls::Call;
 use crate::names::text_of;
 use crate::services::is_start;
 use crate::used::Used;
-use crate::uses::{Id, is_same_kind, subject_of};
+use crate::uses::{Id, is_same_kind};
 use apex_types::ObjectKind;
 use indexmap::IndexSet;
 use std::alloc::{AllocError, Global};
@@ -63,7 +62,7 @@ impl<'a> Starts<'a> {
             || meant.meets (meant.Start number name) (call_of (texts names.now.keys) call.now))) }
     {
         if is_start(call.service) {
-            self.add(names, subject_of(names, call))?;
+            self.add(names, call.id)?;
         }
         Ok(())
     }
@@ -86,6 +85,8 @@ impl<'a> Starts<'a> {
                 }
             }
             Id::Unseen => self.any = true,
+            Id::Failed => {}
+            Id::Unset => {}
         }
         Ok(())
     }

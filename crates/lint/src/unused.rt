@@ -1,285 +1,32 @@
 //! Variables, procedures and parameters that no statement names.
 
-ghost use Rattle.std.specs.Prelude.{◌≡◌, ◌++◌, ◌∷◌, [], ℕ, List, map, flat_map, option_map, OnOk, IfOk};
-ghost use Rattle.pal_base.specs.View.{texts, name_of, expr_of, exprs_of, links_of, kind_of, block_of, body_of, stack_body_of, process_of, declaration_of, declared_of};
+ghost use Rattle.std.specs.Prelude.{◌≡◌, ◌++◌, ℕ, List, map, flat_map, option_map, OnOk, IfOk};
+ghost use Rattle.pal_base.specs.View.{texts, name_of, body_of, stack_body_of, process_of, declaration_of, declared_of};
 ghost use Rattle.pal_base.specs.WrittenView.{program_of};
 ghost use Rattle.lint.specs.Unused as meant;
 ghost use Rattle.lint.specs.UsedNames.{used_names};
-ghost use Rattle.lint.specs.Views.{found_all, names_seen};
+ghost use Rattle.lint.specs.Mentions.{all_mentions};
+ghost use Rattle.lint.specs.Views.{found_all, mentions_seen};
 
 use crate::finding::{Finding, FindingKind, add_unless};
+use crate::mentions::{Mention, add_all, mentions_of};
 use crate::names::text_of;
 use crate::used::Used;
 use indexmap::IndexSet;
 use pal_base::syntax::{
-    Body, Declaration, DeclarationKind, Expr, Identifier, Link, NameId, Process, Program,
-    StackBody, Stmt, StmtKind,
+    Body, Declaration, DeclarationKind, Identifier, Process, Program, StackBody,
 };
 use std::alloc::{AllocError, Global};
 
-/// Adds a name.
-fn add_name(
-    names: &IndexSet<String>,
-    used: &mut Vec<NameId>,
-    name: Identifier,
-) -> Result<(), AllocError>
-    ensures { OnOk result
-        (names_seen (texts names.now.keys) used.new.items
-        ≡ names_seen (texts names.now.keys) used.old.items
-        ++ name_of (texts names.now.keys) name ∷ []) }
-{
-    used.push(name.name)?;
-    Ok(())
-}
-
-/// Adds the targets of a service.
-#[tactic(auto, using(std::proofs::lemmas::List::drop_more))]
-fn add_targets(
-    names: &IndexSet<String>,
-    used: &mut Vec<NameId>,
-    targets: &[Identifier],
-) -> Result<(), AllocError>
-    ensures { OnOk result
-        (names_seen (texts names.now.keys) used.new.items
-        ≡ names_seen (texts names.now.keys) used.old.items
-        ++ map (name_of (texts names.now.keys)) targets.now) }
-{
-    for target in targets {
-        add_name(names, used, *target)?;
-    }
-    Ok(())
-}
-
-/// Adds the names in an expression.
-#[cycle(expression_names)]
-fn add_expression(
-    names: &IndexSet<String>,
-    used: &mut Vec<NameId>,
-    expression: &Expr,
-) -> Result<(), AllocError>
-    ensures { OnOk result
-        (names_seen (texts names.now.keys) used.new.items
-        ≡ names_seen (texts names.now.keys) used.old.items
-        ++ meant.names_in (expr_of (texts names.now.keys) expression.now)) }
-{
-    match expression {
-        Expr::Number(_) => Ok(()),
-        Expr::Name(name) => add_name(names, used, *name),
-        Expr::Element(array, index) => {
-            add_name(names, used, *array)?;
-            add_expression(names, used, index)
-        }
-        Expr::Apply(procedure, arguments) => {
-            add_name(names, used, *procedure)?;
-            add_expressions(names, used, arguments)
-        }
-        Expr::Parenthesis(inside) => add_expression(names, used, inside),
-        Expr::Unary(_, operand) => add_expression(names, used, operand),
-        Expr::Chain(first, rest) => {
-            add_expression(names, used, first)?;
-            add_links(names, used, rest)
-        }
-    }
-}
-
-/// Adds the names in expressions.
-#[cycle(expression_names)]
-fn add_expressions(
-    names: &IndexSet<String>,
-    used: &mut Vec<NameId>,
-    expressions: &[Expr],
-) -> Result<(), AllocError>
-    ensures { OnOk result
-        (names_seen (texts names.now.keys) used.new.items
-        ≡ names_seen (texts names.now.keys) used.old.items
-        ++ meant.names_in_exprs (exprs_of (texts names.now.keys) expressions.now)) }
-{
-    for expression in expressions {
-        add_expression(names, used, expression)?;
-    }
-    Ok(())
-}
-
-/// Adds the names in the operands of operators.
-#[cycle(expression_names)]
-fn add_links(
-    names: &IndexSet<String>,
-    used: &mut Vec<NameId>,
-    links: &[Link],
-) -> Result<(), AllocError>
-    ensures { OnOk result
-        (names_seen (texts names.now.keys) used.new.items
-        ≡ names_seen (texts names.now.keys) used.old.items
-        ++ meant.names_in_links (links_of (texts names.now.keys) links.now)) }
-{
-    for link in links {
-        add_expression(names, used, &link.operand)?;
-    }
-    Ok(())
-}
-
-/// Adds the names in a statement.
-#[cycle(statement_names)]
-fn add_statement(
-    names: &IndexSet<String>,
-    used: &mut Vec<NameId>,
-    statement: &StmtKind,
-) -> Result<(), AllocError>
-    ensures { OnOk result
-        (names_seen (texts names.now.keys) used.new.items
-        ≡ names_seen (texts names.now.keys) used.old.items
-        ++ meant.names_in_stmt (kind_of (texts names.now.keys) statement.now)) }
-{
-    match statement {
-        StmtKind::Assign(target, value) => {
-            add_name(names, used, *target)?;
-            add_expression(names, used, value)
-        }
-        StmtKind::AssignElement(array, index, value) => {
-            add_name(names, used, *array)?;
-            add_expression(names, used, index)?;
-            add_expression(names, used, value)
-        }
-        StmtKind::If(test, block) => {
-            add_expression(names, used, test)?;
-            add_block(names, used, block)
-        }
-        StmtKind::IfElse(test, block, other) => {
-            add_expression(names, used, test)?;
-            add_block(names, used, block)?;
-            add_block(names, used, other)
-        }
-        StmtKind::While(test, block) => {
-            add_expression(names, used, test)?;
-            add_block(names, used, block)
-        }
-        StmtKind::Work(_) => Ok(()),
-        StmtKind::Return(value) => add_expression(names, used, value),
-        StmtKind::CallService(_, arguments, targets) => {
-            add_expressions(names, used, arguments)?;
-            add_targets(names, used, targets)
-        }
-    }
-}
-
-/// Adds the names in a block.
-#[cycle(statement_names)]
-fn add_block(
-    names: &IndexSet<String>,
-    used: &mut Vec<NameId>,
-    block: &[Stmt],
-) -> Result<(), AllocError>
-    ensures { OnOk result
-        (names_seen (texts names.now.keys) used.new.items
-        ≡ names_seen (texts names.now.keys) used.old.items
-        ++ meant.names_in_block (block_of (texts names.now.keys) block.now)) }
-{
-    for statement in block {
-        add_statement(names, used, &statement.kind)?;
-    }
-    Ok(())
-}
-
-/// Adds the names in the statements of a body.
-fn add_body(names: &IndexSet<String>, used: &mut Vec<NameId>, body: &Body) -> Result<(), AllocError>
-    ensures { OnOk result
-        (names_seen (texts names.now.keys) used.new.items
-        ≡ names_seen (texts names.now.keys) used.old.items
-        ++ meant.names_of (body_of (texts names.now.keys) body.now)) }
-{
-    add_block(names, used, &body.statements)
-}
-
-/// Adds the names in the handler, if there is one.
-fn add_handler(
-    names: &IndexSet<String>,
-    used: &mut Vec<NameId>,
-    handler: &Option<StackBody>,
-) -> Result<(), AllocError>
-    ensures { OnOk result
-        (names_seen (texts names.now.keys) used.new.items
-        ≡ names_seen (texts names.now.keys) used.old.items
-        ++ meant.names_of_handler (option_map (stack_body_of (texts names.now.keys)) handler.now)) }
-{
-    match handler {
-        Some(handler) => add_body(names, used, &handler.body),
-        None => Ok(()),
-    }
-}
-
-/// Adds the names in processes.
-#[tactic(auto, using(std::proofs::lemmas::List::drop_more))]
-fn add_processes(
-    names: &IndexSet<String>,
-    used: &mut Vec<NameId>,
-    processes: &[Process],
-) -> Result<(), AllocError>
-    ensures { OnOk result
-        (names_seen (texts names.now.keys) used.new.items
-        ≡ names_seen (texts names.now.keys) used.old.items
-        ++ meant.names_of_processes (map (process_of (texts names.now.keys)) processes.now)) }
-{
-    for process in processes {
-        add_body(names, used, &process.body)?;
-    }
-    Ok(())
-}
-
-/// Adds the names in a procedure, if the declaration is one.
-fn add_procedure(
-    names: &IndexSet<String>,
-    used: &mut Vec<NameId>,
-    kind: &DeclarationKind,
-) -> Result<(), AllocError>
-    ensures { OnOk result
-        (names_seen (texts names.now.keys) used.new.items
-        ≡ names_seen (texts names.now.keys) used.old.items
-        ++ meant.names_of_kind (declared_of (texts names.now.keys) kind.now)) }
-{
-    match kind {
-        DeclarationKind::Procedure { body, .. } => add_body(names, used, body),
-        DeclarationKind::Variable(_) => Ok(()),
-        DeclarationKind::Array { .. } => Ok(()),
-        DeclarationKind::Semaphore { .. } => Ok(()),
-        DeclarationKind::Event => Ok(()),
-        DeclarationKind::Buffer { .. } => Ok(()),
-        DeclarationKind::Blackboard { .. } => Ok(()),
-        DeclarationKind::Port => Ok(()),
-    }
-}
-
-/// Adds the names in the procedures among declarations.
-#[tactic(auto, using(std::proofs::lemmas::List::drop_more))]
-fn add_procedures(
-    names: &IndexSet<String>,
-    used: &mut Vec<NameId>,
-    declarations: &[Declaration],
-) -> Result<(), AllocError>
-    ensures { OnOk result
-        (names_seen (texts names.now.keys) used.new.items
-        ≡ names_seen (texts names.now.keys) used.old.items
-        ++ meant.names_of_procedures
-        (map (declaration_of (texts names.now.keys)) declarations.now)) }
-{
-    for declaration in declarations {
-        add_procedure(names, used, &declaration.kind)?;
-    }
-    Ok(())
-}
-
-/// The names in the bodies of a program.
-fn all_names(alloc: Global, program: &Program) -> Result<Vec<NameId>, AllocError>
+/// What the statements of a program do.
+fn all_mentions(alloc: Global, program: &Program) -> Result<Vec<Mention<'_>>, AllocError>
     ensures { IfOk result
-        (λ used. names_seen (texts program.now.names.keys) used.items
-        ≡ meant.all_names (program_of program.now)) }
+        (λ mentions. mentions_seen (texts program.now.names.keys) mentions.items
+        ≡ all_mentions (program_of program.now)) }
 {
-    let names = &program.names;
-    let mut used = Vec::new(alloc);
-    add_body(names, &mut used, &program.init.body)?;
-    add_handler(names, &mut used, &program.handler)?;
-    add_processes(names, &mut used, &program.processes)?;
-    add_procedures(names, &mut used, &program.declarations)?;
-    Ok(used)
+    let mut mentions = Vec::new(alloc);
+    add_all(&mut mentions, program)?;
+    Ok(mentions)
 }
 
 /// Adds a finding if a name is not used.
@@ -367,7 +114,7 @@ fn add_unused_declarations<'a>(
         (program_of program.now).declarations) }
 {
     let names = &program.names;
-    let all = all_names(alloc, program)?;
+    let all = all_mentions(alloc, program)?;
     let used = Used::of(alloc, names, &all)?;
     add_declarations(names, &used, &program.declarations, findings)
 }
@@ -404,9 +151,8 @@ fn names_of_body<'a>(
         → meant.is_used (used_names used) name
         ≡ meant.is_used (meant.names_of (body_of (texts names.now.keys) body.now)) name) }
 {
-    let mut used = Vec::new(alloc);
-    add_body(names, &mut used, body)?;
-    Used::of(alloc, names, &used)
+    let mentions = mentions_of(alloc, names, body)?;
+    Used::of(alloc, names, &mentions)
 }
 
 /// Adds the parameters and the locals that no statement of their body names.

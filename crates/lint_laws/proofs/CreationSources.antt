@@ -17,7 +17,10 @@ use Rattle.pal_meaning.specs.Program as program
 use Rattle.pal_meaning.specs.Resolve.{Counts, after, counted, next, Entry, declaration_entries, declared_entries, declared_meaning, find, no_counts, object_number_of, or_else, own_entries, process_entries, resolve, resolve_arguments, resolve_process, resolve_stack_body}
 use Rattle.pal_meaning.specs.Syntax as written
 use Rattle.pal_meaning.specs.WellFormed.{are_new, fits_arguments, holds_of_handler, holds_of_procedure, is_object, kinds_hold, kinds_hold_in_body, names_hold}
-use Rattle.lint.specs.Calls.{Call, Created, plains, all_calls, calls_of, calls_of_handler, calls_of_processes, calls_of_procedures}
+use Rattle.lint.specs.Calls.{Call, all_calls, calls_of, calls_of_handler, calls_of_init, calls_of_processes, calls_of_procedures, done_in}
+use Rattle.lint.specs.Plain.{first_of, plains}
+use Rattle.lint.specs.Uses.{Created, id_of}
+use Rattle.lint.specs.Uses as uses
 use Rattle.lint.specs.Lives.{Creation, meets}
 use Rattle.lint_laws.specs.Creation.{HandlerFits, IsNot, IsProcess, NeverCreates, creates_process}
 use Rattle.lint_laws.specs.Numbers.{BlockFits, IsNumber}
@@ -183,21 +186,21 @@ module _ (ports : List PortRow) (tree : written.Program) (q : ℕ) (process : wr
       name_at : (i : ℕ) (p : written.Process) → slice_get tree.processes i ≡ Some p → i ≡ q → p.name ≡ process.name
       name_at i p e k = ap (λ (y : written.Process). y.name) (same_Some p process (sym (subst (λ (j : ℕ). slice_get tree.processes j ≡ Some p) k e) ∙ there))
 
-  argument_other : (names : List (List ℕ)) (created : Option Created) (es : written.Exprs) → fits_arguments (scope_with declared names) (arguments_of service.CreateProcess) es ≡ true
-      → meets (Creation object.Process process.name) (record { service = service.CreateProcess; arguments = plains es; created = created }) ≡ false
+  argument_other : (names : List (List ℕ)) (own : uses.Scope) (created : Option Created) (es : written.Exprs) → fits_arguments (scope_with declared names) (arguments_of service.CreateProcess) es ≡ true
+      → meets (Creation object.Process process.name) (record { service = service.CreateProcess; arguments = plains es; id = id_of own created (first_of (plains es)) }) ≡ false
       → IsNumber (IsNot (suc q)) (resolve_arguments (scope_with declared names) (arguments_of service.CreateProcess) es)
-  argument_other names created written.NoExpr k h = absurd (cc)
-  argument_other names created (written.MoreExprs (written.Name x) es) k h = name_other names x (and_parts (is_object object.Process (scope_with declared names x)) _ k).0 h
-  argument_other names created (written.MoreExprs (written.Number value) es) k h = absurd (cc)
-  argument_other names created (written.MoreExprs (written.Element array index) es) k h = absurd (cc)
-  argument_other names created (written.MoreExprs (written.Apply procedure arguments) es) k h = absurd (cc)
-  argument_other names created (written.MoreExprs (written.Parenthesis inside) es) k h = absurd (cc)
-  argument_other names created (written.MoreExprs (written.Unary operator operand) es) k h = absurd (cc)
-  argument_other names created (written.MoreExprs (written.Chain first rest) es) k h = absurd (cc)
+  argument_other names own created written.NoExpr k h = absurd (cc)
+  argument_other names own created (written.MoreExprs (written.Name x) es) k h = name_other names x (and_parts (is_object object.Process (scope_with declared names x)) _ k).0 h
+  argument_other names own created (written.MoreExprs (written.Number value) es) k h = absurd (cc)
+  argument_other names own created (written.MoreExprs (written.Element array index) es) k h = absurd (cc)
+  argument_other names own created (written.MoreExprs (written.Apply procedure arguments) es) k h = absurd (cc)
+  argument_other names own created (written.MoreExprs (written.Parenthesis inside) es) k h = absurd (cc)
+  argument_other names own created (written.MoreExprs (written.Unary operator operand) es) k h = absurd (cc)
+  argument_other names own created (written.MoreExprs (written.Chain first rest) es) k h = absurd (cc)
 
   calls_other : AtCalls creates_process (IsNot (suc q)) (meets (Creation object.Process process.name)) declared
-  calls_other names created service.CreateProcess es k h = argument_other names created es k h
-  calls_other names created s es k h = tt
+  calls_other names own created service.CreateProcess es k h = argument_other names own created es k h
+  calls_other names own created s es k h = tt
 
   abbrev test : Bool → List (List ℕ) → written.Body → Bool
   test = kinds_hold_in_body declared
@@ -205,31 +208,31 @@ module _ (ports : List PortRow) (tree : written.Program) (q : ℕ) (process : wr
   abbrev wants : Call → Bool
   wants = meets (Creation object.Process process.name)
 
-  handler_other : (o : Option written.StackBody) → holds_of_handler test o ≡ true → list_any wants (calls_of_handler o) ≡ false → HandlerFits creates_process (IsNot (suc q)) (option_map (resolve_stack_body declared) o)
+  handler_other : (o : Option written.StackBody) → holds_of_handler test o ≡ true → list_any wants (calls_of_handler (done_in tree) o) ≡ false → HandlerFits creates_process (IsNot (suc q)) (option_map (resolve_stack_body declared) o)
   handler_other None k h = tt
-  handler_other (Some b) k h = body_fits creates_process (IsNot (suc q)) wants declared calls_other false [] b.body k h
+  handler_other (Some b) k h = body_fits creates_process (IsNot (suc q)) wants declared calls_other (done_in tree) false [] b.body k h
 
-  processes_other : (ps : List written.Process) → list_all (λ r. test false [] r.body) ps ≡ true → list_any wants (calls_of_processes ps) ≡ false
+  processes_other : (ps : List written.Process) → list_all (λ r. test false [] r.body) ps ≡ true → list_any wants (calls_of_processes (done_in tree) ps) ≡ false
       → AllByRecursion (λ (r : program.Process). BlockFits creates_process (IsNot (suc q)) r.body.block) (map (resolve_process declared) ps)
   processes_other [] k h = tt
   processes_other (r ∷ rs) k h =
       let kinds = and_parts (test false [] r.body) _ k in
-      let parts = none_of_both wants (calls_of r.body) (calls_of_processes rs) h in
-      (body_fits creates_process (IsNot (suc q)) wants declared calls_other false [] r.body kinds.0 parts.0, processes_other rs kinds.1 parts.1)
+      let parts = none_of_both wants (calls_of (done_in tree) [] r.body) (calls_of_processes (done_in tree) rs) h in
+      (body_fits creates_process (IsNot (suc q)) wants declared calls_other (done_in tree) false [] r.body kinds.0 parts.0, processes_other rs kinds.1 parts.1)
 
   pub never_creates : kinds_hold ports tree ≡ true → list_any wants (all_calls tree) ≡ false → NeverCreates (suc q) (resolve ports tree)
   never_creates kinds none =
-      let three = none_of_both wants (calls_of tree.init.body ++ calls_of_handler tree.handler ++ calls_of_processes tree.processes) (calls_of_procedures tree.declarations) none in
-      let two = none_of_both wants (calls_of tree.init.body ++ calls_of_handler tree.handler) (calls_of_processes tree.processes) three.0 in
-      let one = none_of_both wants (calls_of tree.init.body) (calls_of_handler tree.handler) two.0 in
+      let three = none_of_both wants (calls_of_init tree ++ calls_of_handler (done_in tree) tree.handler ++ calls_of_processes (done_in tree) tree.processes) (calls_of_procedures (done_in tree) tree.declarations) none in
+      let two = none_of_both wants (calls_of_init tree ++ calls_of_handler (done_in tree) tree.handler) (calls_of_processes (done_in tree) tree.processes) three.0 in
+      let one = none_of_both wants (calls_of_init tree) (calls_of_handler (done_in tree) tree.handler) two.0 in
       let k1 = and_parts (test false [] tree.init.body && holds_of_handler test tree.handler && list_all (λ r. test false [] r.body) tree.processes) (list_all (λ d. holds_of_procedure test d.kind) tree.declarations) kinds in
       let k2 = and_parts (test false [] tree.init.body && holds_of_handler test tree.handler) (list_all (λ r. test false [] r.body) tree.processes) k1.0 in
       let k3 = and_parts (test false [] tree.init.body) (holds_of_handler test tree.handler) k2.0 in
       record {
-        init = body_fits creates_process (IsNot (suc q)) wants declared calls_other false [] tree.init.body k3.0 one.0;
+        init = body_fits creates_process (IsNot (suc q)) wants declared calls_other (done_in tree) false [] tree.init.body k3.0 one.0;
         handler = handler_other tree.handler k3.1 one.1;
         processes = processes_other tree.processes k2.1 two.1;
-        procedures = procedures_fit creates_process (IsNot (suc q)) wants declared calls_other tree.declarations k1.1 three.1;
+        procedures = procedures_fit creates_process (IsNot (suc q)) wants declared calls_other (done_in tree) tree.declarations k1.1 three.1;
       }
 
   -- ---- the process with its name

@@ -1,6 +1,6 @@
 -- Which part of the findings a finding on NORMAL or on creation comes from.
 use Rattle.std.proofs.Common.{◌≡◌, ◌≢◌, ◌⊎◌, ℕ, suc, ◌+◌, Bool, true, false, List, [], ◌∷◌, ◌++◌, Option, Some, None, inl, inr, refl, sym, ap, ◌∙◌, subst}
-use Rattle.std.specs.Prelude.{flat_map, if◌then◌else◌, slice_get}
+use Rattle.std.specs.Prelude.{◌&&◌, flat_map, if◌then◌else◌, slice_get}
 use Rattle.std.specs.List.{list_any}
 use Rattle.std.proofs.lemmas.Bool.{false≢true}
 use Rattle.apex_types.specs.declared.denotation.ObjectKind.{ObjectKind}
@@ -8,13 +8,19 @@ use Rattle.apex_types.specs.declared.denotation.ObjectKind.TheVariants as object
 use Rattle.apex_types.specs.declared.row.PortRow.{PortRow}
 use Rattle.module_meaning.specs.Table.{Partition}
 use Rattle.pal_meaning.specs.Syntax as written
-use Rattle.lint.specs.Arrays.{small_array, small_array_of}
-use Rattle.lint.specs.Calls.{Call, all_calls, calls_of, calls_of_procedures}
-use Rattle.lint.specs.Findings.{creation_findings, findings, port_findings, wait_findings}
-use Rattle.lint.specs.Lives.{Creation, NormalMode, Wanted, found, handler_never_created, lacking, meets, never_created, never_normal, never_started, object_kind, objects_never_created, processes_never_created, wait_in_init, waits_in_init, without_wait, without_waits}
-use Rattle.lint.specs.Ports.{better_row, found_at, undeclared_port, unknown_port, wrong_use, wrong_use_of}
+use Rattle.lint.specs.Arrays.{array_of, is_beyond, long_length, long_length_of, name_or_none, small_array, small_array_of}
+use Rattle.lint.specs.Calls.{Call, all_calls, calls_of_init, calls_of_procedures, done_in}
+use Rattle.lint.specs.Does.{found_at_call, found_at_mention, unset_number}
+use Rattle.lint.specs.Findings.{body_findings, creation_findings, findings, port_findings, round_findings, wait_findings}
+use Rattle.lint.specs.Lives.{Creation, NormalMode, Signal, Wait, Wanted, all_never_signalled, found, is_kind, long_capacity, never_signalled, takes_no_error, handler_never_created, lacking, meets, never_created, never_normal, never_started, object_kind, objects_never_created, processes_never_created, wait_in_init, waits_in_init, without_wait, without_waits}
+use Rattle.lint.specs.Mentions.{Mention, Read, Element, Apply, Write, ByZero, Test, Ask, Leave, Endless, all_mentions}
+use Rattle.lint.specs.Plain.{first_of, name_in}
+use Rattle.lint.specs.Ports.{better_row, contradicts_direction, contradicts_kind, is_for_ports, port_of_call, undeclared_port, unknown_port, wrong_use, wrong_use_of}
+use Rattle.lint.specs.Recursion.{endless_procedure}
+use Rattle.lint.specs.Services.{numbered_kind, port_direction, port_kind, sent_kind, stored_kind, takes_number}
 use Rattle.lint.specs.Unused.{all_names, names_of, unused, unused_declaration, unused_in_body, unused_in_handler, unused_in_kind, unused_names}
-use Rattle.lint.specs.Views.{Found}
+use Rattle.lint.specs.Uses.{is_unset}
+use Rattle.lint.specs.Views.{Found, if_so}
 use Rattle.lint.specs.declared.finding.FindingKind.{FindingKind}
 use Rattle.lint.specs.declared.finding.FindingKind.TheVariants as finding
 use Rattle.lint_laws.specs.Among.{IsListed}
@@ -44,6 +50,14 @@ plain_absent f [] w p h = h
 plain_absent f (g ∷ gs) w p (inl e) = false≢true (sym p.0 ∙ ap (λ (x : Found). watched x.kind) e ∙ w)
 plain_absent f (g ∷ gs) w p (inr h) = plain_absent f gs w p.1 h
 
+-- it is in the first of two lists
+first_part : (f : Found) (a b : List Found) → watched f.kind ≡ true → ArePlain b → IsListed f (a ++ b) → IsListed f a
+first_part f a b w p h = by_part (listed_in f a b h)
+  where
+    by_part : IsListed f a ⊎ IsListed f b → IsListed f a
+    by_part (inl k) = k
+    by_part (inr k) = absurd (plain_absent f b w p k)
+
 both : (a b : List Found) → ArePlain a → ArePlain b → ArePlain (a ++ b)
 both [] b h k = k
 both (x ∷ a) b h k = (h.0, both a b h.1 k)
@@ -61,20 +75,83 @@ unfolding watched
 better_plain own ds [] = tt
 better_plain own ds (row ∷ rows) = either _ (record { kind = finding.FitsAnother; subject = row.name } ∷ []) (better_row own ds rows) (refl, tt) (better_plain own ds rows)
 
-use_plain : (row : PortRow) (a b : Bool) → ArePlain (found_at row (if a then Some finding.WrongKind else if b then Some finding.WrongDirection else None))
-unfolding watched
-use_plain row true b = (refl, tt)
-use_plain row false true = (refl, tt)
-use_plain row false false = tt
+so_plain : (b : Bool) (f : Found) → watched f.kind ≡ false → ArePlain (if_so b f)
+so_plain true f h = (h, tt)
+so_plain false f h = tt
 
 wrong_use_plain : (c : Call) (o : Option PortRow) → ArePlain (wrong_use_of c o)
+unfolding watched
 wrong_use_plain c None = tt
-wrong_use_plain c (Some row) = use_plain row _ _
+wrong_use_plain c (Some row) =
+    let kind : Found = record { kind = finding.WrongKind; subject = row.name } in
+    let direction : Found = record { kind = finding.WrongDirection; subject = row.name } in
+    let b = contradicts_kind (port_kind c.service) row in
+    let d = contradicts_direction (port_direction c.service) row.direction in
+    both (if_so b kind) (if_so d direction) (so_plain b kind refl) (so_plain d direction refl)
+
+length_plain : (ports : List PortRow) (ds : List written.Declaration) (o : Option ObjectKind) (c : Call) → ArePlain (long_length_of ports ds o c)
+unfolding watched
+length_plain ports ds None c = tt
+length_plain ports ds (Some k) c = either _ (_ ∷ []) [] (refl, tt) tt
 
 array_plain : (ports : List PortRow) (ds : List written.Declaration) (o : Option ObjectKind) (c : Call) → ArePlain (small_array_of ports ds o c)
 unfolding watched
 array_plain ports ds None c = tt
 array_plain ports ds (Some k) c = either _ (_ ∷ []) [] (refl, tt) tt
+
+call_plain : (ports : List PortRow) (ds : List written.Declaration) (c : Call) → ArePlain (found_at_call ports ds c)
+unfolding watched
+call_plain ports ds c =
+    let uses = wrong_use ports c in
+    let arrays = small_array ports ds c in
+    let lengths = long_length ports ds c in
+    let name : Found = record { kind = finding.UnsetNumber; subject = name_or_none (name_in (first_of c.arguments)) } in
+    let at_port = either (is_for_ports (port_kind c.service)) (wrong_use_of c (port_of_call ports (numbered_kind c.service) c)) [] (wrong_use_plain c (port_of_call ports (numbered_kind c.service) c)) tt in
+    let both_arrays = both uses arrays at_port (array_plain ports ds (stored_kind c.service) c) in
+    let all = both (uses ++ arrays) lengths both_arrays (length_plain ports ds (sent_kind c.service) c) in
+    both (uses ++ arrays ++ lengths) (unset_number c) all (so_plain (takes_number c.service && is_unset c.id) name refl)
+
+mention_plain : (ds : List written.Declaration) (m : Mention) → ArePlain (found_at_mention ds m)
+unfolding watched
+mention_plain ds (Element array index) = either _ (_ ∷ []) [] (refl, tt) tt
+mention_plain ds ByZero = (refl, tt)
+mention_plain ds Endless = (refl, tt)
+mention_plain ds (Read name) = tt
+mention_plain ds (Apply name arguments) = tt
+mention_plain ds (Write name thing) = tt
+mention_plain ds Test = tt
+mention_plain ds (Ask may_wait) = tt
+mention_plain ds Leave = tt
+
+procedure_plain : (k : written.Kind) (name : List ℕ) → ArePlain (endless_procedure k name)
+unfolding watched
+procedure_plain (written.Procedure parameters body) name = either _ (_ ∷ []) [] (refl, tt) tt
+procedure_plain (written.Variable value) name = tt
+procedure_plain (written.Array size values) name = tt
+procedure_plain (written.Semaphore first maximum discipline) name = tt
+procedure_plain written.Event name = tt
+procedure_plain (written.Buffer words messages discipline) name = tt
+procedure_plain (written.Blackboard words) name = tt
+procedure_plain written.Port name = tt
+
+bodies_plain : (p : written.Program) → ArePlain (body_findings p)
+bodies_plain p =
+    both _ _ (each (found_at_mention p.declarations) (mention_plain p.declarations) (all_mentions p)) (each (λ d. endless_procedure d.kind d.name) (λ d. procedure_plain d.kind d.name) p.declarations)
+
+signals_plain : (calls : List Call) (kind : ObjectKind) (number : ℕ) (ds : List written.Declaration) → ArePlain (all_never_signalled calls kind number ds)
+unfolding watched
+signals_plain calls kind number [] = tt
+signals_plain calls kind number (d ∷ ds) =
+    let f = found finding.NeverSignalled d.name in
+    let one = either (list_any (meets (Wait kind number d.name)) calls) (lacking (Signal kind number d.name) calls f) [] (either (list_any (meets (Signal kind number d.name)) calls) [] (f ∷ []) tt (refl, tt)) tt in
+    let rest = all_never_signalled calls kind (number + 1) ds in
+    either (is_kind kind (object_kind d.kind)) (never_signalled calls kind number d.name ++ rest) (all_never_signalled calls kind number ds)
+    (both (never_signalled calls kind number d.name) rest one (signals_plain calls kind (number + 1) ds)) (signals_plain calls kind number ds)
+
+error_plain : (done : List Mention) (calls : List Call) (o : Option written.StackBody) → ArePlain (takes_no_error done calls o)
+unfolding watched
+error_plain done calls None = tt
+error_plain done calls (Some b) = either _ [] (_ ∷ []) tt (refl, tt)
 
 handler_plain : (calls : List Call) (o : Option written.StackBody) → ArePlain (handler_never_created calls o)
 unfolding watched
@@ -125,55 +202,57 @@ unused_plain p =
 ports_plain : (rows : List Partition) (ports : List PortRow) (p : written.Program) → ArePlain (port_findings rows ports p)
 unfolding watched
 ports_plain rows ports p =
-    both _ _ (both _ _ (both _ _ (both _ _ (each (unknown_port ports) (λ d. either _ (record { kind = finding.UnknownPort; subject = d.name } ∷ []) [] (refl, tt) tt) p.declarations)
+    both _ _ (both _ _ (both _ _ (each (unknown_port ports) (λ d. either _ (record { kind = finding.UnknownPort; subject = d.name } ∷ []) [] (refl, tt) tt) p.declarations)
     (better_plain _ p.declarations rows)) (each (undeclared_port p.declarations) (λ r. either _ [] (record { kind = finding.UndeclaredPort; subject = r.name } ∷ []) tt (refl, tt)) ports))
-    (each (wrong_use ports) (λ c. either _ (wrong_use_of c _) [] (wrong_use_plain c _) tt) (all_calls p))) (each (small_array ports p.declarations) (λ c. array_plain ports p.declarations _ c) (all_calls p))
+    (each (found_at_call ports p.declarations) (call_plain ports p.declarations) (all_calls p))
 
 waits_plain : (p : written.Program) → ArePlain (waits_in_init p)
 unfolding watched
-waits_plain p = each wait_in_init (λ c. either _ (_ ∷ []) [] (refl, tt) tt) (calls_of p.init.body)
+waits_plain p = each wait_in_init (λ c. either _ (_ ∷ []) [] (refl, tt) tt) (calls_of_init p)
 
-periods_plain : (procedures : List Call) (ps : List written.Process) → ArePlain (without_waits procedures ps)
+periods_plain : (p : written.Program) → ArePlain (round_findings p)
 unfolding watched
-periods_plain procedures ps = each (without_wait procedures) (λ q. either q.period.negative [] _ tt (either _ [] (found finding.NoPeriodicWait q.name ∷ []) tt (refl, tt))) ps
+periods_plain p =
+    let done = done_in p in
+    let procedures = calls_of_procedures done p.declarations in
+    both _ _ (both _ _ (each (without_wait done procedures) (λ q. either q.period.negative [] _ tt (either _ [] (found finding.NoPeriodicWait q.name ∷ []) tt (refl, tt))) p.processes)
+    (each long_capacity (λ q. either _ (found finding.LongCapacity q.name ∷ []) [] (refl, tt) tt) p.processes)) (error_plain done procedures p.handler)
 
 -- ---- the three parts that remain
+
+-- those on creation
+abbrev made_part : written.Program → List Found
+made_part p = objects_never_created (all_calls p) p.declarations ++ processes_never_created (all_calls p) p.processes
+
+-- the others of the same group
+later_plain : (f : Found) (p : written.Program) → watched f.kind ≡ true → IsListed f (creation_findings p) → IsListed f (made_part p)
+later_plain f p w h =
+    let calls = all_calls p in
+    let start = made_part p ++ handler_never_created calls p.handler in
+    let started = start ++ never_started calls 1 p.processes in
+    let semaphores = all_never_signalled calls object.Semaphore 1 p.declarations in
+    let events = all_never_signalled calls object.Event 1 p.declarations in
+    let one = first_part f (started ++ semaphores) events w (signals_plain calls object.Event 1 p.declarations) h in
+    let two = first_part f started semaphores w (signals_plain calls object.Semaphore 1 p.declarations) one in
+    let three = first_part f start (never_started calls 1 p.processes) w (started_plain calls 1 p.processes) two in
+    first_part f (made_part p) (handler_never_created calls p.handler) w (handler_plain calls p.handler) three
 
 -- on creation, or on NORMAL
 watched_part : (f : Found) (rows : List Partition) (ports : List PortRow) (p : written.Program) → watched f.kind ≡ true → IsListed f (findings rows ports p)
     → (IsListed f (objects_never_created (all_calls p) p.declarations) ⊎ IsListed f (processes_never_created (all_calls p) p.processes)) ⊎ IsListed f (never_normal p)
-watched_part f rows ports p w h = by_unused (listed_in f (port_findings rows ports p ++ creation_findings p ++ wait_findings p) (unused_names p) h)
+watched_part f rows ports p w h =
+    let own = port_findings rows ports p ++ body_findings p in
+    let made = own ++ creation_findings p in
+    let all = first_part f (made ++ wait_findings p) (unused_names p) w (unused_plain p) h in
+    by_part (listed_in f made (wait_findings p) all)
   where
-    by_waits : IsListed f (never_normal p ++ without_waits (calls_of_procedures p.declarations) p.processes) ⊎ IsListed f (waits_in_init p) → IsListed f (never_normal p)
-    by_waits (inr k) = absurd (plain_absent f _ w (waits_plain p) k)
-    by_waits (inl k) = by_periods (listed_in f (never_normal p) _ k)
-      where
-        by_periods : IsListed f (never_normal p) ⊎ IsListed f (without_waits (calls_of_procedures p.declarations) p.processes) → IsListed f (never_normal p)
-        by_periods (inl l) = l
-        by_periods (inr l) = absurd (plain_absent f _ w (periods_plain (calls_of_procedures p.declarations) p.processes) l)
+    by_made : IsListed f (port_findings rows ports p ++ body_findings p) ⊎ IsListed f (creation_findings p) → IsListed f (objects_never_created (all_calls p) p.declarations) ⊎ IsListed f (processes_never_created (all_calls p) p.processes)
+    by_made (inl k) = absurd (plain_absent f _ w (both _ _ (ports_plain rows ports p) (bodies_plain p)) k)
+    by_made (inr k) = listed_in f (objects_never_created (all_calls p) p.declarations) (processes_never_created (all_calls p) p.processes) (later_plain f p w k)
 
-    by_created : IsListed f (creation_findings p) → IsListed f (objects_never_created (all_calls p) p.declarations) ⊎ IsListed f (processes_never_created (all_calls p) p.processes)
-    by_created k = by_started (listed_in f (objects_never_created (all_calls p) p.declarations ++ processes_never_created (all_calls p) p.processes ++ handler_never_created (all_calls p) p.handler) (never_started (all_calls p) 1 p.processes) k)
-      where
-        by_handler : IsListed f (objects_never_created (all_calls p) p.declarations ++ processes_never_created (all_calls p) p.processes) ⊎ IsListed f (handler_never_created (all_calls p) p.handler) → IsListed f (objects_never_created (all_calls p) p.declarations) ⊎ IsListed f (processes_never_created (all_calls p) p.processes)
-        by_handler (inl l) = listed_in f (objects_never_created (all_calls p) p.declarations) _ l
-        by_handler (inr l) = absurd (plain_absent f _ w (handler_plain (all_calls p) p.handler) l)
-
-        by_started : IsListed f (objects_never_created (all_calls p) p.declarations ++ processes_never_created (all_calls p) p.processes ++ handler_never_created (all_calls p) p.handler) ⊎ IsListed f (never_started (all_calls p) 1 p.processes) → IsListed f (objects_never_created (all_calls p) p.declarations) ⊎ IsListed f (processes_never_created (all_calls p) p.processes)
-        by_started (inl l) = by_handler (listed_in f (objects_never_created (all_calls p) p.declarations ++ processes_never_created (all_calls p) p.processes) _ l)
-        by_started (inr l) = absurd (plain_absent f _ w (started_plain (all_calls p) 1 p.processes) l)
-
-    by_ports : IsListed f (port_findings rows ports p) ⊎ IsListed f (creation_findings p) → (IsListed f (objects_never_created (all_calls p) p.declarations) ⊎ IsListed f (processes_never_created (all_calls p) p.processes)) ⊎ IsListed f (never_normal p)
-    by_ports (inl k) = absurd (plain_absent f _ w (ports_plain rows ports p) k)
-    by_ports (inr k) = inl (by_created k)
-
-    by_wait : IsListed f (port_findings rows ports p ++ creation_findings p) ⊎ IsListed f (wait_findings p) → (IsListed f (objects_never_created (all_calls p) p.declarations) ⊎ IsListed f (processes_never_created (all_calls p) p.processes)) ⊎ IsListed f (never_normal p)
-    by_wait (inl k) = by_ports (listed_in f (port_findings rows ports p) _ k)
-    by_wait (inr k) = inr (by_waits (listed_in f _ (waits_in_init p) k))
-
-    by_unused : IsListed f (port_findings rows ports p ++ creation_findings p ++ wait_findings p) ⊎ IsListed f (unused_names p) → (IsListed f (objects_never_created (all_calls p) p.declarations) ⊎ IsListed f (processes_never_created (all_calls p) p.processes)) ⊎ IsListed f (never_normal p)
-    by_unused (inl k) = by_wait (listed_in f (port_findings rows ports p ++ creation_findings p) _ k)
-    by_unused (inr k) = absurd (plain_absent f _ w (unused_plain p) k)
+    by_part : IsListed f (port_findings rows ports p ++ body_findings p ++ creation_findings p) ⊎ IsListed f (wait_findings p) → (IsListed f (objects_never_created (all_calls p) p.declarations) ⊎ IsListed f (processes_never_created (all_calls p) p.processes)) ⊎ IsListed f (never_normal p)
+    by_part (inl k) = inl (by_made (listed_in f (port_findings rows ports p ++ body_findings p) (creation_findings p) k))
+    by_part (inr k) = inr (first_part f (never_normal p) (round_findings p) w (periods_plain p) (first_part f (never_normal p ++ round_findings p) (waits_in_init p) w (waits_plain p) k))
 
 -- ---- what each of them says
 
@@ -203,7 +282,7 @@ kind_in f = f.kind
 abbrev subject_in : Found → List ℕ
 subject_in f = f.subject
 
-pub normal_is_listed : (rows : List Partition) (ports : List PortRow) (p : written.Program) → IsListed (found finding.NeverNormal []) (findings rows ports p) → list_any (meets NormalMode) (calls_of p.init.body ++ calls_of_procedures p.declarations) ≡ false
+pub normal_is_listed : (rows : List Partition) (ports : List PortRow) (p : written.Program) → IsListed (found finding.NeverNormal []) (findings rows ports p) → list_any (meets NormalMode) (calls_of_init p ++ calls_of_procedures (done_in p) p.declarations) ≡ false
 unfolding watched
 normal_is_listed rows ports p h = by_part (watched_part (found finding.NeverNormal []) rows ports p refl h)
   where
@@ -211,10 +290,10 @@ normal_is_listed rows ports p h = by_part (watched_part (found finding.NeverNorm
     other name e = let k : finding.NeverCreated ≡ finding.NeverNormal = ap kind_in e in cc
 
     by_part : (IsListed (found finding.NeverNormal []) (objects_never_created (all_calls p) p.declarations) ⊎ IsListed (found finding.NeverNormal []) (processes_never_created (all_calls p) p.processes)) ⊎ IsListed (found finding.NeverNormal []) (never_normal p)
-        → list_any (meets NormalMode) (calls_of p.init.body ++ calls_of_procedures p.declarations) ≡ false
+        → list_any (meets NormalMode) (calls_of_init p ++ calls_of_procedures (done_in p) p.declarations) ≡ false
     by_part (inl (inl k)) = let r = listed_flat _ (λ d. never_created (all_calls p) (object_kind d.kind) d.name) p.declarations k in absurd (other r.0.name (created_is (all_calls p) (object_kind r.0.kind) r.0.name _ r.3))
     by_part (inl (inr k)) = let r = listed_flat _ (λ q. never_created (all_calls p) (Some object.Process) q.name) p.processes k in absurd (other r.0.name (created_is (all_calls p) (Some object.Process) r.0.name _ r.3))
-    by_part (inr k) = let l = lacks NormalMode (calls_of p.init.body ++ calls_of_procedures p.declarations) (found finding.NeverNormal []) _ k in l.0
+    by_part (inr k) = let l = lacks NormalMode (calls_of_init p ++ calls_of_procedures (done_in p) p.declarations) (found finding.NeverNormal []) _ k in l.0
 
 -- if no declaration has the name of the process
 pub creation_is_listed : (rows : List Partition) (ports : List PortRow) (p : written.Program) (name : List ℕ) → ((i : ℕ) (d : written.Declaration) → slice_get p.declarations i ≡ Some d → d.name ≢ name)
@@ -232,6 +311,6 @@ creation_is_listed rows ports p name apart h = by_part (watched_part (found find
         let l = lacks (Creation object.Process r.0.name) (all_calls p) (found finding.NeverCreated r.0.name) _ r.3 in
         subst (λ (n : List ℕ). list_any (meets (Creation object.Process n)) (all_calls p) ≡ false) (ap subject_in l.1) l.0
     by_part (inr k) =
-        let l = lacks NormalMode (calls_of p.init.body ++ calls_of_procedures p.declarations) (found finding.NeverNormal []) _ k in
+        let l = lacks NormalMode (calls_of_init p ++ calls_of_procedures (done_in p) p.declarations) (found finding.NeverNormal []) _ k in
         let e : finding.NeverNormal ≡ finding.NeverCreated = ap kind_in l.1 in
         absurd (cc)

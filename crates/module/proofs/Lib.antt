@@ -8,6 +8,7 @@ pub mod Costed
 pub mod DeviceLines
 pub mod Devices
 pub mod Edges
+pub mod Elapsed
 pub mod Sources
 pub mod Headline
 pub mod Isolated
@@ -25,6 +26,7 @@ pub mod Replayed
 pub mod Runs
 pub mod Shutdown
 pub mod Standing
+pub mod Stated
 pub mod Unbrought
 pub mod Unseen
 pub mod Watched

@@ -35,7 +35,7 @@ pub preceded_twice : {C : Type 0} (told more : List Event) (e : Elapsed C) → p
 preceded_twice told more e = ap (λ (ls : List Event). record { state = e.state; lines = ls }) (append_assoc told more e.lines)
 
 -- k ticks, then j more
-elapse_more : {C : Type 0} (plan : Plan) (lines : List DeviceLine) (k j : ℕ) (s : Standing C) → let e = elapse plan lines k s in elapse plan lines (k + j) s ≡ preceded_by e.lines (elapse plan lines j e.state)
+pub elapse_more : {C : Type 0} (plan : Plan) (lines : List DeviceLine) (k j : ℕ) (s : Standing C) → let e = elapse plan lines k s in elapse plan lines (k + j) s ≡ preceded_by e.lines (elapse plan lines j e.state)
 elapse_more plan lines zero j s = let same : 0 + j ≡ j = omega arith in ap (λ i. elapse plan lines i s) same
 elapse_more plan lines (suc k) j s =
     let c = ticks plan (of_tick s.now lines) s in
@@ -46,7 +46,7 @@ elapse_more plan lines (suc k) j s =
     ∙ sym (preceded_twice c.lines e.lines (elapse plan lines j e.state))
 
 -- only the lines of these ticks count
-elapse_alike : {C : Type 0} (plan : Plan) (xs ys : List DeviceLine) (n : ℕ) (s : Standing C) → ((u : ℕ) → s.now ≤ u → u < s.now + n → of_tick u xs ≡ of_tick u ys) → elapse plan xs n s ≡ elapse plan ys n s
+pub elapse_alike : {C : Type 0} (plan : Plan) (xs ys : List DeviceLine) (n : ℕ) (s : Standing C) → ((u : ℕ) → s.now ≤ u → u < s.now + n → of_tick u xs ≡ of_tick u ys) → elapse plan xs n s ≡ elapse plan ys n s
 elapse_alike plan xs ys zero s h = refl
 elapse_alike plan xs ys (suc n) s h =
     let own = ticks plan (of_tick s.now ys) s in

@@ -32,7 +32,7 @@ use std::alloc::Global;
 /// lines of that tick. The ticks write what [`run`](crate::run) writes for this number of ticks.
 #[derive(Drop)]
 pub struct Machine {
-    module: Module<PartitionProcessor>,
+    pub(crate) module: Module<PartitionProcessor>,
     /// The lines of a step on their way to the sink.
     trace: TraceBuffer,
     /// The sink failed.

@@ -1,6 +1,6 @@
 //! The ticks of a module, one after another.
 
-ghost use Rattle.std.specs.Prelude.{◌≡◌, ◌≤◌, ◌<◌, ◌+◌, ◌^◌, ℕ, option_map};
+ghost use Rattle.std.specs.Prelude.{◌≡◌, ◌≤◌, ◌<◌, ◌+◌, ◌^◌, ℕ, None, option_map};
 ghost use Rattle.apex_types.specs.Limits.{MOST_TICKS};
 ghost use Rattle.module_meaning.specs.Module as meaning;
 ghost use Rattle.lone_partition.specs.Outputs.{next_at, sent_of};
@@ -64,6 +64,21 @@ impl<E: Executor<Mem = PartitionMem>> Module<E> {
             Some(moment) => Some(moment.at.origin),
             None => None,
         };
+    }
+
+    /// Lets so many ticks go by after a shutdown, in which nothing happens.
+    pub fn stay_down(&mut self, ticks: u64)
+        requires down { self.old.origin ≡ None }
+        requires now { self.old.now.0 + ticks ≤ MOST_TICKS }
+        ensures image { self.new.image ≡ self.old.image }
+        ensures standing { standing_of E.Executor self.new
+            ≡ record {
+              members = members_in E.Executor self.old.members;
+              now = self.old.now.0 + ticks;
+              origin = None;
+            } }
+    {
+        self.now = Ticks(self.now.0 + ticks);
     }
 
     /// The events of the next tick. After a shutdown nothing happens.

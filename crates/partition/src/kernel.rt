@@ -93,6 +93,48 @@ impl Kernel {
         self.fixed.name
     }
 
+    /// The mode.
+    pub fn mode(&self) -> Mode
+        ensures { result ≡ self.now.mode }
+    {
+        self.mode
+    }
+
+    /// Why it was started last.
+    pub fn condition(&self) -> StartCondition
+        ensures { result ≡ self.now.condition }
+    {
+        self.condition
+    }
+
+    /// Its processes.
+    pub fn processes(&self) -> &ProcessTable
+        ensures { result.now ≡ self.now.processes }
+    {
+        &self.processes
+    }
+
+    /// Its objects.
+    pub fn objects(&self) -> &Objects
+        ensures { result.now ≡ self.now.objects }
+    {
+        &self.objects
+    }
+
+    /// Its ports.
+    pub fn ports(&self) -> &Ports
+        ensures { result.now ≡ self.now.ports }
+    {
+        &self.ports
+    }
+
+    /// The errors that wait for its handler.
+    pub fn errors(&self) -> &Errors
+        ensures { result.now ≡ self.now.errors }
+    {
+        &self.errors
+    }
+
     /// The current runner.
     pub(crate) fn running(&self) -> Option<Runner>
         ensures { result ≡ self.now.processes.running }

@@ -46,6 +46,28 @@ none_past (a ∷ slots) [] p h = refl
 none_past (a ∷ slots) (k ∷ ks) zero h = absurd (omega (arith, h))
 none_past (a ∷ slots) (k ∷ ks) (suc p) h = none_past slots ks p (omega (arith, h))
 
+-- the control of a slot on its stack, if something is left to do
+pub on_stack : (slots : List Slot) (ks : List (List ℤ)) (p : ℕ) (s : Slot) (k : List ℤ) → slice_get slots p ≡ Some s → slice_get ks p ≡ Some k → control_of_slot s k ≡ control_at (controls_from slots ks) p
+on_stack [] ks p s k e f = absurd (none-some s e)
+on_stack (a ∷ slots) [] p s k e f = absurd (none-some k f)
+on_stack (a ∷ slots) (l ∷ ks) zero s k e f = ap (control_of_slot s) (sym (same_Some l k f)) ∙ ap (λ (b : Slot). control_of_slot b l) (sym (same_Some a s e))
+on_stack (a ∷ slots) (l ∷ ks) (suc p) s k e f = on_stack slots ks p s k e f
+
+pub if_active : (slots : List Slot) (ks : List (List ℤ)) (p : ℕ) (s : Slot) (k : List ℤ) → slice_get slots p ≡ Some s → slice_get ks p ≡ Some k → s.is_active ≡ true → Some (control_on s.context k) ≡ control_at (controls_from slots ks) p
+if_active slots ks p s k e f h = ap (λ b. control_while b (control_on s.context k)) (sym h) ∙ on_stack slots ks p s k e f
+
+pub unless_active : (slots : List Slot) (ks : List (List ℤ)) (p : ℕ) (s : Slot) (k : List ℤ) → slice_get slots p ≡ Some s → slice_get ks p ≡ Some k → s.is_active ≡ false → None ≡ control_at (controls_from slots ks) p
+unless_active slots ks p s k e f h = ap (λ b. control_while b (control_on s.context k)) (sym h) ∙ on_stack slots ks p s k e f
+
+pub without_slot : (slots : List Slot) (ks : List (List ℤ)) (p : ℕ) → length slots ≤ p → None ≡ control_at (controls_from slots ks) p
+without_slot slots ks p h = sym (none_behind slots ks p h)
+
+pub without_stack : (slots : List Slot) (ks : List (List ℤ)) (p : ℕ) → slice_get ks p ≡ None → None ≡ control_at (controls_from slots ks) p
+without_stack [] ks p e = refl
+without_stack (a ∷ slots) [] p e = refl
+without_stack (a ∷ slots) (k ∷ ks) zero e = absurd (none-some k (sym e))
+without_stack (a ∷ slots) (k ∷ ks) (suc p) e = without_stack slots ks p e
+
 pub same_behind : (slots : List Slot) (ks : List (List ℤ)) (p : ℕ) (c : Option MachineControl) → length slots ≤ p → slice_set (controls_from slots ks) p c ≡ controls_from slots ks
 same_behind [] ks zero c h = refl
 same_behind [] ks (suc p) c h = refl
@@ -172,3 +194,5 @@ length_put words place [] = refl
 length_put words place (w ∷ ws) = length_put (slice_set words place w) (place + 1) ws ∙ length-set words place w
 
 pub ruleset views = (put_one, there, none_behind, none_past, same_behind, same_past, set_twice, put_back, length-set, map-set, map-set_same, set_past, slice_get-map, slice_get_past, slice_get-get_or, slice_get_within)
+
+pub ruleset controls = (if_active, unless_active, without_slot, without_stack, slice_get-get_or)

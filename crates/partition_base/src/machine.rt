@@ -1,20 +1,20 @@
 //! The processor of one partition.
 
-ghost use Rattle.std.specs.Prelude.{◌≡◌, ◌≤◌, ◌<◌, ◌+◌, ◌^◌, ◌∷◌, false, length, map, replicate, slice_get, Some, IfOk};
+ghost use Rattle.std.specs.Prelude.{◌≡◌, ◌≤◌, ◌<◌, ◌+◌, ◌^◌, ◌∷◌, false, length, map, option_map, replicate, slice_get, Some, IfOk};
 ghost use Rattle.apex_types.specs.Limits.{MOST_WORDS};
 ghost use Rattle.apex_types.specs.Runners.{place_of};
-ghost use Rattle.kernel_meaning.specs.Partition.{message_from};
+ghost use Rattle.kernel_meaning.specs.Partition.{control_at, message_from};
 ghost use Rattle.engine_meaning.specs.Engine.{or_init};
 ghost use Rattle.engine_meaning.specs.Operators.{put_words};
 ghost use Rattle.machine_meaning.specs.MachineMeaning.{body_of_row};
 ghost use Rattle.regions.specs.Space.{planned, put};
 ghost use Rattle.partition_base.specs.Sections.{IsFittingSection, fresh_memory};
-ghost use Rattle.partition_base.specs.Slots.{stack_of_body, is_begun};
+ghost use Rattle.partition_base.specs.Slots.{control_on, is_begun, stack_of_body};
 
 use crate::executor::Executor;
 use crate::slot::{self, Slot};
 use apex_types::{BodyRow, Costs, ProcessRow, Runner, Section};
-use processor::{Burst, Code, CodeRows, Outcome};
+use processor::{Burst, Code, CodeRows, Context, Outcome};
 use regions::{MemoryPlan, PartitionMem, Region};
 use std::alloc::{AllocError, Global};
 
@@ -168,6 +168,18 @@ impl PartitionProcessor {
             processes,
             initial: Vec::from_slice(alloc, &section.initial)?,
         })
+    }
+
+    /// The context and the stack of the runner at `place`, if it has something left to do.
+    pub fn control<'a>(
+        &'a self,
+        memory: &'a PartitionMem,
+        place: usize,
+    ) -> Option<(&'a Context, &'a [i64])>
+        ensures { option_map (λ c. control_on c.0.now c.1.now) result
+            ≡ control_at (controls_of self.now memory.now) place }
+    {
+        slot::control_of(&self.slots, place, memory)
     }
 
     /// The body of INIT, of the handler or of a process; INIT's body if there is no such body.

@@ -1,6 +1,6 @@
 //! The slots of a partition: those of INIT, of its error handler and of its processes.
 
-ghost use Rattle.std.specs.Prelude.{◌≡◌, ◌<◌, ℤ, List, length, map, slice_get, slice_set, Some, None, true, false};
+ghost use Rattle.std.specs.Prelude.{◌≡◌, ◌<◌, ℤ, List, length, map, option_map, slice_get, slice_set, Some, None, true, false};
 ghost use Rattle.apex_types.specs.declared.identity.Runner.{Runner};
 ghost use Rattle.apex_types.specs.declared.row.BodyRow.{BodyRow};
 ghost use Rattle.machine_meaning.specs.MachineControl.{machine_engine, machine_start};
@@ -9,7 +9,7 @@ ghost use Rattle.kernel_laws.specs.Bursts.{burst, is_nothing};
 ghost use Rattle.processor.specs.Views.{asks_of};
 ghost use Rattle.regions.specs.Space.{put, stacks_of, zeros};
 ghost use Rattle.partition_base.specs.Bursting.{burst_at, ticked_at};
-ghost use Rattle.partition_base.specs.Slots.{alone, control_of_slot, controls_from, stack_lengths};
+ghost use Rattle.partition_base.specs.Slots.{alone, control_of_slot, control_on, controls_from, stack_lengths};
 
 use apex_types::BodyRow;
 use processor::{Burst, Code, Context, Outcome, advance, step};
@@ -114,6 +114,25 @@ impl Slot {
         if self.is_active {
             self.context.reply(memory, answer);
         }
+    }
+}
+
+/// The context and the stack of the runner at `place`, if it has something left to do.
+#[tactic(auto, using(crate::proofs::Places::controls))]
+pub(crate) fn control_of<'a>(
+    slots: &'a [Slot],
+    place: usize,
+    memory: &'a PartitionMem,
+) -> Option<(&'a Context, &'a [i64])>
+    ensures { option_map (λ c. control_on c.0.now c.1.now) result
+        ≡ control_at (controls_from slots.now (stacks_of memory.now)) place }
+{
+    let slot = slots.get(place)?;
+    let stack = memory.stack(place)?;
+    if slot.is_active {
+        Some((&slot.context, stack))
+    } else {
+        None
     }
 }
 

@@ -10,6 +10,7 @@ mod queuing;
 mod sampling;
 
 pub use arrival::{admit, arrive};
+pub use port::{Port, PortStatus};
 pub use ports::Ports;
 pub use queuing::{
     clear_queuing_port, create_queuing_port, get_queuing_port_id, get_queuing_port_status,

@@ -14,7 +14,7 @@ use sync_objects_base::append;
 
 /// A port, with memory for its messages. A contract sees it as the port of the definitions.
 #[derive(Drop)]
-pub(crate) struct Port {
+pub struct Port {
     row: PortRow,
     created: bool,
     messages: HeapCircularBuffer<Words>,
@@ -37,13 +37,13 @@ impl Model for Port {
 
 /// The status of a port, without its messages.
 #[derive(Clone, Copy)]
-pub(crate) struct PortStatus {
-    pub(crate) row: PortRow,
-    pub(crate) created: bool,
+pub struct PortStatus {
+    pub row: PortRow,
+    pub created: bool,
     /// How many messages it holds.
-    pub(crate) messages: u8,
+    pub messages: u8,
     /// Whether the last message read was valid.
-    pub(crate) valid: bool,
+    pub valid: bool,
 }
 
 /// The number of messages that a port of this kind has room for.
@@ -221,8 +221,15 @@ impl Port {
         self.overflowed = overflowed;
     }
 
+    /// The tick in which its message arrived.
+    pub fn arrival(&self) -> Ticks
+        ensures { result ≡ self.now.arrival }
+    {
+        self.arrival
+    }
+
     /// Whether a message was lost since the last receive.
-    pub(crate) fn overflowed(&self) -> bool
+    pub fn overflowed(&self) -> bool
         ensures { result ≡ self.now.overflowed }
     {
         self.overflowed
@@ -256,7 +263,7 @@ impl Port {
     }
 
     /// A copy of the message that has `before` messages before it.
-    pub(crate) fn message_behind(&self, before: u8) -> Option<Words>
+    pub fn message_behind(&self, before: u8) -> Option<Words>
         ensures { result ≡ slice_get self.now.messages before }
     {
         match self.messages.get(usize::from(before)) {
@@ -280,7 +287,7 @@ impl Port {
     }
 
     /// Its status.
-    pub(crate) fn status(&self) -> PortStatus
+    pub fn status(&self) -> PortStatus
         ensures status { result ≡ port_status self.now }
         ensures short { meaning.refresh_of result.row.kind ≤ MOST_TICKS }
     {

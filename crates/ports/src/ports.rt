@@ -75,6 +75,14 @@ impl Ports {
         clear_ports(&mut self.ports);
     }
 
+    /// The ports, in the order of the module table.
+    pub fn all(&self) -> &[Port]
+        ensures all { result.now ≡ self.now.ports }
+        ensures few { length result.now ≤ MOST_OBJECTS }
+    {
+        &self.ports
+    }
+
     /// The number of ports.
     pub fn count(&self) -> u8
         ensures count { result ≡ length self.now.ports }

@@ -115,6 +115,14 @@ impl Records {
         })
     }
 
+    /// All records in their order.
+    pub(crate) fn rows(&self) -> &[ProcessStatus]
+        ensures all { result.now ≡ self.now }
+        ensures few { length result.now ≤ MOST_RUNNERS }
+    {
+        &self.rows
+    }
+
     /// The number of records.
     pub(crate) fn count(&self) -> u8
         ensures count { result ≡ length self.now }

@@ -127,6 +127,21 @@ impl ProcessTable {
         self.records.count()
     }
 
+    /// The records of INIT, of the handler and of the processes, in this order.
+    pub fn rows(&self) -> &[ProcessStatus]
+        ensures all { result.now ≡ self.now.rows }
+        ensures few { length result.now ≤ MOST_RUNNERS }
+    {
+        self.records.rows()
+    }
+
+    /// The ready processes in the order of choice. `AllocError`: out of memory.
+    pub fn ready(&self, alloc: Global) -> Result<Vec<Entry>, AllocError>
+        ensures { IfOk result (λ ready. ready.items ≡ self.now.ready) }
+    {
+        self.ready.entries(alloc)
+    }
+
     /// The current runner: the one chosen last.
     pub fn running(&self) -> Option<Runner>
         ensures { result ≡ self.now.running }

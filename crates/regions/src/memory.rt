@@ -41,6 +41,14 @@ impl Memory {
         Ok(Memory { parts })
     }
 
+    /// The words of a partition, one of those of the plan, which are numbered from 1, for reading.
+    pub fn part(&self, partition: PartitionId) -> &PartitionMem
+        requires { HasPart self.now partition }
+        ensures { slice_get self.now (place_of partition) ≡ Some result.now }
+    {
+        &self.parts[usize::from(partition.0) - 1]
+    }
+
     /// The words of a partition, one of those of the plan, which are numbered from 1. After the
     /// loan these are as the borrower left them, and all others are unchanged.
     pub fn lend(&mut self, partition: PartitionId) -> &mut PartitionMem

@@ -1,6 +1,6 @@
 //! The memory of one partition.
 
-ghost use Rattle.std.specs.Prelude.{◌≡◌, ◌≤◌, All, IfOk, Some, [], true, false, nat_lt, length, map, slice_get, slice_set};
+ghost use Rattle.std.specs.Prelude.{◌≡◌, ◌≤◌, All, IfOk, Some, [], true, false, nat_lt, length, map, option_map, slice_get, slice_set};
 ghost use Rattle.std.specs.Option.{ok_or};
 ghost use Rattle.apex_types.specs.declared.codes.ErrorKind.{ErrorKind};
 ghost use Rattle.regions.specs.Space.{Space, seen, stacks_of, put, planned, loaded, is_within, allowed, stored, zeros};
@@ -148,6 +148,19 @@ impl PartitionMem {
         ensures { result.now ≡ self.now.words }
     {
         &self.reach.words
+    }
+
+    /// The stack at a place, if there is such a stack.
+    pub fn stack(&self, place: usize) -> Option<&[i64]>
+        ensures { option_map (λ stack. stack.now) result ≡ slice_get (stacks_of self.now) place }
+    {
+        if place == self.own {
+            return Some(&self.reach.stack);
+        }
+        match self.rest.get(place) {
+            Some(stack) => Some(stack),
+            None => None,
+        }
     }
 
     /// The number of words of the data.

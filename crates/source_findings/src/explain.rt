@@ -25,6 +25,9 @@ use pal_base::parse::parse;
 use pal_base::syntax::Program;
 use std::alloc::{AllocError, Global};
 
+/// The bytes with which some editors begin a text.
+static BYTE_ORDER_MARK: &[u8] = b"\xEF\xBB\xBF";
+
 /// What is wrong with a source by the rule of its refusal, for a partition of this period: each place
 /// where the rule is broken, at most twenty of them, what was found there, the line with a mark, and
 /// what to do. There is none if memory runs out, or if the text is refused by another rule.
@@ -156,7 +159,7 @@ fn all_lines(
 }
 
 /// The lines of a place.
-fn wrong_lines(
+pub fn wrong_lines(
     alloc: Global,
     report: Report<'_>,
     text: &[u8],
@@ -169,5 +172,16 @@ fn wrong_lines(
     let (said, advice) = (wrong.what, Advice(wrong.what));
     let (said, advice) = (format!(in alloc; "{said}")?, format!(in alloc; "{advice}")?);
     let offset = text.len().saturating_sub(wrong.left);
+    if offset == 0 && text.starts_with(BYTE_ORDER_MARK) {
+        let said = "the text begins with a byte order mark";
+        return lines_at(
+            alloc,
+            report,
+            text,
+            offset,
+            said,
+            "Save it without this mark.",
+        );
+    }
     lines_at(alloc, report, text, offset, said.as_str(), advice.as_str())
 }

@@ -10,10 +10,13 @@ mod declarations;
 mod explain;
 mod finding;
 mod frames;
+mod further;
+mod habits;
 mod judge;
 mod lengths;
 mod phrases;
 mod roles;
+mod spot;
 mod suggestion;
 mod tally;
 mod text_words;
@@ -22,3 +25,4 @@ mod unfit;
 mod walk;
 
 pub use explain::{explain_length, explain_source};
+pub use further::{Further, GivenSource, declared_name, explain_further};

@@ -6,9 +6,11 @@ ghost use Rattle.finding_lines.specs.Reports.{report_of};
 ghost use Rattle.source_findings.specs.Explained.{unfit_offset};
 
 use crate::choices::wanted_at;
+use crate::habits::foreign_advice;
+use crate::spot::Spot;
 use crate::suggestion::suggested;
-use crate::text_words::{first_word, from_word, next_word};
-use finding_lines::{DidYouMean, Report, Shown, lines_at, place_of};
+use crate::text_words::from_word;
+use finding_lines::{DidYouMean, Report, Shown, lines_at};
 use pal_base::looking::LookedFor;
 use std::alloc::{AllocError, Global};
 
@@ -28,65 +30,51 @@ pub fn unfit_lines(
         (string_bytes lines)) }
 {
     let rest = from_word(text, looked_for.place);
-    let said = unfit_said(alloc, rest, looked_for)?;
-    let advice = unfit_advice(alloc, text, rest, looked_for)?;
+    let spot = Spot::new(text, rest, looked_for.place);
+    let said = unfit_said(alloc, spot, looked_for)?;
+    let advice = unfit_advice(alloc, spot, looked_for)?;
     let offset = text.len().saturating_sub(rest.len());
     lines_at(alloc, report, text, offset, said.as_str(), advice.as_str())
 }
 
 /// What is there where the grammar is left.
-fn unfit_said(alloc: Global, rest: &[u8], looked_for: &LookedFor) -> Result<String, AllocError> {
+fn unfit_said(alloc: Global, spot: Spot<'_>, looked_for: &LookedFor) -> Result<String, AllocError> {
     let wanted = wanted_at(looked_for);
-    if rest.is_empty() {
+    if spot.ahead.is_empty() {
         return format!(in alloc; "the text ends where {wanted} is wanted");
     }
-    let word = Shown(first_word(rest));
+    let word = Shown(spot.shown_word());
     if looked_for.is_too_deep {
         format!(in alloc; "`{word}` opens more than 64 levels")
+    } else if spot.word == b"\0".as_slice() {
+        format!(in alloc; "a NUL stands where {wanted} is wanted")
     } else {
         format!(in alloc; "`{word}` stands where {wanted} is wanted")
     }
 }
 
-/// What is advised: the nearest word that fits, or else what to write there.
+/// What is advised: the nearest word that fits, what Pal has for what is there, or else what to write
+/// there.
 fn unfit_advice(
     alloc: Global,
-    text: &[u8],
-    rest: &[u8],
+    spot: Spot<'_>,
     looked_for: &LookedFor,
 ) -> Result<String, AllocError> {
-    if let Some(near) = suggested(alloc, text, looked_for)? {
+    if let Some(advice) = foreign_advice(spot.word) {
+        return String::from_str(alloc, advice);
+    }
+    if let Some(near) = suggested(alloc, spot.text, looked_for)? {
         return format!(in alloc; "{}", DidYouMean(near));
     }
-    if rest.is_empty() {
-        if let Some(left) = open_brace(alloc, text, looked_for.place)? {
-            let place = place_of(text, text.len().saturating_sub(left));
-            let line = place.line;
-            return format!(in alloc; "Write `}}` for the `{{` in line {line}.");
-        }
-    } else if looked_for.is_too_deep {
+    if looked_for.is_too_deep {
         return String::from_str(
             alloc,
             "Open at most 64 levels of braces, brackets and parentheses, one within another.",
         );
     }
+    if let Some(advice) = spot.advice(alloc, looked_for)? {
+        return Ok(advice);
+    }
     let wanted = wanted_at(looked_for);
     format!(in alloc; "Write {wanted} here.")
-}
-
-/// The innermost brace that is open after `place` words, by the bytes that are left from it on.
-fn open_brace(alloc: Global, text: &[u8], place: usize) -> Result<Option<usize>, AllocError> {
-    let mut unclosed = Vec::new(alloc);
-    let mut rest = from_word(text, 0);
-    for _ in 0..place {
-        match rest.first() {
-            Some(b'{') => unclosed.push(rest.len())?,
-            Some(b'}') => {
-                let _closed = unclosed.pop();
-            }
-            _ => {}
-        }
-        rest = next_word(rest);
-    }
-    Ok(unclosed.last().copied())
 }

@@ -9,7 +9,7 @@ use std::marker::Model;
 
 /// A blackboard. A contract sees it as the blackboard of the definitions.
 #[derive(Drop)]
-pub(crate) struct Blackboard {
+pub struct Blackboard {
     row: BlackboardRow,
     created: bool,
     shown: Option<Words>,
@@ -78,7 +78,7 @@ impl Blackboard {
     }
 
     /// The message that it displays.
-    pub(crate) fn shown(&self) -> Option<Words>
+    pub fn shown(&self) -> Option<Words>
         ensures { result ≡ self.now.shown }
     {
         match &self.shown {
@@ -88,7 +88,7 @@ impl Blackboard {
     }
 
     /// Its status.
-    pub(crate) fn status(&self) -> BlackboardStatus
+    pub fn status(&self) -> BlackboardStatus
         ensures { result ≡ blackboard_status self.now }
     {
         BlackboardStatus {

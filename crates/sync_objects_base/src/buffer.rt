@@ -1,6 +1,6 @@
 //! Buffers of messages.
 
-ghost use Rattle.std.specs.Prelude.{◌≡◌, ◌<◌, ◌≤◌, ◌++◌, [], ◌∷◌, drop, length, slice_get, true, IfOk, IsNone, OnSome};
+ghost use Rattle.std.specs.Prelude.{◌≡◌, ◌<◌, ◌≤◌, ◌++◌, [], ◌∷◌, drop, length, option_map, slice_get, true, IfOk, IsNone, OnSome};
 ghost use Rattle.kernel_meaning.specs.Objects as meaning;
 ghost use Rattle.sync_objects_base.specs.Status.{buffer_status};
 
@@ -12,7 +12,7 @@ use std::marker::Model;
 
 /// A buffer of messages. A contract sees it as the buffer of the definitions.
 #[derive(Drop)]
-pub(crate) struct Buffer {
+pub struct Buffer {
     row: BufferRow,
     created: bool,
     messages: HeapCircularBuffer<Words>,
@@ -85,8 +85,15 @@ impl Buffer {
         self.messages.pop_front()
     }
 
+    /// The message that has `before` messages before it.
+    pub fn message_after(&self, before: usize) -> Option<&Words>
+        ensures { option_map (λ message. message.now) result ≡ slice_get self.now.messages before }
+    {
+        self.messages.get(before)
+    }
+
     /// Its status.
-    pub(crate) fn status(&self) -> BufferStatus
+    pub fn status(&self) -> BufferStatus
         ensures status { result ≡ buffer_status self.now }
         ensures within { result.messages ≤ result.row.depth }
     {

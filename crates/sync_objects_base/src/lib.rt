@@ -10,8 +10,8 @@ mod messages;
 mod objects;
 mod semaphore;
 
-pub use blackboard::BlackboardStatus;
-pub use buffer::BufferStatus;
+pub use blackboard::{Blackboard, BlackboardStatus};
+pub use buffer::{Buffer, BufferStatus};
 pub use event::ApexEvent;
 pub use find::place_of;
 pub use messages::append;

@@ -143,6 +143,38 @@ impl Objects {
         clear_blackboards(&mut self.blackboards);
     }
 
+    /// The semaphores, in the order of the source.
+    pub fn semaphores(&self) -> &[Semaphore]
+        ensures all { result.now ≡ self.now.semaphores }
+        ensures few { length result.now ≤ MOST_OBJECTS }
+    {
+        &self.semaphores
+    }
+
+    /// The events, in the order of the source.
+    pub fn events(&self) -> &[ApexEvent]
+        ensures all { result.now ≡ self.now.events }
+        ensures few { length result.now ≤ MOST_OBJECTS }
+    {
+        &self.events
+    }
+
+    /// The buffers, in the order of the source.
+    pub fn buffers(&self) -> &[Buffer]
+        ensures all { result.now ≡ self.now.buffers }
+        ensures few { length result.now ≤ MOST_OBJECTS }
+    {
+        &self.buffers
+    }
+
+    /// The blackboards, in the order of the source.
+    pub fn blackboards(&self) -> &[Blackboard]
+        ensures all { result.now ≡ self.now.blackboards }
+        ensures few { length result.now ≤ MOST_OBJECTS }
+    {
+        &self.blackboards
+    }
+
     /// The semaphore with number `id`, and its place.
     pub fn semaphore(&self, id: i64) -> Option<(u8, Semaphore)>
         ensures found { result ≡ meaning.semaphore self.now id }

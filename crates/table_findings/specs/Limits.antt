@@ -52,8 +52,12 @@ period subject frame p = outside subject (codes "period") 1 frame p.period
 abbrev pub duration : Subject → PartitionText → List Finding
 duration subject p = outside subject (codes "duration") 0 p.period p.duration
 
+-- a duration is judged by a period that is within its limits
+abbrev pub duration_within : Subject → ℤ → PartitionText → List Finding
+duration_within subject frame p = if is_outside 1 frame p.period then [] else duration subject p
+
 abbrev pub times : Subject → ℤ → PartitionText → List Finding
-times subject frame p = period subject frame p ++ duration subject p
+times subject frame p = period subject frame p ++ duration_within subject frame p
 
 abbrev pub partition_limits : ℤ → ℕ → PartitionText → List Finding
 partition_limits frame i p =
@@ -107,8 +111,12 @@ frame_limits frame = outside Module (codes "frame") 1 (pos MOST_FRAME_TICKS) fra
 abbrev pub counts : TableText → List Finding
 counts t = frame_limits t.frame ++ sizes t
 
+-- the greatest period: the frame, or the greatest frame in place of one outside its limits
+abbrev pub most_period : ℤ → ℤ
+most_period frame = if is_outside 1 (pos MOST_FRAME_TICKS) frame then pos MOST_FRAME_TICKS else frame
+
 abbrev pub rows : TableText → List Finding
-rows t = partitions_from t.frame 0 t.partitions ++ (windows_from 0 t.windows ++ channels_from 0 t.channels)
+rows t = partitions_from (most_period t.frame) 0 t.partitions ++ (windows_from 0 t.windows ++ channels_from 0 t.channels)
 
 abbrev pub limits : TableText → List Finding
 limits t = counts t ++ (costs_limits t.costs ++ rows t)

@@ -2,6 +2,7 @@
 
 ghost use Rattle.std.specs.Prelude.{◌≡◌, ◌++◌, map, OnOk, option_map};
 ghost use Rattle.apex_types.specs.NameText.{is_name};
+ghost use Rattle.module_meaning.specs.TableRules.{is_outside};
 ghost use Rattle.table_findings.specs.Limits as spec;
 ghost use Rattle.table_findings.specs.Views.{findings_of, row_of, subject_of};
 ghost use Rattle.window_table.specs.Views.{channel_text, kind_text, partition_text, port_text, table_text, window_text};
@@ -41,9 +42,21 @@ fn rows<'a>(found: &mut Vec<Finding<'a>>, table: &WrittenTable<'a>) -> Result<()
         (findings_of found.new.items
         ≡ findings_of found.old.items ++ spec.rows (table_text table.now)) }
 {
-    partitions(found, table.frame, table.partitions.as_slice())?;
+    partitions(found, most_period(table.frame), table.partitions.as_slice())?;
     windows(found, table.windows.as_slice())?;
     channels(found, table.channels.as_slice())
+}
+
+/// The greatest period: the frame, or the greatest frame in place of one outside its limits.
+fn most_period(frame: i64) -> i64
+    ensures { result ≡ spec.most_period frame }
+{
+    let most = MOST_FRAME_TICKS as i64;
+    if frame < 1 || most < frame {
+        most
+    } else {
+        frame
+    }
 }
 
 /// Adds what is outside of the frame's limits, and of those of counts.
@@ -279,7 +292,34 @@ fn times<'a>(
         ++ spec.times (subject_of subject.entry) frame (partition_text partition.now)) }
 {
     period(found, subject, frame, partition)?;
-    duration(found, subject, partition)
+    duration_within(found, subject, frame, partition)
+}
+
+/// Adds a duration that is outside its limits, if the period is within its own.
+#[tactic(auto, using(crate::proofs::Steps::append_nil))]
+fn duration_within<'a>(
+    found: &mut Vec<Finding<'a>>,
+    subject: Subject<'a>,
+    frame: i64,
+    partition: &WrittenPartition<'a>,
+) -> Result<(), AllocError>
+    ensures { OnOk result
+        (findings_of found.new.items
+        ≡ findings_of found.old.items
+        ++ spec.duration_within (subject_of subject.entry) frame (partition_text partition.now)) }
+{
+    if is_outside(frame, partition.period) {
+        Ok(())
+    } else {
+        duration(found, subject, partition)
+    }
+}
+
+/// Returns true if a period is outside its limits.
+fn is_outside(frame: i64, period: i64) -> bool
+    ensures { result ≡ is_outside 1 frame period }
+{
+    period < 1 || frame < period
 }
 
 /// Adds a period that is outside its limits.

@@ -15,6 +15,7 @@ use crate::explained::findings_text;
 use crate::finding::Finding;
 use crate::fitting::ends;
 use crate::forms::shape;
+use crate::no_toml::{Remark, told};
 use crate::repeated::repeated_names;
 use crate::schedule::{odd_periods, overlaps, without_release};
 use crate::unknown::unknown_names;
@@ -52,8 +53,16 @@ fn explain_error(alloc: Global, report: Report<'_>, bytes: &[u8], error: &Error)
     ensures text { IfSome result (λ lines. ¬ IsMemory error.now) }
 {
     let span = error.span()?;
-    let advice = "The text is TOML up to this place.";
-    lines_at(alloc, report, bytes, span.start, error.message(), advice).ok()
+    let Remark { said, advice } = told(alloc, bytes, span.start, error.message())?;
+    lines_at(
+        alloc,
+        report,
+        bytes,
+        span.start,
+        said.as_str(),
+        advice.as_str(),
+    )
+    .ok()
 }
 
 /// The findings of a document.
@@ -75,7 +84,7 @@ fn explain_document(
 }
 
 /// Adds what breaks a rule in a document.
-fn findings<'a>(
+pub fn findings<'a>(
     alloc: Global,
     found: &mut Vec<Finding<'a>>,
     document: &'a Table,

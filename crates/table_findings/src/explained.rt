@@ -8,7 +8,7 @@ ghost use Rattle.table_findings.specs.Explained as spec;
 ghost use Rattle.table_findings.specs.Views.{finding_of, findings_of, what_of};
 
 use crate::finding::{Finding, What};
-use crate::phrases::Advice;
+use crate::lookup::Lookup;
 use crate::subject::{push_key, subject_path};
 use finding_lines::{Entry, Report, Step, TomlPlaces, lines_at};
 use std::alloc::{AllocError, Global};
@@ -80,11 +80,8 @@ fn lines_of(
     let path = finding_path(alloc, finding)?;
     let left = left_at(text.len(), finding.what, places.first_at(path.as_slice()));
     let offset = text.len().saturating_sub(left);
-    let advice = Advice(finding);
-    let (said, advice) = (
-        format!(in alloc; "{finding}")?,
-        format!(in alloc; "{advice}")?,
-    );
+    let said = format!(in alloc; "{finding}")?;
+    let advice = Lookup { text, places }.advice(alloc, finding)?;
     lines_at(
         alloc,
         report,

@@ -126,7 +126,7 @@ fn partition_name(partition: &Option<Name>) -> &str
 }
 
 /// The process that a line is about.
-fn subject_in(kind: &EventKind) -> Option<Subject>
+pub fn subject_in(kind: &EventKind) -> Option<Subject>
     ensures { result ≡ meant.subject_in kind.now }
 {
     match kind {
@@ -139,7 +139,7 @@ fn subject_in(kind: &EventKind) -> Option<Subject>
 }
 
 /// The port of a message, or the channel by which it leaves the module.
-fn route_in(kind: &EventKind) -> Option<Name>
+pub fn route_in(kind: &EventKind) -> Option<Name>
     ensures { result ≡ meant.route_in kind.now }
 {
     match kind {

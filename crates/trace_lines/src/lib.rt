@@ -23,7 +23,7 @@ mod side;
 
 pub use check::Check;
 pub use comparison::Comparison;
-pub use filter::{Filter, is_of_partition};
+pub use filter::{Filter, is_of_partition, route_in, subject_in};
 pub use kinds::Kinds;
 pub use limit::{Counted, Limit, Limits};
 pub use listing::{Listing, line_of};

@@ -223,11 +223,12 @@ class Story {
     return who === "-" ? this.partition(partition).mode : this.process(partition, who);
   }
 
-  /** A message begins with its MOVE, or at its arrival if it comes from outside; what follows it belongs to it. */
+  /** A message begins with its MOVE, or at its arrival if it comes from outside; what follows it belongs to it. A port has it once. */
   takeMessage(line) {
     const lane = this.messagesOf(line.partition);
     const last = this.messages[this.messages.length - 1];
-    const follows = last && line.kind !== "MOVE" && last.lines[0].tick === line.tick && sameWords(last.lines[0], line);
+    const goesOn = last && line.kind !== "MOVE" && last.lines[0].tick === line.tick && sameWords(last.lines[0], line);
+    const follows = goesOn && !last.lines.some((it) => isSamePort(it, line));
     const message = follows ? last : { lines: [] };
     if (!follows) this.messages.push(message);
     message.lines.push(line);
@@ -304,6 +305,11 @@ class Story {
       return wanted.every((word) => text.includes(word));
     });
   }
+}
+
+/** Whether two lines of messages are of one port. */
+function isSamePort(one, other) {
+  return one.kind !== "OUT" && other.kind !== "OUT" && one.partition === other.partition && one.words[0] === other.words[0];
 }
 
 function sameWords(one, other) {
@@ -763,15 +769,24 @@ class Drawing {
     return last >= 0 && to < stays.to[last] ? last : -1;
   }
 
-  /** The mark of the lane that was drawn nearest to a point, at most nine pixels away. */
-  markAt(x, y) {
+  /** The mark that was drawn nearest to a point in its lane, at most nine pixels away. */
+  nearest(x, y) {
     const lane = this.laneAt(y);
     let [found, least] = [null, 9];
     for (const it of this.marks) {
       const far = it.lane === lane ? Math.hypot(it.x - x, it.y - y) : Infinity;
-      if (far <= least) [found, least] = [it.mark, far];
+      if (far <= least) [found, least] = [it, far];
     }
     return found;
+  }
+
+  /** The marks at a point: all those that share a pixel with the nearest one and have its shape, each message once. */
+  marksAt(x, y) {
+    const nearest = this.nearest(x, y);
+    if (!nearest) return [];
+    const isThere = ([mark, at]) => Math.abs(at - nearest.x) < 1 && isSent(mark.line) === isSent(nearest.mark.line);
+    const marks = [...this.marksIn(nearest.lane, nearest.mark.sign)].filter(isThere).map(([mark]) => mark);
+    return marks.filter(({ message }, place) => message === null || marks.findIndex((it) => it.message === message) === place);
   }
 }
 
@@ -949,7 +964,10 @@ class Page {
     const drag = this.drag;
     this.drag = null;
     if (!drag || drag.hasMoved) return;
-    const mark = this.drawing.markAt(event.offsetX, event.offsetY);
+    const marks = this.drawing.marksAt(event.offsetX, event.offsetY);
+    const place = marks.length ? (marks.indexOf(this.shown) + 1) % marks.length : 0;
+    const mark = marks[place] ?? null;
+    this.answer(marks.length > 1 ? `${place + 1} of ${marks.length} here; a click goes to the next one` : "");
     this.drawing.followed = mark?.message ?? null;
     const tick = mark ? mark.tick : Math.floor(this.drawing.tick(event.offsetX));
     this.put(tick, event.shiftKey ? 1 : 0, mark);

@@ -79,6 +79,14 @@ pub fn numbers_text(alloc: Global, words: &Words) -> Result<String, AllocError> 
     Ok(text)
 }
 
+/// The port or the channel where a message ends its way.
+pub fn end_name(message: &Message) -> &str {
+    match &message.to {
+        Stop::Port(_, name) | Stop::Channel(name) => name.as_str(),
+        Stop::Device => "outside",
+    }
+}
+
 /// The title of the arrow of a message.
 pub fn message_title(
     alloc: Global,

@@ -1,6 +1,7 @@
 //! The lane of windows, and the stays that are cut at their ends.
 
-use crate::bars::{Bar, bar_of_state, draw_bar, draw_state, draw_word, whole_bar};
+use crate::axis::Axis;
+use crate::bars::{Bar, bar_of_state, draw_bar, draw_state, draw_text, whole_bar};
 use crate::drawing::Drawing;
 use crate::element::{Tag, outline_attributes};
 use crate::length::Length;
@@ -16,6 +17,15 @@ pub const RELEASE: &str = "M-4 -4H4L0 3Z";
 
 /// The distance of this mark from the top of the lane of windows.
 pub const RELEASE_DOWN: Length = Length(40);
+
+/// The room for a character of a name.
+const CHARACTER: Length = Length(75);
+
+/// The distance of a name from where its window begins.
+const NAME_RIGHT: Length = Length(50);
+
+/// The distance of the line of names from the top of the lane.
+const NAME_DOWN: Length = Length(145);
 
 /// The bar of a window.
 pub fn bar_of_window() -> Bar {
@@ -48,8 +58,89 @@ fn draw_release(
     page.titled(Tag::Path, &attributes, title.as_str())
 }
 
-/// Draws the window of a stretch as far as it is shown, with the name of its partition if that fits,
-/// and its release point; nothing for ticks in no window.
+/// The name of the partition of a window: the places where the window begins and ends, and where the
+/// name ends.
+#[derive(Clone, Copy)]
+struct Label<'a> {
+    name: &'a str,
+    left: Length,
+    right: Length,
+    end: Length,
+}
+
+impl<'a> Label<'a> {
+    /// The label of a stretch as far as it is shown; none for ticks in no window.
+    fn of(axis: Axis, windows: &'a Windows, stretch: &Stretch) -> Option<Label<'a>> {
+        let name = owner_name(windows, stretch.owner?);
+        let span = stretch.span.within(axis.span);
+        if span.ticks() == 0 {
+            return None;
+        }
+        let left = axis.place(span.from);
+        Some(Label {
+            name,
+            left,
+            right: axis.place(span.until),
+            end: left + CHARACTER.times(name.len() as u64),
+        })
+    }
+
+    /// Returns true if the name fits into the window.
+    fn fits(self) -> bool {
+        self.end.0 <= self.right.0
+    }
+
+    /// Returns true if the name may stand at a window that it does not fit into: from a free place on,
+    /// and up to the end of the axis. At windows more narrow than a character names would tell nothing.
+    fn may_extend(self, axis: Axis, free: Length) -> bool {
+        (self.right - self.left).0 >= CHARACTER.0
+            && free.0 <= self.left.0
+            && self.end.0 <= axis.end().0
+    }
+
+    /// Returns true if the name would cover that of a later window, which fits into it.
+    fn covers(self, axis: Axis, windows: &Windows, later: &[Stretch]) -> bool {
+        for stretch in later {
+            if self.end.0 <= axis.place(stretch.span.from).0 {
+                return false;
+            }
+            if let Some(label) = Label::of(axis, windows, stretch) {
+                if label.fits() {
+                    return true;
+                }
+            }
+        }
+        false
+    }
+}
+
+/// Draws the names of the partitions of the windows: each that fits into its window, and others where
+/// they cover no name.
+fn draw_window_names(
+    page: &mut Page,
+    drawing: &Drawing,
+    windows: &Windows,
+    top: Length,
+) -> Result<(), AllocError> {
+    let mut free = Length(0);
+    let (axis, stretches) = (drawing.axis, windows.stretches());
+    for (place, stretch) in stretches.iter().enumerate() {
+        if let Some(label) = Label::of(axis, windows, stretch) {
+            let later = &stretches[place + 1..];
+            if label.fits()
+                || (label.may_extend(axis, free) && !label.covers(axis, windows, later))
+            {
+                let (left, line) = (label.left + NAME_RIGHT, top + NAME_DOWN);
+                draw_text(page, "mode", left, line, label.name)?;
+                free = label.end;
+            }
+        }
+    }
+    Ok(())
+}
+
+/// Draws the window of a stretch as far as it is shown, and its release point; nothing for ticks in no
+/// window.
 fn draw_window(
     page: &mut Page,
     drawing: &Drawing,
@@ -67,21 +158,21 @@ fn draw_window(
     let name = owner_name(windows, owner);
     let title = bar_title(drawing.alloc, name, "window", span)?;
     draw_bar(page, axis, top, bar_of_window(), span, title.as_str())?;
-    draw_word(page, axis, top, name, span)?;
     if stretch.is_release {
         draw_release(page, drawing, top, name, span.from)?;
     }
     Ok(())
 }
 
-/// Draws the lane of windows, if they are known.
+/// Draws the lane of windows, if they are known. Names are drawn last, so that no bar covers one.
 pub fn draw_windows(page: &mut Page, drawing: &Drawing) -> Result<(), AllocError> {
-    if let Some(windows) = &drawing.windows {
-        for stretch in windows.stretches() {
-            draw_window(page, drawing, windows, stretch)?;
-        }
+    let (Some(windows), Some(top)) = (&drawing.windows, drawing.rows.windows) else {
+        return Ok(());
+    };
+    for window in windows.stretches() {
+        draw_window(page, drawing, windows, window)?;
     }
-    Ok(())
+    draw_window_names(page, drawing, windows, top)
 }
 
 /// The bar of a process that is in a state outside the windows of its partition.

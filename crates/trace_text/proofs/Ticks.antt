@@ -1,9 +1,10 @@
--- A number below 10^13 and its 13 digits.
+-- The number of a tick and its 13 digits.
 use Rattle.std.proofs.Common.{◌≡◌, ℕ, zero, suc, ◌+◌, ◌-◌, ◌*◌, ◌/◌, ◌%◌, ◌^◌, ◌<◌, ◌≤◌, Bool, true, false, cond, List, [], ◌∷◌, length, map, Some, None, refl, sym, ap, subst, ◌∙◌, arith}
 use Rattle.std.specs.Prelude.{fold, nat_le, ◌&&◌, ◌==◌}
 use Rattle.std.specs.List.{list_all}
 use Rattle.std.proofs.Math.Nat.{div-div-eq-div-mul, pow-suc}
 use Rattle.std.proofs.lemmas.Bool.{and_parts, and_from, leb-true, le-leb, lt-ltb, eqb-true, cond-true}
+use Rattle.apex_types.specs.Limits.{MOST_TICKS}
 use Rattle.apex_types.specs.Line.{thirteen_digits, space}
 use Rattle.apex_types.specs.declared.identity.Ticks.{Ticks}
 use Rattle.module_meaning.specs.DeviceText.{if_at_most}
@@ -92,16 +93,16 @@ guarded : (t : Bool) (n : ℕ) (x : Ticks) → tick_with (cond t (Some n) None) 
 guarded true n x e = (refl, same_some (record { 0 = n }) x e)
 guarded false n x e = cc
 
-digits_of : (t : Bool) (ds : List ℕ) (x : Ticks) → cond t (tick_with (if_at_most 9999999999999 (decimal_value ds))) None ≡ Some x → (t ≡ true) × (decimal_value ds ≤ 9999999999999) × (record { 0 = decimal_value ds } ≡ x)
+digits_of : (t : Bool) (ds : List ℕ) (x : Ticks) → cond t (tick_with (if_at_most 1099511627775 (decimal_value ds))) None ≡ Some x → (t ≡ true) × (decimal_value ds ≤ 1099511627775) × (record { 0 = decimal_value ds } ≡ x)
 digits_of true ds x e =
-    let g = guarded (nat_le (decimal_value ds) 9999999999999) (decimal_value ds) x e in
-    (refl, leb-true (decimal_value ds) 9999999999999 g.0, g.1)
+    let g = guarded (nat_le (decimal_value ds) 1099511627775) (decimal_value ds) x e in
+    (refl, leb-true (decimal_value ds) 1099511627775 g.0, g.1)
 digits_of false ds x e = cc
 
 abbrev pub tick_text : Ticks → List ℕ
 tick_text t = thirteen_digits t.0
 
-pub tick_spells : Spells tick_of tick_text (λ t. t.0 < 10 ^ 13)
+pub tick_spells : Spells tick_of tick_text (λ t. t.0 < MOST_TICKS)
 tick_spells = record {
   takes = λ bs t e.
       let g = digits_of ((length bs == 13) && list_all is_digit bs) bs t e in
@@ -109,8 +110,8 @@ tick_spells = record {
       let n : decimal_value bs ≡ t.0 = ap (λ (x : Ticks). x.0) g.2 in
       (ap thirteen_digits (sym n) ∙ number_back bs (eqb-true (length bs) 13 p.0) p.1, omega (arith, n, g.1));
   again = λ t low.
-      cond-true ((length (thirteen_digits t.0) == 13) && list_all is_digit (thirteen_digits t.0)) (tick_with (if_at_most 9999999999999 (decimal_value (thirteen_digits t.0)))) None (digits_pass t.0)
-      ∙ ap (λ (n : ℕ). tick_with (if_at_most 9999999999999 n)) (number_again t.0 low)
-      ∙ ap tick_with (cond-true (nat_le t.0 9999999999999) (Some t.0) None (le-leb t.0 9999999999999 (omega (arith, low))));
+      cond-true ((length (thirteen_digits t.0) == 13) && list_all is_digit (thirteen_digits t.0)) (tick_with (if_at_most 1099511627775 (decimal_value (thirteen_digits t.0)))) None (digits_pass t.0)
+      ∙ ap (λ (n : ℕ). tick_with (if_at_most 1099511627775 n)) (number_again t.0 (omega (arith, low)))
+      ∙ ap tick_with (cond-true (nat_le t.0 1099511627775) (Some t.0) None (le-leb t.0 1099511627775 (omega (arith, low))));
   ink = λ t low. all_ink (units 13) t.0;
 }

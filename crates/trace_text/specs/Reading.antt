@@ -1,5 +1,5 @@
 -- How a line is read, field by field.
-use Rattle.std.specs.Prelude.{ℕ, ℤ, ◌&&◌, ◌==◌, nat_le, if◌then◌else◌, List, [], ◌∷◌, length, codes, find, Option, Some, None, option_map, slice_get}
+use Rattle.std.specs.Prelude.{ℕ, ℤ, ◌-◌, ◌&&◌, ◌==◌, nat_le, if◌then◌else◌, List, [], ◌∷◌, length, codes, find, Option, Some, None, option_map, slice_get}
 use Rattle.std.specs.List.{list_all}
 use Rattle.apex_types.specs.Line.{space}
 use Rattle.apex_types.specs.CodeWords.{mode_word, state_word, error_word, level_word, level_of_response, action_word}
@@ -24,7 +24,7 @@ use Rattle.apex_types.specs.declared.event.EventKind.TheVariants as event
 use Rattle.apex_types.specs.declared.event.Subject.{Subject}
 use Rattle.apex_types.specs.declared.event.Subject.TheVariants as subject
 use Rattle.apex_types.specs.declared.identity.Ticks.{Ticks}
-use Rattle.apex_types.specs.Limits.{MOST_WORDS}
+use Rattle.apex_types.specs.Limits.{MOST_TICKS, MOST_WORDS}
 use Rattle.apex_types.specs.declared.service.Service.{Service}
 use Rattle.arrayvec.specs.ArrayVec.{ArrayVec}
 use Rattle.module_meaning.specs.DeviceText.{pieces, plain_number, if_at_most, words}
@@ -49,9 +49,9 @@ abbrev pub tick_with : Option ℕ → Option Ticks
 tick_with None = None
 tick_with (Some n) = Some (record { 0 = n })
 
--- 13 digits
+-- 13 digits, of a tick that a run can have
 abbrev pub tick_of : List ℕ → Option Ticks
-tick_of text = if (length text == 13) && list_all is_digit text then tick_with (if_at_most 9_999_999_999_999 (decimal_value text)) else None
+tick_of text = if (length text == 13) && list_all is_digit text then tick_with (if_at_most (MOST_TICKS - 1) (decimal_value text)) else None
 
 abbrev pub name_of : List ℕ → Option (List ℕ)
 name_of text = if is_name text then Some text else None

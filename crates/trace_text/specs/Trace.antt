@@ -1,6 +1,6 @@
 -- Which events a run can write, and which lists of events are a trace.
 use Rattle.std.specs.Prelude.{◌≡◌, ℕ, ◌+◌, ◌^◌, ◌<◌, ◌≤◌, ℤ, Bool, false, true, ◌&&◌, List, [], ◌∷◌, ◌++◌, length, Option, Some, None, is_some, is_none, IsTrue}
-use Rattle.apex_types.specs.Limits.{MOST_WORDS}
+use Rattle.apex_types.specs.Limits.{MOST_TICKS, MOST_WORDS}
 use Rattle.apex_types.specs.Line.{line_of, text_of}
 use Rattle.apex_types.specs.NameText.{is_name}
 use Rattle.apex_types.specs.declared.codes.Response.{Response}
@@ -16,7 +16,7 @@ use Rattle.text_lines.specs.Words.{AreWords}
 
 -- ---- the parts of an event
 
--- 1 to 16 words
+-- 1 to 64 words
 pub record IsMessage (words : List ℤ) : Type 0 where
   pub some : 1 ≤ length words
   pub few : length words ≤ MOST_WORDS
@@ -35,7 +35,7 @@ abbrev pub IsPartition : Option (List ℕ) → Type 0
 IsPartition None = Unit {0}
 IsPartition (Some name) = IsTrue (is_name name)
 
--- names have the form of a name, and messages have 1 to 16 words
+-- names have the form of a name, and messages have 1 to 64 words
 abbrev pub HasParts : EventKind → Type 0
 HasParts (event.State who state) = IsSubject who
 HasParts (event.Return who service code) = IsSubject who
@@ -67,7 +67,7 @@ happens_in _ partition = is_some partition
 
 -- an event that has a line in a trace
 pub record CanBeWritten (e : Event) : Type 0 where
-  pub tick : e.tick.0 < 10 ^ 13
+  pub tick : e.tick.0 < MOST_TICKS
   pub partition : IsPartition e.partition
   pub parts : HasParts e.kind
   pub place : IsTrue (happens_in e.kind e.partition)

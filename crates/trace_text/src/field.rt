@@ -3,6 +3,7 @@
 ghost use Rattle.std.specs.Prelude.{◌≡◌};
 ghost use Rattle.trace_text.specs.Reading as meant;
 
+use apex_types::limits::MOST_TICKS;
 use apex_types::{
     ErrorKind, Mode, ModuleAction, Name, PartitionAction, ProcessState, Response, ReturnCode,
     SERVICES, Service, Subject, Ticks,
@@ -12,8 +13,8 @@ use text_lines::{are_digits, number_at_most, plain_number};
 /// The digits of a tick.
 const TICK_DIGITS: usize = 13;
 
-/// The last tick of 13 digits.
-const LAST_TICK: u64 = 9_999_999_999_999;
+/// The last tick that a run can have.
+const LAST_TICK: u64 = MOST_TICKS - 1;
 
 static MODES: [Mode; 4] = [Mode::Idle, Mode::ColdStart, Mode::WarmStart, Mode::Normal];
 
@@ -55,7 +56,7 @@ static RESPONSES: [Response; 8] = [
     Response::Module(ModuleAction::Reset),
 ];
 
-/// The tick of these 13 digits.
+/// The tick of these 13 digits; none if no run has it.
 pub fn tick_of(text: &[u8]) -> Option<Ticks>
     ensures { result ≡ meant.tick_of text.now }
 {

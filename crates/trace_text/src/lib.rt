@@ -4,7 +4,7 @@
 //! line, a `TraceReader` goes over a text line by line, and a `TraceStream` does the same over the
 //! bytes of a reader, however many they are.
 //!
-//! An event can be written if its tick is below 10^13, its names have the form of names, its
+//! An event can be written if its tick is below 2^40, its names have the form of names, its
 //! message has 1 to 64 words, and it can happen at its place: a fault of the module belongs to no
 //! partition and no process, all else to a partition, and STOP_SELF never ends. A trace is a list
 //! of such events in the order of their ticks.

@@ -59,8 +59,6 @@ processes_passed window e old behind = record {
       subst (λ (b : Bool). IsShown (if b then process_behind window e name word (known name word) else known name word) (row_at name word old)) (sym (le-ltb e.tick.0 window.until.0 behind)) (are name word);
 }
 
-pub ruleset followed = (partitions_read, partitions_passed, processes_read, processes_passed)
-
 -- the window, where all lines are read
 
 pub window_closed : (so to : Option Ticks) (left : List Event) (now all : Extent) → left ≡ [] → so ≡ to → extent_after now (ticks_of_lines left) ≡ all → (closed so now).window ≡ (closed to all).window

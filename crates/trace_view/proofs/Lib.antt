@@ -8,4 +8,5 @@ pub mod MeasuredTimes
 pub mod Percentiles
 pub mod Sums
 pub mod Reading
+pub mod Reported
 pub mod Steps

@@ -47,8 +47,6 @@ no_errors_behind window t partition kind e behind = subst (λ (b : Bool). HasErr
 pub no_messages_behind : (window : Span) (t : ℕ) (partition : Option (List ℕ)) (kind : EventKind) (m : Traffic) → window.until.0 ≤ t → HasMessageIf (has_tick window t) partition kind m m
 no_messages_behind window t partition kind m behind = subst (λ (b : Bool). HasMessageIf b partition kind m m) (sym (outside window t behind)) refl
 
-pub ruleset passed_over = (no_errors_behind, no_messages_behind)
-
 -- ---- the extent
 
 line_window_if : (b : Bool) (e : Event) (x : Extent) → (with_line_if b e.tick x).window ≡ x.window

@@ -11,3 +11,4 @@ pub mod Turns
 pub mod Percentiles
 pub mod Errors
 pub mod Whole
+pub mod Reports

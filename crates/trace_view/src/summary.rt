@@ -1,6 +1,7 @@
 //! Counts the events of a trace.
 
-ghost use Rattle.std.specs.Prelude.{◌≡◌, [], map, IfOk, OnOk};
+ghost use Rattle.std.specs.Prelude.{◌≡◌, true, IfOk, OnOk};
+ghost use Rattle.trace_view.specs.Reports.{SharesFollow, SharesPass};
 
 use crate::counts::Counts;
 use crate::extent::Extent;
@@ -25,25 +26,16 @@ pub struct Summary {
 }
 
 impl Summary {
-    ghost use Rattle.trace_view.specs.Counted.{HasErrorIf, HasMessageIf};
-    ghost use Rattle.trace_view.specs.Extents.{closed, opened, with_line};
-    ghost use Rattle.trace_view.specs.Partitions.{partition_total, partitions_after};
-    ghost use Rattle.trace_view.specs.Processes as processes;
-    ghost use Rattle.trace_view.specs.Starts.{told_behind, told_first};
-    ghost use Rattle.trace_view.specs.Tallies.{has_tick};
-    ghost use Rattle.trace_view.specs.Traffic.{totals_from};
+    ghost use Rattle.kernel_meaning.specs.Windows.{Schedule};
+    ghost use Rattle.std.specs.Prelude.{List, ℕ, Option};
+    ghost use Rattle.trace_view.specs.Reports.{AreSharesBefore, HasBegun, HasCounted, HasFinished};
+    ghost use Rattle.trace_view.specs.Starts.{told_behind};
 
     /// Nothing is counted yet. The ticks `from` and later will count: those before `to`, or, with
     /// `None`, those up to the last line. `shares` counts what the processor does in them.
     pub fn new(alloc: Global, from: Ticks, to: Option<Ticks>, shares: Option<Shares>) -> Summary
-        ensures to { result.to ≡ to }
-        ensures extent { result.extent ≡ opened from to }
-        ensures told { result.told ≡ told_first }
-        ensures shares { result.shares ≡ shares }
-        ensures partitions { result.counts.partitions.rows.items ≡ [] }
-        ensures processes { result.counts.processes.rows.items ≡ [] }
-        ensures errors { result.counts.errors.totals.items ≡ [] }
-        ensures messages { result.counts.traffic.passages.items ≡ [] }
+        ensures { (windows : Option (Schedule × List (List ℕ))) → AreSharesBefore windows from shares
+            → HasBegun from to windows result }
     {
         Summary {
             to,
@@ -59,26 +51,8 @@ impl Summary {
     /// # Errors
     ///
     /// Memory ran out, or the line is of a partition that the module table has not.
-    #[tactic(auto, using(crate::proofs::Reading::passed_over, crate::proofs::Behind::followed))]
     pub fn count(&mut self, event: &Event) -> Result<(), SharesFault>
-        ensures to { self.new.to ≡ self.old.to }
-        ensures extent { self.new.extent ≡ with_line event.now.tick self.old.extent }
-        ensures told { self.new.told ≡ told_behind event.now self.old.told }
-        ensures partitions { OnOk result
-            (self.new.counts.partitions.rows.items
-            ≡ partitions_after self.old.extent.window self.old.told event.now
-            self.old.counts.partitions.rows.items) }
-        ensures processes { OnOk result
-            (processes.HaveFollowed self.old.extent.window event.now
-            self.old.counts.processes.rows.items self.new.counts.processes.rows.items) }
-        ensures errors { OnOk result
-            (HasErrorIf (has_tick self.old.extent.window event.now.tick.0)
-            event.now.partition event.now.kind self.old.counts.errors
-            self.new.counts.errors) }
-        ensures messages { OnOk result
-            (HasMessageIf (has_tick self.old.extent.window event.now.tick.0)
-            event.now.partition event.now.kind self.old.counts.traffic
-            self.new.counts.traffic) }
+        ensures { OnOk result (HasCounted event.now self.old self.new) }
     {
         let told = self.told;
         let window = self.extent.window;
@@ -86,9 +60,7 @@ impl Summary {
         self.extent.count(event.tick);
         if event.tick.0 < window.until.0 {
             self.counts.count(event, window, &told)?;
-            if let Some(shares) = &mut self.shares {
-                shares.follow(event)?;
-            }
+            follow(&mut self.shares, event)?;
         }
         Ok(())
     }
@@ -107,9 +79,7 @@ impl Summary {
     {
         self.told.read(event);
         if event.tick.0 < self.extent.window.until.0 {
-            if let Some(shares) = &mut self.shares {
-                shares.follow(event)?;
-            }
+            follow(&mut self.shares, event)?;
         }
         Ok(())
     }
@@ -120,19 +90,7 @@ impl Summary {
     ///
     /// Memory ran out.
     pub fn finish(self) -> Result<Report, SharesFault>
-        ensures extent { IfOk result (λ report. report.extent ≡ closed self.to self.extent) }
-        ensures partitions { IfOk result
-            (λ report. report.partitions.items
-            ≡ map (partition_total (closed self.to self.extent).window)
-            self.counts.partitions.rows.items) }
-        ensures processes { IfOk result
-            (λ report. report.processes.items
-            ≡ processes.totals_from (closed self.to self.extent).window report.partitions.items
-            self.counts.processes.rows.items) }
-        ensures errors { IfOk result (λ report. report.errors ≡ self.counts.errors.totals) }
-        ensures routes { IfOk result
-            (λ report. report.routes.items
-            ≡ totals_from report.partitions.items self.counts.traffic.passages.items) }
+        ensures { IfOk result (λ report. HasFinished self report) }
     {
         let Summary {
             to,
@@ -142,11 +100,29 @@ impl Summary {
             ..
         } = self;
         extent.close(to);
-        if let Some(shares) = &mut shares {
-            shares.pass_to(extent.window.until)?;
-        }
+        pass_to(&mut shares, extent.window.until)?;
         let mut report = counts.finish(extent)?;
         report.shares = shares;
         Ok(report)
+    }
+}
+
+/// Reads the next line, if the windows are known.
+fn follow(shares: &mut Option<Shares>, event: &Event) -> Result<(), SharesFault>
+    ensures { OnOk result (SharesFollow true event.now shares.old shares.new) }
+{
+    match shares {
+        Some(shares) => shares.follow(event),
+        None => Ok(()),
+    }
+}
+
+/// Counts the ticks before this one, if the windows are known.
+fn pass_to(shares: &mut Option<Shares>, tick: Ticks) -> Result<(), SharesFault>
+    ensures { OnOk result (SharesPass tick.0 shares.old shares.new) }
+{
+    match shares {
+        Some(shares) => shares.pass_to(tick),
+        None => Ok(()),
     }
 }

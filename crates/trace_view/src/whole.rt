@@ -1,8 +1,7 @@
 //! The summary of a whole trace.
 
-ghost use Rattle.std.specs.Prelude.{◌≡◌, IfOk};
-ghost use Rattle.trace_view.specs.Extents.{closed, extent_after, opened};
-ghost use Rattle.trace_view.specs.Whole.{AreErrorsOf, AreMessagesOf, ArePartitionsOf, AreProcessesOf, ticks_of_lines};
+ghost use Rattle.std.specs.Prelude.{None, IfOk};
+ghost use Rattle.trace_view.specs.Reports.{IsReportOf};
 
 use crate::report::Report;
 use crate::summary::Summary;
@@ -22,25 +21,7 @@ pub fn summary_of(
     to: Option<Ticks>,
     events: &[Event],
 ) -> Result<Report, SharesFault>
-    ensures extent { IfOk result
-        (λ report.
-        report.extent ≡ closed to (extent_after (opened from to) (ticks_of_lines events.now))) }
-    ensures partitions { IfOk result
-        (λ report.
-        ArePartitionsOf (opened from to).window
-        (closed to (extent_after (opened from to) (ticks_of_lines events.now))).window events.now
-        report.partitions.items) }
-    ensures processes { IfOk result
-        (λ report.
-        AreProcessesOf (opened from to).window
-        (closed to (extent_after (opened from to) (ticks_of_lines events.now))).window events.now
-        report.processes.items) }
-    ensures errors { IfOk result
-        (λ report. AreErrorsOf (opened from to).window events.now report.errors.items) }
-    ensures messages { IfOk result
-        (λ report.
-        AreMessagesOf (opened from to).window events.now report.partitions.items
-        report.routes.items) }
+    ensures { IfOk result (λ report. IsReportOf from to None events.now report) }
 {
     let mut summary = Summary::new(alloc, from, to, None);
     for event in events {

@@ -9,12 +9,12 @@ use Rattle.clap.specs.declared.error.kind.ErrorKind.{ErrorKind}
 use Rattle.clap.specs.declared.error.kind.ErrorKind.TheVariants as kind
 use Rattle.clap.specs.declared.parser.matches.Found.{Found}
 use Rattle.clap.proofs.WalkLemmas.{first_value-rows}
-use Rattle.command_words.specs.Found.{Entered, words_at}
+use Rattle.command_words.specs.Found.{Entered, word_at, words_at}
 use Rattle.command_words.specs.Kinds.{IsMistake}
 use Rattle.command_words.specs.Numbers.{ReadsNumber, number_in}
 use Rattle.command_words.specs.declared.failure.Failure.{Failure}
 use Rattle.command_words.specs.declared.failure.Failure.TheVariants.{Refused, Usage}
-use Rattle.view_command.specs.Answers.{IsEndFailure, IsFailureOfWords, IsKindFailure, IsLimitFailure, IsNothingAsked, IsRunFailure, IsTickFailure, IsWidthFailure, IsWordsFailure}
+use Rattle.view_command.specs.Answers.{IsEndFailure, IsFailureOfWords, IsInputFailure, IsKindFailure, IsLimitFailure, IsNothingAsked, IsRunFailure, IsTickFailure, IsWidthFailure, IsWordsFailure}
 use Rattle.text_lines.specs.Pieces.{pieces_of}
 use Rattle.trace_lines.specs.KindSets.{no_kinds, with_words}
 use Rattle.trace_lines.specs.declared.kinds.Kinds.{Kinds}
@@ -74,6 +74,7 @@ tick_wrong name rows (Refused refusal.TooMany) is h = absurd h
 tick_wrong name rows (Refused (refusal.Crowded shapes from until elements)) is h = absurd h
 tick_wrong name rows (Refused (refusal.Table fault shown)) is h = absurd h
 tick_wrong name rows (Refused (refusal.Foreign partition)) is h = absurd h
+tick_wrong name rows (Refused (refusal.Unknown line)) is h = absurd h
 tick_wrong name rows (Refused refusal.Memory) is h = tt
 tick_wrong name rows (Refused refusal.Write) is h = absurd h
 
@@ -87,6 +88,7 @@ kind_wrong name rows (Refused refusal.TooMany) is h = absurd h
 kind_wrong name rows (Refused (refusal.Crowded shapes from until elements)) is h = absurd h
 kind_wrong name rows (Refused (refusal.Table fault shown)) is h = absurd h
 kind_wrong name rows (Refused (refusal.Foreign partition)) is h = absurd h
+kind_wrong name rows (Refused (refusal.Unknown line)) is h = absurd h
 kind_wrong name rows (Refused refusal.Memory) is h = tt
 kind_wrong name rows (Refused refusal.Write) is h = absurd h
 
@@ -100,12 +102,13 @@ limit_wrong rows (Refused refusal.TooMany) h = absurd h
 limit_wrong rows (Refused (refusal.Crowded shapes from until elements)) h = absurd h
 limit_wrong rows (Refused (refusal.Table fault shown)) h = absurd h
 limit_wrong rows (Refused (refusal.Foreign partition)) h = absurd h
+limit_wrong rows (Refused (refusal.Unknown line)) h = absurd h
 limit_wrong rows (Refused refusal.Memory) h = tt
 limit_wrong rows (Refused refusal.Write) h = absurd h
 
 -- the word is no width of a picture
 pub width_wrong : (rows : List Row) (f : Failure Refusal) → IsWidthFailure (first_of (codes "width") rows) f → IsWordsFailure rows f
-width_wrong rows (Usage e) h = (inr (inr (inr (inr (inr h.0)))), h.1)
+width_wrong rows (Usage e) h = (inr (inr (inr (inr (inr (inl h.0))))), h.1)
 width_wrong rows (Refused (refusal.Open shown)) h = absurd h
 width_wrong rows (Refused (refusal.Read shown)) h = absurd h
 width_wrong rows (Refused (refusal.Line number shown)) h = absurd h
@@ -114,8 +117,24 @@ width_wrong rows (Refused refusal.TooMany) h = absurd h
 width_wrong rows (Refused (refusal.Crowded shapes from until elements)) h = absurd h
 width_wrong rows (Refused (refusal.Table fault shown)) h = absurd h
 width_wrong rows (Refused (refusal.Foreign partition)) h = absurd h
+width_wrong rows (Refused (refusal.Unknown line)) h = absurd h
 width_wrong rows (Refused refusal.Memory) h = tt
 width_wrong rows (Refused refusal.Write) h = absurd h
+
+-- both traces are the standard input
+pub inputs_wrong : (rows : List Row) (first second : List ℕ) (f : Failure Refusal) → first ≡ word_at (codes "TRACE") rows → second ≡ word_at (codes "OTHER") rows → IsInputFailure first second f → IsWordsFailure rows f
+inputs_wrong rows first second (Usage e) one two h = (inr (inr (inr (inr (inr (inr (sym one ∙ h.0, sym two ∙ h.1)))))), h.2)
+inputs_wrong rows first second (Refused (refusal.Open shown)) one two h = absurd h
+inputs_wrong rows first second (Refused (refusal.Read shown)) one two h = absurd h
+inputs_wrong rows first second (Refused (refusal.Line number shown)) one two h = absurd h
+inputs_wrong rows first second (Refused (refusal.Late number shown)) one two h = absurd h
+inputs_wrong rows first second (Refused refusal.TooMany) one two h = absurd h
+inputs_wrong rows first second (Refused (refusal.Crowded shapes from until elements)) one two h = absurd h
+inputs_wrong rows first second (Refused (refusal.Table fault shown)) one two h = absurd h
+inputs_wrong rows first second (Refused (refusal.Foreign partition)) one two h = absurd h
+inputs_wrong rows first second (Refused (refusal.Unknown line)) one two h = absurd h
+inputs_wrong rows first second (Refused refusal.Memory) one two h = tt
+inputs_wrong rows first second (Refused refusal.Write) one two h = absurd h
 
 -- the words for ticks leave none
 pub end_wrong : (rows : List Row) (from : ℕ) (end : Option ℕ) (f : Failure Refusal) → (EndsBefore from end → AreWrongTicks rows) → IsEndFailure from end f → IsWordsFailure rows f
@@ -128,6 +147,7 @@ end_wrong rows from end (Refused refusal.TooMany) is h = absurd h
 end_wrong rows from end (Refused (refusal.Crowded shapes first until elements)) is h = absurd h
 end_wrong rows from end (Refused (refusal.Table fault shown)) is h = absurd h
 end_wrong rows from end (Refused (refusal.Foreign partition)) is h = absurd h
+end_wrong rows from end (Refused (refusal.Unknown line)) is h = absurd h
 end_wrong rows from end (Refused refusal.Memory) is h = tt
 end_wrong rows from end (Refused refusal.Write) is h = absurd h
 
@@ -150,6 +170,7 @@ run_wrong rows (Refused refusal.TooMany) h = absurd h
 run_wrong rows (Refused (refusal.Crowded shapes from until elements)) h = absurd h
 run_wrong rows (Refused (refusal.Table fault shown)) h = absurd h
 run_wrong rows (Refused (refusal.Foreign partition)) h = absurd h
+run_wrong rows (Refused (refusal.Unknown line)) h = absurd h
 run_wrong rows (Refused refusal.Memory) h = tt
 run_wrong rows (Refused refusal.Write) h = absurd h
 
@@ -173,6 +194,7 @@ nothing_asked kinds own entered answer none same h = go answer (subst (λ o. IfE
     go (Err (Refused (refusal.Crowded shapes from until elements))) h = h
     go (Err (Refused (refusal.Table fault shown))) h = h
     go (Err (Refused (refusal.Foreign partition))) h = h
+    go (Err (Refused (refusal.Unknown line))) h = h
     go (Err (Refused refusal.Memory)) h = tt
     go (Err (Refused refusal.Write)) h = h
     go (Err (Usage e)) h = inr (none, h.0, h.1)

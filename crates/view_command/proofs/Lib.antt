@@ -3,4 +3,5 @@ pub mod Compared
 pub mod Found
 pub mod SoFar
 pub mod Tables
+pub mod Taken
 pub mod Dumped

@@ -11,7 +11,7 @@ use Rattle.streams.specs.States.{HasFailed}
 use Rattle.streams.specs.declared.names.NameFault.{NameFault}
 use Rattle.streams.specs.declared.names.NameFault.TheVariants as source
 use Rattle.view_command.specs.Faults.{IsUnopened, of_source}
-use Rattle.view_command.specs.declared.refusal.Refusal.TheVariants.{Open, Read, Line, Late, TooMany, Crowded, Table, Foreign, Memory, Write}
+use Rattle.view_command.specs.declared.refusal.Refusal.TheVariants.{Open, Read, Line, Late, TooMany, Crowded, Table, Foreign, Unknown, Memory, Write}
 use Rattle.view_command.specs.Answers.{IsRefused, IsRefusedByTable, IsTableRefused, IsUnread}
 use Rattle.view_command.specs.Lines.{called}
 use Rattle.view_command.specs.States.{IsUntouched, State}
@@ -59,6 +59,7 @@ trace_unopened texts ran name before after mid TooMany out same h = absurd h
 trace_unopened texts ran name before after mid (Crowded shapes from until elements) out same h = absurd h
 trace_unopened texts ran name before after mid (Table fault shown) out same h = absurd h
 trace_unopened texts ran name before after mid (Foreign partition) out same h = absurd h
+trace_unopened texts ran name before after mid (Unknown line) out same h = absurd h
 
 pub unopened_or : {A : Type 0} (Q : Refusal → Type 0) (texts : Option Contents) (ran : Option ℕ) (name : List ℕ) (before after : State) (mid : List (List ℕ)) (r : Refusal) (answer : Result A Refusal)
     → after.out ≡ before.out → mid ≡ before.unopened → IsUnopened name mid after.unopened r → IsErr answer × IsErrAnd answer (λ e. e ≡ r) → IfErr answer (λ e. IsRefused texts ran name before after e ⊎ Q e)
@@ -90,6 +91,7 @@ table_unopened texts name before after r (Err e) out h passed = subst (λ (v : R
     go (Crowded shapes from until elements) h = absurd h
     go (Table fault shown) h = absurd h
     go (Foreign partition) h = absurd h
+    go (Unknown line) h = absurd h
 
 -- the trace was read, and its view is not written
 pub unwritten_or : {A : Type 0} (Q : Refusal → Type 0) (texts : Option Contents) (ran : Option ℕ) (name : List ℕ) (before after : State) (answer : Result A Refusal)

@@ -1,5 +1,5 @@
 -- The meaning of each exit status.
-use Rattle.std.specs.Prelude.{◌≡◌, ◌⊎◌, ◌≤◌, ℕ, List, [], ◌∷◌, ◌++◌, Option, Some, None, Result, Ok, Err, string_bytes}
+use Rattle.std.specs.Prelude.{◌≡◌, ◌⊎◌, ◌≤◌, ℕ, List, [], ◌∷◌, ◌++◌, Option, Some, None, Result, Ok, Err, codes, string_bytes}
 use Rattle.clap.specs.Kinds.{Kinds, IsAmong}
 use Rattle.clap.specs.Values.{kind_of}
 use Rattle.command_words.specs.Found.{Entered}
@@ -19,7 +19,7 @@ use Rattle.command_words.specs.declared.failure.Failure.TheVariants.{Refused, Us
 use Rattle.view_command.specs.declared.views.Outcome.{Outcome}
 use Rattle.view_command.specs.declared.views.Outcome.TheVariants.{Shown, Found}
 use Rattle.view_command.specs.declared.refusal.Refusal.{Refusal}
-use Rattle.view_command.specs.declared.refusal.Refusal.TheVariants.{Open, Read, Line, Late, TooMany, Crowded, Table, Foreign, Memory, Write}
+use Rattle.view_command.specs.declared.refusal.Refusal.TheVariants.{Open, Read, Line, Late, TooMany, Crowded, Table, Foreign, Unknown, Memory, Write}
 
 -- ---- why a trace is not shown; memory may run out at every step
 
@@ -31,6 +31,7 @@ IsUnread text ran name (Late number shown) = (string_bytes shown ≡ name) × Is
 IsUnread text ran name TooMany = Unit {0}
 IsUnread text ran name (Crowded shapes from until elements) = Unit {0}
 IsUnread text ran name (Foreign partition) = Unit {0}
+IsUnread text ran name (Unknown line) = Unit {0}
 IsUnread text ran name Memory = Unit {0}
 IsUnread text ran name _ = ⊥
 
@@ -46,6 +47,7 @@ IsRefused texts ran name before after (Late number shown) = IsUntouched before a
 IsRefused texts ran name before after TooMany = IsUntouched before after
 IsRefused texts ran name before after (Crowded shapes from until elements) = IsUntouched before after
 IsRefused texts ran name before after (Foreign partition) = IsUntouched before after
+IsRefused texts ran name before after (Unknown line) = IsUntouched before after
 IsRefused texts ran name before after (Table fault shown) = ⊥
 IsRefused texts ran name before after Memory = IsUntouched before after
 
@@ -84,10 +86,10 @@ IsRefusedOf texts entered before after r =
     ⊎ IsTableRefused texts (table_of entered) before after r ⊎ IsDumpRefused texts entered before after r
 
 -- Both traces were read to their ends, if they were compared; else the trace was, with no line after the end of its
--- run, and so was the module table, if one is asked for.
+-- run. So was the module table, if one is asked for.
 abbrev pub AreTracesIn : Option Contents → Entered → Type 0
 AreTracesIn texts entered =
-    (IsDiff entered → IsTraceIn texts None (trace_of entered) × IsTraceIn texts None (other_of entered))
+    (IsDiff entered → IsTraceIn texts None (trace_of entered) × IsTraceIn texts None (other_of entered) × IsTableAsked texts (table_of entered))
     × ((IsDiff entered → ⊥) → IsTraceIn texts (ran_of entered) (trace_of entered) × IsTableAsked texts (table_of entered))
 
 -- ---- the words, for which the library of command lines reports these errors
@@ -131,6 +133,12 @@ abbrev pub IsLimitFailure : List (List ℕ) → Failure Refusal → Type 0
 IsLimitFailure words (Refused Memory) = Unit {0}
 IsLimitFailure words (Refused _) = ⊥
 IsLimitFailure words (Usage error) = IsNoLimit words × IsMistake (kind_of error)
+
+-- both traces are the standard input, or memory ran out
+abbrev pub IsInputFailure : List ℕ → List ℕ → Failure Refusal → Type 0
+IsInputFailure first second (Refused Memory) = Unit {0}
+IsInputFailure first second (Refused _) = ⊥
+IsInputFailure first second (Usage error) = (first ≡ codes "-") × (second ≡ codes "-") × IsMistake (kind_of error)
 
 -- the words of options are wrong, or memory ran out
 abbrev pub IsWordsFailure : List Row → Failure Refusal → Type 0

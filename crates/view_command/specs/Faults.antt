@@ -9,6 +9,8 @@ use Rattle.view_command.specs.declared.refusal.Refusal.{Refusal}
 use Rattle.view_command.specs.declared.refusal.Refusal.TheVariants.{Open, Read, Line, TooMany, Crowded, Foreign, Memory}
 use Rattle.streams.specs.declared.names.NameFault.{NameFault}
 use Rattle.streams.specs.declared.names.NameFault.TheVariants as source
+use Rattle.trace_windows.specs.declared.shares_fault.SharesFault.{SharesFault}
+use Rattle.trace_windows.specs.declared.shares_fault.SharesFault.TheVariants as shares
 use Rattle.view_command.specs.declared.views.ViewFault.{ViewFault}
 use Rattle.view_command.specs.declared.views.ViewFault.TheVariants as view
 
@@ -35,3 +37,8 @@ of_view view.Memory = Memory
 of_view view.TooMany = TooMany
 of_view (view.Crowded excess) = Crowded excess.shapes excess.from.0 excess.until.0 excess.elements
 of_view (view.Foreign partition) = Foreign partition
+
+-- a line is of a partition that the module table has not
+abbrev pub of_shares : SharesFault → Refusal
+of_shares shares.Memory = Memory
+of_shares (shares.Unknown partition) = Foreign partition

@@ -7,8 +7,10 @@ pub mod Faults
 pub mod Lines
 pub mod Orders
 pub mod Pages
+pub mod Slips
 pub mod States
 pub mod Texts
 pub mod Views
 pub mod Words
 pub mod Windows
+pub mod Summed

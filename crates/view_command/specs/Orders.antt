@@ -31,7 +31,7 @@ abbrev pub other_of : Entered → List ℕ
 other_of None = []
 other_of (Some entered) = word_at (codes "OTHER") entered.1
 
--- the name of the module table, by whose windows ticks are counted, if one is asked for
+-- the name of the module table, by whose windows ticks are counted or whose names are known, if one is asked for
 abbrev pub table_of : Entered → Option (List ℕ)
 table_of None = None
 table_of (Some entered) = first_of (codes "table") entered.1
@@ -98,11 +98,19 @@ IsShown rows showing =
     (string_bytes showing.trace ≡ word_at (codes "TRACE") rows) × (asked_text showing.table ≡ first_of (codes "table") rows)
     × AreTicksIn rows showing.from showing.to showing.ran × AreNamesIn rows showing.kept
 
+-- the words of a command that shows a trace as waves, or saves how they are viewed
+abbrev pub IsDumped : List Row → Request → Type 0
+IsDumped rows (Show view showing) = IsShown rows showing
+IsDumped rows (Dump showing) = IsShown rows showing
+IsDumped rows (Compare pair) = ⊥
+
 -- the words of a command that compares two
 abbrev pub IsCompared : List Row → Request → Type 0
 IsCompared rows (Show view showing) = ⊥
 IsCompared rows (Dump showing) = ⊥
-IsCompared rows (Compare pair) = (string_bytes pair.first ≡ word_at (codes "TRACE") rows) × (string_bytes pair.second ≡ word_at (codes "OTHER") rows)
+IsCompared rows (Compare pair) =
+    (string_bytes pair.first ≡ word_at (codes "TRACE") rows) × (string_bytes pair.second ≡ word_at (codes "OTHER") rows)
+    × (asked_text pair.table ≡ first_of (codes "table") rows)
 
 -- the trace that the words found name, and what of it they ask for
 abbrev pub IsAsked : Entered → Showing → Type 0
@@ -114,7 +122,8 @@ IsAsked entered showing =
 abbrev pub IsRequest : Entered → Request → Type 0
 IsRequest entered (Show view showing) = IsAsked entered showing
 IsRequest entered (Dump showing) = IsDump entered × IsAsked entered showing
-IsRequest entered (Compare pair) = IsDiff entered × (string_bytes pair.first ≡ trace_of entered) × (string_bytes pair.second ≡ other_of entered)
+IsRequest entered (Compare pair) =
+    IsDiff entered × (string_bytes pair.first ≡ trace_of entered) × (string_bytes pair.second ≡ other_of entered) × (asked_text pair.table ≡ table_of entered)
 
 -- the tick of an optional word
 abbrev pub IsTickOf : Option (List ℕ) → Option ℕ → Type 0
@@ -182,12 +191,17 @@ IsNoLimit _ = Unit {0}
 
 -- ---- what is wrong in the words found
 
--- a word is not one that its option takes, or the ticks leave none
+-- both traces are the standard input, which is read once
+abbrev pub AreOneInput : List Row → Type 0
+AreOneInput rows = (word_at (codes "TRACE") rows ≡ codes "-") × (word_at (codes "OTHER") rows ≡ codes "-")
+
+-- a word is not one that its option takes, the ticks leave none, or both traces are one
 abbrev pub AreWrongWords : List Row → Type 0
 AreWrongWords rows =
     AreWrongTicks rows
     ⊎ IsNoKind (first_of (codes "kind") rows) ⊎ IsNoKind (first_of (codes "no") rows)
     ⊎ IsNoLimit (words_at (codes "at-most") rows) ⊎ IsNoTick (first_of (codes "missed") rows) ⊎ IsNoWidth (first_of (codes "width") rows)
+    ⊎ AreOneInput rows
 
 -- the command of this name shows no trace
 abbrev pub IsNoView : List ℕ → Type 0

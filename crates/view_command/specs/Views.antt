@@ -29,9 +29,8 @@ windows_fault (windows.Unknown name) = fault.Foreign name
 
 -- a picture is shown
 abbrev pub IsOfPicture : Shown → Type 0
-IsOfPicture (shown.Table summary) = ⊥
-IsOfPicture (shown.Rows summary) = ⊥
 IsOfPicture (shown.Picture picture width windows) = Unit {0}
+IsOfPicture (shown.Saved wires names) = ⊥
 IsOfPicture (shown.Page page windows) = ⊥
 IsOfPicture (shown.Lines listing) = ⊥
 IsOfPicture (shown.Check check) = ⊥

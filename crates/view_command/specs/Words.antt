@@ -19,9 +19,12 @@ shown_app name = with_rule (with_rule (with_rule (new_app name) trace_rule) (opt
 abbrev pub of_partition_app : List ℕ → App
 of_partition_app name = with_rule (shown_app name) (option_rule (codes "partition"))
 
--- a command on lines that are chosen by what they name
+-- a command on lines that are chosen by what they name, of which the trace may have to know a process
+abbrev pub known_app : App → App
+known_app app = with_rule app (flag_rule (codes "known"))
+
 abbrev pub lines_app : List ℕ → App
-lines_app name = with_rule (with_rule (with_rule (of_partition_app name) (option_rule (codes "process"))) (option_rule (codes "kind"))) (option_rule (codes "port"))
+lines_app name = known_app (with_rule (with_rule (with_rule (of_partition_app name) (option_rule (codes "process"))) (option_rule (codes "kind"))) (option_rule (codes "port")))
 
 -- and that takes for how many ticks the module ran
 abbrev pub run_app : List ℕ → App
@@ -36,7 +39,7 @@ svg_app = with_rule (with_rule (run_app (codes "svg")) (option_rule (codes "tabl
 
 -- the command that writes a dump
 abbrev pub vcd_app : App
-vcd_app = with_rule (run_app (codes "vcd")) (option_rule (codes "table"))
+vcd_app = with_rule (with_rule (run_app (codes "vcd")) (option_rule (codes "table"))) (flag_rule (codes "gtkw"))
 
 -- the command that writes a page, which shows all ticks of a trace
 abbrev pub page_app : App
@@ -46,17 +49,17 @@ abbrev pub page_lines_app : App
 page_lines_app = with_rule (with_rule (with_rule page_app (option_rule (codes "process"))) (option_rule (codes "kind"))) (option_rule (codes "port"))
 
 abbrev pub html_app : App
-html_app = with_rule (with_rule page_lines_app (option_rule (codes "ticks"))) (option_rule (codes "table"))
+html_app = with_rule (with_rule (known_app page_lines_app) (option_rule (codes "ticks"))) (option_rule (codes "table"))
 
 abbrev pub list_app : App
-list_app = lines_app (codes "list")
+list_app = with_rule (lines_app (codes "list")) (option_rule (codes "table"))
 
 abbrev pub check_app : App
-check_app = with_rule (with_rule (with_rule (of_partition_app (codes "check")) (option_rule (codes "no"))) (pair_rule (codes "at-most"))) (option_rule (codes "missed"))
+check_app = with_rule (with_rule (with_rule (with_rule (of_partition_app (codes "check")) (option_rule (codes "no"))) (pair_rule (codes "at-most"))) (option_rule (codes "missed"))) (option_rule (codes "table"))
 
 -- the command that compares two traces
 abbrev pub diff_app : App
-diff_app = with_rule (with_rule (with_rule (new_app (codes "diff")) trace_rule) (word_rule (codes "OTHER"))) (option_rule (codes "partition"))
+diff_app = with_rule (with_rule (with_rule (with_rule (new_app (codes "diff")) trace_rule) (word_rule (codes "OTHER"))) (option_rule (codes "partition"))) (option_rule (codes "table"))
 
 abbrev pub top_app : App
 top_app = on_top (λ s. record s { subcommand_required = true }) (versioned (new_app (codes "mbview")))

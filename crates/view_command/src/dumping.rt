@@ -10,6 +10,7 @@ ghost use Rattle.view_command.specs.Orders.{asked_text, number_of};
 ghost use Rattle.view_command.specs.States.{state};
 ghost use Rattle.view_command.specs.Texts.{IsTableAsked, IsTraceIn};
 
+use crate::naming::{Named, Names};
 use crate::opening::{Opened, called, open_text};
 use crate::refusal::Refusal;
 use crate::request::Showing;
@@ -152,8 +153,17 @@ pub fn dump<F: Sources, O: Stream>(
     let table = table_asked(alloc, &request.table, sources)?;
     let trace = request.trace.as_str();
     let text = open_text(alloc, trace, sources)?;
-    let mut found = Found::new(alloc, request, table, sources.is_file(trace))?;
-    read_all(alloc, text, request.ran, &request.kept, &mut found)?;
+    let names = Names::of_view(alloc, &request.kept, request.is_strict, &table)?;
+    let taker = Found::new(alloc, request, table, sources.is_file(trace))?;
+    let mut named = Named { taker, names };
+    read_all(alloc, text, request.ran, &request.kept, &mut named)?;
+    let Named {
+        taker: found,
+        names,
+    } = named;
+    if let Some(line) = names.unknown(alloc)? {
+        return Err(Refusal::Unknown(line));
+    }
     read_again(alloc, request, found, sources, out)?;
     Ok(Outcome::Shown)
 }

@@ -8,15 +8,36 @@ ghost use Rattle.view_command.specs.Words.{view_app};
 
 use clap::error::ErrorKind;
 use clap::{Command, Error};
-use command_words::{Argument, CommandRow, Program};
+use command_words::{Argument, CommandRow, ExitStatus, Page, Program};
 use std::alloc::{AllocError, Global};
 
 static PROGRAM: Program = Program {
     name: "mbview",
     about: "Shows the trace of a run: what the partitions and their processes did, and when",
-    example: "Example: mbview summary trace.txt",
+    example: "Example: mbview summary trace.txt\nManual: mbview help --man | man -l -",
     wants_command: true,
     commands: &[SUMMARY, SVG, VCD, LIST, CHECK, DIFF, HTML],
+    statuses: &[SHOWN, REFUSED, NO_COMMAND, FOUND],
+};
+
+const SHOWN: ExitStatus = ExitStatus {
+    number: 0,
+    meaning: "The trace is shown, or help is written",
+};
+
+const REFUSED: ExitStatus = ExitStatus {
+    number: 1,
+    meaning: "The trace is refused, with one line on standard error",
+};
+
+const NO_COMMAND: ExitStatus = ExitStatus {
+    number: 2,
+    meaning: "The words are no command; a usage is on standard error",
+};
+
+const FOUND: ExitStatus = ExitStatus {
+    number: 3,
+    meaning: "diff has found a difference, or check a line that is not allowed",
 };
 
 const SUMMARY: CommandRow = CommandRow {
@@ -31,6 +52,7 @@ const SUMMARY: CommandRow = CommandRow {
         PROCESS,
         KIND,
         PORT,
+        KNOWN,
         TICKS,
         Argument::Option {
             name: "table",
@@ -56,6 +78,7 @@ const SVG: CommandRow = CommandRow {
         PROCESS,
         KIND,
         PORT,
+        KNOWN,
         TICKS,
         Argument::Option {
             name: "table",
@@ -82,11 +105,16 @@ const VCD: CommandRow = CommandRow {
         PROCESS,
         KIND,
         PORT,
+        KNOWN,
         TICKS,
         Argument::Option {
             name: "table",
             value: "TABLE",
             help: "The module table: adds a wire for the windows of each partition",
+        },
+        Argument::Flag {
+            name: "gtkw",
+            help: "Writes a saved view of the dump for GTKWave instead of the dump",
         },
     ],
 };
@@ -95,7 +123,9 @@ const LIST: CommandRow = CommandRow {
     name: "list",
     about: "Writes the lines of the trace that have all that is asked for, as they stand",
     example: "Example: mbview list trace.txt --partition a --kind STATE,HM",
-    arguments: &[TRACE, FROM, TO, PARTITION, PROCESS, KIND, PORT],
+    arguments: &[
+        TRACE, FROM, TO, PARTITION, PROCESS, KIND, PORT, KNOWN, NAMES,
+    ],
 };
 
 const CHECK: CommandRow = CommandRow {
@@ -122,6 +152,7 @@ const CHECK: CommandRow = CommandRow {
             value: "NUMBER",
             help: "There may be so many lines of missed deadlines",
         },
+        NAMES,
     ],
 };
 
@@ -136,6 +167,7 @@ const DIFF: CommandRow = CommandRow {
             help: "The file of the other trace",
         },
         PARTITION,
+        NAMES,
     ],
 };
 
@@ -149,6 +181,7 @@ const HTML: CommandRow = CommandRow {
         PROCESS,
         KIND,
         PORT,
+        KNOWN,
         TICKS,
         Argument::Option {
             name: "table",
@@ -199,6 +232,17 @@ const PORT: Argument = Argument::Option {
     help: "Only lines of messages at this port, or by this channel",
 };
 
+const KNOWN: Argument = Argument::Flag {
+    name: "known",
+    help: "Refuses a process without a line, also where its name is like no other",
+};
+
+const NAMES: Argument = Argument::Option {
+    name: "table",
+    value: "TABLE",
+    help: "The module table: its partitions, ports and channels are names too",
+};
+
 const TICKS: Argument = Argument::Option {
     name: "ticks",
     value: "TICKS",
@@ -210,6 +254,11 @@ pub fn grammar<'a>(alloc: Global) -> Result<Command<'a>, AllocError>
     ensures { IfOk result (λ command. IsCommand command view_app) }
 {
     PROGRAM.grammar(alloc)
+}
+
+/// The text of a page of the program's own words.
+pub fn page_text(alloc: Global, page: Page) -> Result<String, AllocError> {
+    PROGRAM.page(alloc, page)
 }
 
 /// The usage error of a word that an option of the command of that name does not take.
@@ -252,6 +301,14 @@ pub fn no_ticks(
         "there is no tick from {from} on before {end}: '--from' has to be below '--{option}'"
     )?;
     PROGRAM.usage_error(alloc, command, message.as_str())
+}
+
+/// The usage error of two traces that are both the standard input.
+pub fn one_input(alloc: Global) -> Result<Error, AllocError>
+    ensures { IfOk result (λ error. kind_of error ≡ ValueValidation) }
+{
+    let message = "only one of the two traces may be '-', the standard input";
+    PROGRAM.usage_error(alloc, "diff", message)
 }
 
 /// The error of words without a command.

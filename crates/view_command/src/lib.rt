@@ -14,18 +14,21 @@ mod comparing;
 mod differences;
 mod dumping;
 mod grammar;
+mod naming;
 mod opening;
 mod options;
 mod pages;
 mod refusal;
 mod request;
+mod search;
 mod showing;
+mod summing;
 mod telling;
 mod views;
 mod windows;
 
 use command_words::{Failure, page_of};
-use comparing::compare;
+use comparing::compare_asked;
 use dumping::dump;
 use pages::tell_page;
 pub use refusal::Refusal;
@@ -113,6 +116,6 @@ fn perform<S: AsStr, F: Sources, O: Stream>(
     match request_of(alloc, words)? {
         Request::Show(view, showing) => Ok(show(alloc, view, &showing, sources, out)?),
         Request::Dump(showing) => Ok(dump(alloc, &showing, sources, out)?),
-        Request::Compare(pair) => Ok(compare(alloc, &pair, sources, out)?),
+        Request::Compare(pair) => Ok(compare_asked(alloc, &pair, sources, out)?),
     }
 }

@@ -10,7 +10,7 @@ ghost use Rattle.view_command.specs.Orders.{AreKindsIn, AreNamesIn, AreTicksIn, 
 
 use crate::grammar::{bad_value, no_ticks};
 use crate::refusal::Refusal;
-use crate::views::View;
+use crate::views::Layout;
 use apex_types::Ticks;
 use apex_types::limits::MOST_TICKS;
 use clap::ArgMatches;
@@ -201,7 +201,7 @@ pub fn checked(
     alloc: Global,
     command: &str,
     found: &ArgMatches<'_>,
-) -> Result<View, Failure<Refusal>>
+) -> Result<Layout, Failure<Refusal>>
     ensures { IfErr result (λ f. IsWordsFailure (rows_of (found_of found.now)) f) }
 {
     let filter = chosen(alloc, command, found)?;
@@ -211,7 +211,7 @@ pub fn checked(
         Counted::MissedDeadlines,
         most,
     ));
-    Ok(View::Check(
+    Ok(Layout::Check(
         filter,
         Limits {
             no,

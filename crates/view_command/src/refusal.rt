@@ -1,6 +1,7 @@
 //! Why nothing is shown.
 
 ghost use Rattle.std.specs.Prelude.{◌≡◌, Some};
+ghost use Rattle.view_command.specs.Faults.{of_shares};
 ghost use Rattle.view_command.specs.Lines.{line_of};
 ghost use Rattle.view_command.specs.declared.refusal.Refusal.TheVariants as refusal;
 
@@ -9,6 +10,7 @@ use command_words::WantOfMemory;
 use std::alloc::{AllocError, AllocFailed};
 use std::fmt;
 use trace_stays::MemoryFull;
+use trace_windows::SharesFault;
 use window_table::TableFault;
 
 /// A trace that is not shown. Displays as its line on standard error.
@@ -45,6 +47,8 @@ pub enum Refusal {
     },
     /// The module table has no partition of this name, and the trace has.
     Foreign(Name),
+    /// Neither the trace nor the module table has a name that is asked for, as this text says.
+    Unknown(String),
     Memory,
     /// Standard output took no more bytes.
     Write,
@@ -94,6 +98,7 @@ impl fmt::Display for Refusal {
                 "mbview: the trace has a partition that the module table has not: {}",
                 partition.as_str()
             ),
+            Refusal::Unknown(line) => write!(f, "mbview: {line}"),
             Refusal::Memory => write!(f, "mbview: there is too little memory"),
             Refusal::Write => write!(f, "mbview: the output cannot be written"),
         }
@@ -121,6 +126,17 @@ impl From<MemoryFull> for Refusal {
 
     fn from(_: MemoryFull) -> Self {
         Refusal::Memory
+    }
+}
+
+impl From<SharesFault> for Refusal {
+    ghost from_gives = { λ why r. r ≡ of_shares why };
+
+    fn from(fault: SharesFault) -> Self {
+        match fault {
+            SharesFault::Memory => Refusal::Memory,
+            SharesFault::Unknown(partition) => Refusal::Foreign(partition),
+        }
     }
 }
 

@@ -5,15 +5,15 @@ ghost use Rattle.clap.specs.Faults.{fault_of};
 ghost use Rattle.clap.specs.Matches.{found_of};
 ghost use Rattle.clap.specs.Simple.{subcommand_of, subcommand_rows_of};
 ghost use Rattle.clap.specs.Walk.{rows_of};
-ghost use Rattle.view_command.specs.Answers.{IsFailureOfWords, IsNothingAsked, IsWordsFailure};
-ghost use Rattle.view_command.specs.Orders.{IsCompared, IsNoView, IsRequest, IsShown};
+ghost use Rattle.view_command.specs.Answers.{IsFailureOfWords, IsInputFailure, IsNothingAsked, IsWordsFailure};
+ghost use Rattle.view_command.specs.Orders.{IsCompared, IsDumped, IsNoView, IsRequest, IsShown};
 ghost use Rattle.view_command.specs.Words.{view_app};
 
 use crate::comparing::Pair;
-use crate::grammar::{grammar, no_command};
+use crate::grammar::{grammar, no_command, one_input};
 use crate::options::{checked, chosen, named, text, ticks, width};
 use crate::refusal::Refusal;
-use crate::views::View;
+use crate::views::{Form, Layout, View};
 use apex_types::Ticks;
 use clap::ArgMatches;
 use command_words::{Failure, word};
@@ -47,6 +47,8 @@ pub struct Showing {
     pub ran: Option<Ticks>,
     /// What lines have to name, so that the view reads them.
     pub kept: Filter,
+    /// Whether a process without a line is refused, also where its name is like no other.
+    pub is_strict: bool,
 }
 
 /// The request in the words.
@@ -69,7 +71,7 @@ fn requested(alloc: Global, matches: &ArgMatches<'_>) -> Result<Request, Failure
 {
     match matches.subcommand() {
         Some(("diff", found)) => compared(alloc, found),
-        Some(("vcd", found)) => Ok(Request::Dump(showing_in(alloc, "vcd", found)?)),
+        Some(("vcd", found)) => dumped(alloc, found),
         Some((command, found)) => match view_of(alloc, command, found)? {
             Some(view) => Ok(Request::Show(view, showing_in(alloc, command, found)?)),
             None => Err(Failure::Usage(no_command(alloc)?)),
@@ -88,22 +90,35 @@ fn view_of(
     ensures failed { IfErr result (λ f. IsWordsFailure (rows_of (found_of found.now)) f) }
 {
     let view = match command {
-        "summary" => table_or_rows(found),
-        "svg" => View::Picture(width(alloc, command, found)?),
-        "html" => View::Page,
-        "list" => View::Lines(chosen(alloc, command, found)?),
-        "check" => checked(alloc, command, found)?,
+        "summary" => View::Summary(form_of(found)),
+        "svg" => View::Lines(Layout::Picture(width(alloc, command, found)?)),
+        "html" => View::Lines(Layout::Page),
+        "list" => View::Lines(Layout::Listed(chosen(alloc, command, found)?)),
+        "check" => View::Lines(checked(alloc, command, found)?),
         _ => return Ok(None),
     };
     Ok(Some(view))
 }
 
-/// How a summary is written.
-fn table_or_rows(found: &ArgMatches<'_>) -> View {
-    if word(found, "csv") == "true" {
-        View::Rows
+/// A dump, or a saved view of it.
+fn dumped(alloc: Global, found: &ArgMatches<'_>) -> Result<Request, Failure<Refusal>>
+    ensures request { IfOk result (IsDumped (rows_of (found_of found.now))) }
+    ensures failed { IfErr result (λ f. IsWordsFailure (rows_of (found_of found.now)) f) }
+{
+    let showing = showing_in(alloc, "vcd", found)?;
+    if word(found, "gtkw") == "true" {
+        Ok(Request::Show(View::Lines(Layout::Saved), showing))
     } else {
-        View::Table
+        Ok(Request::Dump(showing))
+    }
+}
+
+/// How a summary is written.
+fn form_of(found: &ArgMatches<'_>) -> Form {
+    if word(found, "csv") == "true" {
+        Form::Rows
+    } else {
+        Form::Table
     }
 }
 
@@ -127,7 +142,18 @@ fn showing_in(
         to: asked.to,
         ran: asked.ran,
         kept,
+        is_strict: word(found, "known") == "true",
     })
+}
+
+/// Checks that not both traces are the standard input, which is read once.
+fn check_inputs(alloc: Global, first: &str, second: &str) -> Result<(), Failure<Refusal>>
+    ensures { IfErr result (λ f. IsInputFailure first.now second.now f) }
+{
+    if first == "-" && second == "-" {
+        return Err(Failure::Usage(one_input(alloc)?));
+    }
+    Ok(())
 }
 
 /// The traces that were found.
@@ -135,9 +161,12 @@ fn compared(alloc: Global, found: &ArgMatches<'_>) -> Result<Request, Failure<Re
     ensures request { IfOk result (IsCompared (rows_of (found_of found.now))) }
     ensures failed { IfErr result (λ f. IsWordsFailure (rows_of (found_of found.now)) f) }
 {
+    let (first, second) = (word(found, "TRACE"), word(found, "OTHER"));
+    check_inputs(alloc, first, second)?;
     Ok(Request::Compare(Pair {
-        first: String::from_str(alloc, word(found, "TRACE"))?,
-        second: String::from_str(alloc, word(found, "OTHER"))?,
+        first: String::from_str(alloc, first)?,
+        second: String::from_str(alloc, second)?,
         partition: text(alloc, found, "partition")?,
+        table: text(alloc, found, "table")?,
     }))
 }

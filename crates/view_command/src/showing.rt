@@ -1,17 +1,20 @@
 //! A trace is read to its end, and then shown.
 
-ghost use Rattle.std.specs.Prelude.{◌≡◌, ◌⊎◌, ◌-◌, ◌^◌, ◌<◌, IfErr, OnOk, string_bytes};
+ghost use Rattle.std.specs.Prelude.{◌≡◌, ◌⊎◌, ◌-◌, ◌^◌, ◌<◌, IfErr, IfOk, OnOk, string_bytes};
 ghost use Rattle.streams.specs.States.{IsFlushed, seen};
 ghost use Rattle.view_command.specs.Answers.{IsRefused, IsTableRefused, IsUnread};
 ghost use Rattle.view_command.specs.Faults as faults;
 ghost use Rattle.view_command.specs.Orders.{asked_text, number_of};
 ghost use Rattle.view_command.specs.States.{state};
+ghost use Rattle.view_command.specs.Summed.{TakesAll};
 ghost use Rattle.view_command.specs.Texts.{IsTableAsked, IsTraceIn, IsTraceOf, is_late};
 
+use crate::naming::{Named, Names};
 use crate::opening::{Opened, called, open_text};
 use crate::refusal::Refusal;
 use crate::request::Showing;
-use crate::views::{Outcome, Shown, TakeEvents, View, ViewFault};
+use crate::summing::sum_up;
+use crate::views::{Form, Layout, Outcome, Shown, TakeEvents, View, ViewFault};
 use crate::windows::table_asked;
 use apex_types::Ticks;
 use std::alloc::Global;
@@ -19,6 +22,7 @@ use std::io::Read;
 use streams::{Sources, Stream, write_bytes};
 use trace_lines::Filter;
 use trace_text::{StreamFault, TraceStream};
+use window_table::ModuleTable;
 
 /// Reads the trace to its end, and then writes it as the request wants it.
 pub fn show<F: Sources, O: Stream>(
@@ -50,18 +54,89 @@ pub fn show<F: Sources, O: Stream>(
     let table = table_asked(alloc, &request.table, sources)?;
     let trace = request.trace.as_str();
     let text = open_text(alloc, trace, sources)?;
-    let mut shown = match Shown::new(alloc, view, request.from, request.to, table) {
+    let shown = bytes_of(alloc, view, text, table, request)?;
+    let (outcome, bytes) = shown;
+    write_bytes(out, bytes.as_slice())?;
+    Ok(outcome)
+}
+
+/// What the exit status says of the trace, and the bytes that show it.
+fn bytes_of<R: Read + Drop>(
+    alloc: Global,
+    view: View,
+    text: Opened<R>,
+    table: Option<ModuleTable>,
+    request: &Showing,
+) -> Result<(Outcome, Vec<u8>), Refusal>
+    ensures trace { OnOk result
+        (IsTraceOf (R.remaining text.reader) (number_of request.now.ran)) }
+    ensures refused { IfErr result
+        (λ r. IsUnread (R.remaining text.reader) (number_of request.now.ran)
+        (string_bytes text.name) r) }
+{
+    match view {
+        View::Summary(Form::Table) => {
+            let report = sum_up(alloc, text, table, request)?;
+            Ok((Outcome::Shown, report.tables(alloc)?))
+        }
+        View::Summary(Form::Rows) => {
+            let report = sum_up(alloc, text, table, request)?;
+            Ok((Outcome::Shown, report.sheet(alloc)?))
+        }
+        View::Lines(layout) => lay_out(alloc, layout, text, table, request),
+    }
+}
+
+/// Reads the trace to its end, and shows its lines.
+fn lay_out<R: Read + Drop>(
+    alloc: Global,
+    layout: Layout,
+    text: Opened<R>,
+    table: Option<ModuleTable>,
+    request: &Showing,
+) -> Result<(Outcome, Vec<u8>), Refusal>
+    ensures trace { OnOk result
+        (IsTraceOf (R.remaining text.reader) (number_of request.now.ran)) }
+    ensures refused { IfErr result
+        (λ r. IsUnread (R.remaining text.reader) (number_of request.now.ran)
+        (string_bytes text.name) r) }
+{
+    let names = Names::of_view(alloc, &request.kept, request.is_strict, &table)?;
+    let shown = match Shown::new(alloc, layout, request.from, request.to, table) {
         Ok(shown) => shown,
         Err(fault) => return Err(of_view(fault)),
     };
-    read_all(alloc, text, request.ran, &request.kept, &mut shown)?;
+    let shown = read_named(alloc, text, request, names, shown)?;
     let outcome = shown.outcome();
-    let bytes = match shown.into_bytes(alloc, called(trace)) {
-        Ok(bytes) => bytes,
-        Err(fault) => return Err(of_view(fault)),
-    };
-    write_bytes(out, bytes.as_slice())?;
-    Ok(outcome)
+    match shown.into_bytes(alloc, called(request.trace.as_str())) {
+        Ok(bytes) => Ok((outcome, bytes)),
+        Err(fault) => Err(of_view(fault)),
+    }
+}
+
+/// Reads every line of a trace, which has to have the names that are asked for.
+pub fn read_named<R: Read + Drop, T: TakeEvents + Drop>(
+    alloc: Global,
+    text: Opened<R>,
+    request: &Showing,
+    names: Names,
+    taker: T,
+) -> Result<T, Refusal>
+    ensures trace { OnOk result
+        (IsTraceOf (R.remaining text.reader) (number_of request.now.ran)) }
+    ensures taken { IfOk result
+        (λ last. TakesAll (T.takes request.now.kept) (R.remaining text.reader) taker last) }
+    ensures refused { IfErr result
+        (λ r. IsUnread (R.remaining text.reader) (number_of request.now.ran)
+        (string_bytes text.name) r) }
+{
+    let mut named = Named { taker, names };
+    read_all(alloc, text, request.ran, &request.kept, &mut named)?;
+    let Named { taker, names } = named;
+    match names.unknown(alloc)? {
+        Some(line) => Err(Refusal::Unknown(line)),
+        None => Ok(taker),
+    }
 }
 
 /// Reads every line of a trace. None may be after the end of the run, if it is known.
@@ -73,6 +148,8 @@ pub fn read_all<R: Read + Drop, T: TakeEvents>(
     taker: &mut T,
 ) -> Result<(), Refusal>
     ensures trace { OnOk result (IsTraceOf (R.remaining text.reader) (number_of ran)) }
+    ensures taken { OnOk result
+        (TakesAll (T.takes kept.now) (R.remaining text.reader) taker.old taker.new) }
     ensures refused { IfErr result
         (λ r. IsUnread (R.remaining text.reader) (number_of ran) (string_bytes text.name) r) }
 {

@@ -1,11 +1,13 @@
 //! The views of a trace: the one file that names the crates which make them.
 
-ghost use Rattle.std.specs.Prelude.{◌≡◌, IsErrOf};
+ghost use Rattle.std.specs.Prelude.{◌≡◌, ⊤, IsErrOf, OnOk};
 ghost use Rattle.view_command.specs.Views.{IsOfPicture, outcome_of, shares_fault, view_fault, windows_fault};
+ghost use Rattle.apex_types.specs.declared.event.Event.{Event};
+ghost use Rattle.trace_lines.specs.declared.filter.Filter.{Filter};
 ghost use Rattle.trace_picture.specs.declared.excess.Excess.{Excess};
 ghost use Rattle.view_command.specs.declared.views.ViewFault.TheVariants as fault;
 
-use crate::windows::{page_windows, shares_of, windows_of};
+use crate::windows::{names_asked, page_windows, windows_of};
 use apex_types::{Event, Name, Ticks};
 use std::alloc::{AllocError, Global};
 use std::io;
@@ -13,8 +15,8 @@ use trace_lines::{Check, Filter, Limits, Listing};
 use trace_page::Page;
 use trace_picture::{Excess, Picture, PictureFault, Width};
 use trace_stays::MemoryFull;
-use trace_view::Summary;
 use trace_windows::{SharesFault, Windows, WindowsFault};
+use wave_dump::{Wires, saved_view};
 use window_table::ModuleTable;
 
 /// The most windows, and ticks between them, of a picture, which also counts its elements.
@@ -23,16 +25,32 @@ const MOST_OF_PICTURE: usize = 20_000;
 /// How a trace is shown.
 #[derive(Drop)]
 pub enum View {
+    /// It is summed up.
+    Summary(Form),
+    /// Its lines are shown.
+    Lines(Layout),
+}
+
+/// How a summary is written.
+#[derive(Clone, Copy)]
+pub enum Form {
     /// A table for people.
     Table,
     /// The same as comma-separated values.
     Rows,
+}
+
+/// How lines are shown.
+#[derive(Drop)]
+pub enum Layout {
     /// A picture of this width.
     Picture(Width),
+    /// A saved view of its dump.
+    Saved,
     /// A page for a browser.
     Page,
     /// The chosen lines, unchanged.
-    Lines(Filter),
+    Listed(Filter),
     /// The first of the chosen lines that is one too many.
     Check(Filter, Limits),
 }
@@ -60,17 +78,21 @@ pub enum ViewFault {
 
 /// What takes the events of a trace while it is read.
 pub trait TakeEvents {
+    /// What becomes of it by an event, with a filter.
+    ghost takes: { Filter → Event → Self → Self → Type 0 } = { λ _ _ _ _. ⊤ };
+
     /// Takes the next event, if the filter lets it through or all lines count.
-    fn take(&mut self, kept: &Filter, event: &Event) -> Result<(), ViewFault>;
+    fn take(&mut self, kept: &Filter, event: &Event) -> Result<(), ViewFault>
+        ensures { OnOk result (takes kept.now event.now self.old self.new) };
 }
 
-/// The report of the events so far.
+/// What is shown of the events so far.
 #[derive(Drop)]
 pub enum Shown {
-    Table(Summary),
-    Rows(Summary),
     /// The picture and its width, and the windows of the module table, if one is given.
     Picture(Picture, Width, Option<Windows>),
+    /// The variables of the dump, and the partitions of the module table.
+    Saved(Wires, Vec<Name>),
     /// The page, and its windows.
     Page(Page, Vec<u8>),
     Lines(Listing),
@@ -81,7 +103,7 @@ impl Shown {
     /// Nothing is shown so far.
     pub fn new(
         alloc: Global,
-        view: View,
+        layout: Layout,
         from: Ticks,
         to: Option<Ticks>,
         table: Option<ModuleTable>,
@@ -90,32 +112,23 @@ impl Shown {
         ensures crowded { (excess : Excess) → IsErrOf result (ViewFault.Crowded excess)
             → ⊥ }
     {
-        let shown = match view {
-            View::Table => Shown::Table(Summary::new(
-                alloc,
-                from,
-                to,
-                shares_of(alloc, table, from)?,
-            )),
-            View::Rows => Shown::Rows(Summary::new(
-                alloc,
-                from,
-                to,
-                shares_of(alloc, table, from)?,
-            )),
-            View::Picture(width) => {
+        let shown = match layout {
+            Layout::Picture(width) => {
                 let windows = windows_of(alloc, table, (from, to), MOST_OF_PICTURE)?;
                 Shown::Picture(Picture::new(alloc, from, to), width, windows)
             }
-            View::Page => Shown::Page(Page::new(alloc, to), page_windows(alloc, &table)?),
-            View::Lines(filter) => Shown::Lines(Listing::new(alloc, filter)),
-            View::Check(filter, limits) => Shown::Check(Check::new(alloc, filter, limits)),
+            Layout::Saved => {
+                Shown::Saved(Wires::new(alloc, from, to), names_asked(alloc, &table)?)
+            }
+            Layout::Page => Shown::Page(Page::new(alloc, to), page_windows(alloc, &table)?),
+            Layout::Listed(filter) => Shown::Lines(Listing::new(alloc, filter)),
+            Layout::Check(filter, limits) => Shown::Check(Check::new(alloc, filter, limits)),
         };
         Ok(shown)
     }
 
-    /// Reads the next event, if the filter lets it through. Only what the processor did and the
-    /// windows of a picture go by all lines.
+    /// Reads the next event, if the filter lets it through. Only the windows of a picture go by all
+    /// lines, and those of a page by its lines of the module.
     pub fn read(&mut self, kept: &Filter, event: &Event) -> Result<(), ViewFault>
         ensures many { IsErrOf result ViewFault.TooMany → IsOfPicture self.old }
         ensures crowded { (excess : Excess) → IsErrOf result (ViewFault.Crowded excess)
@@ -125,8 +138,8 @@ impl Shown {
             return self.add(event);
         }
         match self {
-            Shown::Table(summary) | Shown::Rows(summary) => summary.pass(event)?,
             Shown::Picture(_, _, windows) => read_windows(windows, event)?,
+            Shown::Page(page, _) if event.partition.is_none() => page.add(event)?,
             _ => {}
         }
         Ok(())
@@ -139,10 +152,12 @@ impl Shown {
             → IsOfPicture self.old }
     {
         match self {
-            Shown::Table(summary) | Shown::Rows(summary) => summary.count(event)?,
             Shown::Picture(picture, _, windows) => {
                 read_windows(windows, event)?;
                 picture.add(event)?
+            }
+            Shown::Saved(wires, _) => {
+                wires.add(event)?;
             }
             Shown::Page(page, _) => page.add(event)?,
             Shown::Lines(listing) => listing.add(event)?,
@@ -161,7 +176,7 @@ impl Shown {
         }
     }
 
-    /// The report of all events of the trace of this name, as the bytes to write.
+    /// What is shown of all events of the trace of this name, as the bytes to write.
     pub fn into_bytes(self, alloc: Global, name: &str) -> Result<Vec<u8>, ViewFault>
         ensures many { IsErrOf result ViewFault.TooMany → IsOfPicture self }
         ensures crowded { (excess : Excess) → IsErrOf result (ViewFault.Crowded excess)
@@ -169,10 +184,11 @@ impl Shown {
     {
         let mut bytes = Vec::new(alloc);
         match self {
-            Shown::Table(summary) => bytes = summary.finish()?.tables(alloc)?,
-            Shown::Rows(summary) => bytes = summary.finish()?.sheet(alloc)?,
             Shown::Picture(picture, width, windows) => {
                 write_picture(picture, width, windows, name, &mut bytes)?
+            }
+            Shown::Saved(wires, names) => {
+                bytes = saved_view(alloc, &wires, names.as_slice())?.into_bytes()
             }
             Shown::Page(page, windows) => bytes = page.into_text(windows.as_slice())?,
             Shown::Lines(listing) => bytes = listing.into_text(),

@@ -6,7 +6,8 @@ ghost use Rattle.view_command.specs.Answers.{IsRefusedByTable, IsTableRefused};
 ghost use Rattle.view_command.specs.Orders.{asked_text};
 ghost use Rattle.view_command.specs.States.{state};
 ghost use Rattle.view_command.specs.Texts.{IsRefusedTable, IsTable, IsTableAsked, IsTableIn};
-ghost use Rattle.view_command.specs.Windows.{AreSharesBefore, IsBadTable, names_of, page_windows};
+ghost use Rattle.trace_view.specs.Reports.{AreSharesBefore};
+ghost use Rattle.view_command.specs.Windows.{IsBadTable, names_of, page_windows, windows_known};
 ghost use Rattle.window_table.specs.Answers.{AnswersText};
 
 use crate::opening::{Opened, open_text};
@@ -94,13 +95,21 @@ fn names(alloc: Global, table: &ModuleTable) -> Result<Vec<Name>, AllocError>
     Ok(names)
 }
 
+/// The names of the partitions of a table, if there is one.
+pub fn names_asked(alloc: Global, table: &Option<ModuleTable>) -> Result<Vec<Name>, AllocError> {
+    match table {
+        Some(table) => names(alloc, table),
+        None => Ok(Vec::new(alloc)),
+    }
+}
+
 /// Counts by the windows of a table, if there is one. The ticks `from` and later count.
 pub fn shares_of(
     alloc: Global,
     table: Option<ModuleTable>,
     from: Ticks,
 ) -> Result<Option<Shares>, SharesFault>
-    ensures { IfOk result (λ shares. AreSharesBefore table from shares) }
+    ensures { IfOk result (λ shares. AreSharesBefore (windows_known table) from shares) }
 {
     let Some(table) = table else {
         return Ok(None);

@@ -1,5 +1,5 @@
 -- The ticks in RUNNING that a summary counts for a runner of a run are those in which it runs.
-use Rattle.std.proofs.Common.{◌≡◌, ◌<◌, ◌≤◌, ℕ, zero, suc, Bool, true, false, List, [], ◌∷◌, inl, inr, Some, None, refl, sym, ap, ◌∙◌, subst, arith}
+use Rattle.std.proofs.Common.{◌≡◌, ◌<◌, ◌≤◌, ℕ, zero, suc, Bool, true, false, List, [], ◌∷◌, inl, inr, None, refl, sym, ap, ◌∙◌, subst, arith}
 use Rattle.std.specs.Prelude.{◌+◌, ◌-◌, nat_lt, if◌then◌else◌}
 use Rattle.std.proofs.lemmas.Bool.{cases_lt, le-ltb, ltb-true}
 use Rattle.apex_types.specs.Limits.{MOST_TICKS}
@@ -10,14 +10,7 @@ use Rattle.apex_types.specs.declared.device.DeviceLine.{DeviceLine}
 use Rattle.apex_types.specs.declared.event.Event.{Event}
 use Rattle.apex_types.specs.declared.event.Subject.{Subject}
 use Rattle.apex_types.specs.declared.event.Subject.TheVariants.{Init, Handler, Process}
-use Rattle.machine_meaning.specs.Image.{Image, Item}
-use Rattle.machine_meaning.specs.ImageLimits.{IsLawful}
-use Rattle.machine_meaning.specs.MachineMeaning.{machine_module, machine_trace}
-use Rattle.module_meaning.specs.Accepted.{IsModule}
 use Rattle.module_meaning.specs.Module.{Module, trace}
-use Rattle.module_meaning.specs.SourceMeaning.{source_module, source_trace}
-use Rattle.module_meaning.specs.Table.{Partition, Table, at_number}
-use Rattle.pal_meaning.specs.Program as program
 use Rattle.trace_stays.specs.Stays.{span}
 use Rattle.trace_stays.specs.Traces.{stays_in}
 use Rattle.trace_stays.specs.declared.span.Span.{Span}
@@ -30,11 +23,10 @@ use Rattle.trace_windows.specs.Uses.{one_if}
 use Rattle.view_laws.specs.Counted.{AreBeforeTick, running_counted}
 use Rattle.view_laws.specs.Reading.{AreInOrder, up_to}
 use Rattle.view_laws.specs.Shown.{HasOwnWord, HaveNames}
-use Rattle.view_laws.specs.Ticks.{running_in, runs_in_tick, ticks_when}
+use Rattle.view_laws.specs.Ticks.{running_in, ticks_when}
 use Rattle.view_laws.proofs.Lines.{AreUpTo, up_to_are}
 use Rattle.view_laws.proofs.Tallies.{all_counted}
 use Rattle.view_laws.proofs.Run.{run_order, run_up_to}
-use Rattle.view_laws.proofs.Running.{image_running, module_running}
 use Rattle.view_laws.proofs.Sums.{few_when, stays_ticks, sum_of, sum_same, sum_when}
 
 -- ---- a window without ticks
@@ -79,7 +71,7 @@ module _ (window : Span) (lines : List Event) (name : List ℕ) (who : Subject) 
 
   pub counted_runs : running_counted window (span from until) lines name who ≡ ticks_when runs from (until - from)
   counted_runs =
-      let a = all_counted window (span from until) begin close (omega (arith, few)) name (subject_text who) lines processes.no_process early tt in
+      let a = all_counted state.Running window (span from until) begin close (omega (arith, few)) name (subject_text who) lines processes.no_process early tt in
       let b = sums in
       let c = few_when runs from (until - from) in
       omega (arith, a, b, c, few)
@@ -124,50 +116,30 @@ word_up_to t lines (Process own) h = h
 
 -- ---- a run of which the ticks before one are shown
 
-module _ {C : Type 0} (m : Module C) (devices : List DeviceLine) (n : ℕ) (name : List ℕ) (who : Subject) (runs : ℕ → Bool) (few : n ≤ MOST_TICKS) (own : HasOwnWord (trace m devices n) who)
-    (shown : (k t : ℕ) → k ≤ MOST_TICKS → t < k → HasOwnWord (trace m devices k) who → running_in t (stays_in (trace m devices k) k name (subject_text who) None) ≡ one_if (runs t)) where
-  pub run_counted : (from until : ℕ) → until ≤ n → running_counted (span from until) (span from until) (trace m devices n) name who ≡ ticks_when runs from (until - from)
-  run_counted from zero l =
-      let none : 0 ≡ 0 - from = omega arith in
-      ap (λ (p : processes.Process). (processes.process_ended (span from 0) p).tally.ticks.running) (unread (span from 0) (trace m devices n) name (subject_text who) processes.no_process (run_order m devices n))
-      ∙ ap (ticks_when runs from) none
-  run_counted from (suc t) l =
-      let part : up_to t (trace m devices n) ≡ trace m devices (suc t) = run_up_to m devices n t (omega (arith, l)) in
-      let enough : suc t ≤ MOST_TICKS = omega (arith, l, few) in
-      let word = subst (λ (lines : List Event). HasOwnWord lines who) part (word_up_to t (trace m devices n) who own) in
-      ap (λ (p : processes.Process). (processes.process_ended (span from (suc t)) p).tally.ticks.running) (read_up_to (span from (suc t)) t 0 (trace m devices n) name (subject_text who) processes.no_process refl (run_order m devices n))
-      ∙ ap (λ (lines : List Event). running_counted (span from (suc t)) (span from (suc t)) lines name who) part
-      ∙ counted_runs (span from (suc t)) (trace m devices (suc t)) name who runs from (suc t) refl (omega arith) enough
-      (subst (AreBeforeTick (suc t)) part (before_tick t (up_to t (trace m devices n)) (up_to_are t (trace m devices n))))
-      (λ i k. shown (suc t) i enough k word)
+module _ {C : Type 0} (m : Module C) (devices : List DeviceLine) (n : ℕ) where
+  pub run_part : (closing : Span) (u : ℕ) (name word : List ℕ) → closing.until.0 ≡ u → u ≤ n → process_in closing (trace m devices n) name word processes.no_process ≡ process_in closing (trace m devices u) name word processes.no_process
+  run_part closing zero name word is l = unread closing (trace m devices n) name word processes.no_process (subst (λ (u : ℕ). AreInOrder u (trace m devices n)) (sym is) (run_order m devices n))
+  run_part closing (suc t) name word is l =
+      read_up_to closing t 0 (trace m devices n) name word processes.no_process is (run_order m devices n)
+      ∙ ap (λ (lines : List Event). process_in closing lines name word processes.no_process) (run_up_to m devices n t (omega (arith, l)))
 
--- ---- images and modules
+  pub run_early : (u : ℕ) → u ≤ n → AreBeforeTick u (trace m devices u)
+  run_early zero l = tt
+  run_early (suc t) l = subst (AreBeforeTick (suc t)) (run_up_to m devices n t (omega (arith, l))) (before_tick t (up_to t (trace m devices n)) (up_to_are t (trace m devices n)))
 
-pub image_counted : (image : Image) (devices : List DeviceLine) (n from until p : ℕ) (item : Item) (who : Subject) → IsLawful image → until ≤ n → n ≤ MOST_TICKS → at_number image.items p ≡ Some item → HasOwnWord (machine_trace image devices n) who
-    → running_counted (span from until) (span from until) (machine_trace image devices n) item.partition.name who ≡ ticks_when (runs_in_tick (machine_module image) devices p who) from (until - from)
-image_counted image devices n from until p item who lawful l few here own =
-    run_counted (machine_module image) devices n item.partition.name who (runs_in_tick (machine_module image) devices p who) few own
-    (λ k t enough before word. image_running image devices k k t p item who lawful before before enough here word) from until l
+  pub run_word : (u : ℕ) (who : Subject) → u ≤ n → HasOwnWord (trace m devices n) who → HasOwnWord (trace m devices u) who
+  run_word zero who l own = first who own
+    where
+      first : (who : Subject) → HasOwnWord (trace m devices n) who → HasOwnWord [] who
+      first Init h = tt
+      first Handler h = tt
+      first (Process own) h = h
+  run_word (suc t) who l own = subst (λ (lines : List Event). HasOwnWord lines who) (run_up_to m devices n t (omega (arith, l))) (word_up_to t (trace m devices n) who own)
 
--- without an end that is given
-pub image_counted_open : (image : Image) (devices : List DeviceLine) (n from until p : ℕ) (window : Span) (item : Item) (who : Subject) → IsLawful image → until ≤ n → n ≤ MOST_TICKS → at_number image.items p ≡ Some item
-    → HasOwnWord (machine_trace image devices n) who → window.from.0 ≡ from → until ≤ window.until.0 → AreBeforeTick until (machine_trace image devices n)
-    → running_counted window (span from until) (machine_trace image devices n) item.partition.name who ≡ ticks_when (runs_in_tick (machine_module image) devices p who) from (until - from)
-image_counted_open image devices n from until p window item who lawful l few here own begin close early =
-    counted_runs window (machine_trace image devices n) item.partition.name who (runs_in_tick (machine_module image) devices p who) from until begin close (omega (arith, l, few)) early
-    (λ t before. image_running image devices n until t p item who lawful (omega (arith, before, l)) before few here own)
-
-pub module_counted : (table : List ℕ) (sources : List (List ℕ)) (t : Table) (programs : List program.Program) (devices : List DeviceLine) (n from until p : ℕ) (row : Partition) (who : Subject)
-    → IsModule table sources t programs → until ≤ n → n ≤ MOST_TICKS → at_number t.partitions p ≡ Some row → HasOwnWord (source_trace t programs devices n) who
-    → running_counted (span from until) (span from until) (source_trace t programs devices n) row.name who ≡ ticks_when (runs_in_tick (source_module t programs) devices p who) from (until - from)
-module_counted table sources t programs devices n from until p row who accepted l few here own =
-    run_counted (source_module t programs) devices n row.name who (runs_in_tick (source_module t programs) devices p who) few own
-    (λ k i enough before word. module_running table sources t programs devices k k i p row who accepted before before enough here word) from until l
-
-pub module_counted_open : (table : List ℕ) (sources : List (List ℕ)) (t : Table) (programs : List program.Program) (devices : List DeviceLine) (n from until p : ℕ) (window : Span) (row : Partition) (who : Subject)
-    → IsModule table sources t programs → until ≤ n → n ≤ MOST_TICKS → at_number t.partitions p ≡ Some row → HasOwnWord (source_trace t programs devices n) who
-    → window.from.0 ≡ from → until ≤ window.until.0 → AreBeforeTick until (source_trace t programs devices n)
-    → running_counted window (span from until) (source_trace t programs devices n) row.name who ≡ ticks_when (runs_in_tick (source_module t programs) devices p who) from (until - from)
-module_counted_open table sources t programs devices n from until p window row who accepted l few here own begin close early =
-    counted_runs window (source_trace t programs devices n) row.name who (runs_in_tick (source_module t programs) devices p who) from until begin close (omega (arith, l, few)) early
-    (λ i before. module_running table sources t programs devices n until i p row who accepted (omega (arith, before, l)) before few here own)
+  module _ (name : List ℕ) (who : Subject) (runs : ℕ → Bool) (few : n ≤ MOST_TICKS) (own : HasOwnWord (trace m devices n) who)
+      (shown : (k t : ℕ) → k ≤ MOST_TICKS → t < k → HasOwnWord (trace m devices k) who → running_in t (stays_in (trace m devices k) k name (subject_text who) None) ≡ one_if (runs t)) where
+    pub run_counted : (from until : ℕ) → until ≤ n → running_counted (span from until) (span from until) (trace m devices n) name who ≡ ticks_when runs from (until - from)
+    run_counted from until l =
+        let enough : until ≤ MOST_TICKS = omega (arith, l, few) in
+        ap (λ (p : processes.Process). (processes.process_ended (span from until) p).tally.ticks.running) (run_part (span from until) until name (subject_text who) refl l)
+        ∙ counted_runs (span from until) (trace m devices until) name who runs from until refl (omega arith) enough (run_early until l) (λ t before. shown until t enough before (run_word until who l own))

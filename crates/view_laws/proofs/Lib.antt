@@ -9,6 +9,9 @@ pub mod Running
 pub mod Sums
 pub mod Tallies
 pub mod Counted
+pub mod Closing
+pub mod StateSums
+pub mod OfReports
 pub mod Modes
 pub mod ModesOfRuns
 pub mod Stated

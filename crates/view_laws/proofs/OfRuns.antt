@@ -120,7 +120,7 @@ run_owners m devices n t l =
     ∙ ap (λ (ls : List Event). frames.owner_by m.plan.schedule (frames_after frames.at_first ls) t) (run_up_to m devices n t l)
     ∙ owner_so m.plan (before_owner_in m devices t).at (frames_after frames.at_first (trace m devices (suc t))) t (run_now m devices t) (run_frames m devices t)
 
-before_in_order : (until from : ℕ) (lines : List Event) → until ≤ MOST_TICKS → from ≤ until → AreInOrder from lines → AreUpTo until lines → AreBefore until from lines
+pub before_in_order : (until from : ℕ) (lines : List Event) → until ≤ MOST_TICKS → from ≤ until → AreInOrder from lines → AreUpTo until lines → AreBefore until from lines
 before_in_order until from [] l k h g = k
 before_in_order until from (e ∷ es) l k h g =
     let low = h.0 in
@@ -157,7 +157,7 @@ shares_so schedule names used events from until n rows l few same shares u =
 -- ---- rows with names
 
 -- a name is of a row
-named_row : {A : Type 0} (f : A → List ℕ) (xs : List A) (p : ℕ) (name : List ℕ) → at_number (map f xs) p ≡ Some name → (x : A) × ((at_number xs p ≡ Some x) × (f x ≡ name))
+pub named_row : {A : Type 0} (f : A → List ℕ) (xs : List A) (p : ℕ) (name : List ℕ) → at_number (map f xs) p ≡ Some name → (x : A) × ((at_number xs p ≡ Some x) × (f x ≡ name))
 named_row f xs zero name e = absurd (none-some name e)
 named_row f xs (suc i) name e = by_row (slice_get xs i) refl
   where

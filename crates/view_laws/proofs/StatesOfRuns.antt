@@ -1,6 +1,6 @@
 -- In which ticks of a run a view shows that a runner is READY or WAITING.
 use Rattle.std.proofs.Common.{◌≡◌, ◌≢◌, ◌<◌, ◌≤◌, ℕ, suc, Bool, true, false, List, Option, Some, None, refl, sym, ap, ◌∙◌, subst, arith}
-use Rattle.std.specs.Prelude.{◌&&◌}
+use Rattle.std.specs.Prelude.{◌&&◌, nat_le}
 use Rattle.std.proofs.lemmas.Bool.{false≢true, le-leb}
 use Rattle.apex_types.specs.Limits.{MOST_TICKS}
 use Rattle.apex_types.specs.Line.{subject_text}
@@ -110,6 +110,30 @@ module _ {C : Type 0} (m : Module C) (devices : List DeviceLine) (n until t p : 
       ∙ ap (λ (lines : List Event). shows_now t soon wanted (rests wanted resting) (state_after lines name (subject_text r.who) None)) part
       ∙ by_held (state_after (trace m devices (suc t)) name (subject_text r.who) None) refl is_state
 
+-- no more than that, whether or not it spends the tick
+module _ {C : Type 0} (m : Module C) (devices : List DeviceLine) (n until t : ℕ) (name : List ℕ) (x : Member C) (q : Runner) (r : ProcessStatus) (wanted : ProcessState) (other : is_running wanted ≡ false) (l : t < n) (u : t < until)
+    (few : n ≤ MOST_TICKS) (row : row_of x.world.kernel.processes q ≡ Some r) (own : HasOwnWord (trace m devices n) r.who) (tells : TellsState (told name (trace m devices (suc t))) x.world.kernel) where
+  abbrev early : t < MOST_TICKS
+  early = omega (arith, l, few)
+
+  most_held : (o : Option Held) → state_of o ≡ r.state → shows_now t early wanted other o ≤ one_if (is_same_state wanted r.state)
+  most_held None is = omega arith
+  most_held (Some h) is = subst (λ (s : ProcessState). one_if (is_same_state wanted h.state && nat_le h.since.0 t) ≤ one_if (is_same_state wanted s)) is (less (is_same_state wanted h.state) (nat_le h.since.0 t))
+    where
+      less : (a b : Bool) → one_if (a && b) ≤ one_if a
+      less true true = omega arith
+      less true false = omega arith
+      less false b = omega arith
+
+  pub run_most : state_in wanted t (stays_in (trace m devices n) until name (subject_text r.who) None) ≤ one_if (is_same_state wanted r.state)
+  run_most =
+      let part = run_up_to m devices n t l in
+      let word = subst (λ (lines : List Event). HasOwnWord lines r.who) part (word_up_to t (trace m devices n) r.who own) in
+      let is = shown t early wanted other (trace m devices n) until name (subject_text r.who) 0 None (run_order m devices n) u
+      ∙ ap (λ (lines : List Event). shows_now t early wanted other (state_after lines name (subject_text r.who) None)) part in
+      let most = most_held (state_after (trace m devices (suc t)) name (subject_text r.who) None) (state_is_told (trace m devices (suc t)) name r.who word ∙ tells.states q r row) in
+      omega (arith, is, most)
+
 pub image_state : (image : Image) (devices : List DeviceLine) (n until t p : ℕ) (item : Item) (x : Member MachineControl) (q : Runner) (r : ProcessStatus) (wanted : ProcessState) → IsLawful image → t < n → t < until → n ≤ MOST_TICKS
     → at_number image.items p ≡ Some item → at_number (members_after (machine_module image) devices (suc t)) p ≡ Some x → row_of x.world.kernel.processes q ≡ Some r → HasOwnWord (machine_trace image devices n) r.who
     → is_resting wanted ≡ true → works_in_tick (machine_module image) devices p r.who t ≡ false
@@ -132,3 +156,16 @@ module_state table sources t programs devices n until i p part x q r wanted acce
     (module_tells table sources t programs devices (suc i) accepted p part x here found)
     (λ owns. module_worker table sources t programs devices i accepted p part here owns)
     (λ owns. module_idle table sources t programs devices i accepted p part here owns)
+
+pub image_most : (image : Image) (devices : List DeviceLine) (n until t p : ℕ) (item : Item) (x : Member MachineControl) (q : Runner) (r : ProcessStatus) (wanted : ProcessState) → IsLawful image → t < n → t < until → n ≤ MOST_TICKS
+    → at_number image.items p ≡ Some item → at_number (members_after (machine_module image) devices (suc t)) p ≡ Some x → row_of x.world.kernel.processes q ≡ Some r → HasOwnWord (machine_trace image devices n) r.who → is_running wanted ≡ false
+    → state_in wanted t (stays_in (machine_trace image devices n) until item.partition.name (subject_text r.who) None) ≤ one_if (is_same_state wanted r.state)
+image_most image devices n until t p item x q r wanted lawful l u few here found row own other =
+    run_most (machine_module image) devices n until t item.partition.name x q r wanted other l u few row own (image_tells image devices (suc t) p item x lawful here found)
+
+pub module_most : (table : List ℕ) (sources : List (List ℕ)) (t : Table) (programs : List Program) (devices : List DeviceLine) (n until i p : ℕ) (part : Partition) (x : Member SourceControl) (q : Runner) (r : ProcessStatus) (wanted : ProcessState)
+    → IsModule table sources t programs → i < n → i < until → n ≤ MOST_TICKS → at_number t.partitions p ≡ Some part
+    → at_number (members_after (source_module t programs) devices (suc i)) p ≡ Some x → row_of x.world.kernel.processes q ≡ Some r → HasOwnWord (source_trace t programs devices n) r.who → is_running wanted ≡ false
+    → state_in wanted i (stays_in (source_trace t programs devices n) until part.name (subject_text r.who) None) ≤ one_if (is_same_state wanted r.state)
+module_most table sources t programs devices n until i p part x q r wanted accepted l u few here found row own other =
+    run_most (source_module t programs) devices n until i part.name x q r wanted other l u few row own (module_tells table sources t programs devices (suc i) accepted p part x here found)

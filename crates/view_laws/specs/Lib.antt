@@ -4,3 +4,4 @@ pub mod Shown
 pub mod Ticks
 pub mod Modes
 pub mod Counted
+pub mod Reports

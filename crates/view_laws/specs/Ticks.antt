@@ -1,16 +1,17 @@
 -- In which ticks a view shows that a runner is RUNNING, in which the lines tell it, and in which it is so.
-use Rattle.std.specs.Prelude.{◌+◌, ◌==◌, ℕ, zero, suc, Bool, true, false, ◌&&◌, ◌||◌, nat_le, nat_lt, List, [], ◌∷◌, Option, Some, None}
+use Rattle.std.specs.Prelude.{◌≡◌, ◌<◌, ◌+◌, ◌==◌, ℕ, zero, suc, Bool, true, false, not, ◌&&◌, ◌||◌, nat_le, nat_lt, if◌then◌else◌, List, [], ◌∷◌, Option, Some, None, is_some}
 use Rattle.apex_types.specs.declared.codes.ProcessState.{ProcessState}
 use Rattle.apex_types.specs.declared.codes.ProcessState.TheVariants as state
 use Rattle.apex_types.specs.declared.device.DeviceLine.{DeviceLine}
 use Rattle.apex_types.specs.declared.event.Subject.{Subject}
+use Rattle.apex_types.specs.declared.process.ProcessStatus.{ProcessStatus}
 use Rattle.kernel_laws.specs.History.{members_after}
 use Rattle.kernel_meaning.specs.Partition.{Member}
 use Rattle.module_meaning.specs.Module.{Module}
 use Rattle.module_meaning.specs.Table.{at_number}
 use Rattle.state_laws.specs.Spending.{owner_in, worker}
 use Rattle.state_laws.specs.States.{runs_in}
-use Rattle.state_laws.specs.Told.{Told, is_it, worked_in}
+use Rattle.state_laws.specs.Told.{Told, is_it, is_same, worked_in}
 use Rattle.trace_stays.specs.declared.span.Span.{Span}
 use Rattle.trace_stays.specs.declared.stay.Stay.{Stay}
 use Rattle.trace_windows.specs.Uses.{one_if}
@@ -84,3 +85,34 @@ works_in_tick m devices p who t = is_owned p (owner_in m devices t) && is_it who
 abbrev pub ticks_when : (ℕ → Bool) → (from n : ℕ) → ℕ
 ticks_when test from zero = 0
 ticks_when test from (suc n) = ticks_when test from n + one_if (test (from + n))
+
+-- ---- the state after a tick
+
+-- the state of the first record with this subject
+abbrev pub state_among : Subject → List ProcessStatus → Option ProcessState
+state_among who [] = None
+state_among who (r ∷ rs) = if is_same r.who who then Some r.state else state_among who rs
+
+abbrev pub state_by : {C : Type 0} → Subject → Option (Member C) → Option ProcessState
+state_by who None = None
+state_by who (Some x) = state_among who x.world.kernel.processes.rows
+
+-- the state of a runner of partition p after tick t of a run
+abbrev pub state_in_run : {C : Type 0} → Module C → List DeviceLine → ℕ → Subject → ℕ → Option ProcessState
+state_in_run m devices p who t = state_by who (at_number (members_after m devices (suc t)) p)
+
+abbrev pub is_state : ProcessState → Option ProcessState → Bool
+is_state wanted None = false
+is_state wanted (Some s) = is_same_state wanted s
+
+-- after the tick it is in this state
+abbrev pub ends_in_state : {C : Type 0} → Module C → List DeviceLine → ℕ → Subject → ProcessState → ℕ → Bool
+ends_in_state m devices p who wanted t = is_state wanted (state_in_run m devices p who t)
+
+-- and it does not spend the tick
+abbrev pub rests_in_state : {C : Type 0} → Module C → List DeviceLine → ℕ → Subject → ProcessState → ℕ → Bool
+rests_in_state m devices p who wanted t = ends_in_state m devices p who wanted t && not (works_in_tick m devices p who t)
+
+-- the partition has a runner with this subject after each tick before this one
+abbrev pub IsRunner : {C : Type 0} → Module C → List DeviceLine → ℕ → Subject → ℕ → Type 0
+IsRunner m devices p who until = (t : ℕ) → t < until → is_some (state_in_run m devices p who t) ≡ true

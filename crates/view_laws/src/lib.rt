@@ -2,7 +2,7 @@
 //! The functions do nothing, and promise a law each.
 #![tactic(auto)]
 
-pub mod numbers;
+pub mod reports;
 pub mod states;
 pub mod uses;
 pub mod words;

@@ -93,17 +93,17 @@ fn push_modes(place: usize, text: &mut String) -> Result<(), AllocError> {
     end_scope(text)
 }
 
-/// Appends the scope of the process at this place.
+/// Appends the scope of the process at this place. A viewer shows the last part of a name, so each has
+/// that of the process.
 fn push_process(place: usize, lane: &ProcessLane, text: &mut String) -> Result<(), AllocError> {
-    begin_scope(subject_word(&lane.who), text)?;
+    let who = subject_word(&lane.who);
+    begin_scope(who, text)?;
     for state in &STATES {
-        push_wire(Variable::State(place, *state), state.word(), text)?;
+        let (wire, word) = (Variable::State(place, *state), state.word());
+        write!(text, "$var wire 1 {wire} {who}_{word} $end\n")?;
     }
-    write!(
-        text,
-        "$var string 1 {} STATE $end\n",
-        Variable::StateName(place)
-    )?;
+    let name = Variable::StateName(place);
+    write!(text, "$var string 1 {name} {who}_STATE $end\n")?;
     end_scope(text)
 }
 

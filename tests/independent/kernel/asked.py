@@ -209,10 +209,10 @@ class Call:
     def waits(self, found, time_out, message=None, array=None):
         self.kernel.wait_in_list(self.caller, self.row, found.waiting, time_out, message, array)
 
-    def hand_over(self, found, place, time_out):
+    def hand_over(self, found, place, size, time_out):
         """The first message goes into the caller's array; the caller waits if there is none. Whether there was one."""
         if not found.messages:
-            self.waits(found, time_out, array=place)
+            self.waits(found, time_out, array=(place, size))
             return False
         self.kernel.store(place, found.messages[0])
         self.answer(len(found.messages[0]), code=INVALID_CONFIG if found.has_lost else NO_ERROR)
@@ -237,7 +237,7 @@ class Call:
     def receive_buffer(self, number, place, size, time_out):
         found = self.found("BUFFER", number)
         refuse(size < found.row.words or not limits.is_time_out(time_out), INVALID_PARAM)
-        if self.hand_over(found, place, time_out):
+        if self.hand_over(found, place, size, time_out):
             found.messages.pop(0)
             if found.waiting:
                 self.kernel.let_in(found)
@@ -253,7 +253,7 @@ class Call:
     def read_blackboard(self, number, place, size, time_out):
         found = self.found("BLACKBOARD", number)
         refuse(size < found.row.words or not limits.is_time_out(time_out), INVALID_PARAM)
-        self.hand_over(found, place, time_out)
+        self.hand_over(found, place, size, time_out)
 
     def clear_blackboard(self, number):
         self.found("BLACKBOARD", number).messages = []
@@ -331,7 +331,7 @@ class Call:
         refuse(not limits.is_time_out(time_out), INVALID_PARAM)
         refuse(found.is_source, INVALID_MODE)
         refuse(size < found.row.words, INVALID_PARAM)
-        if self.hand_over(found, place, time_out):
+        if self.hand_over(found, place, size, time_out):
             found.messages.pop(0)
             found.has_lost = False
 

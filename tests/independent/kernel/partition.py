@@ -252,7 +252,7 @@ class Partition:
         waiter = waiting.waiters.pop(0)
         self.earliest = None
         if message is not None:
-            self.store(waiter.array, message)
+            self.store(waiter.array[0], message)
         self.end_wait(waiter.runner, NO_ERROR, [] if message is None else [len(message)])
 
     def let_in(self, held):

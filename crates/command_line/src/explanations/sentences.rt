@@ -157,7 +157,8 @@ pub fn file_sentence(reason: Reason) -> &'static str
     ensures { result.now ≡ file_sentence reason }
 {
     match reason {
-        Reason::Missing => "The file cannot be opened, read or written: nothing has this name.",
+        Reason::Missing =>
+            "The file cannot be opened, read or written: nothing has this name, or a folder in it is missing.",
         Reason::Folder => "The file cannot be opened, read or written: it is a folder.",
         Reason::Denied => "The file cannot be opened, read or written: it is not allowed.",
         Reason::Unwritable => {

@@ -85,7 +85,7 @@ pub fn hand_on<S: Sink>(text: &[u8], sink: &mut S) -> Result<(), RunFault>
 }
 
 /// The most ticks that are made between two offers of nothing, but for those that are skipped.
-pub const MOST_UNTOLD: u64 = 1 << 20;
+pub const MOST_UNTOLD: u64 = 1 << 14;
 
 /// Offers nothing to a sink, which may use the time for what it has kept back, and reports to a
 /// watcher how far the run is, if many ticks were made since the last report. Returns after how

@@ -1,9 +1,8 @@
 use Rattle.std.proofs.Common.{◌≡◌, None, ap, sym, ◌∙◌, option_map}
 use Rattle.pal_base.specs.View.{exprs_of, id_text, texts}
-use Rattle.lint.specs.Calls.{first_of, plains}
 use Rattle.lint.specs.Unused.{is_used}
 use Rattle.lint.specs.UsedNames.{used_names}
-use Rattle.lint.specs.Uses.{name_in}
+use Rattle.lint.specs.Plain.{first_of, name_in, plains}
 use Rattle.lint.proofs.Lookups.{no_name}
 use Rattle.lint.proofs.call_table.add_created.Goals as goal
 

@@ -1,17 +1,17 @@
-use Rattle.std.proofs.Common.{map, refl}
+use Rattle.std.proofs.Common.{[], map, refl}
 use Rattle.pal_base.specs.View.{declaration_of, declared_of, texts}
 use Rattle.lint.specs.Calls.{calls_of_kind, calls_of_procedures}
-use Rattle.lint.specs.Views.{calls_seen}
+use Rattle.lint.specs.Views.{calls_seen, mentions_seen}
 use Rattle.lint.proofs.Adding.{all_added, item_goes_on}
 use Rattle.lint.proofs.calls.add_procedures.Goals as goal
 
 pub loop-declaration-preserved : goal.loop-declaration-preserved
 loop-declaration-preserved c =
     let names = texts c.args.names.now.keys in
-    item_goes_on (λ ds. calls_of_procedures (map (declaration_of names) ds)) (λ d. calls_of_kind (declared_of names d.kind)) c.args.declarations.now c.loop-declaration.declaration-index c.declaration-item.result (calls_seen names c.loop-declaration.calls.items)
+    item_goes_on (λ xs. calls_of_procedures (mentions_seen names c.args.done.now) (map (declaration_of names) xs)) (λ x. calls_of_kind (mentions_seen names c.args.done.now) (declared_of names x.kind)) c.args.declarations.now c.loop-declaration.declaration-index c.declaration-item.result (calls_seen names c.loop-declaration.calls.items)
     (calls_seen names c.add_procedure.new.calls.items) _ (λ y ys. refl) c.loop-declaration-test.true c.declaration-item.is c.in_ok-add_procedure.ensures c.loop-declaration.invariant
 
 pub returns : goal.returns
 returns c =
     let names = texts c.args.names.now.keys in
-    all_added (λ ds. calls_of_procedures (map (declaration_of names) ds)) c.args.declarations.now c.loop-declaration.declaration-index (calls_seen names c.loop-declaration.calls.items) _ refl c.loop-declaration-test.false c.loop-declaration.invariant
+    all_added (λ xs. calls_of_procedures (mentions_seen names c.args.done.now) (map (declaration_of names) xs)) c.args.declarations.now c.loop-declaration.declaration-index (calls_seen names c.loop-declaration.calls.items) _ refl c.loop-declaration-test.false c.loop-declaration.invariant

@@ -1,17 +1,17 @@
-use Rattle.std.proofs.Common.{map, refl}
+use Rattle.std.proofs.Common.{[], map, refl}
 use Rattle.pal_base.specs.View.{body_of, process_of, texts}
 use Rattle.lint.specs.Calls.{calls_of, calls_of_processes}
-use Rattle.lint.specs.Views.{calls_seen}
+use Rattle.lint.specs.Views.{calls_seen, mentions_seen}
 use Rattle.lint.proofs.Adding.{all_added, item_goes_on}
 use Rattle.lint.proofs.calls.add_processes.Goals as goal
 
 pub loop-process-preserved : goal.loop-process-preserved
 loop-process-preserved c =
     let names = texts c.args.names.now.keys in
-    item_goes_on (λ ps. calls_of_processes (map (process_of names) ps)) (λ p. calls_of (body_of names p.body)) c.args.processes.now c.loop-process.process-index c.process-item.result (calls_seen names c.loop-process.calls.items)
+    item_goes_on (λ xs. calls_of_processes (mentions_seen names c.args.done.now) (map (process_of names) xs)) (λ x. calls_of (mentions_seen names c.args.done.now) [] (body_of names x.body)) c.args.processes.now c.loop-process.process-index c.process-item.result (calls_seen names c.loop-process.calls.items)
     (calls_seen names c.add_body.new.calls.items) _ (λ y ys. refl) c.loop-process-test.true c.process-item.is c.in_ok-add_body.ensures c.loop-process.invariant
 
 pub returns : goal.returns
 returns c =
     let names = texts c.args.names.now.keys in
-    all_added (λ ps. calls_of_processes (map (process_of names) ps)) c.args.processes.now c.loop-process.process-index (calls_seen names c.loop-process.calls.items) _ refl c.loop-process-test.false c.loop-process.invariant
+    all_added (λ xs. calls_of_processes (mentions_seen names c.args.done.now) (map (process_of names) xs)) c.args.processes.now c.loop-process.process-index (calls_seen names c.loop-process.calls.items) _ refl c.loop-process-test.false c.loop-process.invariant

@@ -1,5 +1,5 @@
 use Rattle.std.proofs.Common.{ap, ◌∙◌}
-use Rattle.lint.specs.Uses.{is_zero}
+use Rattle.lint.specs.Plain.{is_zero}
 use Rattle.lint.proofs.Waits.{waits_by_time_out}
 use Rattle.lint.proofs.lives.waits.Goals as goal
 

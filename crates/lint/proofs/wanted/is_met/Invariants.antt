@@ -7,4 +7,4 @@ use Rattle.lint.specs.Views.{calls_seen}
 use Rattle.lint.proofs.wanted.is_met.Given as goal
 
 abbrev pub invariant-loop-call : goal.invariant-loop-call
-invariant-loop-call l = list_any (meets (wanted_of l.wanted)) (calls_seen (texts l.names.keys) l.calls) ≡ list_any (meets (wanted_of l.wanted)) (calls_seen (texts l.names.keys) (drop l.call-index l.calls))
+invariant-loop-call l = list_any (meets (wanted_of (texts l.names.keys) l.wanted)) (calls_seen (texts l.names.keys) l.calls) ≡ list_any (meets (wanted_of (texts l.names.keys) l.wanted)) (calls_seen (texts l.names.keys) (drop l.call-index l.calls))

@@ -6,6 +6,7 @@ use Rattle.view_command.specs.Orders.{number_of}
 use Rattle.view_command.specs.Texts.{is_late}
 use Rattle.view_command.proofs.Compared.{at_start}
 use Rattle.view_command.proofs.SoFar.{next_is, run_end, run_late, run_more, run_read, run_start, unread_of}
+use Rattle.view_command.proofs.Taken.{will_end, will_more, will_start}
 use Rattle.view_command.proofs.showing.read_all.Goals as goal
 
 pub loop-init : goal.loop-init
@@ -15,6 +16,7 @@ loop-init g c =
       run_start (number_of c.args.ran) (g.R.Read.remaining c.args.text.reader) (left g.R.Read.remaining s) s.before.0 s.lines
           (at_start g.R.Read.remaining s c.args.text.reader new.reader new.ahead) new.before new.lines,
       new.lines,
+      will_start (g.T.TakeEvents.takes c.args.kept.now) (g.R.Read.remaining c.args.text.reader) (left g.R.Read.remaining s) s.before.0 c.args.taker.now (at_start g.R.Read.remaining s c.args.text.reader new.reader new.ahead) new.before,
     )
 
 pub returns-then-is_late-clause-refused : goal.returns-then-is_late-clause-refused
@@ -36,6 +38,11 @@ returns-in-Ok-None-clause-trace g c =
     let s = c.loop.stream in
     run_end (number_of c.args.ran) (g.R.Read.remaining c.args.text.reader) (left g.R.Read.remaining s) s.before.0 s.lines c.loop.invariant.0 (c.next_event.ensures.ended (search rules))
 
+pub returns-in-Ok-None-clause-taken : goal.returns-in-Ok-None-clause-taken
+returns-in-Ok-None-clause-taken g c =
+    let s = c.loop.stream in
+    will_end (g.T.TakeEvents.takes c.args.kept.now) (g.R.Read.remaining c.args.text.reader) (left g.R.Read.remaining s) s.before.0 c.args.taker.now c.loop.taker c.loop.invariant.2 (c.next_event.ensures.ended (search rules))
+
 pub returns-in-Err-next_event-clause-refused : goal.returns-in-Err-next_event-clause-refused
 returns-in-Err-next_event-clause-refused g c =
     let s = c.loop.stream in
@@ -56,4 +63,5 @@ loop-preserved g c =
     let count : new.lines ≡ next_number s.lines = search rules in (
       run_more (number_of c.args.ran) (g.R.Read.remaining c.args.text.reader) (left g.R.Read.remaining s) (left g.R.Read.remaining new) s.before.0 s.lines e new.before new.lines low c.loop.invariant.0 next (search rules) (tick, count),
       count ∙ next_is s.lines low ∙ ap (λ (n : ℕ). n + 1) c.loop.invariant.1,
+      will_more (g.T.TakeEvents.takes c.args.kept.now) (g.R.Read.remaining c.args.text.reader) (left g.R.Read.remaining s) (left g.R.Read.remaining new) s.before.0 e new.before c.args.taker.now c.loop.taker c.take.new.self c.loop.invariant.2 next tick (search rules),
     )

@@ -6,14 +6,14 @@ use Rattle.view_command.specs.Orders.{number_of}
 use Rattle.view_command.proofs.Tables.{traced_in, unopened_or, unread_or, unwritten_or}
 use Rattle.view_command.proofs.showing.show.Goals as goal
 
-pub returns-in_err-read_all-clause-refused : goal.returns-in_err-read_all-clause-refused
-returns-in_err-read_all-clause-refused g c =
+pub returns-in_err-shown-clause-refused : goal.returns-in_err-shown-clause-refused
+returns-in_err-shown-clause-refused g c =
     let texts = g.F.Sources.texts c.args.sources.now in
     let left = g.F.Reader.Read.remaining c.in_ok-text.text.reader in
     let opens : Opens texts (string_bytes c.args.request.now.trace) left =
     subst (λ n. Opens texts n left) c.as_str-trace.ensures.value (subst (λ t. Opens t c.as_str-trace.result.now left) c.table_asked.ensures.kept c.in_ok-text.ensures.opened) in
-    unread_or _ texts (number_of c.args.request.now.ran) (string_bytes c.args.request.now.trace) (string_bytes c.in_ok-text.text.name) left _ _ c.in_err-read_all.field-0.0 c.from_residual-in_err-read_all.result
-    opens (subst (λ n. string_bytes c.in_ok-text.text.name ≡ called n) c.as_str-trace.ensures.value c.in_ok-text.ensures.called) (search rules) c.in_err-read_all.ensures.refused c.from_residual-in_err-read_all.ensures
+    unread_or _ texts (number_of c.args.request.now.ran) (string_bytes c.args.request.now.trace) (string_bytes c.in_ok-text.text.name) left _ _ c.in_err-shown.field-0.0 c.from_residual-in_err-shown.result
+    opens (subst (λ n. string_bytes c.in_ok-text.text.name ≡ called n) c.as_str-trace.ensures.value c.in_ok-text.ensures.called) (search rules) c.in_err-shown.ensures.refused c.from_residual-in_err-shown.ensures
 
 pub returns-in_err-text-clause-refused : goal.returns-in_err-text-clause-refused
 returns-in_err-text-clause-refused g c =
@@ -29,7 +29,7 @@ returns-clause-trace g c =
     let left = g.F.Reader.Read.remaining c.in_ok-text.text.reader in
     let opens : Opens texts (string_bytes c.args.request.now.trace) left =
     subst (λ n. Opens texts n left) c.as_str-trace.ensures.value (subst (λ t. Opens t c.as_str-trace.result.now left) c.table_asked.ensures.kept c.in_ok-text.ensures.opened) in
-    traced_in texts (number_of c.args.request.now.ran) (string_bytes c.args.request.now.trace) left opens c.in_ok-read_all.ensures.trace
+    traced_in texts (number_of c.args.request.now.ran) (string_bytes c.args.request.now.trace) left opens c.in_ok-shown.ensures.trace
 
 pub returns-in_err-write_bytes-clause-refused : goal.returns-in_err-write_bytes-clause-refused
 returns-in_err-write_bytes-clause-refused g c =
@@ -38,4 +38,4 @@ returns-in_err-write_bytes-clause-refused g c =
     let opens : Opens texts (string_bytes c.args.request.now.trace) left =
     subst (λ n. Opens texts n left) c.as_str-trace.ensures.value (subst (λ t. Opens t c.as_str-trace.result.now left) c.table_asked.ensures.kept c.in_ok-text.ensures.opened) in
     unwritten_or _ texts (number_of c.args.request.now.ran) (string_bytes c.args.request.now.trace) _ _ c.from_residual-in_err-write_bytes.result (search rules) (search rules)
-    (traced_in texts (number_of c.args.request.now.ran) (string_bytes c.args.request.now.trace) left opens c.in_ok-read_all.ensures.trace) c.from_residual-in_err-write_bytes.ensures
+    (traced_in texts (number_of c.args.request.now.ran) (string_bytes c.args.request.now.trace) left opens c.in_ok-shown.ensures.trace) c.from_residual-in_err-write_bytes.ensures

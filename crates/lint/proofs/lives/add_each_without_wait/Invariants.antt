@@ -1,8 +1,0 @@
-use Rattle.std.proofs.Common.{◌≡◌, ◌++◌, [], map, drop}
-use Rattle.pal_base.specs.View.{process_of, texts}
-use Rattle.lint.specs.Lives.{without_waits}
-use Rattle.lint.specs.Views.{found_all}
-use Rattle.lint.proofs.lives.add_each_without_wait.Given as goal
-
-abbrev pub invariant-loop-process : goal.invariant-loop-process
-invariant-loop-process l = found_all l.findings.items ++ without_waits [] (map (process_of (texts l.names.keys)) (drop l.process-index l.processes)) ≡ found_all l.fn.findings.items ++ without_waits [] (map (process_of (texts l.names.keys)) l.processes)

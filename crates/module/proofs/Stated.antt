@@ -1,0 +1,153 @@
+-- The text of a state, and why there is none.
+use Rattle.module.proofs.Prelude.{◌≡◌, ◌≤◌, ◌<◌, ◌+◌, ◌++◌, ℕ, zero, suc, List, ◌∷◌, length, drop, Option, Some, None, Result, Ok, Err, refl, sym, ap, ◌∙◌, append-nil, append_assoc, arith, slice_get, none-some, same_Some, place_of_number, at_number, OnOk, DeviceFault, DeviceLine, Plan, of_tick, Image, Item, Fault, verdict_for, machine_module, Machine, fresh_machine, Member, MachineControl, MOST_TICKS, AreRefused, Runs, RunFault, Standing, after, elapse, ticks}
+use Rattle.std.proofs.Common.{[], subst}
+use Rattle.module.specs.declared.fault.RunFault.TheVariants as fault
+use Rattle.module.specs.Runs.{IsRun}
+use Rattle.module.specs.States.{IsStateText, LacksWanted, States, Wanted, rows_of, rows_of_both, state_before, wanted_rows}
+use Rattle.module.specs.Stating.{IsTextFor}
+use Rattle.module.proofs.Runs.{device_refused}
+use Rattle.std.proofs.lemmas.Grind.{flat_map-append}
+use Rattle.state_rows.specs.Rows.{Row, row_in, rows_in}
+use Rattle.state_rows.specs.States.{members_rows}
+use Rattle.state_rows.specs.declared.row.Form.{Form}
+
+abbrev ok_image : Image → Result Image Fault
+ok_image image = Ok image
+
+-- ---- refusals
+
+as_run : (read : Result Image Fault) (devices : List ℕ) (n : ℕ) (wanted : Wanted) (old : Option (List ℕ)) (v : Result (List DeviceLine) DeviceFault) (f : RunFault) → AreRefused v f → Runs read devices n old old (Err f) → States read devices n wanted old old (Err f)
+as_run read devices n wanted old v (fault.Device f) h r = r
+as_run read devices n wanted old v fault.Memory h r = r
+as_run read devices n wanted old v fault.Ticks h r = r
+as_run read devices n wanted old v (fault.Image f) h r = r
+as_run read devices n wanted old v fault.Partition h r = absurd r
+as_run read devices n wanted old v fault.Failed h r = absurd r
+as_run read devices n wanted old (Ok lines) fault.Write h r = absurd h
+as_run read devices n wanted old (Err g) fault.Write h r = absurd h
+
+-- the device text is refused, or memory ran out
+pub text_refused : (read : Result Image Fault) (loaded : Image) (devices : List ℕ) (n : ℕ) (wanted : Wanted) (old : Option (List ℕ)) (f : RunFault) → read ≡ ok_image loaded → n ≤ MOST_TICKS → AreRefused (verdict_for loaded devices) f
+    → States read devices n wanted old old (Err f)
+text_refused read loaded devices n wanted old f is few h = as_run read devices n wanted old (verdict_for loaded devices) f h (device_refused read loaded devices n old f is few h)
+
+-- there is no partition of that name
+pub none_found : (read : Result Image Fault) (loaded : Image) (devices : List ℕ) (n : ℕ) (wanted : Wanted) (old : Option (List ℕ)) (f : RunFault) → read ≡ ok_image loaded → n ≤ MOST_TICKS → f ≡ fault.Partition → LacksWanted (ok_image loaded) wanted.partition
+    → States read devices n wanted old old (Err f)
+none_found read loaded devices n wanted old f is few none lacks =
+    subst (λ (g : RunFault). States read devices n wanted old old (Err g)) (sym none) (few, subst (λ (r : Result Image Fault). LacksWanted r wanted.partition) (sym is) lacks, refl)
+
+-- ---- the text
+
+-- the text of the wanted rows
+pub stated : (read : Result Image Fault) (loaded : Image) (devices : List ℕ) (n : ℕ) (wanted : Wanted) (only : Option ℕ) (text : List ℕ) → read ≡ ok_image loaded → n ≤ MOST_TICKS
+    → ((k : ℕ) (s : Standing MachineControl) → wanted_rows wanted.partition loaded k s ≡ Some (rows_of only loaded k s)) → IsTextFor loaded devices n wanted.form only text
+    → (lines : List DeviceLine) × IsRun read devices n loaded lines × IsStateText wanted loaded lines n text
+stated read loaded devices n wanted only text is few each t =
+    (t.lines, record { loaded = is; taken = t.taken; few = few }, (rows_of only loaded n (state_before loaded t.lines n), each n (state_before loaded t.lines n), t.rows))
+
+-- ticks go by, whatever happens in them
+pub elapsed_now : {C : Type 0} (plan : Plan) (lines : List DeviceLine) (n : ℕ) (s : Standing C) → (elapse plan lines n s).state.now ≡ s.now + n
+elapsed_now plan lines zero s = omega arith
+elapsed_now plan lines (suc n) s =
+    let own = ticks plan (of_tick s.now lines) s in
+    let on : (elapse plan lines n (after s own)).state.now ≡ s.now + 1 + n = elapsed_now plan lines n (after s own) in
+    omega (arith, on)
+
+-- the rows of a machine that has made n ticks
+pub rows_after : (image : Image) (m last : Machine) (lines : List DeviceLine) (n : ℕ) (form : Form) (only : Option ℕ) → m ≡ fresh_machine image → last.image ≡ m.image
+    → last.standing ≡ (elapse (machine_module m.image).plan lines n m.standing).state
+    → rows_in form (rows_of only last.image last.standing.now last.standing) ≡ rows_in form (rows_of only image n (state_before image lines n))
+rows_after image m last lines n form only fresh kept behind =
+    let same : last.image ≡ image = kept ∙ ap (λ (x : Machine). x.image) fresh in
+    let stood : last.standing ≡ state_before image lines n = behind ∙ ap (λ (x : Machine). (elapse (machine_module x.image).plan lines n x.standing).state) fresh in
+    let counted : (state_before image lines n).now ≡ 0 + n = elapsed_now (machine_module image).plan lines n (fresh_machine image).standing in
+    let now : last.standing.now ≡ n = ap (λ (s : Standing _). s.now) stood ∙ counted ∙ omega arith in
+    ap (λ (i : Image). rows_in form (rows_of only i last.standing.now last.standing)) same
+    ∙ ap (λ (k : ℕ). rows_in form (rows_of only image k last.standing)) now
+    ∙ ap (λ (s : Standing _). rows_in form (rows_of only image n s)) stood
+
+-- ---- partition by partition
+
+no_members : (items : List Item) → members_rows items [] ≡ []
+no_members [] = refl
+no_members (i ∷ is) = refl
+
+no_member : (i : Option Item) → rows_of_both i None ≡ []
+no_member None = refl
+no_member (Some i) = refl
+
+-- a partition without an item, or without a member
+pub no_item_rows : (i : Option Item) (x : Option (Member MachineControl)) → i ≡ None → rows_of_both i x ≡ []
+no_item_rows None x e = refl
+no_item_rows (Some i) x e = absurd cc
+
+pub no_member_rows : (i : Option Item) (x : Option (Member MachineControl)) → x ≡ None → rows_of_both i x ≡ []
+no_member_rows i None e = no_member i
+no_member_rows i (Some x) e = absurd cc
+
+none_left : (items : List Item) (place k : ℕ) → members_rows (drop place items) [] ≡ rows_of_both (slice_get items place) None ++ members_rows (drop k items) []
+none_left items place k =
+    no_members (drop place items) ∙ sym (ap (λ (rows : List Row). rows ++ members_rows (drop k items) []) (no_member (slice_get items place)) ∙ no_members (drop k items))
+
+one_step : (items : List Item) (members : List (Member MachineControl)) (place : ℕ) → place < length items
+    → members_rows (drop place items) (drop place members)
+    ≡ rows_of_both (slice_get items place) (slice_get members place) ++ members_rows (drop (suc place) items) (drop (suc place) members)
+one_step [] members place h = absurd (omega (arith, h))
+one_step (i ∷ items) [] zero h = sym (no_members items)
+one_step (i ∷ items) (x ∷ members) zero h = refl
+one_step (i ∷ items) [] (suc place) h = none_left items place (suc place)
+one_step (i ∷ items) (x ∷ members) (suc place) h = one_step items members place (omega (arith, h))
+
+-- one more partition
+one_more : (items : List Item) (members : List (Member MachineControl)) (place : ℕ) → place < length items
+    → members_rows (drop place items) (drop place members)
+    ≡ rows_of_both (slice_get items place) (slice_get members place) ++ members_rows (drop (place + 1) items) (drop (place + 1) members)
+one_more items members place h =
+    let next : suc place ≡ place + 1 = omega arith in
+    one_step items members place h ∙ ap (λ k. rows_of_both (slice_get items place) (slice_get members place) ++ members_rows (drop k items) (drop k members)) next
+
+all_done : (items : List Item) (members : List (Member MachineControl)) (place : ℕ) → length items ≤ place → members_rows (drop place items) (drop place members) ≡ []
+all_done [] members zero h = refl
+all_done [] members (suc place) h = refl
+all_done (i ∷ items) members zero h = absurd (omega (arith, h))
+all_done (i ∷ items) [] (suc place) h = no_members (drop place items)
+all_done (i ∷ items) (x ∷ members) (suc place) h = all_done items members place (omega (arith, h))
+
+-- the text with one more partition
+pub written_more : (form : Form) (items : List Item) (members : List (Member MachineControl)) (place : ℕ) (old new whole : List ℕ) → place < length items
+    → new ≡ old ++ rows_in form (rows_of_both (slice_get items place) (slice_get members place))
+    → old ++ rows_in form (members_rows (drop place items) (drop place members)) ≡ whole
+    → new ++ rows_in form (members_rows (drop (place + 1) items) (drop (place + 1) members)) ≡ whole
+written_more form items members place old new whole within is so_far =
+    let own = rows_of_both (slice_get items place) (slice_get members place) in
+    let rest = members_rows (drop (place + 1) items) (drop (place + 1) members) in
+    ap (λ (bytes : List ℕ). bytes ++ rows_in form rest) is
+    ∙ append_assoc old (rows_in form own) (rows_in form rest)
+    ∙ ap (λ (bytes : List ℕ). old ++ bytes) (sym (flat_map-append (row_in form) own rest))
+    ∙ ap (λ (rows : List Row). old ++ rows_in form rows) (sym (one_more items members place within))
+    ∙ so_far
+
+pub written_all : (form : Form) (items : List Item) (members : List (Member MachineControl)) (place : ℕ) (old whole : List ℕ) → length items ≤ place
+    → old ++ rows_in form (members_rows (drop place items) (drop place members)) ≡ whole → old ≡ whole
+written_all form items members place old whole done so_far =
+    sym (append-nil old) ∙ sym (ap (λ (rows : List Row). old ++ rows_in form rows) (all_done items members place done)) ∙ so_far
+
+-- ---- rows after rows
+
+pub both_written : {E : Type 0} (form : Form) (a b : List Row) (old mid new : List ℕ) (answer : Result (Unit {0}) E) → mid ≡ old ++ rows_in form a → OnOk answer (new ≡ mid ++ rows_in form b) → OnOk answer (new ≡ old ++ rows_in form (a ++ b))
+both_written form a b old mid new (Err e) first second = tt
+both_written form a b old mid new (Ok x) first second =
+    second ∙ ap (λ (bytes : List ℕ). bytes ++ rows_in form b) first ∙ append_assoc old (rows_in form a) (rows_in form b) ∙ ap (λ (bytes : List ℕ). old ++ bytes) (sym (flat_map-append (row_in form) a b))
+
+pub none_written : (form : Form) (rows : List Row) (old : List ℕ) → rows ≡ [] → old ≡ old ++ rows_in form rows
+none_written form rows old none = sym (append-nil old) ∙ sym (ap (λ (rs : List Row). old ++ rows_in form rs) none)
+
+-- what has a number
+pub at_place : {A : Type 0} (xs : List A) (n place : ℕ) → Some place ≡ place_of_number n → at_number xs n ≡ slice_get xs place
+at_place xs zero place e = absurd (none-some place (sym e))
+at_place xs (suc m) place e = ap (slice_get xs) (sym (same_Some place m e))
+
+pub at_no_place : {A : Type 0} (xs : List A) (n : ℕ) → None ≡ place_of_number n → at_number xs n ≡ None
+at_no_place xs zero e = refl
+at_no_place xs (suc m) e = absurd (none-some m e)

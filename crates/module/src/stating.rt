@@ -1,0 +1,226 @@
+//! The state of a module before a tick.
+
+ghost use Rattle.std.specs.Prelude.{◌≡◌, ◌≢◌, ◌≤◌, ◌<◌, ◌+◌, ◌-◌, ◌^◌, ◌++◌, ℕ, List, Option, Ok, IfErr, IfOk, OnOk, IsErrOf, option_map, slice_get};
+ghost use Rattle.apex_types.specs.Limits.{MOST_TICKS};
+ghost use Rattle.apex_types.specs.declared.device.DeviceLine.{DeviceLine};
+ghost use Rattle.image.specs.Items.{items_of};
+ghost use Rattle.image.specs.Views.{image_of};
+ghost use Rattle.machine_meaning.specs.Image as meant;
+ghost use Rattle.machine_meaning.specs.ImageReading.{image_at};
+ghost use Rattle.machine_meaning.specs.MachineMeaning.{machine_module, machine_trace, verdict_for};
+ghost use Rattle.module_meaning.specs.Standing.{lines_of};
+ghost use Rattle.module_meaning.specs.Table.{at_number};
+ghost use Rattle.partition_base.specs.contracts.machine.PartitionProcessorExecutor.TheImpl.{ghosts as machine};
+ghost use Rattle.state_rows.specs.Rows.{rows_in};
+ghost use Rattle.state_rows.specs.States.{members_rows};
+ghost use Rattle.module.specs.Machines as machines;
+ghost use Rattle.module.specs.Machines.{HaveTicked, fresh_machine, machine_of};
+ghost use Rattle.module.specs.States.{States, rows_of, rows_of_both, state_before};
+ghost use Rattle.module.specs.Running.{AreRefused};
+ghost use Rattle.module.specs.Stating.{IsFoundFor, IsTextFor, number_in, wanted_in};
+ghost use Rattle.module.specs.Views.{members_in};
+
+use crate::fault::RunFault;
+use crate::machine::Machine;
+use crate::member::Members;
+use crate::module_rows::write_module;
+use crate::naming::numbered;
+use crate::step::number_at;
+use apex_types::limits::MOST_TICKS;
+use apex_types::{PartitionId, Sink, put_all};
+use image::{Image, PartitionItem, load_image};
+use partition_base::PartitionProcessor;
+use state_rows::Form;
+use state_view::write_member;
+use std::alloc::{AllocError, Global};
+
+/// Which state is wanted: of a run with a device text the one before a tick, and of its rows all, or
+/// only those of the module and of one partition.
+#[derive(Clone, Copy)]
+pub struct WantedState<'a> {
+    pub devices: &'a [u8],
+    pub tick: u64,
+    pub form: Form,
+    pub partition: Option<&'a str>,
+}
+
+/// Runs the image for `tick` ticks with the device text, and writes the state that its module then
+/// has, before the tick of this number: a row a thing. Before tick 0 no partition has started. After
+/// [`RunFault::Write`] the sink has failed once and has taken a prefix of that text; every other
+/// refusal comes before the sink is asked to take anything.
+///
+/// # Errors
+///
+/// In this order: a tick above 2^40; bytes that are no image; a name of no partition; the lowest
+/// rule that the first wrong line of the device text breaks. Out of memory may come before or after
+/// any of these.
+pub fn state<S: Sink>(
+    alloc: Global,
+    image: &[u8],
+    wanted: WantedState<'_>,
+    sink: &mut S,
+) -> Result<(), RunFault>
+    requires { S.failures sink.old < 2 ^ 64 - 1 }
+    ensures text { States (image_at image.now) wanted.entry.devices.now wanted.entry.tick
+        (wanted_in wanted.entry) (S.taken sink.old) (S.taken sink.new) result }
+    ensures ok { OnOk result (S.failures sink.new ≡ S.failures sink.old) }
+    ensures write { IsErrOf result RunFault.Write → S.failures sink.new ≡ S.failures sink.old + 1 }
+    ensures quiet { IfErr result
+        (λ fault. fault ≢ RunFault.Write → S.failures sink.new ≡ S.failures sink.old) }
+{
+    if wanted.tick > MOST_TICKS {
+        return Err(RunFault::Ticks);
+    }
+    let image = load_image(alloc, image)?;
+    let only = find_wanted(&image, wanted.partition)?;
+    let text = text_of(alloc, image, only, wanted)?;
+    put_all(sink, text.as_slice())?;
+    Ok(())
+}
+
+/// The number of the partition with this name, if a name is given.
+fn find_wanted(image: &Image, name: Option<&str>) -> Result<Option<PartitionId>, RunFault>
+    ensures { IsFoundFor (image_of image.now) (option_map (λ s. s.now) name.entry) result }
+{
+    let Some(name) = name else {
+        return Ok(None);
+    };
+    match numbered(image, name) {
+        Some(number) => Ok(Some(number)),
+        None => Err(RunFault::Partition),
+    }
+}
+
+/// The text of the wanted state of an image, with the rows of all partitions or of one.
+fn text_of(
+    alloc: Global,
+    image: Image,
+    only: Option<PartitionId>,
+    wanted: WantedState<'_>,
+) -> Result<Vec<u8>, RunFault>
+    requires { wanted.tick ≤ MOST_TICKS }
+    ensures text { IfOk result
+        (λ text. IsTextFor (image_of image) wanted.entry.devices.now wanted.entry.tick
+        wanted.entry.form (number_in only) text.items) }
+    ensures refused { IfErr result
+        (λ fault. AreRefused (verdict_for (image_of image) wanted.entry.devices.now) fault) }
+{
+    let mut machine = Machine::load(alloc, image)?;
+    let lines = machine.devices(alloc, wanted.devices)?;
+    machine.pass_over(lines.as_slice(), wanted.tick)?;
+    let mut text = Vec::new(alloc);
+    machine.state(wanted.form, only, &mut text)?;
+    Ok(text)
+}
+
+impl Machine {
+    /// Appends the rows of the state that the module has now, before its next tick: those of all
+    /// partitions, or of only the one with a number.
+    pub fn state(
+        &self,
+        form: Form,
+        only: Option<PartitionId>,
+        text: &mut Vec<u8>,
+    ) -> Result<(), AllocError>
+        ensures { OnOk result
+            (text.new.items
+            ≡ text.old.items
+            ++ rows_in form
+            (rows_of (number_in only) (machine_of self.now).image
+            (machine_of self.now).standing.now (machine_of self.now).standing)) }
+    {
+        let module = &self.module;
+        let items = module.image.partitions.as_slice();
+        write_module(form, &module.image, module.now, module.origin, text)?;
+        match only {
+            None => module.members.write_all(form, items, text),
+            Some(number) => module.members.write_one(form, items, number, text),
+        }
+    }
+}
+
+impl Members<PartitionProcessor> {
+    /// Appends the rows of all partitions, which have these items.
+    fn write_all(
+        &self,
+        form: Form,
+        items: &[PartitionItem],
+        text: &mut Vec<u8>,
+    ) -> Result<(), AllocError>
+        ensures { OnOk result
+            (text.new.items
+            ≡ text.old.items
+            ++ rows_in form (members_rows (items_of items.now) (members_in machine self.now))) }
+    {
+        for place in 0..items.len() {
+            self.write_at(form, items, place, text)?;
+        }
+        Ok(())
+    }
+
+    /// Appends the rows of the partition with this number, if there is one.
+    fn write_one(
+        &self,
+        form: Form,
+        items: &[PartitionItem],
+        number: PartitionId,
+        text: &mut Vec<u8>,
+    ) -> Result<(), AllocError>
+        ensures { OnOk result
+            (text.new.items
+            ≡ text.old.items
+            ++ rows_in form
+            (rows_of_both (at_number (items_of items.now) number.0)
+            (at_number (members_in machine self.now) number.0))) }
+    {
+        match number.place() {
+            Some(place) => self.write_at(form, items, usize::from(place), text),
+            None => Ok(()),
+        }
+    }
+
+    /// Appends the rows of the partition at a place, if there is one.
+    fn write_at(
+        &self,
+        form: Form,
+        items: &[PartitionItem],
+        place: usize,
+        text: &mut Vec<u8>,
+    ) -> Result<(), AllocError>
+        ensures { OnOk result
+            (text.new.items
+            ≡ text.old.items
+            ++ rows_in form
+            (rows_of_both (slice_get (items_of items.now) place)
+            (slice_get (members_in machine self.now) place))) }
+    {
+        if place >= items.len() {
+            return Ok(());
+        }
+        if place >= self.partitions.len() {
+            return Ok(());
+        }
+        let memory = self.memory.part(number_at(place));
+        write_member(form, &items[place], &self.partitions[place], memory, text)
+    }
+}
+
+/// Calls of [`Machine::tick`] and [`Machine::skip`] for an image, in a row, that make n ticks, each
+/// tick with its device lines, lead to the state before tick n, which [`Machine::state`] writes.
+#[tactic(auto, using(crate::proofs::Elapsed::calls_lead_to_the_state))]
+pub fn ticks_make_the_state()
+    ensures { (image : meant.Image) (lines : List DeviceLine) (calls n : ℕ)
+        (last : machines.Machine) (old new : Option (List ℕ)) (before now : ℕ)
+        → HaveTicked lines calls n (fresh_machine image) last old new before now (Ok tt)
+        → (last.image ≡ image) × (last.standing ≡ state_before image lines n) }
+{}
+
+/// A state decides all that follows: a run of n + m ticks has the trace of n ticks, and then the
+/// lines of m ticks from the state before tick n.
+#[tactic(auto, using(crate::proofs::Elapsed::state_decides))]
+pub fn a_state_decides_the_rest()
+    ensures { (image : meant.Image) (lines : List DeviceLine) (n m : ℕ)
+        → machine_trace image lines (n + m)
+        ≡ machine_trace image lines n
+        ++ lines_of (machine_module image).plan lines m (state_before image lines n) }
+{}

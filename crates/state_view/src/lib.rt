@@ -1,0 +1,17 @@
+//! The rows of a partition's state, written from the partition in the module.
+#![tactic(auto)]
+
+mod errors;
+mod heading;
+mod lists;
+mod member;
+mod mode;
+mod objects;
+mod ports;
+mod processes;
+mod runners;
+mod values;
+mod waits;
+mod words;
+
+pub use member::write_member;
