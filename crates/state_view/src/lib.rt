@@ -7,7 +7,7 @@ mod lists;
 mod member;
 mod mode;
 mod objects;
-mod ports;
+mod port_rows;
 mod processes;
 mod runners;
 mod values;

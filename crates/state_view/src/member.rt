@@ -13,7 +13,7 @@ use crate::heading::Heading;
 use crate::lists::write_ready;
 use crate::mode::write_mode;
 use crate::objects::write_objects;
-use crate::ports::write_ports;
+use crate::port_rows::write_ports;
 use crate::processes::write_processes;
 use crate::runners::write_runners;
 use crate::words::write_words;

@@ -1,7 +1,7 @@
 use Rattle.std.proofs.Common.{◌≡◌, ◌++◌, drop}
 use Rattle.state_rows.specs.Rows.{rows_in}
 use Rattle.state_rows.specs.States.{port_rows, placed, placed_from}
-use Rattle.state_view.proofs.ports.write_ports.Given as goal
+use Rattle.state_view.proofs.port_rows.write_ports.Given as goal
 
 -- what is written so far, and what the rest adds
 abbrev pub invariant-loop-place : goal.invariant-loop-place

@@ -5,7 +5,7 @@ use Rattle.state_rows.specs.Rows.{rows_in}
 use Rattle.state_rows.specs.States.{message_row}
 use Rattle.state_view.specs.Chosen.{rows_if}
 use Rattle.state_view.proofs.Loops.{more_if}
-use Rattle.state_view.proofs.ports.write_port_messages.Goals as goal
+use Rattle.state_view.proofs.port_rows.write_port_messages.Goals as goal
 
 pub loop-place-preserved : goal.loop-place-preserved
 loop-place-preserved c =
