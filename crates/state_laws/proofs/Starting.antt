@@ -52,7 +52,7 @@ module _ (tick : ℕ) where
   left_same t true = refl
   left_same t false = refl
 
-  moved_same : (t : Told) (who : Subject) (state : ProcessState) → (moves_to tick t who state).starts ≡ t.starts
+  pub moved_same : (t : Told) (who : Subject) (state : ProcessState) → (moves_to tick t who state).starts ≡ t.starts
   moved_same t who Running = refl
   moved_same t who Ready = by_test (is_it who t.running)
     where
@@ -62,7 +62,7 @@ module _ (tick : ℕ) where
   moved_same t who Waiting = left_same t (is_it who t.running)
   moved_same t who Dormant = left_same t (is_it who t.running)
 
-  cleared_same : (t : Told) (e : ErrorKind) (a : PartitionAction) → (cleared_by t e a).starts ≡ t.starts
+  pub cleared_same : (t : Told) (e : ErrorKind) (a : PartitionAction) → (cleared_by t e a).starts ≡ t.starts
   cleared_same t e a = by_tests (is_from_outside e) (is_ignored a)
     where
       by_tests : (b c : Bool) → (if b then (if c then t else cleared t) else t).starts ≡ t.starts
