@@ -14,6 +14,7 @@ use Rattle.apex_types.specs.declared.codes.PartitionAction.TheVariants as action
 use Rattle.apex_types.specs.declared.codes.ProcessState.TheVariants.{Dormant}
 use Rattle.apex_types.specs.declared.codes.Response.{Response}
 use Rattle.apex_types.specs.declared.codes.Response.TheVariants as response
+use Rattle.apex_types.specs.declared.codes.ReturnCode.{ReturnCode}
 use Rattle.apex_types.specs.declared.codes.ReturnCode.TheVariants as code
 use Rattle.apex_types.specs.declared.codes.StartCondition.{StartCondition}
 use Rattle.apex_types.specs.declared.codes.StartCondition.TheVariants as condition
@@ -137,6 +138,10 @@ module _ (tick : ℕ) (t : Told) where
         let g = clears_go tick t k mode.Idle condition.PartitionRestart named refl h.orderly h.next in
         record { agrees = g.agrees; same = cleared_worker tick t (clears k mode.Idle condition.PartitionRestart) g; starts = g.starts; said = λ last b. none_said tick last t (event.Mode mode.Idle ∷ []) refl }
 
+-- the next start condition is not another one
+pub same_next : (t : Told) (k : Kernel) → KernelAgrees t k → KernelAgrees (record t { next = t.next }) k
+same_next t k h = record { mode = h.mode; condition = h.condition; next = h.next; orderly = h.orderly; processes = record { named = h.processes.named; states = h.processes.states; running = h.processes.running; runs = h.processes.runs } }
+
 no_later : (rows : List ProcessStatus) (i : ℕ) {r : ProcessStatus} → slice_get rows 0 ≡ None → slice_get rows (suc i) ≡ Some r → ⊥
 no_later [] i {r} e f = none-some r f
 no_later (x ∷ xs) i e f = none-some x (sym e)
@@ -176,10 +181,6 @@ module _ (tick : ℕ) (t : Told) (k : Kernel) (h : KernelAgrees t k) (p : Runner
   abbrev raised : Response → Step (Option PartitionAction)
   raised how = after (tells_error None e (Some who) how) (waits_or_leaves p e words how)
 
-  -- the next start condition is not another one
-  same_next : KernelAgrees (record t { next = t.next }) k
-  same_next = record { mode = h.mode; condition = h.condition; next = h.next; orderly = h.orderly; processes = record { named = h.processes.named; states = h.processes.states; running = h.processes.running; runs = h.processes.runs } }
-
   -- the error waits for the handler
   by_handler : (q : Runner) → KernelGoes (worker_by_lines tick) tick t (then_acts k q e (after (tells_error None e (Some who) response.Handler) (waits_or_leaves q e words response.Handler)))
   by_handler runner.Init = record { agrees = h; same = refl; starts = refl; said = λ last b. (tt, tt) }
@@ -205,8 +206,8 @@ module _ (tick : ℕ) (t : Told) (k : Kernel) (h : KernelAgrees t k) (p : Runner
 
   -- an ignored error leads to nothing
   leads_nowhere : (outside : Bool) → Leads (record (if outside then t else t) { next = t.next }) (record { part = k; lines = []; actions = [] })
-  leads_nowhere true = record { agrees = same_next; same = refl; starts = refl; said = tt }
-  leads_nowhere false = record { agrees = same_next; same = refl; starts = refl; said = tt }
+  leads_nowhere true = record { agrees = same_next t k h; same = refl; starts = refl; said = tt }
+  leads_nowhere false = record { agrees = same_next t k h; same = refl; starts = refl; said = tt }
 
   -- but a fault of INIT leaves the partition idle
   of_init : (fault init outside : Bool) → (fault ≡ true → init ≡ true)
@@ -275,13 +276,13 @@ module _ (tick : ℕ) (t : Told) (k : Kernel) (h : KernelAgrees t k) where
 
   set_mode_works : (at : At) (p : Runner) (m : ℤ) → Holds (set_partition_mode at k p m)
   set_mode_works at p m =
-      either tick t (not (is_some (mode_of m))) _ _ answered
-      (either tick t (wants is_normal (mode_of m) && is_normal k.mode) _ _ answered
-      (either tick t (wants is_warm (mode_of m) && is_cold k.mode) _ _ answered
+      either tick t (not (is_some (mode_of m))) _ _ (refused code.InvalidParam)
+      (either tick t (wants is_normal (mode_of m) && is_normal k.mode) _ _ (refused code.NoAction)
+      (either tick t (wants is_warm (mode_of m) && is_cold k.mode) _ _ (refused code.InvalidMode)
       (follows_answer p (services.enters_mode at k (mode_of m)) (enters (mode_of m)))))
     where
-      answered : {c : _} {outputs : _} → Holds (of_processes k (answers k.processes p service.SetPartitionMode c outputs))
-      answered = record { agrees = h; same = refl; starts = refl; said = λ last b. (tt, tt) }
+      refused : (c : ReturnCode) → Holds (of_processes k (refuses k.processes p service.SetPartitionMode c))
+      refused c = record { agrees = h; same = refl; starts = refl; said = λ last b. (tt, tt) }
 
       enters : (o : Option Mode) → KernelFollows (worker_by_lines tick) tick t (services.enters_mode at k o)
       enters None = any_follows (worker_by_lines tick) tick t _ (stays tick t k h [])

@@ -1,5 +1,5 @@
 -- The lines of each move of a partition agree with it. In a tick the chosen runner is the one that spends it by the lines.
-use Rattle.std.proofs.Common.{◌≡◌, ℕ, ℤ, Bool, true, false, List, [], ◌∷◌, ◌++◌, Option, Some, None, refl, sym, ap, ◌∙◌, subst, arith, ◌<◌}
+use Rattle.std.proofs.Common.{◌≡◌, append_assoc, ℕ, ℤ, Bool, true, false, List, [], ◌∷◌, ◌++◌, Option, Some, None, refl, sym, ap, ◌∙◌, subst, arith, ◌<◌}
 use Rattle.std.specs.Prelude.{if◌then◌else◌, slice_set}
 use Rattle.std.proofs.lemmas.Bool.{ne_eqb}
 use Rattle.apex_types.specs.Runners.{Action, place_of}
@@ -55,7 +55,6 @@ use Rattle.state_laws.proofs.Due.{ByClear, treats_due_goes}
 use Rattle.state_laws.proofs.KernelSteps.{GoesAfter, KernelFollows, KernelGoes, asked_works, goes_without, same_next}
 use Rattle.state_laws.proofs.Objects.{Brings, arrives_goes, admits_goes}
 use Rattle.state_laws.proofs.Starting.{AllSaid, all_last, all_said, all_said_both, no_start, no_starts, none_said, told_last}
-use Rattle.std.proofs.lemmas.List.{append_assoc}
 
 -- ---- the lines of one partition
 
@@ -331,7 +330,7 @@ module _ {C : Type 0} (e : Engine C) (at : At) where
           record { agrees = g.agrees; same = cleared_worked now gone (clears w.kernel m condition.HmPartitionRestart) g refl; starts = g.starts; said = g.said }
 
       by_action : (a : PartitionAction) → KernelGoes has_worked_last now t (after (tells_error w.kernel error.HardwareFault None (level.Partition a)) (then_clears w.kernel (mode_of_action a)))
-      by_action response.Ignore = record { agrees = same_next now t w.kernel h; same = refl; starts = refl; said = λ last b. (tt, tt) }
+      by_action response.Ignore = record { agrees = same_next t w.kernel h; same = refl; starts = refl; said = λ last b. (tt, tt) }
       by_action response.Idle = let g = clears_after mode.Idle refl in record { agrees = g.agrees; same = g.same; starts = g.starts; said = λ last b. (tt, g.said (Some condition.HmPartitionRestart) refl) }
       by_action response.WarmStart = let g = clears_after mode.WarmStart refl in record { agrees = g.agrees; same = g.same; starts = g.starts; said = λ last b. (tt, g.said (Some condition.HmPartitionRestart) refl) }
       by_action response.ColdStart = let g = clears_after mode.ColdStart refl in record { agrees = g.agrees; same = g.same; starts = g.starts; said = λ last b. (tt, g.said (Some condition.HmPartitionRestart) refl) }

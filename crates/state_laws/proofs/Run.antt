@@ -1,8 +1,7 @@
 -- In every run what the lines tell of a partition agrees with it, and who spends its ticks by the lines is the chosen runner.
-use Rattle.std.proofs.Common.{◌≡◌, ◌≢◌, ◌⊎◌, inl, inr, ℕ, zero, suc, Bool, true, false, List, [], ◌∷◌, ◌++◌, length, map, Option, Some, None, refl, sym, ap, ◌∙◌, subst, arith, ◌<◌, ◌≤◌}
+use Rattle.std.proofs.Common.{append-nil, append_assoc, ◌≡◌, ◌≢◌, ◌⊎◌, inl, inr, ℕ, zero, suc, Bool, true, false, List, [], ◌∷◌, ◌++◌, length, map, Option, Some, None, refl, sym, ap, ◌∙◌, subst, arith, ◌<◌, ◌≤◌}
 use Rattle.std.specs.Prelude.{◌+◌, ◌==◌, if◌then◌else◌, option_map, slice_get}
 use Rattle.std.proofs.lemmas.Bool.{eqb-false, eqb-true, ne_eqb}
-use Rattle.std.proofs.lemmas.List.{append_assoc, append-nil}
 use Rattle.std.specs.List.{flat_map}
 use Rattle.std.proofs.lemmas.Option.{none-some, same_Some}
 use Rattle.arrayvec.specs.ArrayVec.{ArrayVec}
@@ -111,10 +110,14 @@ module _ {C : Type 0} (d : ListKey → Discipline) (called : List (List ℕ)) (n
       by_member None e f = absurd (none-some name f)
       by_member (Some x) e f = (x, (e, same_Some (name_of x) name f))
 
+  -- no partition has the number 0
+  not_zero : (own ss : List Start) → ss ≡ (if 0 == suc place then own else []) ++ ss
+  not_zero own ss = sym (ap (λ (b : Bool). (if b then own else []) ++ ss) (ne_eqb 0 (suc place) (λ e. absurd (omega (arith, e)))))
+
   -- a move of a partition, with the starts that it makes if it is this one's
   moves_to : (tick : ℕ) (move : Move) (began : Member C → List Start) → ((t : Told) (x : Member C) → IsWell d called t x → MakesTo (began x) has_worked_last tick t (makes move x)) → (q : ℕ) (t : Told) (ms : List (Member C)) → Stay t ms
       → BeginsTo (starts_own (suc place) ms began q) t (steps (makes move) ms q)
-  moves_to tick move began tells zero t ms h = still_to t ms h
+  moves_to tick move began tells zero t ms h = record { stands = h; same = refl; starts = not_zero (of_member [] began (at_number ms (suc place))) t.starts; said = λ last b. tt }
   moves_to tick move began tells (suc q) t ms h =
       let s = steps_to d called name place names apart t move ms q (slice_get ms q) refl h (λ x is here well. let m = tells t x well in record { agrees = m.agrees; said = λ last. m.said last tt }) in
       record { stands = s.stands; same = by_lines s.lines; starts = by_place (suc q == suc place) refl s; said = λ last b. s.said last }
@@ -146,10 +149,13 @@ module _ {C : Type 0} (d : ListKey → Discipline) (called : List (List ℕ)) (n
 
   quiet : (tick : ℕ) (move : Move) → ((t : Told) (x : Member C) → IsWell d called t x → MovesTo has_worked_last tick t (makes move x)) → (q : ℕ) (t : Told) (ms : List (Member C)) → Stay t ms → QuietTo t (steps (makes move) ms q)
   quiet tick move tells q t ms h =
-      let k = moves_to tick move (λ x. []) tells q t ms h in
+      let k = moves_to tick move without tells q t ms h in
       record { stands = k.stands; same = k.same; starts = k.starts ∙ ap (λ (ss : List Start). ss ++ t.starts) (none (q == suc place) (at_number ms (suc place))); said = k.said }
     where
-      none : (b : Bool) (o : Option (Member C)) → (if b then of_member [] (λ x. []) o else []) ≡ []
+      without : Member C → List Start
+      without x = []
+
+      none : (b : Bool) (o : Option (Member C)) → (if b then of_member [] without o else []) ≡ []
       none true None = refl
       none true (Some x) = refl
       none false o = refl
@@ -369,7 +375,7 @@ module _ {C : Type 0} (d : ListKey → Discipline) (called : List (List ℕ)) (n
 
   owner_to : (at : At) (o : Option ℕ) (t : Told) (ms : List (Member C)) → Stay t ms → IsBefore at.now.0 t.worked → TicksTo at.now.0 (starts_of_owner at (suc place) ms o) t (ticks_owner at ms o)
   owner_to at None t ms h b = record { stands = h; before = later at.now.0 t.worked b; starts = refl; said = λ last. tt }
-  owner_to at (Some zero) t ms h b = record { stands = h; before = later at.now.0 t.worked b; starts = refl; said = λ last. tt }
+  owner_to at (Some zero) t ms h b = record { stands = h; before = later at.now.0 t.worked b; starts = not_zero (of_member [] (starts_advancing at) (at_number ms (suc place))) t.starts; said = λ last. tt }
   owner_to at (Some (suc q)) t ms h b =
       let s = steps_to d called name place names apart t (Advances at) ms q (slice_get ms q) refl h (λ x is here well. told_tick at t x well b) in
       record { stands = s.stands; before = by_lines s.lines; starts = by_place (suc q == suc place) refl s; said = s.said }

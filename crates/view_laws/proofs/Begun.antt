@@ -176,7 +176,7 @@ module _ (number : Starts → ℕ) (test : Start → Bool) (counts : Counts numb
   own_shown e early (event.Error k who (response.Partition a)) v t last p is gives said h = h ∙ ap (λ (ss : List Start). capped (starts_when test from ss)) (sym (cleared_same t k a))
   own_shown e early (event.Error k who response.Handler) v t last p is gives said h = h
   own_shown e early (event.Error k who (response.Module a)) v t last p is gives said h = h
-  own_shown e early (event.Return who service code) v t last p is gives said h = h
+  own_shown e early (event.Return who w code) v t last p is gives said h = h
   own_shown e early (event.Report who words) v t last p is gives said h = h
   own_shown e early (event.Move port words) v t last p is gives said h = h
   own_shown e early (event.Arrive port words) v t last p is gives said h = h
@@ -191,7 +191,7 @@ module _ (number : Starts → ℕ) (test : Start → Bool) (counts : Counts numb
   module_shown (event.Error e who (response.Module reaction.Reset)) t s h = h
   module_shown (event.State who s) t r h = h
   module_shown (event.Mode m) t s h = h
-  module_shown (event.Return who service code) t s h = h
+  module_shown (event.Return who v code) t s h = h
   module_shown (event.Report who words) t s h = h
   module_shown (event.Move port words) t s h = h
   module_shown (event.Arrive port words) t s h = h
@@ -203,7 +203,7 @@ module _ (number : Starts → ℕ) (test : Start → Bool) (counts : Counts numb
   named_behind true e (event.Mode m) v p = refl
   named_behind true e (event.State who s) v p = refl
   named_behind true e (event.Error k who r) v p = refl
-  named_behind true e (event.Return who service code) v p = refl
+  named_behind true e (event.Return who v code) v p = refl
   named_behind true e (event.Report who words) v p = refl
   named_behind true e (event.Move port words) v p = refl
   named_behind true e (event.Arrive port words) v p = refl
