@@ -7,7 +7,7 @@ use Rattle.apex_types.specs.Runners.{place_of}
 use Rattle.apex_types.specs.declared.codes.ProcessState.TheVariants.{Running}
 use Rattle.apex_types.specs.declared.codes.Mode.{Mode}
 use Rattle.apex_types.specs.declared.codes.StartCondition.{StartCondition}
-use Rattle.apex_types.specs.declared.codes.StartCondition.TheVariants as condition
+use Rattle.apex_types.specs.declared.codes.StartCondition.TheVariants.{PartitionRestart}
 use Rattle.apex_types.specs.declared.event.Event.{Event}
 use Rattle.apex_types.specs.declared.event.EventKind.{EventKind}
 use Rattle.apex_types.specs.declared.event.Subject.{Subject}
@@ -68,7 +68,7 @@ Agrees t s = AgreesOn t s.rows s.running
 pub record KernelAgrees (t : Told) (k : Kernel) : Type 0 where
   pub mode : t.mode ≡ k.mode
   pub condition : t.condition ≡ k.condition
-  pub next : t.next ≡ condition.PartitionRestart
+  pub next : t.next ≡ PartitionRestart
   pub orderly : t.orderly ≡ true
   pub processes : Agrees t k.processes
 

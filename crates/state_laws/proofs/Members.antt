@@ -95,9 +95,13 @@ abbrev pub last_by : List ℕ → Option StartCondition → Option (List ℕ) �
 last_by name last None kind = said_module kind
 last_by name last (Some other) kind = if same name other then said_next kind else still_said last kind
 
+abbrev pub IsSaidIf : Bool → Option StartCondition → Told → EventKind → Type 0
+IsSaidIf true last t kind = IsSaid last t kind
+IsSaidIf false last t kind = Unit {0}
+
 abbrev pub IsSaidBy : List ℕ → Option StartCondition → Told → Option (List ℕ) → EventKind → Type 0
 IsSaidBy name last t None kind = Unit {0}
-IsSaidBy name last t (Some other) kind = if same name other then IsSaid last t kind else Unit {0}
+IsSaidBy name last t (Some other) kind = IsSaidIf (same name other) last t kind
 
 abbrev pub AreSaidBy : List ℕ → Option StartCondition → Told → List Event → Type 0
 AreSaidBy name last t [] = Unit {0}
@@ -115,14 +119,14 @@ pub said_own : (name : List ℕ) (last : Option StartCondition) (t : Told) (ls :
 said_own name last t [] h k = tt
 said_own name last t (l ∷ ls) h k =
     subst (λ (o : Option (List ℕ)). IsSaidBy name last t o l.kind × AreSaidBy name (last_by name last o l.kind) (said_by name t o l.tick.0 l.kind) ls) (sym h.0)
-    (subst (λ (b : Bool). (if b then IsSaid last t l.kind else Unit {0}) × AreSaidBy name (if b then said_next l.kind else still_said last l.kind) (if b then says l.tick.0 t l.kind else t) ls) (sym (name_itself name))
+    (subst (λ (b : Bool). IsSaidIf b last t l.kind × AreSaidBy name (if b then said_next l.kind else still_said last l.kind) (if b then says l.tick.0 t l.kind else t) ls) (sym (name_itself name))
     (k.0, said_own name (said_next l.kind) (says l.tick.0 t l.kind) ls h.1 k.1))
 
 pub said_other : (name other : List ℕ) → same name other ≡ false → (last : Option StartCondition) (t : Told) (ls : List Event) → AllOf other ls → AreSaidBy name last t ls
 said_other name other n last t [] h = tt
 said_other name other n last t (l ∷ ls) h =
     subst (λ (o : Option (List ℕ)). IsSaidBy name last t o l.kind × AreSaidBy name (last_by name last o l.kind) (said_by name t o l.tick.0 l.kind) ls) (sym h.0)
-    (subst (λ (b : Bool). (if b then IsSaid last t l.kind else Unit {0}) × AreSaidBy name (if b then said_next l.kind else still_said last l.kind) (if b then says l.tick.0 t l.kind else t) ls) (sym n)
+    (subst (λ (b : Bool). IsSaidIf b last t l.kind × AreSaidBy name (if b then said_next l.kind else still_said last l.kind) (if b then says l.tick.0 t l.kind else t) ls) (sym n)
     (tt, said_other name other n (still_said last l.kind) t ls h.1))
 
 -- ---- the moves of a partition

@@ -14,6 +14,7 @@ use Rattle.apex_types.specs.declared.codes.StartCondition.TheVariants as conditi
 use Rattle.apex_types.specs.declared.device.DeviceInput.{DeviceInput}
 use Rattle.apex_types.specs.declared.device.DeviceInput.TheVariants as device
 use Rattle.apex_types.specs.declared.device.DeviceLine.{DeviceLine}
+use Rattle.apex_types.specs.declared.event.Event.{Event}
 use Rattle.apex_types.specs.declared.event.Subject.{Subject}
 use Rattle.apex_types.specs.declared.identity.At.{At}
 use Rattle.apex_types.specs.declared.identity.ListKey.{ListKey}
@@ -54,6 +55,10 @@ later n (Some w) h = omega (arith, h)
 none_in : (n : ℕ) (o : Option (ℕ × Subject)) → IsBefore n o → worked_in n o ≡ None
 none_in n None h = refl
 none_in n (Some w) h = ap (λ (b : Bool). if b then Some w.1 else None) (ne_eqb w.0 n (λ e. omega (arith, e, h)))
+
+-- no partition has the number 0
+not_zero : (place : ℕ) (own ss : List Start) → ss ≡ (if 0 == suc place then own else []) ++ ss
+not_zero place own ss = sym (ap (λ (b : Bool). (if b then own else []) ++ ss) (ne_eqb 0 (suc place) (λ e. absurd (omega (arith, e)))))
 
 next : (n : ℕ) → n < suc n
 next n = omega arith
@@ -110,14 +115,10 @@ module _ {C : Type 0} (d : ListKey → Discipline) (called : List (List ℕ)) (n
       by_member None e f = absurd (none-some name f)
       by_member (Some x) e f = (x, (e, same_Some (name_of x) name f))
 
-  -- no partition has the number 0
-  not_zero : (own ss : List Start) → ss ≡ (if 0 == suc place then own else []) ++ ss
-  not_zero own ss = sym (ap (λ (b : Bool). (if b then own else []) ++ ss) (ne_eqb 0 (suc place) (λ e. absurd (omega (arith, e)))))
-
   -- a move of a partition, with the starts that it makes if it is this one's
   moves_to : (tick : ℕ) (move : Move) (began : Member C → List Start) → ((t : Told) (x : Member C) → IsWell d called t x → MakesTo (began x) has_worked_last tick t (makes move x)) → (q : ℕ) (t : Told) (ms : List (Member C)) → Stay t ms
       → BeginsTo (starts_own (suc place) ms began q) t (steps (makes move) ms q)
-  moves_to tick move began tells zero t ms h = record { stands = h; same = refl; starts = not_zero (of_member [] began (at_number ms (suc place))) t.starts; said = λ last b. tt }
+  moves_to tick move began tells zero t ms h = record { stands = h; same = refl; starts = not_zero place (of_member [] began (at_number ms (suc place))) t.starts; said = λ last b. tt }
   moves_to tick move began tells (suc q) t ms h =
       let s = steps_to d called name place names apart t move ms q (slice_get ms q) refl h (λ x is here well. let m = tells t x well in record { agrees = m.agrees; said = λ last. m.said last tt }) in
       record { stands = s.stands; same = by_lines s.lines; starts = by_place (suc q == suc place) refl s; said = λ last b. s.said last }
@@ -375,7 +376,7 @@ module _ {C : Type 0} (d : ListKey → Discipline) (called : List (List ℕ)) (n
 
   owner_to : (at : At) (o : Option ℕ) (t : Told) (ms : List (Member C)) → Stay t ms → IsBefore at.now.0 t.worked → TicksTo at.now.0 (starts_of_owner at (suc place) ms o) t (ticks_owner at ms o)
   owner_to at None t ms h b = record { stands = h; before = later at.now.0 t.worked b; starts = refl; said = λ last. tt }
-  owner_to at (Some zero) t ms h b = record { stands = h; before = later at.now.0 t.worked b; starts = not_zero (of_member [] (starts_advancing at) (at_number ms (suc place))) t.starts; said = λ last. tt }
+  owner_to at (Some zero) t ms h b = record { stands = h; before = later at.now.0 t.worked b; starts = not_zero place (of_member [] (starts_advancing at) (at_number ms (suc place))) t.starts; said = λ last. tt }
   owner_to at (Some (suc q)) t ms h b =
       let s = steps_to d called name place names apart t (Advances at) ms q (slice_get ms q) refl h (λ x is here well. told_tick at t x well b) in
       record { stands = s.stands; before = by_lines s.lines; starts = by_place (suc q == suc place) refl s; said = s.said }

@@ -71,40 +71,40 @@ module _ (tick : ℕ) where
       by_tests false c = refl
 
   line_adds : (t : Told) (k : EventKind) → length (says tick t k).starts ≡ starts_at k + length t.starts
-  line_adds t (event.State who state) = ap (λ (ss : List Start). length ss) (moved_same t who state)
-  line_adds t (event.Mode mode.Normal) = refl
-  line_adds t (event.Mode mode.Idle) = refl
-  line_adds t (event.Mode mode.ColdStart) = refl
-  line_adds t (event.Mode mode.WarmStart) = refl
-  line_adds t (event.Error e who (response.Partition a)) = ap (λ (ss : List Start). length ss) (cleared_same t e a)
-  line_adds t (event.Error e who response.Handler) = refl
-  line_adds t (event.Error e who (response.Module a)) = refl
-  line_adds t (event.Return who v code) = refl
-  line_adds t (event.Report who words) = refl
-  line_adds t (event.Move port words) = refl
-  line_adds t (event.Arrive port words) = refl
-  line_adds t (event.Lost port words) = refl
-  line_adds t (event.Out channel words) = refl
+  line_adds t (event.State who state) = let e = ap (λ (ss : List Start). length ss) (moved_same t who state) in omega (arith, e)
+  line_adds t (event.Mode mode.Normal) = omega arith
+  line_adds t (event.Mode mode.Idle) = omega arith
+  line_adds t (event.Mode mode.ColdStart) = omega arith
+  line_adds t (event.Mode mode.WarmStart) = omega arith
+  line_adds t (event.Error e who (response.Partition a)) = let e = ap (λ (ss : List Start). length ss) (cleared_same t e a) in omega (arith, e)
+  line_adds t (event.Error e who response.Handler) = omega arith
+  line_adds t (event.Error e who (response.Module a)) = omega arith
+  line_adds t (event.Return who v code) = omega arith
+  line_adds t (event.Report who words) = omega arith
+  line_adds t (event.Move port words) = omega arith
+  line_adds t (event.Arrive port words) = omega arith
+  line_adds t (event.Lost port words) = omega arith
+  line_adds t (event.Out channel words) = omega arith
 
   lines_add : (t : Told) (ks : List EventKind) → length (reads tick t ks).starts ≡ all_starts ks + length t.starts
-  lines_add t [] = refl
+  lines_add t [] = omega arith
   lines_add t (k ∷ ks) = let a = line_adds t k in let b = lines_add (says tick t k) ks in omega (arith, a, b)
+
+mode_counted : (b : Bool) (ks : List EventKind) → (all_starts ks ≡ 0 → has_start ks ≡ false) → one_of b + all_starts ks ≡ 0 → (b || has_start ks) ≡ false
+mode_counted true ks rest e = absurd (omega (arith, e))
+mode_counted false ks rest e = rest (omega (arith, e))
 
 none_counted : (ks : List EventKind) → all_starts ks ≡ 0 → has_start ks ≡ false
 none_counted [] e = refl
-none_counted (event.Mode m ∷ ks) e = by_test (is_start m) e
-  where
-    by_test : (b : Bool) → one_of b + all_starts ks ≡ 0 → (b || has_start ks) ≡ false
-    by_test true f = absurd (omega (arith, f))
-    by_test false f = none_counted ks f
-none_counted (event.State who state ∷ ks) e = none_counted ks e
-none_counted (event.Error k who r ∷ ks) e = none_counted ks e
-none_counted (event.Return who v code ∷ ks) e = none_counted ks e
-none_counted (event.Report who words ∷ ks) e = none_counted ks e
-none_counted (event.Move port words ∷ ks) e = none_counted ks e
-none_counted (event.Arrive port words ∷ ks) e = none_counted ks e
-none_counted (event.Lost port words ∷ ks) e = none_counted ks e
-none_counted (event.Out channel words ∷ ks) e = none_counted ks e
+none_counted (event.Mode m ∷ ks) e = mode_counted (is_start m) ks (none_counted ks) e
+none_counted (event.State who state ∷ ks) e = none_counted ks (omega (arith, e))
+none_counted (event.Error k who r ∷ ks) e = none_counted ks (omega (arith, e))
+none_counted (event.Return who v code ∷ ks) e = none_counted ks (omega (arith, e))
+none_counted (event.Report who words ∷ ks) e = none_counted ks (omega (arith, e))
+none_counted (event.Move port words ∷ ks) e = none_counted ks (omega (arith, e))
+none_counted (event.Arrive port words ∷ ks) e = none_counted ks (omega (arith, e))
+none_counted (event.Lost port words ∷ ks) e = none_counted ks (omega (arith, e))
+none_counted (event.Out channel words ∷ ks) e = none_counted ks (omega (arith, e))
 
 -- lines after which the same starts are told
 pub no_start : (tick : ℕ) (t : Told) (ks : List EventKind) → (reads tick t ks).starts ≡ t.starts → has_start ks ≡ false

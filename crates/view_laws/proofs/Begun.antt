@@ -19,7 +19,7 @@ use Rattle.apex_types.specs.declared.service.Service.TheVariants as service
 use Rattle.engine_meaning.specs.Digits.{same}
 use Rattle.state_laws.specs.Told.{Start, Told, first_told, is_start, said_by, says, says_module, told, told_from}
 use Rattle.state_laws.specs.Told as reading
-use Rattle.state_laws.proofs.Members.{AreSaidBy, IsSaidBy, last_by, said_module, still_said}
+use Rattle.state_laws.proofs.Members.{AreSaidBy, IsSaidBy, IsSaidIf, last_by, said_module, still_said}
 use Rattle.state_laws.proofs.Starting.{IsSaid, cleared_same, moved_same, said_next}
 use Rattle.trace_stays.specs.Following.{is_of}
 use Rattle.trace_stays.specs.Same.{is_same_partition}
@@ -121,6 +121,9 @@ added_one : (b : Bool) (n x : ℕ) → n ≡ capped x → added b n ≡ capped (
 added_one true n x h = omega (arith, h)
 added_one false n x h = omega (arith, h)
 
+none_more : (x : ℕ) → capped x ≡ capped (0 + x)
+none_more x = omega arith
+
 -- a start with its condition is counted if it passes the test
 abbrev Counts : (Starts → ℕ) → (Start → Bool) → Type 0
 Counts number test = (tick : ℕ) (m : Mode) (c : StartCondition) (s : Starts) → is_start m ≡ true → number (with_start (Some c) m s) ≡ added (test (record { tick = tick; mode = m; condition = c })) (number s)
@@ -153,7 +156,7 @@ module _ (number : Starts → ℕ) (test : Start → Bool) (counts : Counts numb
           ∙ counts z m t.next s is
           ∙ added_one (test start) (number s) (starts_when test from t.starts) h
           ∙ ap (λ (x : Bool). capped (one_if (x && test start) + starts_when test from t.starts)) (sym e)
-      by_test false e = h ∙ ap (λ (x : Bool). capped (one_if (x && test start) + starts_when test from t.starts)) (sym e)
+      by_test false e = h ∙ none_more (starts_when test from t.starts) ∙ ap (λ (x : Bool). capped (one_if (x && test start) + starts_when test from t.starts)) (sym e)
 
   other_shown : (b : Bool) (m : Mode) (v : Known) (s : Starts) (starts : List Start) → is_start m ≡ false → Shows s starts → Shows (starts_behind b v m name s) starts
   other_shown true m v s starts is h = ignores m (condition_for name v) s is ∙ h
@@ -217,7 +220,7 @@ module _ (number : Starts → ℕ) (test : Start → Bool) (counts : Counts numb
       subst (λ (n : List ℕ). Shows (if same other n then read_by window v e.tick e.kind p else p).starts (said_by name t (Some other) e.tick.0 e.kind).starts) (sym is)
       (subst (λ (b : Bool). Shows (if b then read_by window v e.tick e.kind p else p).starts (said_by name t (Some other) e.tick.0 e.kind).starts) (same_turned name other) (by_test (same name other) said))
     where
-      by_test : (b : Bool) → (if b then IsSaid last t e.kind else Unit {0}) → Shows (if b then read_by window v e.tick e.kind p else p).starts (if b then says e.tick.0 t e.kind else t).starts
+      by_test : (b : Bool) → IsSaidIf b last t e.kind → Shows (if b then read_by window v e.tick e.kind p else p).starts (if b then says e.tick.0 t e.kind else t).starts
       by_test true k = own_shown e early e.kind v t last p is gives k h
       by_test false k = h
 
