@@ -18,7 +18,6 @@ use Rattle.apex_types.specs.declared.codes.ReturnCode.{ReturnCode}
 use Rattle.apex_types.specs.declared.codes.ReturnCode.TheVariants as code
 use Rattle.apex_types.specs.declared.codes.StartCondition.{StartCondition}
 use Rattle.apex_types.specs.declared.codes.StartCondition.TheVariants as condition
-use Rattle.apex_types.specs.declared.event.EventKind.{EventKind}
 use Rattle.apex_types.specs.declared.event.EventKind.TheVariants as event
 use Rattle.apex_types.specs.declared.event.Subject.TheVariants.{Init, Handler, Process}
 use Rattle.apex_types.specs.declared.event.Subject.{Subject}
@@ -47,7 +46,7 @@ use Rattle.kernel_meaning.specs.Sharing.{Sharing, is_large_enough}
 use Rattle.apex_types.specs.declared.limits.TheConstants.{MOST_REPORT_WORDS}
 use Rattle.kernel_meaning.specs.Step.{Step, after, first_words, lifted}
 use Rattle.kernel_meaning.specs.Times.{start_all_waiting}
-use Rattle.state_laws.specs.Told.{Told, cleared, expected, is_init, responds, worked_in, worker_by_lines, running_or, is_from_outside}
+use Rattle.state_laws.specs.Told.{Told, cleared, expected, is_init, worked_in, worker_by_lines, running_or, is_from_outside}
 use Rattle.state_laws.specs.Starts.{has_start, starts_of}
 use Rattle.state_laws.specs.States.{who_runs}
 use Rattle.state_laws.proofs.Starting.{AreSaid, TellsStarts, no_start, none_said, said_both, starts_after, starts_none}

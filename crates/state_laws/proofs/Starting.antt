@@ -1,9 +1,8 @@
 -- Which lines of a step start the partition, and that the line before each start gives its condition.
-use Rattle.std.proofs.Common.{◌≡◌, ℕ, Bool, true, false, List, [], ◌∷◌, ◌++◌, length, Option, Some, None, refl, sym, ap, ◌∙◌, subst, arith}
+use Rattle.std.proofs.Common.{◌≡◌, ℕ, Bool, true, false, List, [], ◌∷◌, ◌++◌, length, Option, Some, None, refl, sym, ap, ◌∙◌, arith}
 use Rattle.std.specs.Prelude.{◌+◌, ◌||◌, if◌then◌else◌}
 use Rattle.std.proofs.lemmas.Bool.{false≢true}
 use Rattle.apex_types.specs.declared.codes.ErrorKind.{ErrorKind}
-use Rattle.apex_types.specs.declared.codes.Mode.{Mode}
 use Rattle.apex_types.specs.declared.codes.Mode.TheVariants as mode
 use Rattle.apex_types.specs.declared.codes.PartitionAction.{PartitionAction}
 use Rattle.apex_types.specs.declared.codes.ProcessState.{ProcessState}

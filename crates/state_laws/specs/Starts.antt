@@ -1,5 +1,5 @@
 -- The starts of a partition in a run: in which tick the kernel starts it, in which mode, and with which condition. Of several starts the last one is first.
-use Rattle.std.specs.Prelude.{◌==◌, ◌||◌, ℕ, zero, suc, Bool, true, false, List, [], ◌∷◌, ◌++◌, Option, Some, None, if◌then◌else◌, option_map}
+use Rattle.std.specs.Prelude.{◌==◌, ◌||◌, ℕ, zero, suc, Bool, false, List, [], ◌∷◌, ◌++◌, Option, Some, None, if◌then◌else◌, option_map}
 use Rattle.apex_types.specs.Runners.{place_of}
 use Rattle.apex_types.specs.declared.codes.Mode.TheVariants as mode
 use Rattle.apex_types.specs.declared.codes.ModuleAction.{ModuleAction}
