@@ -243,12 +243,12 @@ module _ (number : Starts → ℕ) (test : Start → Bool) (counts : Counts numb
 
 -- ---- starts in a mode, and with a condition
 
-not_start : {m : Mode} {A : Type 0} → is_start m ≡ true → is_start m ≡ false → A
-not_start is e = absurd (false≢true (sym e ∙ is))
+not_start : {A : Type 0} (m : Mode) → is_start m ≡ true → is_start m ≡ false → A
+not_start m is e = absurd (false≢true (sym e ∙ is))
 
 mode_counts : (k : Mode) → Counts (starts_for k) (is_in_mode k)
-mode_counts k tick mode.Normal c s is = not_start {mode.Normal} is refl
-mode_counts k tick mode.Idle c s is = not_start {mode.Idle} is refl
+mode_counts k tick mode.Normal c s is = not_start mode.Normal is refl
+mode_counts k tick mode.Idle c s is = not_start mode.Idle is refl
 mode_counts mode.ColdStart tick mode.ColdStart c s is = refl
 mode_counts mode.ColdStart tick mode.WarmStart c s is = refl
 mode_counts mode.WarmStart tick mode.ColdStart c s is = refl
@@ -283,8 +283,8 @@ with_counts condition.HmPartitionRestart condition.HmModuleRestart x = refl
 with_counts condition.HmPartitionRestart condition.HmPartitionRestart x = refl
 
 condition_counts : (k : StartCondition) → Counts (λ s. starts_with k s.conditions) (is_with k)
-condition_counts k tick mode.Normal c s is = not_start {mode.Normal} is refl
-condition_counts k tick mode.Idle c s is = not_start {mode.Idle} is refl
+condition_counts k tick mode.Normal c s is = not_start mode.Normal is refl
+condition_counts k tick mode.Idle c s is = not_start mode.Idle is refl
 condition_counts k tick mode.ColdStart c s is = with_counts k c s.conditions
 condition_counts k tick mode.WarmStart c s is = with_counts k c s.conditions
 

@@ -1,0 +1,8 @@
+pub mod Reading
+pub mod Spent
+pub mod Shown
+pub mod Ticks
+pub mod Modes
+pub mod Starts
+pub mod Counted
+pub mod Reports
