@@ -46,9 +46,6 @@ use Rattle.view_laws.proofs.Shown.{same_turned}
 abbrev Gives : List ℕ → Option StartCondition → Known → Type 0
 Gives name last v = (c : StartCondition) → last ≡ Some c → condition_for name v ≡ Some c
 
-gives_none : (name : List ℕ) (v : Known) → Gives name None v
-gives_none name v c e = absurd (none-some c e)
-
 -- the view knows it of any partition
 gives_any : (name : List ℕ) (v : Known) → (b : Bool) (c : StartCondition) → (if b then None else v.condition) ≡ Some c → v.condition ≡ Some c
 gives_any name v true c e = absurd (none-some c e)
@@ -56,52 +53,52 @@ gives_any name v false c e = e
 
 module_gives : (name : List ℕ) (kind : EventKind) (v : Known) → Gives name (said_module kind) (told_by_kind None kind v)
 module_gives name (event.Error e who (response.Module reaction.Reset)) v = λ c is. is
-module_gives name (event.Error e who (response.Module reaction.Ignore)) v = gives_none name _
-module_gives name (event.Error e who (response.Module reaction.Shutdown)) v = gives_none name _
-module_gives name (event.Error e who response.Handler) v = gives_none name _
-module_gives name (event.Error e who (response.Partition a)) v = gives_none name _
-module_gives name (event.State who s) v = gives_none name _
-module_gives name (event.Mode m) v = gives_none name _
-module_gives name (event.Return who s code) v = gives_none name _
-module_gives name (event.Report who words) v = gives_none name _
-module_gives name (event.Move port words) v = gives_none name _
-module_gives name (event.Arrive port words) v = gives_none name _
-module_gives name (event.Lost port words) v = gives_none name _
-module_gives name (event.Out channel words) v = gives_none name _
+module_gives name (event.Error e who (response.Module reaction.Ignore)) v = λ c e. absurd (none-some c e)
+module_gives name (event.Error e who (response.Module reaction.Shutdown)) v = λ c e. absurd (none-some c e)
+module_gives name (event.Error e who response.Handler) v = λ c e. absurd (none-some c e)
+module_gives name (event.Error e who (response.Partition a)) v = λ c e. absurd (none-some c e)
+module_gives name (event.State who s) v = λ c e. absurd (none-some c e)
+module_gives name (event.Mode m) v = λ c e. absurd (none-some c e)
+module_gives name (event.Return who s code) v = λ c e. absurd (none-some c e)
+module_gives name (event.Report who words) v = λ c e. absurd (none-some c e)
+module_gives name (event.Move port words) v = λ c e. absurd (none-some c e)
+module_gives name (event.Arrive port words) v = λ c e. absurd (none-some c e)
+module_gives name (event.Lost port words) v = λ c e. absurd (none-some c e)
+module_gives name (event.Out channel words) v = λ c e. absurd (none-some c e)
 
 service_gives : (name : List ℕ) (who : _) (s : Service) (code : _) → Gives name (said_next (event.Return who s code)) (view.told_by (view.told_by_service s))
 service_gives name who service.SetPartitionMode code = λ c is. is
-service_gives name who _ code = gives_none name _
+service_gives name who _ code = λ c e. absurd (none-some c e)
 
 own_gives : (name other : List ℕ) (kind : EventKind) (v : Known) → Gives name (said_next kind) (told_by_kind (Some other) kind v)
 own_gives name other (event.Error e who (response.Partition a)) v = λ c is. is
-own_gives name other (event.Error e who (response.Module a)) v = gives_none name _
-own_gives name other (event.Error e who response.Handler) v = gives_none name _
+own_gives name other (event.Error e who (response.Module a)) v = λ c e. absurd (none-some c e)
+own_gives name other (event.Error e who response.Handler) v = λ c e. absurd (none-some c e)
 own_gives name other (event.Return who s code) v = service_gives name who s code
-own_gives name other (event.State who s) v = gives_none name _
-own_gives name other (event.Mode m) v = gives_none name _
-own_gives name other (event.Report who words) v = gives_none name _
-own_gives name other (event.Move port words) v = gives_none name _
-own_gives name other (event.Arrive port words) v = gives_none name _
-own_gives name other (event.Lost port words) v = gives_none name _
-own_gives name other (event.Out channel words) v = gives_none name _
+own_gives name other (event.State who s) v = λ c e. absurd (none-some c e)
+own_gives name other (event.Mode m) v = λ c e. absurd (none-some c e)
+own_gives name other (event.Report who words) v = λ c e. absurd (none-some c e)
+own_gives name other (event.Move port words) v = λ c e. absurd (none-some c e)
+own_gives name other (event.Arrive port words) v = λ c e. absurd (none-some c e)
+own_gives name other (event.Lost port words) v = λ c e. absurd (none-some c e)
+own_gives name other (event.Out channel words) v = λ c e. absurd (none-some c e)
 
 -- the start of another partition
 other_gives : (name other : List ℕ) → same other name ≡ false → (last : Option StartCondition) (kind : EventKind) (v : Known) → Gives name last v → Gives name (still_said last kind) (told_by_kind (Some other) kind v)
 other_gives name other n last (event.Mode m) v h = λ c is. ap (λ (b : Bool). if b then None else v.condition) n ∙ gives_any name v (is_same_partition v.started (Some name)) c (h c is)
 other_gives name other n last (event.State subject.Init state.Ready) v h = h
-other_gives name other n last (event.State subject.Init state.Running) v h = gives_none name _
-other_gives name other n last (event.State subject.Init state.Waiting) v h = gives_none name _
-other_gives name other n last (event.State subject.Init state.Dormant) v h = gives_none name _
-other_gives name other n last (event.State subject.Handler s) v h = gives_none name _
-other_gives name other n last (event.State (subject.Process p) s) v h = gives_none name _
-other_gives name other n last (event.Error e who r) v h = gives_none name _
-other_gives name other n last (event.Return who s code) v h = gives_none name _
-other_gives name other n last (event.Report who words) v h = gives_none name _
-other_gives name other n last (event.Move port words) v h = gives_none name _
-other_gives name other n last (event.Arrive port words) v h = gives_none name _
-other_gives name other n last (event.Lost port words) v h = gives_none name _
-other_gives name other n last (event.Out channel words) v h = gives_none name _
+other_gives name other n last (event.State subject.Init state.Running) v h = λ c e. absurd (none-some c e)
+other_gives name other n last (event.State subject.Init state.Waiting) v h = λ c e. absurd (none-some c e)
+other_gives name other n last (event.State subject.Init state.Dormant) v h = λ c e. absurd (none-some c e)
+other_gives name other n last (event.State subject.Handler s) v h = λ c e. absurd (none-some c e)
+other_gives name other n last (event.State (subject.Process p) s) v h = λ c e. absurd (none-some c e)
+other_gives name other n last (event.Error e who r) v h = λ c e. absurd (none-some c e)
+other_gives name other n last (event.Return who s code) v h = λ c e. absurd (none-some c e)
+other_gives name other n last (event.Report who words) v h = λ c e. absurd (none-some c e)
+other_gives name other n last (event.Move port words) v h = λ c e. absurd (none-some c e)
+other_gives name other n last (event.Arrive port words) v h = λ c e. absurd (none-some c e)
+other_gives name other n last (event.Lost port words) v h = λ c e. absurd (none-some c e)
+other_gives name other n last (event.Out channel words) v h = λ c e. absurd (none-some c e)
 
 line_gives : (name : List ℕ) (last : Option StartCondition) (p : Option (List ℕ)) (kind : EventKind) (v : Known) → Gives name last v → Gives name (last_by name last p kind) (told_by_kind p kind v)
 line_gives name last None kind v h = module_gives name kind v
@@ -176,7 +173,7 @@ module _ (number : Starts → ℕ) (test : Start → Bool) (counts : Counts numb
   own_shown e early (event.Mode m) v t last p is gives said h =
       subst (λ (n : List ℕ). Shows (starts_behind (has_tick window e.tick.0) v m n p.starts) (says e.tick.0 t (event.Mode m)).starts) (sym is) (mode_shown e.tick.0 early m v t last p.starts gives said h)
   own_shown e early (event.State who s) v t last p is gives said h = h ∙ ap (λ (ss : List Start). capped (starts_when test from ss)) (sym (moved_same e.tick.0 t who s))
-  own_shown e early (event.Error k who (response.Partition a)) v t last p is gives said h = h ∙ ap (λ (ss : List Start). capped (starts_when test from ss)) (sym (cleared_same t k a))
+  own_shown e early (event.Error k who (response.Partition a)) v t last p is gives said h = h ∙ ap (λ (ss : List Start). capped (starts_when test from ss)) (sym (cleared_same e.tick.0 t k a))
   own_shown e early (event.Error k who response.Handler) v t last p is gives said h = h
   own_shown e early (event.Error k who (response.Module a)) v t last p is gives said h = h
   own_shown e early (event.Return who w code) v t last p is gives said h = h
@@ -206,7 +203,7 @@ module _ (number : Starts → ℕ) (test : Start → Bool) (counts : Counts numb
   named_behind true e (event.Mode m) v p = refl
   named_behind true e (event.State who s) v p = refl
   named_behind true e (event.Error k who r) v p = refl
-  named_behind true e (event.Return who v code) v p = refl
+  named_behind true e (event.Return who w code) v p = refl
   named_behind true e (event.Report who words) v p = refl
   named_behind true e (event.Move port words) v p = refl
   named_behind true e (event.Arrive port words) v p = refl
