@@ -6,6 +6,9 @@ use Rattle.std.proofs.lemmas.Option.{same_Some}
 use Rattle.apex_types.specs.Runners.{place_of}
 use Rattle.apex_types.specs.declared.codes.ProcessState.TheVariants.{Running}
 use Rattle.apex_types.specs.declared.codes.Mode.{Mode}
+use Rattle.apex_types.specs.declared.codes.StartCondition.{StartCondition}
+use Rattle.apex_types.specs.declared.codes.StartCondition.TheVariants.{PartitionRestart}
+use Rattle.apex_types.specs.declared.event.Event.{Event}
 use Rattle.apex_types.specs.declared.event.EventKind.{EventKind}
 use Rattle.apex_types.specs.declared.event.Subject.{Subject}
 use Rattle.apex_types.specs.declared.event.Subject.TheVariants.{Init}
@@ -17,7 +20,7 @@ use Rattle.kernel_laws.proofs.Records.{OfProcess}
 use Rattle.kernel_meaning.specs.Kernel.{Kernel}
 use Rattle.kernel_meaning.specs.Processes.{Processes, who_of}
 use Rattle.kernel_meaning.specs.Step.{Step, after}
-use Rattle.state_laws.specs.Told.{Told, says, worker_by_lines, running_or, worked_in}
+use Rattle.state_laws.specs.Told.{Start, Told, says, worker_by_lines, running_or, worked_in}
 use Rattle.state_laws.specs.States.{who_runs}
 
 -- ---- lines of one partition in a tick
@@ -29,6 +32,15 @@ reads tick t (k ∷ ks) = reads tick (says tick t k) ks
 pub reads_both : (tick : ℕ) (t : Told) (a b : List EventKind) → reads tick t (a ++ b) ≡ reads tick (reads tick t a) b
 reads_both tick t [] b = refl
 reads_both tick t (k ∷ a) b = reads_both tick (says tick t k) a b
+
+-- lines with their ticks
+abbrev pub reads_all : Told → List Event → Told
+reads_all t [] = t
+reads_all t (l ∷ ls) = reads_all (says l.tick.0 t l.kind) ls
+
+pub all_both : (t : Told) (a b : List Event) → reads_all t (a ++ b) ≡ reads_all (reads_all t a) b
+all_both t [] b = refl
+all_both t (l ∷ a) b = all_both (says l.tick.0 t l.kind) a b
 
 -- ---- the agreement
 
@@ -52,26 +64,39 @@ pub record AgreesOn (t : Told) (rows : List ProcessStatus) (current : Option Run
 abbrev pub Agrees : Told → Processes → Type 0
 Agrees t s = AgreesOn t s.rows s.running
 
--- and the mode told is the mode; and each runner became RUNNING in its turn
+-- and the mode and the start condition told are those of the kernel, which next restarts by itself; and each runner became RUNNING in its turn
 pub record KernelAgrees (t : Told) (k : Kernel) : Type 0 where
   pub mode : t.mode ≡ k.mode
+  pub condition : t.condition ≡ k.condition
+  pub next : t.next ≡ PartitionRestart
   pub orderly : t.orderly ≡ true
   pub processes : Agrees t k.processes
 
 -- ---- a step
 
 -- what a step of processes leaves as it is told
-abbrev pub kept_told : Told → Mode × Bool
-kept_told t = (t.mode, t.orderly)
+pub record Kept : Type 0 where
+  pub mode : Mode
+  pub condition : StartCondition
+  pub next : StartCondition
+  pub starts : List Start
+  pub orderly : Bool
 
-pub same_mode : (a b : Mode × Bool) → a ≡ b → a.0 ≡ b.0
-same_mode a b e = ap (λ (x : Mode × Bool). x.0) e
+abbrev pub kept_told : Told → Kept
+kept_told t = record { mode = t.mode; condition = t.condition; next = t.next; starts = t.starts; orderly = t.orderly }
 
-pub same_order : (a b : Mode × Bool) → a ≡ b → a.1 ≡ b.1
-same_order a b e = ap (λ (x : Mode × Bool). x.1) e
+-- and in the kernel
+abbrev pub kept_kernel : Kernel → Mode × StartCondition
+kept_kernel k = (k.mode, k.condition)
 
-pub agrees_after : (t v : Told) (k j : Kernel) → KernelAgrees t k → kept_told v ≡ kept_told t → j.mode ≡ k.mode → Agrees v j.processes → KernelAgrees v j
-agrees_after t v k j h e m a = record { mode = same_mode (kept_told v) (kept_told t) e ∙ h.mode ∙ sym m; orderly = same_order (kept_told v) (kept_told t) e ∙ h.orderly; processes = a }
+pub agrees_after : (t v : Told) (k j : Kernel) → KernelAgrees t k → kept_told v ≡ kept_told t → kept_kernel j ≡ kept_kernel k → Agrees v j.processes → KernelAgrees v j
+agrees_after t v k j h e m a = record {
+  mode = ap (λ (x : Kept). x.mode) e ∙ h.mode ∙ sym (ap (λ (x : Mode × StartCondition). x.0) m);
+  condition = ap (λ (x : Kept). x.condition) e ∙ h.condition ∙ sym (ap (λ (x : Mode × StartCondition). x.1) m);
+  next = ap (λ (x : Kept). x.next) e ∙ h.next;
+  orderly = ap (λ (x : Kept). x.orderly) e ∙ h.orderly;
+  processes = a;
+}
 
 -- After a step: what is told now agrees with where the step leads, and in some respect the same is told as before.
 pub record GoesTo {A : Type 0} (of : Told → A) (t v : Told) (rows : List ProcessStatus) (current : Option Runner) : Type 0 where

@@ -18,16 +18,15 @@ use Rattle.kernel_laws.proofs.RecordRows.{IsCaller}
 use Rattle.kernel_laws.proofs.Records.{OfProcess}
 use Rattle.kernel_meaning.specs.HealthServices.{starts_handler, begins_if_dormant, is_waiting}
 use Rattle.kernel_meaning.specs.Kernel.{Errors, Kernel, with_errors}
-use Rattle.kernel_meaning.specs.Partition.{preempts, runs, leaves_processor, takes_processor, are_same, chooses, chooses_with_handler, pick, is_ready}
+use Rattle.kernel_meaning.specs.Partition.{preempts, runs, leaves_processor, takes_processor, are_same, chooses, pick, is_ready}
 use Rattle.kernel_meaning.specs.Processes.{Processes, row_of, who_of, is_dormant, is_dormant_state, is_normal}
 use Rattle.kernel_meaning.specs.ProcessServices.{is_ready_state}
 use Rattle.kernel_meaning.specs.Sharing.{Sharing}
 use Rattle.kernel_meaning.specs.Step.{after}
 use Rattle.state_laws.specs.Told.{Told, is_it, preempted, running_or, with_state, worked_in, worker_by_lines}
 use Rattle.state_laws.specs.States.{who_runs}
-use Rattle.state_laws.proofs.Agreement.{reads, IsRunning, Agrees, KernelAgrees, Goes, GoesTo, goes, has_worked_last, idles, in_turn, either, passed, still_named}
+use Rattle.state_laws.proofs.Agreement.{reads, IsRunning, Agrees, KernelAgrees, Goes, GoesTo, goes, has_worked_last, idles, in_turn, either, kept_told, passed, still_named}
 use Rattle.state_laws.proofs.Changes.{here, states_set, is_in, out_by_state, wakes_goes}
-use Rattle.state_laws.proofs.KernelSteps.{KernelGoes, of_goes}
 use Rattle.state_laws.proofs.Subjects.{same_itself}
 
 module _ (tick : ℕ) (t : Told) (s : Processes) (h : Agrees t s) where
@@ -77,7 +76,7 @@ module _ (tick : ℕ) (t : Told) (s : Processes) (h : Agrees t s) where
       running = ap Some (sym (ap who_of here_now));
       runs = λ q e. subst (λ (o : Runner). IsRunning o (slice_get rows (place_of o))) (same_Some p q e) (subst (IsRunning p) (sym here_now) (refl, plain));
     };
-    mode = ap (λ (b : Bool). (t.mode, b)) (ap (λ (o : Option Subject). t.orderly && not (is_some o)) free ∙ and_true t.orderly);
+    mode = ap (λ (b : Bool). record (kept_told t) { orderly = b }) (ap (λ (o : Option Subject). t.orderly && not (is_some o)) free ∙ and_true t.orderly);
     same = refl;
   }
     where
@@ -136,9 +135,10 @@ module _ (tick : ℕ) where
   starts_goes m t b h =
       either has_worked_last tick t (is_normal m && is_waiting b.shared.waiting) _ _ (handler_goes tick t b.processes h (row_of b.processes runner.Handler) refl) (here tick t b.processes h has_worked_last [])
 
-  pub choice_goes : (t : Told) (k : Kernel) → KernelAgrees t k → worked_in tick t.worked ≡ None → RecordsAgree k.processes → KernelGoes has_worked_last tick t (chooses_with_handler k)
+  pub choice_goes : (t : Told) (k : Kernel) → KernelAgrees t k → worked_in tick t.worked ≡ None → RecordsAgree k.processes
+      → Goes has_worked_last tick t (let s = starts_handler k.mode (with_errors k) in after s (chooses k.mode s.part))
   choice_goes t k h unspent agree =
       let s = starts_handler k.mode (with_errors k) in
       let a = starts_goes k.mode t (with_errors k) h.processes in
       let c = chooses_goes k.mode (reads tick t s.lines) s.part a.agrees (ap (worked_in tick) a.same ∙ unspent) (handler_agrees k.mode (with_errors k) agree) in
-      of_goes has_worked_last tick t k (after s (chooses k.mode s.part)) h (in_turn has_worked_last tick t s (chooses k.mode s.part) a c)
+      in_turn has_worked_last tick t s (chooses k.mode s.part) a c

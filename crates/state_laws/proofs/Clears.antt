@@ -18,6 +18,7 @@ use Rattle.state_laws.specs.Told.{Told, is_same, worker_or, worker_by_lines, run
 use Rattle.state_laws.proofs.Agreement.{reads, AreDistinct, AgreesOn, KernelAgrees, each, still_named}
 use Rattle.state_laws.proofs.Changes.{same_worker}
 use Rattle.kernel_laws.proofs.Places.{mapped}
+use Rattle.state_laws.proofs.Starting.{AreSaid, TellsStarts}
 use Rattle.state_laws.proofs.Subjects.{not_same}
 
 -- ---- records that are forgotten
@@ -79,14 +80,35 @@ started_agrees (x ∷ xs) h v state none = record {
 -- Nobody runs, and whoever ran has worked in this tick.
 pub record HasCleared (tick : ℕ) (t : Told) (s : Step Kernel) : Type 0 where
   pub agrees : KernelAgrees (reads tick t s.lines) s.part
+  pub starts : TellsStarts tick t s
+  pub said : (last : Option StartCondition) → last ≡ Some t.next → AreSaid tick last t s.lines
   pub none : (reads tick t s.lines).running ≡ None
   pub worked : (reads tick t s.lines).worked ≡ worker_or tick t.worked t.running
 
-pub clears_go : (tick : ℕ) (t : Told) (k : Kernel) (m : Mode) (c : StartCondition) → AreDistinct k.processes.rows → is_normal m ≡ false → t.orderly ≡ true → HasCleared tick t (clears k m c)
-clears_go tick t k mode.Idle c h e o = record { agrees = record { mode = refl; orderly = o; processes = idle_agrees k.processes.rows h _ (λ w. refl) refl }; none = refl; worked = refl }
-clears_go tick t k mode.ColdStart c h e o = record { agrees = record { mode = refl; orderly = o; processes = started_agrees k.processes.rows h _ (λ w. refl) refl }; none = refl; worked = refl }
-clears_go tick t k mode.WarmStart c h e o = record { agrees = record { mode = refl; orderly = o; processes = started_agrees k.processes.rows h _ (λ w. refl) refl }; none = refl; worked = refl }
-clears_go tick t k mode.Normal c h e o = absurd (false≢true (sym e))
+-- with the condition that is expected
+pub clears_go : (tick : ℕ) (t : Told) (k : Kernel) (m : Mode) (c : StartCondition) → AreDistinct k.processes.rows → is_normal m ≡ false → t.orderly ≡ true → t.next ≡ c → HasCleared tick t (clears k m c)
+clears_go tick t k mode.Idle c h e o n = record {
+  agrees = record { mode = refl; condition = n; next = refl; orderly = o; processes = idle_agrees k.processes.rows h _ (λ w. refl) refl };
+  starts = refl;
+  said = λ last is. ((λ f. absurd (false≢true f)), tt);
+  none = refl;
+  worked = refl;
+}
+clears_go tick t k mode.ColdStart c h e o n = record {
+  agrees = record { mode = refl; condition = n; next = refl; orderly = o; processes = started_agrees k.processes.rows h _ (λ w. refl) refl };
+  starts = ap (λ (d : StartCondition). record { tick = tick; mode = mode.ColdStart; condition = d } ∷ t.starts) n;
+  said = λ last is. ((λ f. is), (tt, tt));
+  none = refl;
+  worked = refl;
+}
+clears_go tick t k mode.WarmStart c h e o n = record {
+  agrees = record { mode = refl; condition = n; next = refl; orderly = o; processes = started_agrees k.processes.rows h _ (λ w. refl) refl };
+  starts = ap (λ (d : StartCondition). record { tick = tick; mode = mode.WarmStart; condition = d } ∷ t.starts) n;
+  said = λ last is. ((λ f. is), (tt, tt));
+  none = refl;
+  worked = refl;
+}
+clears_go tick t k mode.Normal c h e o n = absurd (false≢true (sym e))
 
 -- the same spends the tick
 pub cleared_worker : (tick : ℕ) (t : Told) (s : Step Kernel) → HasCleared tick t s → worker_by_lines tick (reads tick t s.lines) ≡ worker_by_lines tick t

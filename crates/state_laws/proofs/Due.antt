@@ -6,6 +6,8 @@ use Rattle.apex_types.specs.declared.codes.ErrorKind.TheVariants.{DeadlineMissed
 use Rattle.apex_types.specs.declared.codes.Mode.{Mode}
 use Rattle.apex_types.specs.declared.codes.PartitionAction.{PartitionAction}
 use Rattle.apex_types.specs.declared.codes.PartitionAction.TheVariants as action
+use Rattle.apex_types.specs.declared.codes.StartCondition.{StartCondition}
+use Rattle.apex_types.specs.declared.codes.StartCondition.TheVariants as condition
 use Rattle.apex_types.specs.declared.event.Subject.{Subject}
 use Rattle.apex_types.specs.declared.identity.At.{At}
 use Rattle.apex_types.specs.declared.identity.ProcessIndex.{ProcessIndex}
@@ -25,17 +27,21 @@ use Rattle.kernel_meaning.specs.Step.{Step, after}
 use Rattle.kernel_meaning.specs.Times as times
 use Rattle.kernel_meaning.specs.Times.{Treated, without_clear, treated_after, then_others, ends_wait, tick_of, timed_out, released_at, misses, is_past, treats_deadline, treats, due_from, mode_of_action}
 use Rattle.state_laws.specs.Told.{Told}
-use Rattle.state_laws.proofs.Agreement.{reads, reads_both, AreDistinct, AgreesOn, Agrees, Goes, kept_told, same_order, runs_and_worked, in_turn, either}
+use Rattle.state_laws.proofs.Agreement.{Kept, reads, reads_both, AreDistinct, AgreesOn, Agrees, Goes, runs_and_worked, in_turn, either}
 use Rattle.state_laws.proofs.Changes.{IsNotRunning, here, kept, out_if, released_with_goes}
 use Rattle.state_laws.proofs.Services.{still_running, runs_without_due}
+use Rattle.state_laws.proofs.Starting.{last_both, last_said}
 use Rattle.apex_types.specs.Runners.{place_of}
 
--- A step before a Clear: nobody is told to run any more, and nobody has worked.
+-- A step before a Clear: nobody is told to run any more, and nobody has worked. Its last line gives the condition of the Clear.
 pub record Ends (tick : ℕ) (t : Told) (s : Step Processes) (m : Mode) : Type 0 where
   pub named : AreDistinct s.part.rows
   pub none : (reads tick t s.lines).running ≡ None
   pub worked : (reads tick t s.lines).worked ≡ t.worked
   pub orderly : (reads tick t s.lines).orderly ≡ t.orderly
+  pub next : (reads tick t s.lines).next ≡ condition.HmPartitionRestart
+  pub starts : (reads tick t s.lines).starts ≡ t.starts
+  pub last : (x : Option StartCondition) → last_said x s.lines ≡ Some condition.HmPartitionRestart
   pub other : is_normal m ≡ false
 
 -- by the mode of the Clear that the step leads to
@@ -55,7 +61,10 @@ module _ (tick : ℕ) where
         named = k.named;
         none = ap (λ (v : Told). v.running) e ∙ k.none;
         worked = ap (λ (v : Told). v.worked) e ∙ k.worked ∙ ap (λ (x : Option Subject × Option (ℕ × Subject)). x.1) h.same;
-        orderly = ap (λ (v : Told). v.orderly) e ∙ k.orderly ∙ same_order (kept_told (reads tick t s.lines)) (kept_told t) h.mode;
+        orderly = ap (λ (v : Told). v.orderly) e ∙ k.orderly ∙ ap (λ (x : Kept). x.orderly) h.mode;
+        next = ap (λ (v : Told). v.next) e ∙ k.next;
+        starts = ap (λ (v : Told). v.starts) e ∙ k.starts ∙ ap (λ (x : Kept). x.starts) h.mode;
+        last = λ x. last_both x s.lines u.lines ∙ k.last (last_said x s.lines);
         other = k.other;
       }
 
@@ -100,9 +109,9 @@ module _ (tick : ℕ) where
     misses_go : (free : ℕ) (a : PartitionAction) (i : ProcessIndex) (r : ProcessStatus) → row_of s (runner.Process i) ≡ Some r → DueGoes tick t (misses free a s i r)
     misses_go (suc free) a i r there = record { agrees = missed i r there; mode = refl; same = refl }
     misses_go zero action.Ignore i r there = record { agrees = missed i r there; mode = refl; same = refl }
-    misses_go zero action.Idle i r there = let k = missed i r there in record { named = k.named; none = refl; worked = refl; orderly = refl; other = refl }
-    misses_go zero action.WarmStart i r there = let k = missed i r there in record { named = k.named; none = refl; worked = refl; orderly = refl; other = refl }
-    misses_go zero action.ColdStart i r there = let k = missed i r there in record { named = k.named; none = refl; worked = refl; orderly = refl; other = refl }
+    misses_go zero action.Idle i r there = let k = missed i r there in record { named = k.named; none = refl; worked = refl; orderly = refl; next = refl; starts = refl; last = λ x. refl; other = refl }
+    misses_go zero action.WarmStart i r there = let k = missed i r there in record { named = k.named; none = refl; worked = refl; orderly = refl; next = refl; starts = refl; last = λ x. refl; other = refl }
+    misses_go zero action.ColdStart i r there = let k = missed i r there in record { named = k.named; none = refl; worked = refl; orderly = refl; next = refl; starts = refl; last = λ x. refl; other = refl }
 
     deadline_goes : (at : At) (free : ℕ) (a : PartitionAction) (i : ProcessIndex) → DueGoes tick t (treats_deadline at free a s i (row_of s (runner.Process i)))
     deadline_goes at free a i = by_row (row_of s (runner.Process i)) refl

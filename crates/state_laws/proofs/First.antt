@@ -5,6 +5,7 @@ use Rattle.std.proofs.lemmas.Bool.{false≢true}
 use Rattle.std.proofs.lemmas.Option.{none-some, same_Some}
 use Rattle.apex_types.specs.Runners.{place_of}
 use Rattle.apex_types.specs.declared.codes.ProcessState.TheVariants.{Dormant}
+use Rattle.apex_types.specs.declared.codes.StartCondition.TheVariants as condition
 use Rattle.apex_types.specs.declared.device.DeviceLine.{DeviceLine}
 use Rattle.apex_types.specs.declared.event.Subject.{Subject}
 use Rattle.apex_types.specs.declared.event.Subject.TheVariants.{Init, Handler, Process}
@@ -29,12 +30,13 @@ use Rattle.pal_meaning.specs.SourceControl.{SourceControl}
 use Rattle.kernel_laws.specs.Names.{HasOwnNames}
 use Rattle.kernel_laws.proofs.OwnNames.{apart_of}
 use Rattle.state_laws.specs.Spending.{owner_in, worker}
+use Rattle.state_laws.specs.Starts.{starts_in}
 use Rattle.state_laws.specs.States.{TellsState}
 use Rattle.state_laws.specs.Told.{Told, first_told, told, worked_in, worker_by_lines}
 use Rattle.state_laws.proofs.Agreement.{KernelAgrees}
 use Rattle.kernel_laws.proofs.Places.{mapped}
-use Rattle.state_laws.proofs.Members.{Stands}
-use Rattle.state_laws.proofs.Run.{run_idle, run_orderly, run_stands, run_worker}
+use Rattle.state_laws.proofs.Members.{AreSaidBy, Stands}
+use Rattle.state_laws.proofs.Run.{restarts, run_idle, run_orderly, run_said, run_stands, run_starts, run_worker}
 
 -- ---- the rows of processes
 
@@ -84,9 +86,11 @@ module _ (rows : List ProcessStatus) (h : AreProcesses rows) where
   first_states (suc zero) r e = ap (λ (y : ProcessStatus). y.state) (same_Some handler_row r e)
   first_states (suc (suc i)) r e = sym (h.dormant i r e)
 
-  pub first_agrees : (fixed : Fixed) (objects : Objects) (ports : Ports) (has_handler : Bool) → KernelAgrees first_told (fresh_kernel fixed rows objects ports has_handler)
+  pub first_agrees : (fixed : Fixed) (objects : Objects) (ports : Ports) (has_handler : Bool) → KernelAgrees (restarts first_told) (fresh_kernel fixed rows objects ports has_handler)
   first_agrees fixed objects ports has_handler = record {
     mode = refl;
+    condition = refl;
+    next = refl;
     orderly = refl;
     processes = record {
       named = record { apart = first_apart; first = λ r e. sym (ap (λ (y : ProcessStatus). y.who) (same_Some init_row r e)) };
@@ -117,8 +121,8 @@ module _ {A : Type 0} (f : A → ProcessStatus) (name : A → List ℕ) (who : (
   }
 
 -- what is told of a kernel that it agrees with
-pub tells : (t : Told) (k : Kernel) → KernelAgrees t k → TellsState t k
-tells t k h = let p = h.processes in record { mode = h.mode; states = λ q r e. p.states (place_of q) r e; running = p.running }
+pub tells : (t : Told) (k : Kernel) → KernelAgrees (restarts t) k → TellsState t k
+tells t k h = let p = h.processes in record { mode = h.mode; condition = h.condition; states = λ q r e. p.states (place_of q) r e; running = p.running }
 
 -- ---- the partition of a source
 
@@ -139,10 +143,10 @@ module _ (t : Table) (sources : List program.Program) (judged : IsJudged t) (pla
   source_apart : IsApart row.name place (map name_of members)
   source_apart = all_apart judged.0 t sources judged.1 place row.name named_here
 
-  source_agrees : KernelAgrees first_told first.world.kernel
+  source_agrees : KernelAgrees (restarts first_told) first.world.kernel
   source_agrees = first_agrees (map source_row p.processes) (are_processes source_row (λ (q : program.Process). q.name) (λ q. refl) (λ q. refl) p.processes (apart_of (λ (q : program.Process). q.name) p.processes own)) _ _ _ _
 
-  source_stands : Stands (disciplines_of members (suc place)) (names_of members (suc place)) row.name place (map name_of members) source_apart first_told members
+  source_stands : Stands (disciplines_of members (suc place)) (names_of members (suc place)) row.name place (map name_of members) source_apart (restarts first_told) members
   source_stands = record {
     own = λ x g.
         let h = source_holds t sources (suc place) x g in
@@ -150,7 +154,7 @@ module _ (t : Table) (sources : List program.Program) (judged : IsJudged t) (pla
           numbers = first_numbers;
           ordered = source_ordered t sources (suc place) x g;
           holds = record { waiting = h.holds.waiting; all = λ few. absurd few; lists = h.holds.lists };
-          agrees = subst (λ (y : Member SourceControl). KernelAgrees first_told y.world.kernel) (same_Some first x (sym at_place ∙ g)) source_agrees;
+          agrees = subst (λ (y : Member SourceControl). KernelAgrees (restarts first_told) y.world.kernel) (same_Some first x (sym at_place ∙ g)) source_agrees;
         };
     named = refl;
   }
@@ -179,6 +183,20 @@ module _ (t : Table) (sources : List program.Program) (devices : List DeviceLine
   source_orderly (suc place) row q e f own =
       let members = source_members t.costs t.schedule 1 t.partitions sources in
       run_orderly (disciplines_of members (suc place)) (names_of members (suc place)) row.name place (map name_of members) (source_apart t sources judged place row q e f own) (source_module t sources) devices n
+      (source_stands t sources judged place row q e f own)
+
+  pub source_starts : (p : ℕ) (row : Partition) (q : program.Program) → at_number t.partitions p ≡ Some row → at_number sources p ≡ Some q → HasOwnNames q → (told row.name (source_trace t sources devices n)).starts ≡ starts_in (source_module t sources) devices p n
+  source_starts zero row q e f own = absurd (none-some row e)
+  source_starts (suc place) row q e f own =
+      let members = source_members t.costs t.schedule 1 t.partitions sources in
+      run_starts (disciplines_of members (suc place)) (names_of members (suc place)) row.name place (map name_of members) (source_apart t sources judged place row q e f own) (source_module t sources) devices n
+      (source_stands t sources judged place row q e f own)
+
+  pub source_said : (p : ℕ) (row : Partition) (q : program.Program) → at_number t.partitions p ≡ Some row → at_number sources p ≡ Some q → HasOwnNames q → AreSaidBy row.name (Some condition.NormalStart) first_told (source_trace t sources devices n)
+  source_said zero row q e f own = absurd (none-some row e)
+  source_said (suc place) row q e f own =
+      let members = source_members t.costs t.schedule 1 t.partitions sources in
+      run_said (disciplines_of members (suc place)) (names_of members (suc place)) row.name place (map name_of members) (source_apart t sources judged place row q e f own) (source_module t sources) devices n
       (source_stands t sources judged place row q e f own)
 
   pub source_idle : (p : ℕ) (row : Partition) (q : program.Program) → at_number t.partitions p ≡ Some row → at_number sources p ≡ Some q → HasOwnNames q → owner_in (source_module t sources) devices n ≢ Some p

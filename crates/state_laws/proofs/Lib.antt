@@ -1,5 +1,6 @@
 pub mod Subjects
 pub mod Agreement
+pub mod Starting
 pub mod Changes
 pub mod Waiting
 pub mod Services

@@ -3,6 +3,7 @@ use Rattle.std.proofs.Common.{◌≡◌, ◌≢◌, ℕ, zero, suc, true, List, 
 use Rattle.std.specs.Prelude.{◌+◌, slice_get}
 use Rattle.std.proofs.lemmas.Option.{none-some, same_Some}
 use Rattle.apex_types.specs.Versions.{costs_of}
+use Rattle.apex_types.specs.declared.codes.StartCondition.TheVariants as condition
 use Rattle.apex_types.specs.declared.device.DeviceLine.{DeviceLine}
 use Rattle.apex_types.specs.declared.row.ProcessRow.{ProcessRow}
 use Rattle.isolation.proofs.Law.{record_of, members_at, members_named}
@@ -20,12 +21,13 @@ use Rattle.machine_meaning.specs.MachineControl.{MachineControl}
 use Rattle.machine_meaning.specs.MachineMeaning.{machine_members, machine_module, machine_row, machine_trace}
 use Rattle.module_meaning.specs.Table.{at_number}
 use Rattle.state_laws.specs.Spending.{owner_in, worker}
+use Rattle.state_laws.specs.Starts.{starts_in}
 use Rattle.state_laws.specs.States.{TellsState}
 use Rattle.state_laws.specs.Told.{first_told, told, worked_in, worker_by_lines}
 use Rattle.state_laws.proofs.Agreement.{KernelAgrees}
 use Rattle.state_laws.proofs.First.{first_agrees, are_processes, tells}
-use Rattle.state_laws.proofs.Members.{Stands}
-use Rattle.state_laws.proofs.Run.{run_idle, run_orderly, run_stands, run_worker}
+use Rattle.state_laws.proofs.Members.{AreSaidBy, Stands}
+use Rattle.state_laws.proofs.Run.{restarts, run_idle, run_orderly, run_said, run_stands, run_starts, run_worker}
 
 -- ---- rows beside those before them
 
@@ -46,7 +48,7 @@ module _ (image : Image) (lawful : IsLawful image) (place : ℕ) (item : Item) (
   at_place : slice_get members place ≡ Some first
   at_place = members_at (costs_of image.version) image.schedule 1 image.items place item e
 
-  image_agrees : KernelAgrees first_told first.world.kernel
+  image_agrees : KernelAgrees (restarts first_told) first.world.kernel
   image_agrees =
       let limits = lawful.limits in
       let it = each_at _ [] image.items limits.items place item e in
@@ -56,7 +58,7 @@ module _ (image : Image) (lawful : IsLawful image) (place : ℕ) (item : Item) (
       first_agrees (map machine_row item.section.processes)
       (are_processes machine_row (λ (q : ProcessRow). q.name) (λ q. refl) (λ q. refl) item.section.processes (rows_apart item.partition.period [] item.section.processes bodies.processes)) _ _ _ _
 
-  image_stands : Stands (disciplines_of members (suc place)) (names_of members (suc place)) (name_in item) place (map name_in image.items) (image_apart image lawful place item e) first_told members
+  image_stands : Stands (disciplines_of members (suc place)) (names_of members (suc place)) (name_in item) place (map name_in image.items) (image_apart image lawful place item e) (restarts first_told) members
   image_stands = record {
     own = λ x g.
         let h = machine_holds image (suc place) x g in
@@ -64,7 +66,7 @@ module _ (image : Image) (lawful : IsLawful image) (place : ℕ) (item : Item) (
           numbers = first_numbers;
           ordered = machine_ordered image (suc place) x g;
           holds = record { waiting = h.holds.waiting; all = λ few. absurd few; lists = h.holds.lists };
-          agrees = subst (λ (y : Member MachineControl). KernelAgrees first_told y.world.kernel) (same_Some first x (sym at_place ∙ g)) image_agrees;
+          agrees = subst (λ (y : Member MachineControl). KernelAgrees (restarts first_told) y.world.kernel) (same_Some first x (sym at_place ∙ g)) image_agrees;
         };
     named = members_named (costs_of image.version) image.schedule 1 image.items;
   }
@@ -93,6 +95,20 @@ module _ (image : Image) (devices : List DeviceLine) (n : ℕ) (lawful : IsLawfu
   image_orderly (suc place) item e =
       let members = machine_members (costs_of image.version) image.schedule 1 image.items in
       run_orderly (disciplines_of members (suc place)) (names_of members (suc place)) (name_in item) place (map name_in image.items) (image_apart image lawful place item e) (machine_module image) devices n
+      (image_stands image lawful place item e)
+
+  pub image_starts : (p : ℕ) (item : Item) → at_number image.items p ≡ Some item → (told item.partition.name (machine_trace image devices n)).starts ≡ starts_in (machine_module image) devices p n
+  image_starts zero item e = absurd (none-some item e)
+  image_starts (suc place) item e =
+      let members = machine_members (costs_of image.version) image.schedule 1 image.items in
+      run_starts (disciplines_of members (suc place)) (names_of members (suc place)) (name_in item) place (map name_in image.items) (image_apart image lawful place item e) (machine_module image) devices n
+      (image_stands image lawful place item e)
+
+  pub image_said : (p : ℕ) (item : Item) → at_number image.items p ≡ Some item → AreSaidBy item.partition.name (Some condition.NormalStart) first_told (machine_trace image devices n)
+  image_said zero item e = absurd (none-some item e)
+  image_said (suc place) item e =
+      let members = machine_members (costs_of image.version) image.schedule 1 image.items in
+      run_said (disciplines_of members (suc place)) (names_of members (suc place)) (name_in item) place (map name_in image.items) (image_apart image lawful place item e) (machine_module image) devices n
       (image_stands image lawful place item e)
 
   pub image_idle : (p : ℕ) (item : Item) → at_number image.items p ≡ Some item → owner_in (machine_module image) devices n ≢ Some p → worked_in n (told item.partition.name (machine_trace image devices (suc n))).worked ≡ None

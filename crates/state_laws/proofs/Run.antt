@@ -1,7 +1,7 @@
 -- In every run what the lines tell of a partition agrees with it, and who spends its ticks by the lines is the chosen runner.
-use Rattle.std.proofs.Common.{◌≡◌, ◌≢◌, ◌⊎◌, inl, inr, ℕ, zero, suc, Bool, true, false, List, [], ◌∷◌, ◌++◌, length, map, Option, Some, None, refl, sym, ap, ◌∙◌, subst, arith, ◌<◌, ◌≤◌}
-use Rattle.std.specs.Prelude.{◌+◌, if◌then◌else◌, option_map, slice_get}
-use Rattle.std.proofs.lemmas.Bool.{ne_eqb}
+use Rattle.std.proofs.Common.{append-nil, append_assoc, ◌≡◌, ◌≢◌, ◌⊎◌, inl, inr, ℕ, zero, suc, Bool, true, false, List, [], ◌∷◌, ◌++◌, length, map, Option, Some, None, refl, sym, ap, ◌∙◌, subst, arith, ◌<◌, ◌≤◌}
+use Rattle.std.specs.Prelude.{◌+◌, ◌==◌, if◌then◌else◌, option_map, slice_get}
+use Rattle.std.proofs.lemmas.Bool.{eqb-false, eqb-true, ne_eqb}
 use Rattle.std.specs.List.{flat_map}
 use Rattle.std.proofs.lemmas.Option.{none-some, same_Some}
 use Rattle.arrayvec.specs.ArrayVec.{ArrayVec}
@@ -14,6 +14,7 @@ use Rattle.apex_types.specs.declared.codes.StartCondition.TheVariants as conditi
 use Rattle.apex_types.specs.declared.device.DeviceInput.{DeviceInput}
 use Rattle.apex_types.specs.declared.device.DeviceInput.TheVariants as device
 use Rattle.apex_types.specs.declared.device.DeviceLine.{DeviceLine}
+use Rattle.apex_types.specs.declared.event.Event.{Event}
 use Rattle.apex_types.specs.declared.event.Subject.{Subject}
 use Rattle.apex_types.specs.declared.identity.At.{At}
 use Rattle.apex_types.specs.declared.identity.ListKey.{ListKey}
@@ -33,10 +34,19 @@ use Rattle.module_meaning.specs.Module.{Course, Module, Plan, as_origin, breaks_
 use Rattle.module_meaning.specs.Standing.{IsNow}
 use Rattle.module_meaning.specs.Table.{Channel, at_number}
 use Rattle.state_laws.specs.Spending.{before_owner, before_owner_from, chosen_by, owner_in, owner_of, worker, worker_at, worker_of}
-use Rattle.state_laws.specs.Told.{Told, cleared, first_told, told, told_from, worked_in, worker_by_lines}
-use Rattle.state_laws.proofs.Agreement.{KernelAgrees, has_worked_last}
-use Rattle.state_laws.proofs.Members.{IsWell, Stands, IsOwn, steps_to, well_after, told_both, told_own, told_other, AllOf, all_own}
-use Rattle.state_laws.proofs.Moves.{IsBefore, MovesTo, reads_all, tick_tells, cleared_goes, breaks_goes, arrives_tells, admits_tells, leaves_tells}
+use Rattle.state_laws.specs.Starts.{starts_advancing, starts_broken, starts_by, starts_by_all, starts_by_fault, starts_cold, starts_from, starts_in, starts_in_tick, starts_of_owner, starts_own, unless_shut}
+use Rattle.state_laws.specs.Told.{Start, Told, cleared, first_told, told, told_from, worked_in, worker_by_lines}
+use Rattle.state_laws.proofs.Agreement.{KernelAgrees, has_worked_last, reads_all}
+use Rattle.state_laws.proofs.Members.{AreSaidBy, IsWell, Stands, StepsTo, TellsMove, IsOwn, last_by_all, said_by_both, said_other, said_own, steps_to, well_after, told_both, told_own, told_other, AllOf, all_own}
+use Rattle.state_laws.proofs.Starting.{AllSaid}
+use Rattle.state_laws.proofs.Moves.{IsBefore, MakesTo, MovesTo, TickTells, tick_tells, cleared_goes, breaks_goes, arrives_tells, admits_tells, leaves_tells}
+
+abbrev starts_told : Told → List Start
+starts_told t = t.starts
+
+-- as after the first start
+abbrev pub restarts : Told → Told
+restarts t = record t { next = condition.PartitionRestart }
 
 later : (n : ℕ) (o : Option (ℕ × Subject)) → IsBefore n o → IsBefore (suc n) o
 later n None h = h
@@ -45,6 +55,10 @@ later n (Some w) h = omega (arith, h)
 none_in : (n : ℕ) (o : Option (ℕ × Subject)) → IsBefore n o → worked_in n o ≡ None
 none_in n None h = refl
 none_in n (Some w) h = ap (λ (b : Bool). if b then Some w.1 else None) (ne_eqb w.0 n (λ e. omega (arith, e, h)))
+
+-- no partition has the number 0
+not_zero : (place : ℕ) (own ss : List Start) → ss ≡ (if 0 == suc place then own else []) ++ ss
+not_zero place own ss = sym (ap (λ (b : Bool). (if b then own else []) ++ ss) (ne_eqb 0 (suc place) (λ e. absurd (omega (arith, e)))))
 
 next : (n : ℕ) → n < suc n
 next n = omega arith
@@ -57,28 +71,57 @@ module _ {C : Type 0} (d : ListKey → Discipline) (called : List (List ℕ)) (n
   abbrev Stay : Told → List (Member C) → Type 0
   Stay t ms = Stands d called name place names apart t ms
 
-  -- the partition stands, and the same has worked last
-  pub record QuietTo (t : Told) (a : Stepped (List (Member C))) : Type 0 where
+  -- The partition stands, and the same has worked last. These starts are told, each after a line that gives its condition, if it is so of the line before.
+  pub record LeadsTo (Before : Option StartCondition → Type 0) (began : List Start) (t : Told) (a : Stepped (List (Member C))) : Type 0 where
     pub stands : Stay (told_from name t a.lines) a.state
     pub same : (told_from name t a.lines).worked ≡ t.worked
+    pub starts : (told_from name t a.lines).starts ≡ began ++ t.starts
+    pub said : (last : Option StartCondition) → Before last → AreSaidBy name last t a.lines
+
+  -- after any line
+  abbrev pub BeginsTo : List Start → Told → Stepped (List (Member C)) → Type 0
+  BeginsTo began t a = LeadsTo (λ last. Unit {0}) began t a
+
+  -- without a start
+  abbrev pub QuietTo : Told → Stepped (List (Member C)) → Type 0
+  QuietTo t a = BeginsTo [] t a
 
   abbrev advanced : Course (List (Member C)) → Stepped (List (Member C))
   advanced c = record { state = c.state; lines = c.lines }
 
   still_to : (t : Told) (ms : List (Member C)) → Stay t ms → QuietTo t (still ms)
-  still_to t ms h = record { stands = h; same = refl }
+  still_to t ms h = record { stands = h; same = refl; starts = refl; said = λ last b. tt }
 
-  then_to : (t : Told) (a : Stepped (List (Member C))) (rest : List (Member C) → Stepped (List (Member C))) → QuietTo t a → ((u : Told) → Stay u a.state → QuietTo u (rest a.state)) → QuietTo t (then_goes a rest)
-  then_to t a rest h k =
+  then_begins : (first second : List Start) (t : Told) (a : Stepped (List (Member C))) (rest : List (Member C) → Stepped (List (Member C))) → BeginsTo first t a → ((u : Told) → Stay u a.state → BeginsTo second u (rest a.state))
+      → BeginsTo (second ++ first) t (then_goes a rest)
+  then_begins first second t a rest h k =
       let is = told_both name t a.lines (rest a.state).lines in
       let b = k (told_from name t a.lines) h.stands in
-      record { stands = subst (λ (u : Told). Stay u (rest a.state).state) (sym is) b.stands; same = ap has_worked_last is ∙ b.same ∙ h.same }
+      record {
+        stands = subst (λ (u : Told). Stay u (rest a.state).state) (sym is) b.stands;
+        same = ap has_worked_last is ∙ b.same ∙ h.same;
+        starts = ap starts_told is ∙ b.starts ∙ ap (λ (ss : List Start). second ++ ss) h.starts ∙ sym (append_assoc second first t.starts);
+        said = λ last x. said_by_both name last t a.lines (rest a.state).lines (h.said last tt) (b.said (last_by_all name last a.lines) tt);
+      }
 
-  quiet : (tick : ℕ) (move : Move) → ((t : Told) (x : Member C) → IsWell d called t x → MovesTo has_worked_last tick t (makes move x)) → (q : ℕ) (t : Told) (ms : List (Member C)) → Stay t ms → QuietTo t (steps (makes move) ms q)
-  quiet tick move tells zero t ms h = still_to t ms h
-  quiet tick move tells (suc q) t ms h =
-      let s = steps_to d called name place names apart t move ms q (slice_get ms q) refl h (λ x is here well. let m = tells t x well in m.agrees) in
-      record { stands = s.stands; same = by_lines s.lines }
+  then_to : (t : Told) (a : Stepped (List (Member C))) (rest : List (Member C) → Stepped (List (Member C))) → QuietTo t a → ((u : Told) → Stay u a.state → QuietTo u (rest a.state)) → QuietTo t (then_goes a rest)
+  then_to t a rest h k = then_begins [] [] t a rest h k
+
+  -- the partition itself
+  mine : (ms : List (Member C)) → map name_of ms ≡ names → (x : Member C) × ((slice_get ms place ≡ Some x) × (name_of x ≡ name))
+  mine ms named = by_member (slice_get ms place) refl (sym (slice_get-map name_of ms place) ∙ ap (λ (ns : List (List ℕ)). slice_get ns place) named ∙ apart.here)
+    where
+      by_member : (o : Option (Member C)) → slice_get ms place ≡ o → option_map name_of o ≡ Some name → (x : Member C) × ((slice_get ms place ≡ Some x) × (name_of x ≡ name))
+      by_member None e f = absurd (none-some name f)
+      by_member (Some x) e f = (x, (e, same_Some (name_of x) name f))
+
+  -- a move of a partition, with the starts that it makes if it is this one's
+  moves_to : (tick : ℕ) (move : Move) (began : Member C → List Start) → ((t : Told) (x : Member C) → IsWell d called t x → MakesTo (began x) has_worked_last tick t (makes move x)) → (q : ℕ) (t : Told) (ms : List (Member C)) → Stay t ms
+      → BeginsTo (starts_own (suc place) ms began q) t (steps (makes move) ms q)
+  moves_to tick move began tells zero t ms h = record { stands = h; same = refl; starts = not_zero place (of_member [] began (at_number ms (suc place))) t.starts; said = λ last b. tt }
+  moves_to tick move began tells (suc q) t ms h =
+      let s = steps_to d called name place names apart t move ms q (slice_get ms q) refl h (λ x is here well. let m = tells t x well in record { agrees = m.agrees; said = λ last. m.said last tt }) in
+      record { stands = s.stands; same = by_lines s.lines; starts = by_place (suc q == suc place) refl s; said = λ last b. s.said last }
     where
       u : Told
       u = told_from name t (steps_member (makes move) ms q (slice_get ms q)).lines
@@ -90,6 +133,33 @@ module _ {C : Type 0} (d : ListKey → Discipline) (called : List (List ℕ)) (n
           let f = own.1.1 in
           let m = tells t x (h.own x f.0) in
           ap has_worked_last f.1 ∙ m.same
+
+      by_place : (b : Bool) → (suc q == suc place) ≡ b → StepsTo d called name place names apart t move ms q (slice_get ms q) → u.starts ≡ (if b then of_member [] began (slice_get ms place) else []) ++ t.starts
+      by_place true e s =
+          let is : q ≡ place = let f = eqb-true (suc q) (suc place) e in omega (arith, f) in
+          let own = mine ms h.named in
+          let x = own.0 in
+          let here = own.1 in
+          let m = tells t x (h.own x here.0) in
+          ap starts_told (s.read x is here.0) ∙ m.starts ∙ ap (λ (o : Option (Member C)). of_member [] began o ++ t.starts) (sym here.0)
+      by_place false e s = other s.lines
+        where
+          other : (u ≡ t) ⊎ IsOwn d called name place names apart t move ms q u → u.starts ≡ t.starts
+          other (inl f) = ap starts_told f
+          other (inr own) = absurd (eqb-false (suc q) (suc place) e (ap suc own.0))
+
+  quiet : (tick : ℕ) (move : Move) → ((t : Told) (x : Member C) → IsWell d called t x → MovesTo has_worked_last tick t (makes move x)) → (q : ℕ) (t : Told) (ms : List (Member C)) → Stay t ms → QuietTo t (steps (makes move) ms q)
+  quiet tick move tells q t ms h =
+      let k = moves_to tick move without tells q t ms h in
+      record { stands = k.stands; same = k.same; starts = k.starts ∙ ap (λ (ss : List Start). ss ++ t.starts) (none (q == suc place) (at_number ms (suc place))); said = k.said }
+    where
+      without : Member C → List Start
+      without x = []
+
+      none : (b : Bool) (o : Option (Member C)) → (if b then of_member [] without o else []) ≡ []
+      none true None = refl
+      none true (Some x) = refl
+      none false o = refl
 
   -- ---- messages
 
@@ -103,10 +173,10 @@ module _ {C : Type 0} (d : ListKey → Discipline) (called : List (List ℕ)) (n
   admits_to at port = quiet at.now.0 (Admits at port) (λ t x w. admits_tells x.engine at (place_of_port port) x.world t w.agrees w.holds)
 
   goes_out_to : (at : At) (channel : List ℕ) (m : ArrayVec _) (q : ℕ) (t : Told) (ms : List (Member C)) → Stay t ms → QuietTo t (steps (makes (GoesOut at channel m)) ms q)
-  goes_out_to at channel m = quiet at.now.0 (GoesOut at channel m) (λ t x w. record { agrees = w.agrees; same = refl; before = λ n lt b. b })
+  goes_out_to at channel m = quiet at.now.0 (GoesOut at channel m) (λ t x w. record { agrees = w.agrees; same = refl; before = λ n lt b. b; starts = refl; said = λ last b. (tt, tt) })
 
-  breaks_to : (at : At) (q : ℕ) (t : Told) (ms : List (Member C)) → Stay t ms → QuietTo t (steps (makes (BreaksDown at)) ms q)
-  breaks_to at = quiet at.now.0 (BreaksDown at) (λ t x w. breaks_goes x.engine at x.world t w.agrees)
+  breaks_to : (at : At) (q : ℕ) (t : Told) (ms : List (Member C)) → Stay t ms → BeginsTo (starts_own (suc place) ms (starts_broken at) q) t (steps (makes (BreaksDown at)) ms q)
+  breaks_to at = moves_to at.now.0 (BreaksDown at) (starts_broken at) (λ t x w. breaks_goes x.engine at x.world t w.agrees)
 
   delivers_to : (at : At) (c : Channel) (m : ArrayVec _) (source e : ChannelEnd) (t : Told) (ms : List (Member C)) → Stay t ms → QuietTo t (delivers at c m source e ms)
   delivers_to at c m source (ends.Port q port) t ms h = arrives_to at port m q.0 t ms h
@@ -154,14 +224,6 @@ module _ {C : Type 0} (d : ListKey → Discipline) (called : List (List ℕ)) (n
   ended_to channels at None t ms h = still_to t ms h
   ended_to channels at (Some p) t ms h = ports_to (length (ports_from ms p)) 1 channels at (record { 0 = p }) t ms h
 
-  -- the partition itself
-  mine : (ms : List (Member C)) → map name_of ms ≡ names → (x : Member C) × ((slice_get ms place ≡ Some x) × (name_of x ≡ name))
-  mine ms named = by_member (slice_get ms place) refl (sym (slice_get-map name_of ms place) ∙ ap (λ (ns : List (List ℕ)). slice_get ns place) named ∙ apart.here)
-    where
-      by_member : (o : Option (Member C)) → slice_get ms place ≡ o → option_map name_of o ≡ Some name → (x : Member C) × ((slice_get ms place ≡ Some x) × (name_of x ≡ name))
-      by_member None e f = absurd (none-some name f)
-      by_member (Some x) e f = (x, (e, same_Some (name_of x) name f))
-
   -- ---- all partitions start
 
   module _ (at : At) (c : StartCondition) where
@@ -192,14 +254,41 @@ module _ {C : Type 0} (d : ListKey → Discipline) (called : List (List ℕ)) (n
         let k = move_keeps (Starts at c) y in
         ap (λ (n : List ℕ). n ∷ map name_of (map (started_member at c) ys)) (ap (λ (f : Fixed). f.name) k.fixed) ∙ ap (λ (ns : List (List ℕ)). name_of y ∷ ns) (start_names ys)
 
-    -- while nobody is told to run
-    starts_to : (t u : Told) (ms : List (Member C)) → Stay t ms → u.running ≡ None → u.orderly ≡ t.orderly → QuietTo u (starts_all at c ms)
-    starts_to t u ms h none order =
+    -- the lines of others leave it open what the next start is
+    others_said : (ms : List (Member C)) → ((q : ℕ) (y : Member C) → slice_get ms q ≡ Some y → same name (name_of y) ≡ false) → (last : Option StartCondition) (u : Told) → AreSaidBy name last u (flat_map (start_lines at c) ms)
+    others_said [] others last u = tt
+    others_said (y ∷ ys) others last u =
+        said_by_both name last u (start_lines at c y) (flat_map (start_lines at c) ys) (said_other name (name_of y) (others 0 y refl) last u (start_lines at c y) (all_own (Starts at c) y))
+        (others_said ys (λ q z e. others (suc q) z e) _ _)
+
+    other_last : (y : Member C) → same name (name_of y) ≡ false → (last : Option StartCondition) → last_by_all name last (start_lines at c y) ≡ last
+    other_last y n last =
+        ap (λ (b : Bool). if b then None else (if b then None else last)) n
+
+    own_said : (ms : List (Member C)) (i : ℕ) (x : Member C) → slice_get ms i ≡ Some x → name_of x ≡ name → ((q : ℕ) (y : Member C) → q ≢ i → slice_get ms q ≡ Some y → same name (name_of y) ≡ false) → (last : Option StartCondition) (u : Told)
+        → AllSaid last u (start_lines at c x) → AreSaidBy name last u (flat_map (start_lines at c) ms)
+    own_said [] i x e is others last u h = absurd (none-some x e)
+    own_said (y ∷ ys) zero x e is others last u h =
+        let own : x ≡ y = sym (same_Some y x e) in
+        said_by_both name last u (start_lines at c y) (flat_map (start_lines at c) ys)
+        (subst (λ (z : Member C). AreSaidBy name last u (start_lines at c z)) own (said_own name last u (start_lines at c x) (subst (λ (n : List ℕ). AllOf n (start_lines at c x)) is (all_own (Starts at c) x)) h))
+        (others_said ys (λ q z f. others (suc q) z (λ k. absurd (omega (arith, k))) f) _ _)
+    own_said (y ∷ ys) (suc i) x e is others last u h =
+        let n = others 0 y (λ k. absurd (omega (arith, k))) refl in
+        said_by_both name last u (start_lines at c y) (flat_map (start_lines at c) ys) (said_other name (name_of y) n last u (start_lines at c y) (all_own (Starts at c) y))
+        (subst (λ (o : Option StartCondition). AreSaidBy name o (told_from name u (start_lines at c y)) (flat_map (start_lines at c) ys)) (sym (other_last y n last))
+        (subst (λ (v : Told). AreSaidBy name last v (flat_map (start_lines at c) ys)) (sym (told_other name (name_of y) n u (start_lines at c y) (all_own (Starts at c) y)))
+        (own_said ys i x e is (λ q z m f. others (suc q) z (λ k. m (omega (arith, k))) f) last u h)))
+
+    -- while nobody is told to run, and the condition is expected
+    starts_to : (t u : Told) (ms : List (Member C)) → Stay t ms → u.running ≡ None → u.orderly ≡ t.orderly → u.next ≡ c
+        → LeadsTo (λ last. last ≡ Some u.next) (of_member [] (starts_cold at c) (at_number ms (suc place))) u (starts_all at c ms)
+    starts_to t u ms h none order next =
         let own = mine ms h.named in
         let x = own.0 in
         let here = own.1 in
         let well = h.own x here.0 in
-        let m = cleared_goes x.engine at x.world u mode.ColdStart c well.agrees.processes.named refl none (order ∙ well.agrees.orderly) in
+        let m = cleared_goes x.engine at x.world u mode.ColdStart c well.agrees.processes.named refl none (order ∙ well.agrees.orderly) next in
         let others : (q : ℕ) (y : Member C) → q ≢ place → slice_get ms q ≡ Some y → same name (name_of y) ≡ false =
         λ q y n e. apart.others q (name_of y) n (subst (λ (ns : List (List ℕ)). slice_get ns q ≡ Some (name_of y)) h.named (slice_get-map name_of ms q ∙ ap (option_map name_of) e)) in
         let read = own_start ms place x here.0 here.1 others u in
@@ -212,30 +301,41 @@ module _ {C : Type 0} (d : ListKey → Discipline) (called : List (List ℕ)) (n
             named = start_names ms ∙ h.named;
           };
           same = ap has_worked_last read ∙ m.same;
+          starts = ap starts_told read ∙ m.starts ∙ ap (λ (o : Option (Member C)). of_member [] (starts_cold at c) o ++ u.starts) (sym here.0);
+          said = λ last b. own_said ms place x here.0 here.1 others last u (m.said last b);
         }
 
   -- ---- the devices
 
-  faults_to : (at : At) (a : ModuleAction) (t : Told) (ms : List (Member C)) → Stay t ms → QuietTo t (advanced (breaks_module at a ms))
-  faults_to at reaction.Ignore t ms h = record { stands = h; same = refl }
-  faults_to at reaction.Shutdown t ms h = record { stands = h; same = refl }
-  faults_to at reaction.Reset t ms h = let k = starts_to (as_origin at) condition.HmModuleRestart t (cleared t) ms h refl refl in record { stands = k.stands; same = k.same }
+  faults_to : (at : At) (a : ModuleAction) (t : Told) (ms : List (Member C)) → Stay t ms → BeginsTo (starts_by_fault at a (suc place) ms) t (advanced (breaks_module at a ms))
+  faults_to at reaction.Ignore t ms h = record { stands = h; same = refl; starts = refl; said = λ last b. (tt, tt) }
+  faults_to at reaction.Shutdown t ms h = record { stands = h; same = refl; starts = refl; said = λ last b. (tt, tt) }
+  faults_to at reaction.Reset t ms h =
+      let k = starts_to (as_origin at) condition.HmModuleRestart t (record (cleared t) { next = condition.HmModuleRestart }) ms h refl refl refl in
+      record { stands = k.stands; same = k.same; starts = k.starts; said = λ last b. (tt, k.said (Some condition.HmModuleRestart) refl) }
 
-  input_to : (plan : Plan) (at : At) (i : DeviceInput) (t : Told) (ms : List (Member C)) → Stay t ms → QuietTo t (advanced (inputs plan at i ms))
+  input_to : (plan : Plan) (at : At) (i : DeviceInput) (t : Told) (ms : List (Member C)) → Stay t ms → BeginsTo (starts_by plan at i (suc place) ms) t (advanced (inputs plan at i ms))
   input_to plan at (device.Message channel m) t ms h = goes_by_to at m (slice_get plan.channels channel.0) t ms h
   input_to plan at (device.PartitionFault p) t ms h = breaks_to at p.0 t ms h
   input_to plan at device.ModuleFault t ms h = faults_to at plan.fault t ms h
 
-  inputs_to : (plan : Plan) (ls : List DeviceLine) (at : At) (t : Told) (ms : List (Member C)) → Stay t ms → QuietTo t (advanced (inputs_all plan at ls ms))
+  inputs_to : (plan : Plan) (ls : List DeviceLine) (at : At) (t : Told) (ms : List (Member C)) → Stay t ms → BeginsTo (starts_by_all plan ls (suc place) at ms) t (advanced (inputs_all plan at ls ms))
   inputs_to plan [] at t ms h = still_to t ms h
   inputs_to plan (l ∷ ls) at t ms h = by_at (inputs plan at l.input ms).at (input_to plan at l.input t ms h) (λ a u g. inputs_to plan ls a u (inputs plan at l.input ms).state g)
     where
       i : Course (List (Member C))
       i = inputs plan at l.input ms
 
-      by_at : (o : Option At) → QuietTo t (advanced i) → ((a : At) (u : Told) → Stay u i.state → QuietTo u (advanced (inputs_all plan a ls i.state))) → QuietTo t (advanced (unless_down i (λ a ns. inputs_all plan a ls ns) o))
+      first : List Start
+      first = starts_by plan at l.input (suc place) ms
+
+      later : At → List Start
+      later a = starts_by_all plan ls (suc place) a i.state
+
+      by_at : (o : Option At) → BeginsTo first t (advanced i) → ((a : At) (u : Told) → Stay u i.state → BeginsTo (later a) u (advanced (inputs_all plan a ls i.state)))
+          → BeginsTo (unless_shut later o ++ first) t (advanced (unless_down i (λ a ns. inputs_all plan a ls ns) o))
       by_at None k rest = k
-      by_at (Some a) k rest = then_to t (advanced i) (λ ns. advanced (inputs_all plan a ls ns)) k (rest a)
+      by_at (Some a) k rest = then_begins first (later a) t (advanced i) (λ ns. advanced (inputs_all plan a ls ns)) k (rest a)
 
   -- the tick stays
   fault_now : (n : ℕ) (at : At) (a : ModuleAction) (ms : List (Member C)) → at.now.0 ≡ n → IsNow n (breaks_module at a ms).at
@@ -262,16 +362,24 @@ module _ {C : Type 0} (d : ListKey → Discipline) (called : List (List ℕ)) (n
   -- ---- the owner's tick
 
   -- the partition stands, and nobody has worked later than in this tick
-  pub record TicksTo (n : ℕ) (t : Told) (a : Stepped (List (Member C))) : Type 0 where
+  pub record TicksTo (n : ℕ) (began : List Start) (t : Told) (a : Stepped (List (Member C))) : Type 0 where
     pub stands : Stay (told_from name t a.lines) a.state
     pub before : IsBefore (suc n) (told_from name t a.lines).worked
+    pub starts : (told_from name t a.lines).starts ≡ began ++ t.starts
+    pub said : (last : Option StartCondition) → AreSaidBy name last t a.lines
 
-  owner_to : (at : At) (o : Option ℕ) (t : Told) (ms : List (Member C)) → Stay t ms → IsBefore at.now.0 t.worked → TicksTo at.now.0 t (ticks_owner at ms o)
-  owner_to at None t ms h b = record { stands = h; before = later at.now.0 t.worked b }
-  owner_to at (Some zero) t ms h b = record { stands = h; before = later at.now.0 t.worked b }
+  tick_of_own : (at : At) (t : Told) (x : Member C) → IsWell d called t x → IsBefore at.now.0 t.worked → TickTells x.engine at x.world t
+  tick_of_own at t x well b = tick_tells x.engine at d called well.numbers x.world t well.ordered well.holds well.agrees b
+
+  told_tick : (at : At) (t : Told) (x : Member C) → IsWell d called t x → IsBefore at.now.0 t.worked → TellsMove d called name place names apart t (Advances at) x
+  told_tick at t x well b = let k = tick_of_own at t x well b in record { agrees = k.agrees; said = k.said }
+
+  owner_to : (at : At) (o : Option ℕ) (t : Told) (ms : List (Member C)) → Stay t ms → IsBefore at.now.0 t.worked → TicksTo at.now.0 (starts_of_owner at (suc place) ms o) t (ticks_owner at ms o)
+  owner_to at None t ms h b = record { stands = h; before = later at.now.0 t.worked b; starts = refl; said = λ last. tt }
+  owner_to at (Some zero) t ms h b = record { stands = h; before = later at.now.0 t.worked b; starts = not_zero place (of_member [] (starts_advancing at) (at_number ms (suc place))) t.starts; said = λ last. tt }
   owner_to at (Some (suc q)) t ms h b =
-      let s = steps_to d called name place names apart t (Advances at) ms q (slice_get ms q) refl h (λ x is here well. let k = tick_tells x.engine at d called well.numbers x.world t well.ordered well.holds well.agrees b in k.agrees) in
-      record { stands = s.stands; before = by_lines s.lines }
+      let s = steps_to d called name place names apart t (Advances at) ms q (slice_get ms q) refl h (λ x is here well. told_tick at t x well b) in
+      record { stands = s.stands; before = by_lines s.lines; starts = by_place (suc q == suc place) refl s; said = s.said }
     where
       u : Told
       u = told_from name t (steps_member (makes (Advances at)) ms q (slice_get ms q)).lines
@@ -282,8 +390,23 @@ module _ {C : Type 0} (d : ListKey → Discipline) (called : List (List ℕ)) (n
           let x = own.1.0 in
           let f = own.1.1 in
           let well = h.own x f.0 in
-          let k = tick_tells x.engine at d called well.numbers x.world t well.ordered well.holds well.agrees b in
+          let k = tick_of_own at t x well b in
           subst (λ (v : Told). IsBefore (suc at.now.0) v.worked) (sym f.1) (k.before (suc at.now.0) (next at.now.0) (later at.now.0 t.worked b))
+
+      by_place : (c : Bool) → (suc q == suc place) ≡ c → StepsTo d called name place names apart t (Advances at) ms q (slice_get ms q)
+          → u.starts ≡ (if c then of_member [] (starts_advancing at) (slice_get ms place) else []) ++ t.starts
+      by_place true e s =
+          let is : q ≡ place = let f = eqb-true (suc q) (suc place) e in omega (arith, f) in
+          let own = mine ms h.named in
+          let x = own.0 in
+          let here = own.1 in
+          let k = tick_of_own at t x (h.own x here.0) b in
+          ap starts_told (s.read x is here.0) ∙ k.starts ∙ ap (λ (o : Option (Member C)). of_member [] (starts_advancing at) o ++ t.starts) (sym here.0)
+      by_place false e s = other s.lines
+        where
+          other : (u ≡ t) ⊎ IsOwn d called name place names apart t (Advances at) ms q u → u.starts ≡ t.starts
+          other (inl f) = ap starts_told f
+          other (inr own) = absurd (eqb-false (suc q) (suc place) e (ap suc own.0))
 
   -- the owner's runner spends it
   owner_worker : (at : At) (t : Told) (ms : List (Member C)) → Stay t ms → IsBefore at.now.0 t.worked → worker_by_lines at.now.0 (told_from name t (ticks_owner at ms (Some (suc place))).lines) ≡ worker_at at ms (Some (suc place))
@@ -291,20 +414,23 @@ module _ {C : Type 0} (d : ListKey → Discipline) (called : List (List ℕ)) (n
       let own = mine ms h.named in
       let x = own.0 in
       let here = own.1 in
-      let s = steps_to d called name place names apart t (Advances at) ms place (slice_get ms place) refl h (λ y is there well. let k = tick_tells y.engine at d called well.numbers y.world t well.ordered well.holds well.agrees b in k.agrees) in
-      let well = h.own x here.0 in
-      let k = tick_tells x.engine at d called well.numbers x.world t well.ordered well.holds well.agrees b in
+      let s = steps_to d called name place names apart t (Advances at) ms place (slice_get ms place) refl h (λ y is there well. told_tick at t y well b) in
+      let k = tick_of_own at t x (h.own x here.0) b in
       ap (worker_by_lines at.now.0) (s.read x refl here.0) ∙ k.worker ∙ sym (ap (chosen_by at) here.0)
 
-  moves_and_ticks_to : (plan : Plan) (at : At) (t : Told) (ms : List (Member C)) → Stay t ms → IsBefore at.now.0 t.worked → TicksTo at.now.0 t (advanced (moves_and_ticks plan at ms))
+  moves_and_ticks_to : (plan : Plan) (at : At) (t : Told) (ms : List (Member C)) → Stay t ms → IsBefore at.now.0 t.worked
+      → TicksTo at.now.0 (starts_of_owner at (suc place) (moves_ended plan.channels at ms (ended plan.schedule at)).state (owner plan.schedule at)) t (advanced (moves_and_ticks plan at ms))
   moves_and_ticks_to plan at t ms h b =
       let a = moves_ended plan.channels at ms (ended plan.schedule at) in
       let k = ended_to plan.channels at (ended plan.schedule at) t ms h in
+      let last = ticks_owner at a.state (owner plan.schedule at) in
       let o = owner_to at (owner plan.schedule at) (told_from name t a.lines) a.state k.stands (subst (IsBefore at.now.0) (sym k.same) b) in
-      let is = told_both name t a.lines (ticks_owner at a.state (owner plan.schedule at)).lines in
+      let is = told_both name t a.lines last.lines in
       record {
-        stands = subst (λ (v : Told). Stay v (ticks_owner at a.state (owner plan.schedule at)).state) (sym is) o.stands;
+        stands = subst (λ (v : Told). Stay v last.state) (sym is) o.stands;
         before = subst (λ (v : Told). IsBefore (suc at.now.0) v.worked) (sym is) o.before;
+        starts = ap starts_told is ∙ o.starts ∙ ap (λ (ss : List Start). starts_of_owner at (suc place) a.state (owner plan.schedule at) ++ ss) k.starts;
+        said = λ x. said_by_both name x t a.lines last.lines (k.said x tt) (o.said (last_by_all name x a.lines));
       }
 
   -- ---- a tick of the module
@@ -313,25 +439,40 @@ module _ {C : Type 0} (d : ListKey → Discipline) (called : List (List ℕ)) (n
     abbrev brought : Course (List (Member C))
     brought = inputs_all plan at (of_tick at.now.0 devices) ms
 
-    brought_to : QuietTo t (advanced brought)
+    brought_to : BeginsTo (starts_by_all plan (of_tick at.now.0 devices) (suc place) at ms) t (advanced brought)
     brought_to = inputs_to plan (of_tick at.now.0 devices) at t ms h
 
     still_before : IsBefore at.now.0 (told_from name t brought.lines).worked
     still_before = subst (IsBefore at.now.0) (sym brought_to.same) b
 
-    after_devices : (o : Option At) → IsNow at.now.0 o → TicksTo at.now.0 t (advanced (unless_down brought (moves_and_ticks plan) o))
-    after_devices None e = record { stands = brought_to.stands; before = later at.now.0 _ still_before }
-    after_devices (Some a) e =
+    -- the owner's tick, if there is one
+    abbrev moves_before : At → List (Member C) → Course (List (Member C))
+    moves_before a ns = goes_on a (moves_ended plan.channels a ns (ended plan.schedule a))
+
+    abbrev starts_there : Option At → List Start
+    starts_there o = let c = unless_down brought moves_before o in unless_shut (λ a. starts_of_owner a (suc place) c.state (owner plan.schedule a)) c.at
+
+    after_devices : (o : Option At) → brought.at ≡ o → IsNow at.now.0 o → TicksTo at.now.0 (starts_there o ++ starts_by_all plan (of_tick at.now.0 devices) (suc place) at ms) t (advanced (unless_down brought (moves_and_ticks plan) o))
+    after_devices None is e = record {
+      stands = brought_to.stands;
+      before = later at.now.0 _ still_before;
+      starts = brought_to.starts ∙ ap (λ (o : Option At). (unless_shut (λ a. starts_of_owner a (suc place) brought.state (owner plan.schedule a)) o ++ starts_by_all plan (of_tick at.now.0 devices) (suc place) at ms) ++ t.starts) (sym is);
+      said = λ last. brought_to.said last tt;
+    }
+    after_devices (Some a) is e =
         let u = told_from name t brought.lines in
         let k = moves_and_ticks_to plan a u brought.state brought_to.stands (subst (λ (n : ℕ). IsBefore n u.worked) (sym e) still_before) in
-        let is = told_both name t brought.lines (moves_and_ticks plan a brought.state).lines in
+        let both = told_both name t brought.lines (moves_and_ticks plan a brought.state).lines in
+        let began = starts_of_owner a (suc place) (moves_before a brought.state).state (owner plan.schedule a) in
         record {
-          stands = subst (λ (v : Told). Stay v (moves_and_ticks plan a brought.state).state) (sym is) k.stands;
-          before = subst (λ (v : Told). IsBefore (suc at.now.0) v.worked) (sym is) (subst (λ (n : ℕ). IsBefore (suc n) (told_from name u (moves_and_ticks plan a brought.state).lines).worked) e k.before);
+          stands = subst (λ (v : Told). Stay v (moves_and_ticks plan a brought.state).state) (sym both) k.stands;
+          before = subst (λ (v : Told). IsBefore (suc at.now.0) v.worked) (sym both) (subst (λ (n : ℕ). IsBefore (suc n) (told_from name u (moves_and_ticks plan a brought.state).lines).worked) e k.before);
+          starts = ap starts_told both ∙ k.starts ∙ ap (λ (ss : List Start). began ++ ss) brought_to.starts ∙ sym (append_assoc began (starts_by_all plan (of_tick at.now.0 devices) (suc place) at ms) t.starts);
+          said = λ last. said_by_both name last t brought.lines (moves_and_ticks plan a brought.state).lines (brought_to.said last tt) (k.said (last_by_all name last brought.lines));
         }
 
-    tick_to : TicksTo at.now.0 t (advanced (module_tick plan at devices ms))
-    tick_to = after_devices brought.at (inputs_now at.now.0 plan (of_tick at.now.0 devices) at ms refl)
+    tick_to : TicksTo at.now.0 (starts_in_tick plan devices (suc place) at ms) t (advanced (module_tick plan at devices ms))
+    tick_to = after_devices brought.at refl (inputs_now at.now.0 plan (of_tick at.now.0 devices) at ms refl)
 
     now_after : (o : Option At) → IsNow at.now.0 o → IsNow at.now.0 brought.at → IsNow at.now.0 (unless_down brought (moves_and_ticks plan) o).at
     now_after None e k = k
@@ -363,25 +504,82 @@ module _ {C : Type 0} (d : ListKey → Discipline) (called : List (List ℕ)) (n
 
   -- ---- a run
 
+  -- the partition stands, and its starts are told
+  pub record RunsTo (began : List Start) (t : Told) (lines : List Event) (ms : List (Member C)) : Type 0 where
+    pub stands : Stay (told_from name t lines) ms
+    pub starts : (told_from name t lines).starts ≡ began ++ t.starts
+    pub said : (last : Option StartCondition) → AreSaidBy name last t lines
+
   run_to : (plan : Plan) (devices : List DeviceLine) (n now : ℕ) (o : Option At) → IsNow now o → (t : Told) (ms : List (Member C)) → Stay t ms → IsBefore now t.worked
-      → Stay (told_from name t (trace_from plan devices n o ms)) (members_from plan devices n o ms)
-  run_to plan devices zero now o e t ms h b = h
-  run_to plan devices (suc n) now None e t ms h b = h
+      → RunsTo (starts_from plan devices (suc place) n o ms) t (trace_from plan devices n o ms) (members_from plan devices n o ms)
+  run_to plan devices zero now o e t ms h b = record { stands = h; starts = refl; said = λ last. tt }
+  run_to plan devices (suc n) now None e t ms h b = record { stands = h; starts = refl; said = λ last. tt }
   run_to plan devices (suc n) now (Some at) e t ms h b =
       let c = subst (λ (i : ℕ). IsBefore i t.worked) (sym e) b in
       let r = module_tick plan at devices ms in
       let k = tick_to plan devices at t ms h c in
       let rest = run_to plan devices n (suc at.now.0) (option_map next_tick r.at) (next_now at.now.0 r.at (tick_now plan devices at t ms h c)) (told_from name t r.lines) r.state k.stands k.before in
-      subst (λ (v : Told). Stay v (members_from plan devices n (option_map next_tick r.at) r.state)) (sym (told_both name t r.lines (trace_from plan devices n (option_map next_tick r.at) r.state))) rest
+      let more = trace_from plan devices n (option_map next_tick r.at) r.state in
+      let is = told_both name t r.lines more in
+      let began = starts_from plan devices (suc place) n (option_map next_tick r.at) r.state in
+      record {
+        stands = subst (λ (v : Told). Stay v (members_from plan devices n (option_map next_tick r.at) r.state)) (sym is) rest.stands;
+        starts = ap starts_told is ∙ rest.starts ∙ ap (λ (ss : List Start). began ++ ss) k.starts ∙ sym (append_assoc began (starts_in_tick plan devices (suc place) at ms) t.starts);
+        said = λ last. said_by_both name last t r.lines more (k.said last) (rest.said (last_by_all name last r.lines));
+      }
 
-  pub run_stands : (m : Module C) (devices : List DeviceLine) (n : ℕ) → Stay first_told m.members → Stay (told name (trace m devices n)) (members_after m devices n)
+  -- with the first start behind it, the partition restarts by itself
+  stays_so : (t : Told) (ms : List (Member C)) → Stay t ms → Stay (restarts t) ms
+  stays_so t ms h = record {
+    own = λ x e.
+        let w = h.own x e in
+        let k = w.agrees in
+        record {
+          numbers = w.numbers;
+          ordered = w.ordered;
+          holds = w.holds;
+          agrees = record { mode = k.mode; condition = k.condition; next = refl; orderly = k.orderly; processes = record { named = k.processes.named; states = k.processes.states; running = k.processes.running; runs = k.processes.runs } };
+        };
+    named = h.named;
+  }
+
+  -- from the first start on
+  module _ (m : Module C) (devices : List DeviceLine) (n : ℕ) (h : Stay (restarts first_told) m.members) where
+    first_to : LeadsTo (λ last. last ≡ Some condition.NormalStart) (of_member [] (starts_cold first_tick condition.NormalStart) (at_number m.members (suc place))) first_told (starts_all first_tick condition.NormalStart m.members)
+    first_to = starts_to first_tick condition.NormalStart (restarts first_told) first_told m.members h refl refl refl
+
+    ran_to : RunsTo (starts_from m.plan devices (suc place) (suc n) (Some first_tick) (starts_all first_tick condition.NormalStart m.members).state) (told_from name first_told (starts_all first_tick condition.NormalStart m.members).lines)
+        (trace_from m.plan devices (suc n) (Some first_tick) (starts_all first_tick condition.NormalStart m.members).state) (members_after m devices (suc n))
+    ran_to = run_to m.plan devices (suc n) 0 (Some first_tick) refl _ _ first_to.stands (subst (IsBefore 0) (sym first_to.same) tt)
+
+  pub run_stands : (m : Module C) (devices : List DeviceLine) (n : ℕ) → Stay (restarts first_told) m.members → Stay (restarts (told name (trace m devices n))) (members_after m devices n)
   run_stands m devices zero h = h
   run_stands m devices (suc n) h =
       let s = starts_all first_tick condition.NormalStart m.members in
-      let k = starts_to first_tick condition.NormalStart first_told first_told m.members h refl refl in
-      let u = told_from name first_told s.lines in
-      let rest = run_to m.plan devices (suc n) 0 (Some first_tick) refl u s.state k.stands (subst (IsBefore 0) (sym k.same) tt) in
-      subst (λ (v : Told). Stay v (members_from m.plan devices (suc n) (Some first_tick) s.state)) (sym (told_both name first_told s.lines (trace_from m.plan devices (suc n) (Some first_tick) s.state))) rest
+      let rest = ran_to m devices n h in
+      stays_so _ (members_after m devices (suc n))
+      (subst (λ (v : Told). Stay v (members_after m devices (suc n))) (sym (told_both name first_told s.lines (trace_from m.plan devices (suc n) (Some first_tick) s.state))) rest.stands)
+
+  -- its starts are told
+  pub run_starts : (m : Module C) (devices : List DeviceLine) (n : ℕ) → Stay (restarts first_told) m.members → (told name (trace m devices n)).starts ≡ starts_in m devices (suc place) n
+  run_starts m devices zero h = refl
+  run_starts m devices (suc n) h =
+      let s = starts_all first_tick condition.NormalStart m.members in
+      let first = first_to m devices n h in
+      let rest = ran_to m devices n h in
+      ap starts_told (told_both name first_told s.lines (trace_from m.plan devices (suc n) (Some first_tick) s.state))
+      ∙ rest.starts
+      ∙ ap (λ (ss : List Start). starts_from m.plan devices (suc place) (suc n) (Some first_tick) s.state ++ ss) (first.starts ∙ append-nil _)
+
+  -- each after a line that gives its condition
+  pub run_said : (m : Module C) (devices : List DeviceLine) (n : ℕ) → Stay (restarts first_told) m.members → AreSaidBy name (Some condition.NormalStart) first_told (trace m devices n)
+  run_said m devices zero h = tt
+  run_said m devices (suc n) h =
+      let s = starts_all first_tick condition.NormalStart m.members in
+      let first = first_to m devices n h in
+      let rest = ran_to m devices n h in
+      said_by_both name (Some condition.NormalStart) first_told s.lines (trace_from m.plan devices (suc n) (Some first_tick) s.state) (first.said (Some condition.NormalStart) refl)
+      (rest.said (last_by_all name (Some condition.NormalStart) s.lines))
 
   worker_from : (plan : Plan) (devices : List DeviceLine) (n now : ℕ) (o : Option At) → IsNow now o → (t : Told) (ms : List (Member C)) → Stay t ms → IsBefore now t.worked
       → owner_of plan (before_owner_from plan devices n o ms).at ≡ Some (suc place)
@@ -406,10 +604,10 @@ module _ {C : Type 0} (d : ListKey → Discipline) (called : List (List ℕ)) (n
       ∙ ap (worker_by_lines (suc at.now.0 + n)) (told_both name t r.lines later)
       ∙ rest
 
-  pub run_worker : (m : Module C) (devices : List DeviceLine) (n : ℕ) → Stay first_told m.members → owner_in m devices n ≡ Some (suc place) → worker_by_lines n (told name (trace m devices (suc n))) ≡ worker m devices n
+  pub run_worker : (m : Module C) (devices : List DeviceLine) (n : ℕ) → Stay (restarts first_told) m.members → owner_in m devices n ≡ Some (suc place) → worker_by_lines n (told name (trace m devices (suc n))) ≡ worker m devices n
   run_worker m devices n h owns =
       let s = starts_all first_tick condition.NormalStart m.members in
-      let k = starts_to first_tick condition.NormalStart first_told first_told m.members h refl refl in
+      let k = starts_to first_tick condition.NormalStart (restarts first_told) first_told m.members h refl refl refl in
       let u = told_from name first_told s.lines in
       let later = trace_from m.plan devices (suc n) (Some first_tick) s.state in
       let is : n ≡ 0 + n = omega arith in
@@ -418,7 +616,7 @@ module _ {C : Type 0} (d : ListKey → Discipline) (called : List (List ℕ)) (n
       ∙ worker_from m.plan devices n 0 (Some first_tick) refl u s.state k.stands (subst (IsBefore 0) (sym k.same) tt) owns
 
   -- each runner becomes RUNNING in its turn
-  pub run_orderly : (m : Module C) (devices : List DeviceLine) (n : ℕ) → Stay first_told m.members → (told name (trace m devices n)).orderly ≡ true
+  pub run_orderly : (m : Module C) (devices : List DeviceLine) (n : ℕ) → Stay (restarts first_told) m.members → (told name (trace m devices n)).orderly ≡ true
   run_orderly m devices n h =
       let s = run_stands m devices n h in
       let own = mine (members_after m devices n) s.named in
@@ -433,7 +631,7 @@ module _ {C : Type 0} (d : ListKey → Discipline) (called : List (List ℕ)) (n
   owner_idle at None t ms h b n = b
   owner_idle at (Some zero) t ms h b n = b
   owner_idle at (Some (suc q)) t ms h b n =
-      let s = steps_to d called name place names apart t (Advances at) ms q (slice_get ms q) refl h (λ x is here well. let k = tick_tells x.engine at d called well.numbers x.world t well.ordered well.holds well.agrees b in k.agrees) in
+      let s = steps_to d called name place names apart t (Advances at) ms q (slice_get ms q) refl h (λ x is here well. told_tick at t x well b) in
       by_lines s.lines
     where
       u : Told
@@ -486,10 +684,10 @@ module _ {C : Type 0} (d : ListKey → Discipline) (called : List (List ℕ)) (n
       let rest = idle_from plan devices n (suc at.now.0) (option_map next_tick r.at) (next_now at.now.0 r.at (tick_now plan devices at t ms h c)) (told_from name t r.lines) r.state k.stands k.before owns in
       subst (λ (v : Told). IsBefore (now + suc n) v.worked) (sym (told_both name t r.lines later)) (subst (λ (i : ℕ). IsBefore i (told_from name (told_from name t r.lines) later).worked) is rest)
 
-  pub run_idle : (m : Module C) (devices : List DeviceLine) (n : ℕ) → Stay first_told m.members → owner_in m devices n ≢ Some (suc place) → worked_in n (told name (trace m devices (suc n))).worked ≡ None
+  pub run_idle : (m : Module C) (devices : List DeviceLine) (n : ℕ) → Stay (restarts first_told) m.members → owner_in m devices n ≢ Some (suc place) → worked_in n (told name (trace m devices (suc n))).worked ≡ None
   run_idle m devices n h owns =
       let s = starts_all first_tick condition.NormalStart m.members in
-      let k = starts_to first_tick condition.NormalStart first_told first_told m.members h refl refl in
+      let k = starts_to first_tick condition.NormalStart (restarts first_told) first_told m.members h refl refl refl in
       let u = told_from name first_told s.lines in
       let later = trace_from m.plan devices (suc n) (Some first_tick) s.state in
       let is : 0 + n ≡ n = omega arith in

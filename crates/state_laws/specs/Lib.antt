@@ -1,3 +1,4 @@
 pub mod Told
 pub mod States
 pub mod Spending
+pub mod Starts

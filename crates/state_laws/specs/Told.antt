@@ -11,15 +11,30 @@ use Rattle.apex_types.specs.declared.codes.ProcessState.{ProcessState}
 use Rattle.apex_types.specs.declared.codes.ProcessState.TheVariants.{Dormant, Ready, Running, Waiting}
 use Rattle.apex_types.specs.declared.codes.Response.{Response}
 use Rattle.apex_types.specs.declared.codes.Response.TheVariants as response
+use Rattle.apex_types.specs.declared.codes.StartCondition.{StartCondition}
+use Rattle.apex_types.specs.declared.codes.StartCondition.TheVariants as condition
 use Rattle.apex_types.specs.declared.event.Event.{Event}
 use Rattle.apex_types.specs.declared.event.EventKind.{EventKind}
 use Rattle.apex_types.specs.declared.event.EventKind.TheVariants as event
 use Rattle.apex_types.specs.declared.event.Subject.{Subject}
 use Rattle.apex_types.specs.declared.event.Subject.TheVariants.{Init, Handler, Process}
 use Rattle.engine_meaning.specs.Digits.{same}
+use Rattle.kernel_meaning.specs.HealthServices.{is_fault}
+
+-- a start of a partition: its tick, the mode that it enters, and its condition
+pub record Start : Type 0 where
+  pub tick : ℕ
+  pub mode : Mode
+  pub condition : StartCondition
 
 pub record Told : Type 0 where
   pub mode : Mode
+  -- the start condition
+  pub condition : StartCondition
+  -- the start condition from the next line of a mode on, unless this is NORMAL
+  pub next : StartCondition
+  -- the starts so far, the last one first
+  pub starts : List Start
   -- DORMANT for a runner of which none is told
   pub state : Subject → ProcessState
   -- the runner that is RUNNING
@@ -29,9 +44,18 @@ pub record Told : Type 0 where
   -- each runner so far became RUNNING in a tick that nobody had spent yet
   pub orderly : Bool
 
--- before the first line
+-- before the first line, which starts the partition with the module
 abbrev pub first_told : Told
-first_told = record { mode = mode.Idle; state = λ who. Dormant; running = None; worked = None; orderly = true }
+first_told = record {
+  mode = mode.Idle;
+  condition = condition.NormalStart;
+  next = condition.NormalStart;
+  starts = [];
+  state = λ who. Dormant;
+  running = None;
+  worked = None;
+  orderly = true;
+}
 
 abbrev pub is_same : Subject → Subject → Bool
 is_same Init Init = true
@@ -92,10 +116,28 @@ with_state who state t = record t { state = λ x. if is_same x who then state el
 
 -- ---- a mode
 
--- at any mode but NORMAL all states are forgotten
+abbrev pub is_start : Mode → Bool
+is_start mode.ColdStart = true
+is_start mode.WarmStart = true
+is_start _ = false
+
+-- COLD_START and WARM_START are starts
+abbrev pub and_start : ℕ → Mode → StartCondition → List Start → List Start
+and_start tick m c ss = if is_start m then record { tick = tick; mode = m; condition = c } ∷ ss else ss
+
+-- At any mode but NORMAL all states are forgotten, and the start condition is the expected one. With no other line before the next such mode, it is PARTITION_RESTART then.
 abbrev pub enters : ℕ → Told → Mode → Told
 enters tick t mode.Normal = record t { mode = mode.Normal }
-enters tick t m = record { mode = m; state = λ x. Dormant; running = None; worked = worker_or tick t.worked t.running; orderly = t.orderly }
+enters tick t m = record {
+  mode = m;
+  condition = t.next;
+  next = condition.PartitionRestart;
+  starts = and_start tick m t.next t.starts;
+  state = λ x. Dormant;
+  running = None;
+  worked = worker_or tick t.worked t.running;
+  orderly = t.orderly;
+}
 
 -- ---- an error
 
@@ -110,9 +152,25 @@ is_ignored action.Ignore = true
 is_ignored _ = false
 
 -- the partition is cleared before the runner works
-abbrev pub responds : Told → ErrorKind → Response → Told
-responds t e (response.Partition a) = if is_from_outside e then (if is_ignored a then t else cleared t) else t
-responds t e _ = t
+abbrev pub cleared_by : Told → ErrorKind → PartitionAction → Told
+cleared_by t e a = if is_from_outside e then (if is_ignored a then t else cleared t) else t
+
+abbrev pub is_init : Option Subject → Bool
+is_init (Some Init) = true
+is_init _ = false
+
+-- An error leads to another mode if the partition does not ignore it. An ignored fault of INIT does so too.
+abbrev pub leads_on : ErrorKind → Option Subject → PartitionAction → Bool
+leads_on e who action.Ignore = is_fault e && is_init who
+leads_on e who _ = true
+
+abbrev pub expected : Bool → StartCondition → StartCondition
+expected true c = condition.HmPartitionRestart
+expected false c = c
+
+abbrev pub responds : Told → ErrorKind → Option Subject → Response → Told
+responds t e who (response.Partition a) = record (cleared_by t e a) { next = expected (leads_on e who a) t.next }
+responds t e who _ = t
 
 -- ---- a line
 
@@ -120,11 +178,11 @@ responds t e _ = t
 abbrev pub says : ℕ → Told → EventKind → Told
 says tick t (event.State who state) = with_state who state (moves_to tick t who state)
 says tick t (event.Mode m) = enters tick t m
-says tick t (event.Error e who r) = responds t e r
+says tick t (event.Error e who r) = responds t e who r
 says tick t _ = t
 
 abbrev pub resets : Told → Response → Told
-resets t (response.Module reaction.Reset) = cleared t
+resets t (response.Module reaction.Reset) = record (cleared t) { next = condition.HmModuleRestart }
 resets t _ = t
 
 -- a line of the module: a reset clears all partitions before the runner works

@@ -15,11 +15,13 @@ ghost use Rattle.module_meaning.specs.Table.{Partition, Table, at_number};
 ghost use Rattle.pal_meaning.specs.Program.{Program};
 ghost use Rattle.pal_meaning.specs.SourceControl.{SourceControl};
 ghost use Rattle.state_laws.specs.Spending.{owner_in, worker};
+ghost use Rattle.state_laws.specs.Starts.{starts_in};
 ghost use Rattle.state_laws.specs.States.{TellsState};
 ghost use Rattle.state_laws.specs.Told.{told, worked_in, worker_by_lines};
 
 /// After any number of ticks of any run of a lawful image, what the lines say of a partition is its
-/// state: its mode, the state of INIT, of the error handler and of each process, and who is RUNNING.
+/// state: its mode and start condition, the state of INIT, of the error handler and of each process, and
+/// who is RUNNING.
 /// So it is in any run of an accepted module, and of a judged table with programs whose processes
 /// have names of their own.
 pub fn lines_tell_the_state()
@@ -44,6 +46,30 @@ pub fn lines_tell_the_state()
         → at_number t.partitions p ≡ Some row
         → at_number (members_after (source_module t programs) devices n) p ≡ Some x
         → TellsState (told row.name (source_trace t programs devices n)) x.world.kernel }
+{}
+
+/// In any such run the starts that the lines tell of a partition are those that the kernel makes: in the
+/// same ticks and modes, and with the start conditions that the kernel then has.
+pub fn lines_tell_the_starts()
+    ensures machine { (image : Image) (devices : List DeviceLine) (n p : ℕ) (item : Item)
+        → IsLawful image
+        → at_number image.items p ≡ Some item
+        → (told item.partition.name (machine_trace image devices n)).starts
+        ≡ starts_in (machine_module image) devices p n }
+    ensures source { (t : Table) (programs : List Program) (devices : List DeviceLine) (n p : ℕ)
+        (row : Partition) (program : Program)
+        → IsJudged t
+        → at_number t.partitions p ≡ Some row
+        → at_number programs p ≡ Some program
+        → HasOwnNames program
+        → (told row.name (source_trace t programs devices n)).starts
+        ≡ starts_in (source_module t programs) devices p n }
+    ensures accepted { (table : List ℕ) (sources : List (List ℕ)) (t : Table)
+        (programs : List Program) (devices : List DeviceLine) (n p : ℕ) (row : Partition)
+        → IsModule table sources t programs
+        → at_number t.partitions p ≡ Some row
+        → (told row.name (source_trace t programs devices n)).starts
+        ≡ starts_in (source_module t programs) devices p n }
 {}
 
 /// In each tick of any such run, who spends it by the lines is the runner that the owner of its

@@ -18,3 +18,4 @@ pub mod Stated
 pub mod StatesOfRuns
 pub mod ModeTallies
 pub mod ModesCounted
+pub mod Begun

@@ -93,23 +93,23 @@ module _ (names : List (List ℕ)) (place : ℕ) where
 
   -- no partition is at the place
   module _ (nobody : slice_get names place ≡ None) where
-    says_nothing : (k : EventKind) → says_module first_told k ≡ first_told
-    says_nothing (event.Error e who response.Handler) = refl
-    says_nothing (event.Error e who (response.Partition a)) = refl
-    says_nothing (event.Error e who (response.Module reaction.Ignore)) = refl
-    says_nothing (event.Error e who (response.Module reaction.Shutdown)) = refl
-    says_nothing (event.Error e who (response.Module reaction.Reset)) = refl
-    says_nothing (event.State who next) = refl
-    says_nothing (event.Mode m) = refl
-    says_nothing (event.Return who service code) = refl
-    says_nothing (event.Report who words) = refl
-    says_nothing (event.Move port words) = refl
-    says_nothing (event.Arrive port words) = refl
-    says_nothing (event.Lost port words) = refl
-    says_nothing (event.Out channel words) = refl
+    says_nothing : (k : EventKind) (s : Standing) → Tells names place s (says_module first_told k) → Tells names place s first_told
+    says_nothing (event.Error e who response.Handler) s h = h
+    says_nothing (event.Error e who (response.Partition a)) s h = h
+    says_nothing (event.Error e who (response.Module reaction.Ignore)) s h = h
+    says_nothing (event.Error e who (response.Module reaction.Shutdown)) s h = h
+    says_nothing (event.Error e who (response.Module reaction.Reset)) s h = record { named = h.named; running = h.running; last = h.last; before = h.before }
+    says_nothing (event.State who next) s h = h
+    says_nothing (event.Mode m) s h = h
+    says_nothing (event.Return who service code) s h = h
+    says_nothing (event.Report who words) s h = h
+    says_nothing (event.Move port words) s h = h
+    says_nothing (event.Arrive port words) s h = h
+    says_nothing (event.Lost port words) s h = h
+    says_nothing (event.Out channel words) s h = h
 
     kind_absent : (p : Option (List ℕ)) (kind : EventKind) (s : Standing) → Tells names place s first_told → Tells names place (with_kind p kind s) first_told
-    kind_absent None kind s h = subst (Tells names place (with_module kind s)) (says_nothing kind) (module_tells names place kind s first_told h)
+    kind_absent None kind s h = says_nothing kind (with_module kind s) (module_tells names place kind s first_told h)
     kind_absent (Some other) kind s h = else_tells names place other (λ f. none-some other (sym nobody ∙ f)) kind s first_told h
 
     lines_absent : (lines : List Event) (s : Standing) → Tells names place s first_told → Tells names place (standing_after s lines) first_told

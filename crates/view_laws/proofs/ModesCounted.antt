@@ -9,8 +9,10 @@ use Rattle.apex_types.specs.declared.event.Event.{Event}
 use Rattle.module_meaning.specs.Module.{Module, trace}
 use Rattle.trace_stays.specs.Stays.{span}
 use Rattle.trace_stays.specs.Traces.{modes_in}
+use Rattle.trace_stays.specs.declared.span.Span.{Span}
 use Rattle.trace_view.specs.Partitions.{no_partition, partition_total}
 use Rattle.trace_view.specs.Starts.{told_first}
+use Rattle.trace_view.specs.Whole.{partition_in}
 use Rattle.trace_view.specs.declared.partitions.PartitionRow.{PartitionRow}
 use Rattle.trace_windows.specs.Uses.{one_if}
 use Rattle.view_laws.specs.Counted.{AreBeforeTick}
@@ -21,6 +23,14 @@ use Rattle.view_laws.proofs.Counted.{before_tick}
 use Rattle.view_laws.proofs.Lines.{up_to_are}
 use Rattle.view_laws.proofs.ModeTallies.{counted_modes, none_read, read_up_to}
 use Rattle.view_laws.proofs.Run.{run_order, run_up_to}
+
+-- lines at the end and behind it are not read
+module _ {C : Type 0} (m : Module C) (devices : List DeviceLine) (n : ℕ) (name : List ℕ) where
+  pub row_part : (window : Span) (u : ℕ) → window.until.0 ≡ u → u ≤ n → partition_in window told_first (trace m devices n) (no_partition name) ≡ partition_in window told_first (trace m devices u) (no_partition name)
+  row_part window zero is l = none_read window 0 (trace m devices n) (no_partition name) is (run_order m devices n)
+  row_part window (suc t) is l =
+      read_up_to window t 0 (trace m devices n) told_first (no_partition name) is (run_order m devices n)
+      ∙ ap (λ (lines : List Event). partition_in window told_first lines (no_partition name)) (run_up_to m devices n t (omega (arith, l)))
 
 module _ {C : Type 0} (m : Module C) (devices : List DeviceLine) (n : ℕ) (name : List ℕ) (k : Mode) (is : ℕ → Bool) (few : n ≤ MOST_TICKS)
     (shown : (j t : ℕ) → t < j → mode_in k t (modes_in (trace m devices j) j name None) ≡ one_if (is t)) where

@@ -8,6 +8,8 @@ use Rattle.apex_types.specs.Line.{subject_text}
 use Rattle.apex_types.specs.declared.codes.Mode.{Mode}
 use Rattle.apex_types.specs.declared.codes.ProcessState.{ProcessState}
 use Rattle.apex_types.specs.declared.codes.ProcessState.TheVariants.{Dormant, Ready, Running, Waiting}
+use Rattle.apex_types.specs.declared.codes.StartCondition.{StartCondition}
+use Rattle.apex_types.specs.declared.codes.StartCondition.TheVariants as condition
 use Rattle.apex_types.specs.declared.device.DeviceLine.{DeviceLine}
 use Rattle.apex_types.specs.declared.event.Event.{Event}
 use Rattle.apex_types.specs.declared.event.Subject.{Subject}
@@ -25,16 +27,22 @@ use Rattle.module_meaning.specs.SourceMeaning.{source_module, source_trace}
 use Rattle.module_meaning.specs.Table.{Partition, Table, at_number}
 use Rattle.pal_meaning.specs.Program.{Program}
 use Rattle.pal_meaning.specs.SourceControl.{SourceControl}
+use Rattle.state_laws.specs.Starts.{starts_in}
+use Rattle.state_laws.specs.Told.{Start, first_told, told}
+use Rattle.state_laws.proofs.Members.{AreSaidBy}
+use Rattle.state_laws.proofs.OfImages.{image_said, image_starts}
+use Rattle.state_laws.proofs.OfModules.{module_said, module_starts}
 use Rattle.trace_stays.specs.Stays.{span}
 use Rattle.trace_stays.specs.Traces.{modes_in, stays_in}
 use Rattle.trace_stays.specs.declared.span.Span.{Span}
+use Rattle.trace_view.specs.Counting.{capped}
 use Rattle.trace_view.specs.Extents.{closed, extent_after, opened}
 use Rattle.trace_view.specs.Partitions.{no_partition, partition_total}
 use Rattle.trace_view.specs.Processes.{Process, no_process, process_ended}
 use Rattle.trace_view.specs.Reports.{AreSharesIn, IsReportOf, lines_read}
 use Rattle.trace_view.specs.Starts.{told_first}
 use Rattle.trace_view.specs.Turns as turns
-use Rattle.trace_view.specs.Whole.{AreShown, process_at, process_in, ticks_of_lines}
+use Rattle.trace_view.specs.Whole.{AreShown, partition_in, process_at, process_in, ticks_of_lines}
 use Rattle.trace_view.specs.declared.partitions.PartitionRow.{PartitionRow}
 use Rattle.trace_view.specs.declared.report.PartitionTotal.{PartitionTotal}
 use Rattle.trace_view.specs.declared.report.ProcessTotal.{ProcessTotal}
@@ -48,8 +56,11 @@ use Rattle.view_laws.specs.Counted.{AreBeforeTick, running_counted, state_counte
 use Rattle.view_laws.specs.Modes.{has_mode, is_in_mode, mode_counted, mode_in, ticks_for}
 use Rattle.view_laws.specs.Reports.{AreSharesSpent, AreWindowsOf, TellsMachines, TellsModules, TellsRun, ticks_shown}
 use Rattle.view_laws.specs.Shown.{HasOwnWord}
+use Rattle.view_laws.specs.Starts as starts
+use Rattle.view_laws.specs.Starts.{is_with, starts_for, starts_when, starts_with}
 use Rattle.view_laws.specs.Spent.{AreSpent, name_of_item, name_of_row, names_of_image, names_of_table, use_in}
 use Rattle.view_laws.specs.Ticks.{ends_in_state, is_resting, is_running, is_same_state, is_state, rests_in_state, running_in, runs_in_tick, state_in, state_in_run, ticks_when, works_in_tick}
+use Rattle.view_laws.proofs.Begun.{condition_shown_so, mode_shown_so}
 use Rattle.view_laws.proofs.Closing.{AreFew, Closes, begins_there, closes, read_all, read_none, read_up_to, rows_alike}
 use Rattle.view_laws.proofs.Counted.{counted_runs, run_counted, run_early, run_part, run_word}
 use Rattle.view_laws.proofs.Lines.{AreUpTo, up_to_are}
@@ -166,6 +177,26 @@ module _ {C : Type 0} (m : Module C) (devices : List DeviceLine) (n : ℕ) (few 
           ∙ counted_modes lines name k is from until soon h.2 (λ t before. shown n until t (omega (arith, before, inside)) before)
     ]
 
+    -- the starts
+    module _ (name : List ℕ) (given : (k : ℕ) → AreSaidBy name (Some condition.NormalStart) first_told (trace m devices k)) where
+      row_told : partition_in window told_first lines (no_partition name) ≡ partition_in closing told_first (trace m devices until) (no_partition name)
+      row_told = elim closes_so [
+        | inl same ↦ ap (λ (w : Span). partition_in w told_first lines (no_partition name)) same ∙ row_until
+        | inr h ↦ rows_alike window closing h.0 h.1 told_first lines (no_partition name) h.2 tt ∙ row_until
+      ]
+        where
+          row_until : partition_in closing told_first lines (no_partition name) ≡ partition_in closing told_first (trace m devices until) (no_partition name)
+          row_until = modes.row_part m devices n name closing until refl inside
+
+      early : AreBeforeTick until (trace m devices until)
+      early = run_early m devices n until inside
+
+      started_told : (k : Mode) → starts_for k (partition_in window told_first lines (no_partition name)).starts ≡ capped (starts_when (starts.is_in_mode k) from (told name (trace m devices until)).starts)
+      started_told k = ap (λ (p : PartitionRow). starts_for k p.starts) row_told ∙ mode_shown_so closing name (trace m devices until) (given until) early k
+
+      condition_told : (k : StartCondition) → starts_with k (partition_in window told_first lines (no_partition name)).starts.conditions ≡ capped (starts_when (is_with k) from (told name (trace m devices until)).starts)
+      condition_told k = ap (λ (p : PartitionRow). starts_with k p.starts.conditions) row_told ∙ condition_shown_so closing name (trace m devices until) (given until) early k
+
     -- what the processor did
     lines_of_run : (k : ℕ) × (lines_read window lines ≡ trace m devices k) × (until ≤ k) × (k ≤ n) × AreBefore until 0 (trace m devices k)
     lines_of_run = elim closes_so [
@@ -212,6 +243,7 @@ module _ {C : Type 0} (m : Module C) (devices : List DeviceLine) (n : ℕ) (few 
       → is_some (state_in_run m devices p who t) ≡ true → is_resting wanted ≡ true
       → one_if (rests_in_state m devices p who wanted t) ≤ state_in wanted t (stays_in (trace m devices k) u name (subject_text who) None))
       (mode_is : (k u t p : ℕ) (name : List ℕ) (x : Mode) → at_number names p ≡ Some name → t < k → t < u → mode_in x t (modes_in (trace m devices k) u name None) ≡ one_if (is_in_mode m devices p x t))
+      (start_is : (k p : ℕ) (name : List ℕ) → at_number names p ≡ Some name → ((told name (trace m devices k)).starts ≡ starts_in m devices p k) × AreSaidBy name (Some condition.NormalStart) first_told (trace m devices k))
       (given : AreWindowsOf m.plan.schedule names windows) (is : IsReportOf first to windows lines report) (inside : report.extent.window.until.0 ≤ n) where
     abbrev closing : Span
     closing = (closed to (extent_after (opened first to) (ticks_of_lines lines))).window
@@ -252,6 +284,14 @@ module _ {C : Type 0} (m : Module C) (devices : List DeviceLine) (n : ℕ) (few 
       modes = λ p name x here.
           ap (λ (r : PartitionTotal). ticks_for x r.modes) (is.partitions.numbers name)
           ∙ mode_told (opened first to).window closing so within name x (is_in_mode m devices p x) (λ k u t before shown. mode_is k u t p name x here before shown);
+      starts = λ p name x here.
+          ap (λ (r : PartitionTotal). starts_for x r.starts) (is.partitions.numbers name)
+          ∙ started_told (opened first to).window closing so within name (λ k. let s = start_is k p name here in s.1) x
+          ∙ ap (λ (ss : List Start). capped (starts_when (starts.is_in_mode x) closing.from.0 ss)) (let s = start_is closing.until.0 p name here in s.0);
+      conditions = λ p name x here.
+          ap (λ (r : PartitionTotal). starts_with x r.starts.conditions) (is.partitions.numbers name)
+          ∙ condition_told (opened first to).window closing so within name (λ k. let s = start_is k p name here in s.1) x
+          ∙ ap (λ (ss : List Start). capped (starts_when (is_with x) closing.from.0 ss)) (let s = start_is closing.until.0 p name here in s.0);
     }
 
     pub report_tells : TellsRun m devices lines names first.0 report.extent.window.until.0 report
@@ -307,6 +347,11 @@ image_report image devices n from to windows report lawful few given is inside =
     let there = image_there image devices t p r.0 c.0 in
     subst (λ (y : List ℕ). mode_in x t (modes_in (machine_trace image devices k) u y None) ≡ one_if (is_in_mode (machine_module image) devices p x t)) c.1
     (image_mode image devices k u t p r.0 there.0 x lawful before shown c.0 there.1 ∙ ap (λ (o : Option (Member MachineControl)). one_if (has_mode x o)) (sym there.1)))
+    (λ k p name here.
+    let r = named_row name_of_item image.items p name here in
+    let c = r.1 in
+    subst (λ (y : List ℕ). ((told y (machine_trace image devices k)).starts ≡ starts_in (machine_module image) devices p k) × AreSaidBy y (Some condition.NormalStart) first_told (machine_trace image devices k)) c.1
+    (image_starts image devices k lawful p r.0 c.0, image_said image devices k lawful p r.0 c.0))
     given is inside
 
 module_report : (table : List ℕ) (sources : List (List ℕ)) (t : Table) (programs : List Program) (devices : List DeviceLine) (n : ℕ) (from : Ticks) (to : Option Ticks) (windows : Option (Schedule × List (List ℕ))) (report : Report)
@@ -347,6 +392,11 @@ module_report table sources t programs devices n from to windows report accepted
     let there = module_there table sources t programs devices i accepted p r.0 c.0 in
     subst (λ (y : List ℕ). mode_in x i (modes_in (source_trace t programs devices k) u y None) ≡ one_if (is_in_mode (source_module t programs) devices p x i)) c.1
     (module_mode table sources t programs devices k u i p r.0 there.0 x accepted before shown c.0 there.1 ∙ ap (λ (o : Option (Member SourceControl)). one_if (has_mode x o)) (sym there.1)))
+    (λ k p name here.
+    let r = named_row name_of_row t.partitions p name here in
+    let c = r.1 in
+    subst (λ (y : List ℕ). ((told y (source_trace t programs devices k)).starts ≡ starts_in (source_module t programs) devices p k) × AreSaidBy y (Some condition.NormalStart) first_told (source_trace t programs devices k)) c.1
+    (module_starts table sources t programs devices k accepted p r.0 c.0, module_said table sources t programs devices k accepted p r.0 c.0))
     given is inside
 
 -- ---- a report of lines, if they are those of a run

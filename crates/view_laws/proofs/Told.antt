@@ -20,7 +20,7 @@ use Rattle.apex_types.specs.declared.event.Subject.{Subject}
 use Rattle.apex_types.specs.declared.event.Subject.TheVariants.{Init, Handler, Process}
 use Rattle.isolation.proofs.Steps.{IsApart}
 use Rattle.engine_meaning.specs.Digits.{same}
-use Rattle.state_laws.specs.Told.{Told, cleared, has_worked, is_ignored, is_it, is_same, preempted, said_by, says, says_module, worked_in, worker_or}
+use Rattle.state_laws.specs.Told.{Told, cleared, cleared_by, has_worked, is_ignored, is_it, is_same, preempted, said_by, says, says_module, worked_in, worker_or}
 use Rattle.state_laws.proofs.Moves.{IsBefore}
 use Rattle.state_laws.proofs.Subjects.{name_itself, same_name, same_subject}
 use Rattle.trace_stays.specs.Clearing.{starts_by}
@@ -177,16 +177,20 @@ module _ (names : List (List ℕ)) (place : ℕ) where
     own_outside action.WarmStart = all_gone
     own_outside action.ColdStart = all_gone
 
+    -- before the next start condition is another one
+    own_before : (e : ErrorKind) (who : Option Subject) (a : PartitionAction) → Tells (with_own (event.Error e who (response.Partition a)) place s) (cleared_by t e a)
+    own_before error.DeadlineMissed who a = own_outside a
+    own_before error.HardwareFault who a = own_outside a
+    own_before error.ApplicationError who a = h
+    own_before error.NumericError who a = h
+    own_before error.IllegalRequest who a = h
+    own_before error.StackOverflow who a = h
+    own_before error.MemoryViolation who a = h
+
     own_error : (e : ErrorKind) (who : Option Subject) (a : Response) → Tells (with_own (event.Error e who a) place s) (says s.now t (event.Error e who a))
     own_error e who response.Handler = h
     own_error e who (response.Module a) = h
-    own_error error.DeadlineMissed who (response.Partition a) = own_outside a
-    own_error error.HardwareFault who (response.Partition a) = own_outside a
-    own_error error.ApplicationError who (response.Partition a) = h
-    own_error error.NumericError who (response.Partition a) = h
-    own_error error.IllegalRequest who (response.Partition a) = h
-    own_error error.StackOverflow who (response.Partition a) = h
-    own_error error.MemoryViolation who (response.Partition a) = h
+    own_error e who (response.Partition a) = let k = own_before e who a in record { named = k.named; running = k.running; last = k.last; before = k.before }
 
     own_mode : (m : Mode) → Tells (with_own (event.Mode m) place s) (says s.now t (event.Mode m))
     own_mode mode.Normal = record { named = h.named; running = h.running; last = h.last; before = h.before }

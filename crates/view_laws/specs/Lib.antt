@@ -3,5 +3,6 @@ pub mod Spent
 pub mod Shown
 pub mod Ticks
 pub mod Modes
+pub mod Starts
 pub mod Counted
 pub mod Reports

@@ -5,6 +5,7 @@ use Rattle.apex_types.specs.Line.{subject_text}
 use Rattle.apex_types.specs.declared.codes.Mode.{Mode}
 use Rattle.apex_types.specs.declared.codes.ProcessState.{ProcessState}
 use Rattle.apex_types.specs.declared.codes.ProcessState.TheVariants.{Running}
+use Rattle.apex_types.specs.declared.codes.StartCondition.{StartCondition}
 use Rattle.apex_types.specs.declared.device.DeviceLine.{DeviceLine}
 use Rattle.apex_types.specs.declared.event.Event.{Event}
 use Rattle.apex_types.specs.declared.event.Subject.{Subject}
@@ -18,6 +19,8 @@ use Rattle.module_meaning.specs.Module.{Module}
 use Rattle.module_meaning.specs.SourceMeaning.{source_module, source_trace}
 use Rattle.module_meaning.specs.Table.{Table, at_number}
 use Rattle.pal_meaning.specs.Program.{Program}
+use Rattle.state_laws.specs.Starts.{starts_in}
+use Rattle.trace_view.specs.Counting.{capped}
 use Rattle.trace_view.specs.Turns as turns
 use Rattle.trace_view.specs.Whole.{partition_at, process_at}
 use Rattle.trace_view.specs.declared.report.ProcessTotal.{ProcessTotal}
@@ -25,6 +28,8 @@ use Rattle.trace_view.specs.declared.report.Report.{Report}
 use Rattle.trace_windows.specs.declared.shares.Shares.{Shares}
 use Rattle.view_laws.specs.Modes.{is_in_mode, ticks_for}
 use Rattle.view_laws.specs.Shown.{HasOwnWord}
+use Rattle.view_laws.specs.Starts as starts
+use Rattle.view_laws.specs.Starts.{is_with, starts_for, starts_when, starts_with}
 use Rattle.view_laws.specs.Spent.{AreSpent, names_of_image, names_of_table}
 use Rattle.view_laws.specs.Ticks.{IsRunner, ends_in_state, is_resting, is_running, rests_in_state, runs_in_tick, ticks_when}
 
@@ -45,7 +50,8 @@ AreSharesSpent m devices from until (Some s) = AreSpent m devices from until s.c
 
 -- In the ticks of the report, each row of what the processor did has the ticks that it spends so in the run. Each runner has the ticks in RUNNING in which it
 -- runs. Of each other state it has no more than those after which it is in the state; of READY and WAITING it has all of these that it does not spend. Each
--- partition has the ticks in a mode after which it is in the mode.
+-- partition has the ticks in a mode after which it is in the mode, and its starts in each mode and with each condition, of which the greatest number of 64 bits is
+-- counted.
 pub record TellsRun {C : Type 0} (m : Module C) (devices : List DeviceLine) (lines : List Event) (names : List (List ℕ)) (from until : ℕ) (report : Report) : Type 0 where
   pub spent : AreSharesSpent m devices from until report.shares
   pub running : (p : ℕ) (name : List ℕ) (who : Subject) → at_number names p ≡ Some name → HasOwnWord lines who
@@ -56,6 +62,10 @@ pub record TellsRun {C : Type 0} (m : Module C) (devices : List DeviceLine) (lin
       → ticks_when (rests_in_state m devices p who wanted) from (until - from) ≤ ticks_shown wanted (process_at name (subject_text who) report.processes.items)
   pub modes : (p : ℕ) (name : List ℕ) (mode : Mode) → at_number names p ≡ Some name
       → ticks_for mode (partition_at name report.partitions.items).modes ≡ ticks_when (is_in_mode m devices p mode) from (until - from)
+  pub starts : (p : ℕ) (name : List ℕ) (mode : Mode) → at_number names p ≡ Some name
+      → starts_for mode (partition_at name report.partitions.items).starts ≡ capped (starts_when (starts.is_in_mode mode) from (starts_in m devices p until))
+  pub conditions : (p : ℕ) (name : List ℕ) (c : StartCondition) → at_number names p ≡ Some name
+      → starts_with c (partition_at name report.partitions.items).starts.conditions ≡ capped (starts_when (is_with c) from (starts_in m devices p until))
 
 -- ---- a report of lines, if they are those of a run
 
