@@ -30,7 +30,9 @@ owned_alike : (owner other : ℕ → Option ℕ) (from until : ℕ) (ss : List S
 owned_alike owner other from until [] alike h = h
 owned_alike owner other from until (s ∷ ss) alike (at, ahead, same, rest) =
     let l = ends_behind owner s.span.until.0 until ss rest in (
-      at, ahead, λ t later before. alike t later (omega (arith, before, l)) ∙ same t later before,
+      at,
+      ahead,
+      λ t later before. alike t later (omega (arith, before, l)) ∙ same t later before,
       owned_alike owner other s.span.until.0 until ss (λ t later before. alike t (omega (arith, ahead, later)) before) rest,
     )
 

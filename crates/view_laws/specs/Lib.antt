@@ -5,3 +5,4 @@ pub mod Ticks
 pub mod Modes
 pub mod Counted
 pub mod Reports
+pub mod Drawn
