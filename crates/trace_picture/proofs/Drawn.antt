@@ -258,18 +258,18 @@ still_ends true t s = refl
 still_ends false t s = refl
 
 module _ (from : Ticks) (to : Option Ticks) (events : List Event) where
-  abbrev open : Span
-  open = open_ticks (shown_from from to)
+  abbrev seen : Span
+  seen = open_ticks (shown_from from to)
 
   -- the stays that have bars, and those that the lines that are left lead to, are all
   record Shows (left : List Event) (p : Picture) : Type 0 where
     over : List Ended
-    bars : bars_in p.shapes.items ≡ cut open over
+    bars : bars_in p.shapes.items ≡ cut seen over
     will : (until : ℕ) → WillBe (lines_before to events) until p.lanes (lines_before to left) over
 
   record WillShow (left : List Event) (p : Picture) : Type 0 where
     shown : shown_after left p.shown ≡ shown_after events (shown_from from to)
-    opened : open_ticks p.shown ≡ open
+    opened : open_ticks p.shown ≡ seen
     ends : p.shown.to ≡ to
     shows : length p.shapes.items ≤ 5000 → Shows left p
 
@@ -285,11 +285,11 @@ module _ (from : Ticks) (to : Option Ticks) (events : List Event) where
     };
   }
 
-  shows_line : (b : Bool) (e : Event) (es : List Event) (p q : Picture) → is_before_end to e.tick.0 ≡ b → open_ticks p.shown ≡ open → HasKeptIf b e p q → Shows (e ∷ es) p → Shows es q
+  shows_line : (b : Bool) (e : Event) (es : List Event) (p q : Picture) → is_before_end to e.tick.0 ≡ b → open_ticks p.shown ≡ seen → HasKeptIf b e p q → Shows (e ∷ es) p → Shows es q
   shows_line true e es p q before opened kept s = record {
     over = s.over ++ kept.over;
     bars = kept.bars ∙ (ap (λ (x : Span). bars_in p.shapes.items ++ cut x kept.over) opened
-        ∙ (ap (λ (xs : List Ended). xs ++ cut open kept.over) s.bars ∙ sym (cut_two open s.over kept.over)));
+        ∙ (ap (λ (xs : List Ended). xs ++ cut seen kept.over) s.bars ∙ sym (cut_two seen s.over kept.over)));
     will = λ until. line_read (lines_before to events) until p.lanes q.lanes e (lines_before to es) (lines_before to (e ∷ es)) s.over (s.over ++ kept.over)
         (ap (λ (x : Bool). if x then e ∷ lines_before to es else lines_before to es) before) (kept.followed s.over) (s.will until);
   }
@@ -319,15 +319,15 @@ module _ (from : Ticks) (to : Option Ticks) (events : List Event) where
     states = λ name word.
         ap (λ (l : Lanes). stays_of (process_at name word l) (bars_in d.shapes.items)) finished.lanes
         ∙ (ap (stays_of (process_at name word last.lanes)) bars
-        ∙ (states_cut (process_at name word last.lanes) open all
-        ∙ (ap (stays_shown open) (stays.stays name word)
-        ∙ ap (λ (s : Span). stays_shown open (stays_in (lines_before to events) s.until.0 name word None)) (sym finished.span))));
+        ∙ (states_cut (process_at name word last.lanes) seen all
+        ∙ (ap (stays_shown seen) (stays.stays name word)
+        ∙ ap (λ (s : Span). stays_shown seen (stays_in (lines_before to events) s.until.0 name word None)) (sym finished.span))));
     modes = λ name.
         ap (λ (l : Lanes). mode_stays_of (partition_at name l.partitions.items) (bars_in d.shapes.items)) finished.lanes
         ∙ (ap (mode_stays_of (partition_at name last.lanes.partitions.items)) bars
-        ∙ (modes_cut (partition_at name last.lanes.partitions.items) open all
-        ∙ (ap (modes_shown open) (stays.modes name)
-        ∙ ap (λ (s : Span). modes_shown open (modes_in (lines_before to events) s.until.0 name None)) (sym finished.span))));
+        ∙ (modes_cut (partition_at name last.lanes.partitions.items) seen all
+        ∙ (ap (modes_shown seen) (stays.modes name)
+        ∙ ap (λ (s : Span). modes_shown seen (modes_in (lines_before to events) s.until.0 name None)) (sym finished.span))));
     windows = owned;
   }
     where
@@ -346,11 +346,11 @@ module _ (from : Ticks) (to : Option Ticks) (events : List Event) where
       all : List Ended
       all = shows.over ++ left
 
-      bars : bars_in d.shapes.items ≡ cut open all
+      bars : bars_in d.shapes.items ≡ cut seen all
       bars =
           finished.bars
           ∙ (ap (λ (x : Span). bars_in last.shapes.items ++ cut x left) will.opened
-          ∙ (ap (λ (xs : List Ended). xs ++ cut open left) shows.bars ∙ sym (cut_two open shows.over left)))
+          ∙ (ap (λ (xs : List Ended). xs ++ cut seen left) shows.bars ∙ sym (cut_two seen shows.over left)))
 
       stays : AreStaysOf (lines_before to events) until last.lanes all
       stays =

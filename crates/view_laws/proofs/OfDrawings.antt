@@ -138,8 +138,8 @@ module _ {C : Type 0} (m : Module C) (devices : List DeviceLine) (n : ℕ) (few 
     abbrev until : ℕ
     until = d.axis.span.until.0
 
-    abbrev open : Span
-    open = open_ticks (shown_from from to)
+    abbrev seen : Span
+    seen = open_ticks (shown_from from to)
 
     -- where the picture ends
     ends : (last : ℕ) × (until ≡ max from.0 (elim to [ None ↦ last | Some end ↦ end.0 ]))
@@ -148,8 +148,8 @@ module _ {C : Type 0} (m : Module C) (devices : List DeviceLine) (n : ℕ) (few 
         let so = shown_so lines (shown_from from to) in (
           s.behind.0,
           ap (λ (x : Span). x.until.0) is.span
-          ∙ (ap (λ (f : Ticks). max f.0 (by_end s.to s.behind.0)) so.0
-          ∙ (ap (λ (o : Option Ticks). max from.0 (by_end o s.behind.0)) so.1 ∙ ap (max from.0) (same_end to s.behind.0))),
+              ∙ (ap (λ (f : Ticks). max f.0 (by_end s.to s.behind.0)) so.0
+              ∙ (ap (λ (o : Option Ticks). max from.0 (by_end o s.behind.0)) so.1 ∙ ap (max from.0) (same_end to s.behind.0))),
         )
       where
         by_end : Option Ticks → ℕ → ℕ
@@ -166,8 +166,8 @@ module _ {C : Type 0} (m : Module C) (devices : List DeviceLine) (n : ℕ) (few 
       read : lines_before to lines ≡ trace m devices ran
       most : ran ≤ n
       before : t < ran
-      begun : open.from.0 ≤ t
-      soon : t < open.until.0
+      begun : seen.from.0 ≤ t
+      soon : t < seen.until.0
 
     of_run : (t : ℕ) → from.0 ≤ t → t < until → IsOfRun t
     of_run t later early = by_end to refl
@@ -196,21 +196,21 @@ module _ {C : Type 0} (m : Module C) (devices : List DeviceLine) (n : ℕ) (few 
     enough : (t : ℕ) (r : IsOfRun t) → r.ran ≤ MOST_TICKS
     enough t r = let l = r.most in omega (arith, l, few)
 
-    stays_so : (t : ℕ) (r : IsOfRun t) (name word : List ℕ) → stays_drawn name word d ≡ stays_shown open (stays_in (trace m devices r.ran) until name word None)
-    stays_so t r name word = is.states name word ∙ ap (λ (ls : List Event). stays_shown open (stays_in ls until name word None)) r.read
+    stays_so : (t : ℕ) (r : IsOfRun t) (name word : List ℕ) → stays_drawn name word d ≡ stays_shown seen (stays_in (trace m devices r.ran) until name word None)
+    stays_so t r name word = is.states name word ∙ ap (λ (ls : List Event). stays_shown seen (stays_in ls until name word None)) r.read
 
     runs_there : (p t : ℕ) (name : List ℕ) (who : Subject) → at_number names p ≡ Some name → HasOwnWord lines who → from.0 ≤ t → t < until
         → running_in t (stays_drawn name (subject_text who) d) ≡ one_if (runs_in_tick m devices p who t)
     runs_there p t name who here own later early =
         let r = of_run t later early in
         ap (running_in t) (stays_so t r name (subject_text who))
-        ∙ (running_shown t open r.begun r.soon (stays_in (trace m devices r.ran) until name (subject_text who) None)
+        ∙ (running_shown t seen r.begun r.soon (stays_in (trace m devices r.ran) until name (subject_text who) None)
         ∙ shows.runs r.ran until t p name who here (enough t r) r.before early (run_word m devices n r.ran who r.most own))
 
     states_there : (wanted : ProcessState) (t : ℕ) (name : List ℕ) (who : Subject) (r : IsOfRun t)
         → state_in wanted t (stays_drawn name (subject_text who) d) ≡ state_in wanted t (stays_in (trace m devices r.ran) until name (subject_text who) None)
     states_there wanted t name who r =
-        ap (state_in wanted t) (stays_so t r name (subject_text who)) ∙ state_shown t open r.begun r.soon wanted (stays_in (trace m devices r.ran) until name (subject_text who) None)
+        ap (state_in wanted t) (stays_so t r name (subject_text who)) ∙ state_shown t seen r.begun r.soon wanted (stays_in (trace m devices r.ran) until name (subject_text who) None)
 
     -- the windows
     owners_so : (known : Option (Schedule × List (List ℕ))) (o : Option Windows) → AreWindowsOf m.plan.schedule names known → AreWindowsIn known from.0 until lines o
@@ -244,8 +244,8 @@ module _ {C : Type 0} (m : Module C) (devices : List DeviceLine) (n : ℕ) (few 
           omega (arith, e, l);
       modes = λ p t name mode here later early.
           let r = of_run t later early in
-          ap (mode_in mode t) (is.modes name ∙ ap (λ (ls : List Event). modes_shown open (modes_in ls until name None)) r.read)
-          ∙ (mode_shown t open r.begun r.soon mode (modes_in (trace m devices r.ran) until name None) ∙ shows.mode_is r.ran until t p name mode here r.before early);
+          ap (mode_in mode t) (is.modes name ∙ ap (λ (ls : List Event). modes_shown seen (modes_in ls until name None)) r.read)
+          ∙ (mode_shown t seen r.begun r.soon mode (modes_in (trace m devices r.ran) until name None) ∙ shows.mode_is r.ran until t p name mode here r.before early);
       named = owners_there.0;
       owners = owners_there.1;
       at_work = λ w p t name who drawn here own later early.
