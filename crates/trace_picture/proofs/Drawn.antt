@@ -1,7 +1,8 @@
 -- The bars of a picture are the stays of its lines.
-use Rattle.std.proofs.Common.{◌≡◌, ℕ, ◌+◌, ◌≤◌, ◌<◌, Bool, true, false, List, [], ◌∷◌, ◌++◌, length, Option, Some, None, refl, sym, ap, subst, ◌∙◌, arith, append-nil, append_assoc}
+use Rattle.std.proofs.Common.{◌≡◌, ℕ, ◌+◌, ◌≤◌, ◌<◌, Bool, true, false, List, [], ◌∷◌, ◌++◌, length, max, min, Option, Some, None, refl, sym, ap, subst, ◌∙◌, arith, append-nil, append_assoc}
 use Rattle.std.specs.Prelude.{ℤ, ◌==◌, if◌then◌else◌, option_map}
 use Rattle.arrayvec.specs.ArrayVec.{ArrayVec}
+use Rattle.apex_types.specs.Limits.{MOST_TICKS}
 use Rattle.apex_types.specs.Line.{subject_text}
 use Rattle.apex_types.specs.declared.codes.ErrorKind.{ErrorKind}
 use Rattle.apex_types.specs.declared.codes.Response.{Response}
@@ -11,7 +12,7 @@ use Rattle.apex_types.specs.declared.event.EventKind.TheVariants as event
 use Rattle.apex_types.specs.declared.event.Subject.{Subject}
 use Rattle.apex_types.specs.declared.identity.Ticks.{Ticks}
 use Rattle.kernel_meaning.specs.Windows.{Schedule}
-use Rattle.trace_picture.specs.Drawn.{AreDrawn, AreWindowsIn, HasDrawn, HasFinished, HasKept, HasKeptIf, IsDrawnOf, bars_in, lines_before, modes_drawn, modes_shown, shown_after, stays_drawn, stays_shown, unless_none}
+use Rattle.trace_picture.specs.Drawn.{AreDrawn, HasDrawn, HasFinished, HasKept, HasKeptIf, IsDrawnOf, bars_in, lines_before, modes_drawn, modes_shown, shown_after, stays_drawn, stays_shown, unless_none}
 use Rattle.trace_picture.specs.Marked.{bar_of_stay, bars_of_stays, flag_at, if_some, marks_in, marks_of_module, message_at, one_of, owner_in, report_at}
 use Rattle.trace_picture.specs.declared.drawing.Drawing.{Drawing}
 use Rattle.trace_picture.specs.declared.picture.Picture.{Picture}
@@ -21,7 +22,7 @@ use Rattle.trace_picture.specs.declared.shape.Shape.TheVariants as shape
 use Rattle.trace_picture.specs.declared.shape.Stop.TheVariants as stop
 use Rattle.trace_picture.specs.declared.shape.Way.{Way}
 use Rattle.trace_stays.specs.Following.{AreInPlace, AreKept, AreThere, HasFollowed, HasRead, KeepsPlace, and_one, held_by, if_at, if_in, mode_after, mode_by, mode_stay_over, mode_stays_at, mode_stays_of, modes_left, partition_at, process_at, state_behind, states_left, stay_over, stays_at, stays_of}
-use Rattle.trace_stays.specs.Shown.{is_before_end, open_ticks, shown_from, shown_ticks, with_read, with_read_if}
+use Rattle.trace_stays.specs.Shown.{end_of, is_before_end, open_ticks, shown_from, shown_ticks, with_read, with_read_if}
 use Rattle.trace_stays.specs.Stays.{common, ticks_of}
 use Rattle.trace_stays.specs.Traces.{AreStaysOf, modes_in, stays_in}
 use Rattle.trace_stays.specs.declared.lanes.Ended.{Ended}
@@ -32,6 +33,7 @@ use Rattle.trace_stays.specs.declared.span.Span.{Span}
 use Rattle.trace_stays.specs.declared.stay.ModeStay.{ModeStay}
 use Rattle.trace_stays.specs.declared.stay.Stay.{Stay}
 use Rattle.trace_stays.proofs.Followed.{both_in_place, modes_two, modes_two_at, stays_two, stays_two_at}
+use Rattle.trace_windows.specs.Whole.{AreWindowsIn, end_in_run}
 use Rattle.trace_stays.proofs.Traces.{WillBe, all_read, begins, line_read}
 
 -- ---- bars
@@ -311,6 +313,19 @@ module _ (from : Ticks) (to : Option Ticks) (events : List Event) where
   show_lines : (lines : List Event) (p q : Picture) → AreDrawn lines p q → WillShow lines p → WillShow [] q
   show_lines [] p q is will = subst (WillShow []) (sym is) will
   show_lines (e ∷ es) p q (mid, drawn, more) will = show_lines es mid q more (show_line e es p mid drawn will)
+
+  pub ends_inside : (first last : Picture) (d : Drawing) → first.shown ≡ shown_from from to → first.lanes.partitions.items ≡ [] → first.shapes.items ≡ [] → AreDrawn events first last
+      → HasFinished last d.windows d → min d.axis.span.until.0 MOST_TICKS ≤ max from.0 (end_in_run to)
+  ends_inside first last d begun nobody none drawn finished =
+      let will = show_lines events first last drawn (show_begin first begun nobody none) in
+      let at = ap (λ (s : Span). s.from.0) will.opened in
+      let until = ap (λ (s : Span). s.until.0) finished.span ∙ ap (λ (o : Option Ticks). max last.shown.from.0 (end_of o last.shown.behind.0)) will.ends in
+      let l = by_end to last.shown.from.0 last.shown.behind.0 in
+      omega (arith, at, until, l)
+    where
+      by_end : (o : Option Ticks) (f b : ℕ) → min (max f (end_of o b)) MOST_TICKS ≤ max f (end_in_run o)
+      by_end None f b = omega arith
+      by_end (Some end) f b = omega arith
 
   pub drawn_of_all : (known : Option (Schedule × List (List ℕ))) (first last : Picture) (d : Drawing) → first.shown ≡ shown_from from to → first.lanes.partitions.items ≡ [] → first.shapes.items ≡ []
       → AreDrawn events first last → HasFinished last d.windows d → AreWindowsIn known from.0 d.axis.span.until.0 events d.windows → IsDrawnOf from to known events d

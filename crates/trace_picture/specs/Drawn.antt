@@ -18,7 +18,7 @@ use Rattle.trace_stays.specs.declared.shown.ShownTicks.{ShownTicks}
 use Rattle.trace_stays.specs.declared.span.Span.{Span}
 use Rattle.trace_stays.specs.declared.stay.ModeStay.{ModeStay}
 use Rattle.trace_stays.specs.declared.stay.Stay.{Stay}
-use Rattle.trace_windows.specs.Whole.{AreWindowsOf}
+use Rattle.trace_windows.specs.Whole.{AreWindowsIn}
 use Rattle.trace_windows.specs.declared.windows.Windows.{Windows}
 
 -- ---- bars
@@ -94,12 +94,6 @@ lines_before to (e ∷ es) = if is_before_end to e.tick.0 then e ∷ lines_befor
 abbrev pub shown_after : List Event → ShownTicks → ShownTicks
 shown_after [] s = s
 shown_after (e ∷ es) s = shown_after es (with_read e.tick.0 s)
-
--- the windows, if they are known
-abbrev pub AreWindowsIn : Option (Schedule × List (List ℕ)) → (from until : ℕ) → List Event → Option Windows → Type 0
-AreWindowsIn None from until events None = Unit {0}
-AreWindowsIn (Some known) from until events (Some w) = AreWindowsOf known.0 known.1 from until events w
-AreWindowsIn _ from until events _ = ⊥
 
 -- The picture of a trace of these lines, in the ticks from one on and before the end, if one is given. Each process has a bar for each of its stays in the lines
 -- before the end, and each partition one for each of its stays in a mode, as far as their ticks are shown; and no other. The windows, if they are known, are

@@ -15,7 +15,7 @@ use Rattle.trace_windows.specs.Frames.{Frames, acted, at_first, owner_by, owner_
 use Rattle.trace_windows.specs.Read.{frames_of, next_acted, next_behind, next_module, next_with}
 use Rattle.trace_windows.specs.Runs.{AreInOrder}
 use Rattle.trace_windows.specs.Stretches.{AreStretches, owner_of}
-use Rattle.trace_windows.specs.Whole.{AreRead, AreWindowsOf, HasBegun, HasClosed, HasRead, end_in_run, owner_at}
+use Rattle.trace_windows.specs.Whole.{AreWindowsIn, AreWindowsOf, HasBegun, HasClosed, HasRead, HaveBegun, HaveClosed, HaveRead, HaveReadAll, end_in_run, owner_at}
 use Rattle.trace_windows.specs.declared.stretch.Stretch.{Stretch}
 use Rattle.trace_windows.specs.declared.windows.Windows.{Windows}
 use Rattle.window_table.specs.Schedules.{schedule_of}
@@ -169,10 +169,6 @@ module _ (schedule : Schedule) (names : List (List ℕ)) (from : ℕ) (to : Opti
           by_test true low past = above_early t past soon (ltb-true t e.tick.0 low)
           by_test false low past = refl
 
-  own_lines : (before : ℕ) (lines : List Event) (w v : Windows) → AreRead lines w v → WillOwn schedule names from to events before lines w → (last : ℕ) × WillOwn schedule names from to events last [] v
-  own_lines before [] w v is will = (before, subst (WillOwn schedule names from to events before []) (sym is) will)
-  own_lines before (e ∷ es) w v (mid, read, more) will = own_lines e.tick.0 es mid v more (own_line before e es w mid read will)
-
   -- all are read, and the stretches before a tick are added
   own_all : (last until : ℕ) (w v : Windows) → HasClosed until w v → WillOwn schedule names from to events last [] w
       → (t : ℕ) → from ≤ t → t < min until (end_in_run to) → owner_at t v.stretches.items ≡ owner t
@@ -186,15 +182,50 @@ module _ (schedule : Schedule) (names : List (List ℕ)) (from : ℕ) (to : Opti
           let is = closed.next in
           grown w v closed.passed.0 will.schedule_is closed.passed.1 closed.passed.2 will.stretches (λ t later low. will.rest t later (omega (arith, is, later, low)))
 
-  pub windows_of_all : (until : ℕ) (first last ended : Windows) → HasBegun schedule names from to first → AreRead events first last → HasClosed until last ended → min until MOST_TICKS ≤ max from (end_in_run to)
-      → AreWindowsOf schedule names from until events ended
-  windows_of_all until first last ended begun read closed inside = record {
-    names = ap (λ n. n.items) closed.kept.names ∙ named events first last read ∙ begun.names;
+-- ---- the same, if the windows are known
+
+module _ (from : ℕ) (to : Option Ticks) (events : List Event) where
+  -- what was read, if the lines are in order, and the partitions in any case
+  WillOwnIf : Option (Schedule × List (List ℕ)) → (left : List Event) → Option Windows → Type 0
+  WillOwnIf None left None = Unit {0}
+  WillOwnIf (Some known) left (Some w) = (w.names.items ≡ known.1) × (AreInOrder 0 events → (before : ℕ) × WillOwn known.0 known.1 from to events before left w)
+  WillOwnIf _ left _ = ⊥
+
+  begun_if : (known : Option (Schedule × List (List ℕ))) (o : Option Windows) → HaveBegun known from to o → WillOwnIf known events o
+  begun_if None None h = tt
+  begun_if None (Some w) h = absurd h
+  begun_if (Some k) None h = absurd h
+  begun_if (Some k) (Some w) h = (h.names, λ order. (0, own_begin k.0 k.1 from to events w order h))
+
+  line_if : (known : Option (Schedule × List (List ℕ))) (e : Event) (es : List Event) (o p : Option Windows) → HaveRead e o p → WillOwnIf known (e ∷ es) o → WillOwnIf known es p
+  line_if None e es None None h will = tt
+  line_if None e es None (Some v) h will = absurd h
+  line_if None e es (Some w) p h will = absurd will
+  line_if (Some k) e es None p h will = absurd will
+  line_if (Some k) e es (Some w) None h will = absurd h
+  line_if (Some k) e es (Some w) (Some v) h will = (
+    ap (λ n. n.items) h.kept.names ∙ will.0,
+    λ order. let before = will.1 order in (e.tick.0, own_line k.0 k.1 from to events before.0 e es w v h before.1),
+  )
+
+  lines_if : (known : Option (Schedule × List (List ℕ))) (lines : List Event) (o p : Option Windows) → HaveReadAll lines o p → WillOwnIf known lines o → WillOwnIf known [] p
+  lines_if known [] o p is will = subst (WillOwnIf known []) (sym is) will
+  lines_if known (e ∷ es) o p (mid, read, more) will = lines_if known es mid p more (line_if known e es o mid read will)
+
+  closed_if : (known : Option (Schedule × List (List ℕ))) (until : ℕ) (o p : Option Windows) → HaveClosed until o p → min until MOST_TICKS ≤ max from (end_in_run to) → WillOwnIf known [] o
+      → AreWindowsIn known from until events p
+  closed_if None until None None h inside will = tt
+  closed_if None until None (Some v) h inside will = absurd h
+  closed_if None until (Some w) p h inside will = absurd will
+  closed_if (Some k) until None p h inside will = absurd will
+  closed_if (Some k) until (Some w) None h inside will = absurd h
+  closed_if (Some k) until (Some w) (Some v) h inside will = record {
+    names = ap (λ n. n.items) h.kept.names ∙ will.0;
     owners = λ order t later before few.
-        let w = own_lines 0 events first last read (own_begin first order begun) in
-        own_all w.0 until last ended closed w.1 t later (omega (arith, inside, later, before, few));
+        let so = will.1 order in
+        own_all k.0 k.1 from to events so.0 until w v h so.1 t later (omega (arith, inside, later, before, few));
   }
-    where
-      named : (lines : List Event) (w v : Windows) → AreRead lines w v → v.names.items ≡ w.names.items
-      named [] w v is = ap (λ (x : Windows). x.names.items) is
-      named (e ∷ es) w v (mid, one, more) = named es mid v more ∙ ap (λ n. n.items) one.kept.names
+
+  pub windows_of_all : (known : Option (Schedule × List (List ℕ))) (until : ℕ) (first last ended : Option Windows) → HaveBegun known from to first → HaveReadAll events first last → HaveClosed until last ended
+      → min until MOST_TICKS ≤ max from (end_in_run to) → AreWindowsIn known from until events ended
+  windows_of_all known until first last ended begun read closed inside = closed_if known until last ended closed inside (lines_if known events first last read (begun_if known first begun))

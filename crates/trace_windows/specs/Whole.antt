@@ -47,11 +47,6 @@ pub record HasClosed (t : ℕ) (old new : Windows) : Type 0 where
   pub next : new.next.0 ≡ next_behind old t
   pub passed : HasPassed old new
 
--- these lines were read, one after another
-abbrev pub AreRead : List Event → Windows → Windows → Type 0
-AreRead [] old new = new ≡ old
-AreRead (e ∷ es) old new = (mid : Windows) × HasRead e old mid × AreRead es mid new
-
 -- ---- a tick
 
 -- the partition of the stretch that has a tick; none in no stretch
@@ -64,3 +59,29 @@ owner_at t (s ∷ ss) = if nat_le s.span.from.0 t && nat_lt t s.span.until.0 the
 pub record AreWindowsOf (schedule : Schedule) (names : List (List ℕ)) (from until : ℕ) (events : List Event) (w : Windows) : Type 0 where
   pub names : w.names.items ≡ names
   pub owners : AreInOrder 0 events → (t : ℕ) → from ≤ t → t < until → t < MOST_TICKS → owner_at t w.stretches.items ≡ owner_in schedule at_first events t
+
+-- ---- the same, if the windows are known: their schedule, and the names of the partitions
+
+abbrev pub HaveBegun : Option (Schedule × List (List ℕ)) → (from : ℕ) → Option Ticks → Option Windows → Type 0
+HaveBegun None from to None = Unit {0}
+HaveBegun (Some known) from to (Some w) = HasBegun known.0 known.1 from to w
+HaveBegun _ from to _ = ⊥
+
+abbrev pub HaveRead : Event → Option Windows → Option Windows → Type 0
+HaveRead e None None = Unit {0}
+HaveRead e (Some old) (Some new) = HasRead e old new
+HaveRead e _ _ = ⊥
+
+abbrev pub HaveReadAll : List Event → Option Windows → Option Windows → Type 0
+HaveReadAll [] old new = new ≡ old
+HaveReadAll (e ∷ es) old new = (mid : Option Windows) × HaveRead e old mid × HaveReadAll es mid new
+
+abbrev pub HaveClosed : ℕ → Option Windows → Option Windows → Type 0
+HaveClosed t None None = Unit {0}
+HaveClosed t (Some old) (Some new) = HasClosed t old new
+HaveClosed t _ _ = ⊥
+
+abbrev pub AreWindowsIn : Option (Schedule × List (List ℕ)) → (from until : ℕ) → List Event → Option Windows → Type 0
+AreWindowsIn None from until events None = Unit {0}
+AreWindowsIn (Some known) from until events (Some w) = AreWindowsOf known.0 known.1 from until events w
+AreWindowsIn _ from until events _ = ⊥

@@ -23,7 +23,7 @@ use Rattle.module_meaning.specs.Table.{Table, at_number}
 use Rattle.pal_meaning.specs.Program.{Program}
 use Rattle.state_laws.specs.Spending.{owner_in, worker}
 use Rattle.state_laws.specs.Told.{is_it}
-use Rattle.trace_picture.specs.Drawn.{AreWindowsIn, IsDrawnOf, lines_before, modes_drawn, modes_shown, shown_after, stays_drawn, stays_shown, unless_none}
+use Rattle.trace_picture.specs.Drawn.{IsDrawnOf, lines_before, modes_drawn, modes_shown, shown_after, stays_drawn, stays_shown, unless_none}
 use Rattle.trace_picture.specs.declared.drawing.Drawing.{Drawing}
 use Rattle.trace_stays.specs.Shown.{is_before_end, open_ticks, shown_from, shown_ticks, with_read, with_read_if}
 use Rattle.trace_stays.specs.Stays.{common, span, tick, ticks_of}
@@ -35,7 +35,7 @@ use Rattle.trace_stays.specs.declared.stay.Stay.{Stay}
 use Rattle.trace_view.specs.Reports.{lines_read}
 use Rattle.trace_windows.specs.Frames as frames
 use Rattle.trace_windows.specs.Uses.{one_if}
-use Rattle.trace_windows.specs.Whole.{owner_at}
+use Rattle.trace_windows.specs.Whole.{AreWindowsIn, owner_at}
 use Rattle.trace_windows.specs.declared.windows.Windows.{Windows}
 use Rattle.view_laws.specs.Drawn.{AreNamed, DrawsMachines, DrawsModules, DrawsRun, at_work_in}
 use Rattle.view_laws.specs.Modes.{is_in_mode, is_same_mode, mode_in}
