@@ -77,11 +77,11 @@ AreDrawn [] old new = new ≡ old
 AreDrawn (e ∷ es) old new = (mid : Picture) × HasDrawn e old mid × AreDrawn es mid new
 
 -- the stays that are not over at the end have their bars, too
-pub record HasFinished (p : Picture) (windows : Option Windows) (d : Drawing) : Type 0 where
+pub record HasFinished (p : Picture) (given : Option Windows) (d : Drawing) : Type 0 where
   pub fits : length p.shapes.items ≤ 5000
   pub span : d.axis.span ≡ shown_ticks p.shown
   pub lanes : d.lanes ≡ p.lanes
-  pub windows : d.windows ≡ windows
+  pub windows : d.windows ≡ given
   pub bars : bars_in d.shapes.items ≡ bars_in p.shapes.items
       ++ bars_in (bars_of_stays (open_ticks p.shown) (modes_left 0 (shown_ticks p.shown).until.0 p.lanes.partitions.items ++ states_left 0 (shown_ticks p.shown).until.0 p.lanes.processes.items))
 

@@ -106,9 +106,9 @@ module _ (schedule : Schedule) (names : List (List ℕ)) (from : ℕ) (to : Opti
 
   own_begin : (w : Windows) → AreInOrder 0 events → HasBegun schedule names from to w → WillOwn schedule names from to events 0 events w
   own_begin w order begun = record {
-    schedule_is = begun.schedule;
-    names_are = begun.names;
-    ends = begun.to;
+    schedule_is = begun.planned;
+    names_are = begun.named;
+    ends = begun.end;
     stretches = subst (AreStretches owner from w.next.0) (sym begun.stretches) (sym begun.next);
     rest = λ t later soon. ap (λ (f : Frames). owner_in schedule f events t) (sym begun.frames);
     order = order;
@@ -195,7 +195,7 @@ module _ (from : ℕ) (to : Option Ticks) (events : List Event) where
   begun_if None None h = tt
   begun_if None (Some w) h = absurd h
   begun_if (Some k) None h = absurd h
-  begun_if (Some k) (Some w) h = (h.names, λ order. (0, own_begin k.0 k.1 from to events w order h))
+  begun_if (Some k) (Some w) h = (h.named, λ order. (0, own_begin k.0 k.1 from to events w order h))
 
   line_if : (known : Option (Schedule × List (List ℕ))) (e : Event) (es : List Event) (o p : Option Windows) → HaveRead e o p → WillOwnIf known (e ∷ es) o → WillOwnIf known es p
   line_if None e es None None h will = tt
@@ -220,7 +220,7 @@ module _ (from : ℕ) (to : Option Ticks) (events : List Event) where
   closed_if (Some k) until None p h inside will = absurd will
   closed_if (Some k) until (Some w) None h inside will = absurd h
   closed_if (Some k) until (Some w) (Some v) h inside will = record {
-    names = ap (λ n. n.items) h.kept.names ∙ will.0;
+    named = ap (λ n. n.items) h.kept.names ∙ will.0;
     owners = λ order t later before few.
         let so = will.1 order in
         own_all k.0 k.1 from to events so.0 until w v h so.1 t later (omega (arith, inside, later, before, few));

@@ -22,10 +22,10 @@ end_in_run (Some to) = min to.0 MOST_TICKS
 -- no line was read, of a module with this schedule and these partitions, and the ticks from this one on are shown
 pub record HasBegun (schedule : Schedule) (names : List (List ℕ)) (from : ℕ) (to : Option Ticks) (w : Windows) : Type 0 where
   pub frames : frames_of w ≡ at_first
-  pub schedule : schedule_of w.schedule ≡ schedule
-  pub names : w.names.items ≡ names
+  pub planned : schedule_of w.schedule ≡ schedule
+  pub named : w.names.items ≡ names
   pub next : w.next.0 ≡ from
-  pub to : w.to.0 ≡ end_in_run to
+  pub end : w.to.0 ≡ end_in_run to
   pub stretches : w.stretches.items ≡ []
 
 -- the schedule, the partitions and the end stay
@@ -57,7 +57,7 @@ owner_at t (s ∷ ss) = if nat_le s.span.from.0 t && nat_lt t s.span.until.0 the
 -- The windows of a trace with these lines: each tick from one on and before the other is in the window that the lines lead to, if they are in the order of
 -- their ticks.
 pub record AreWindowsOf (schedule : Schedule) (names : List (List ℕ)) (from until : ℕ) (events : List Event) (w : Windows) : Type 0 where
-  pub names : w.names.items ≡ names
+  pub named : w.names.items ≡ names
   pub owners : AreInOrder 0 events → (t : ℕ) → from ≤ t → t < until → t < MOST_TICKS → owner_at t w.stretches.items ≡ owner_in schedule at_first events t
 
 -- ---- the same, if the windows are known: their schedule, and the names of the partitions

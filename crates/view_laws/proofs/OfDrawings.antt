@@ -219,7 +219,7 @@ module _ {C : Type 0} (m : Module C) (devices : List DeviceLine) (n : ℕ) (few 
     owners_so None (Some v) g h = absurd h
     owners_so (Some k) None g h = absurd h
     owners_so (Some k) (Some v) g h = (
-      h.names ∙ g.1,
+      h.named ∙ g.1,
       λ w t e later early.
           subst (λ (x : Windows). owner_at t x.stretches.items ≡ owner_in m devices t) (same_Some v w e)
           (h.owners (run_order m devices n) t later early (omega (arith, early, inside, few))
