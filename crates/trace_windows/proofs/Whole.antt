@@ -42,16 +42,14 @@ joined owner from mid until (s ∷ ss) more (at, ahead, same, rest) next = (at, 
 
 owner_there : (owner : ℕ → Option ℕ) (from until : ℕ) (ss : List Stretch) → AreStretches owner from until ss → (t : ℕ) → from ≤ t → t < until → owner_at t ss ≡ owner t
 owner_there owner from until [] h t later before = absurd (omega (arith, h, later, before))
-owner_there owner from until (s ∷ ss) (at, ahead, same, rest) t later before = by_test (nat_lt t s.span.until.0) refl
+owner_there owner from until (s ∷ ss) (at, ahead, same, rest) t later before = by_test (nat_lt t s.span.until.0) refl (λ past. owner_there owner s.span.until.0 until ss rest t past before)
   where
     begun : nat_le s.span.from.0 t ≡ true
     begun = le-leb s.span.from.0 t (omega (arith, at, later))
 
-    by_test : (b : Bool) → nat_lt t s.span.until.0 ≡ b → (if nat_le s.span.from.0 t && b then owner_of s else owner_at t ss) ≡ owner t
-    by_test true e = ap (λ (x : Bool). if x && true then owner_of s else owner_at t ss) begun ∙ sym (same t later (ltb-true t s.span.until.0 e))
-    by_test false e =
-        ap (λ (x : Bool). if x && false then owner_of s else owner_at t ss) begun
-        ∙ owner_there owner s.span.until.0 until ss rest t (ltb-false t s.span.until.0 e) before
+    by_test : (b : Bool) → nat_lt t s.span.until.0 ≡ b → (s.span.until.0 ≤ t → owner_at t ss ≡ owner t) → (if nat_le s.span.from.0 t && b then owner_of s else owner_at t ss) ≡ owner t
+    by_test true e more = ap (λ (x : Bool). if x && true then owner_of s else owner_at t ss) begun ∙ sym (same t later (ltb-true t s.span.until.0 e))
+    by_test false e more = ap (λ (x : Bool). if x && false then owner_of s else owner_at t ss) begun ∙ more (ltb-false t s.span.until.0 e)
 
 -- ---- a line ends the frames so far, and the stretches before its tick are added, or it changes nothing
 
@@ -186,7 +184,7 @@ module _ (schedule : Schedule) (names : List (List ℕ)) (from : ℕ) (to : Opti
 
 module _ (from : ℕ) (to : Option Ticks) (events : List Event) where
   -- what was read, if the lines are in order, and the partitions in any case
-  WillOwnIf : Option (Schedule × List (List ℕ)) → (left : List Event) → Option Windows → Type 0
+  abbrev WillOwnIf : Option (Schedule × List (List ℕ)) → (left : List Event) → Option Windows → Type 0
   WillOwnIf None left None = Unit {0}
   WillOwnIf (Some known) left (Some w) = (w.names.items ≡ known.1) × (AreInOrder 0 events → (before : ℕ) × WillOwn known.0 known.1 from to events before left w)
   WillOwnIf _ left _ = ⊥

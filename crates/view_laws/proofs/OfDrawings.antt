@@ -74,29 +74,29 @@ module _ (t : ℕ) (shown : Span) (begun : shown.from.0 ≤ t) (soon : t < shown
 
   running_shown : (ss : List Stay) → running_in t (stays_shown shown ss) ≡ running_in t ss
   running_shown [] = refl
-  running_shown (s ∷ ss) = by_test (ticks_of (common s.span shown) == 0) refl
+  running_shown (s ∷ ss) = by_test (ticks_of (common s.span shown) == 0) refl (running_shown ss)
     where
-      by_test : (b : Bool) → (ticks_of (common s.span shown) == 0) ≡ b → running_in t ((if b then [] else record s { span = common s.span shown } ∷ []) ++ stays_shown shown ss) ≡ one_if (is_running s.state && has_tick t s.span) + running_in t ss
-      by_test true e = let p = piece true (is_running s.state) s.span e in let r = running_shown ss in omega (arith, p, r)
-      by_test false e = let p = piece false (is_running s.state) s.span e in let r = running_shown ss in omega (arith, p, r)
+      by_test : (b : Bool) → (ticks_of (common s.span shown) == 0) ≡ b → running_in t (stays_shown shown ss) ≡ running_in t ss → running_in t ((if b then [] else record s { span = common s.span shown } ∷ []) ++ stays_shown shown ss) ≡ one_if (is_running s.state && has_tick t s.span) + running_in t ss
+      by_test true e r = let p = piece true (is_running s.state) s.span e in omega (arith, p, r)
+      by_test false e r = let p = piece false (is_running s.state) s.span e in omega (arith, p, r)
 
   state_shown : (wanted : ProcessState) (ss : List Stay) → state_in wanted t (stays_shown shown ss) ≡ state_in wanted t ss
   state_shown wanted [] = refl
-  state_shown wanted (s ∷ ss) = by_test (ticks_of (common s.span shown) == 0) refl
+  state_shown wanted (s ∷ ss) = by_test (ticks_of (common s.span shown) == 0) refl (state_shown wanted ss)
     where
-      by_test : (b : Bool) → (ticks_of (common s.span shown) == 0) ≡ b
+      by_test : (b : Bool) → (ticks_of (common s.span shown) == 0) ≡ b → state_in wanted t (stays_shown shown ss) ≡ state_in wanted t ss
           → state_in wanted t ((if b then [] else record s { span = common s.span shown } ∷ []) ++ stays_shown shown ss) ≡ one_if (is_same_state wanted s.state && has_tick t s.span) + state_in wanted t ss
-      by_test true e = let p = piece true (is_same_state wanted s.state) s.span e in let r = state_shown wanted ss in omega (arith, p, r)
-      by_test false e = let p = piece false (is_same_state wanted s.state) s.span e in let r = state_shown wanted ss in omega (arith, p, r)
+      by_test true e r = let p = piece true (is_same_state wanted s.state) s.span e in omega (arith, p, r)
+      by_test false e r = let p = piece false (is_same_state wanted s.state) s.span e in omega (arith, p, r)
 
   mode_shown : (mode : Mode) (ss : List ModeStay) → mode_in mode t (modes_shown shown ss) ≡ mode_in mode t ss
   mode_shown mode [] = refl
-  mode_shown mode (s ∷ ss) = by_test (ticks_of (common s.span shown) == 0) refl
+  mode_shown mode (s ∷ ss) = by_test (ticks_of (common s.span shown) == 0) refl (mode_shown mode ss)
     where
-      by_test : (b : Bool) → (ticks_of (common s.span shown) == 0) ≡ b
+      by_test : (b : Bool) → (ticks_of (common s.span shown) == 0) ≡ b → mode_in mode t (modes_shown shown ss) ≡ mode_in mode t ss
           → mode_in mode t ((if b then [] else record s { span = common s.span shown } ∷ []) ++ modes_shown shown ss) ≡ one_if (is_same_mode mode s.mode && has_tick t s.span) + mode_in mode t ss
-      by_test true e = let p = piece true (is_same_mode mode s.mode) s.span e in let r = mode_shown mode ss in omega (arith, p, r)
-      by_test false e = let p = piece false (is_same_mode mode s.mode) s.span e in let r = mode_shown mode ss in omega (arith, p, r)
+      by_test true e r = let p = piece true (is_same_mode mode s.mode) s.span e in omega (arith, p, r)
+      by_test false e r = let p = piece false (is_same_mode mode s.mode) s.span e in omega (arith, p, r)
 
 -- ---- the ticks that are shown, and the lines before their end
 
