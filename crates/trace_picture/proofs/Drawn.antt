@@ -58,41 +58,35 @@ pub cut_two : (shown : Span) (es fs : List Ended) → cut shown (es ++ fs) ≡ c
 cut_two shown es fs = ap bars_in (bars_of_two shown es fs) ∙ bars_two (bars_of_stays shown es) (bars_of_stays shown fs)
 
 -- those of one process are its stays, as far as they are shown
-one_state : (k p : ℕ) (s : Span) (x : Stay) → stays_at k (bars_in (if_some s (shape.State p x))) ≡ (if p == k then unless_none s x else [])
+one_state_if : (k p : ℕ) (x : Stay) (none is : Bool) → (p == k) ≡ is → stays_at k (bars_in (if none then [] else shape.State p x ∷ [])) ≡ (if is then (if none then [] else x ∷ []) else [])
 unfolding stays_at
-one_state k p s x = by_test (ticks_of s == 0) (p == k) refl
-  where
-    by_test : (none is : Bool) → (p == k) ≡ is → stays_at k (bars_in (if none then [] else shape.State p x ∷ [])) ≡ (if is then (if none then [] else x ∷ []) else [])
-    by_test true true e = refl
-    by_test true false e = refl
-    by_test false true e = ap (λ (b : Bool). if_at b x ++ []) e
-    by_test false false e = ap (λ (b : Bool). if_at b x ++ []) e
+one_state_if k p x true true e = refl
+one_state_if k p x true false e = refl
+one_state_if k p x false true e = ap (λ (b : Bool). if_at b x ++ []) e
+one_state_if k p x false false e = ap (λ (b : Bool). if_at b x ++ []) e
 
-no_state : (k p : ℕ) (s : Span) (x : ModeStay) → stays_at k (bars_in (if_some s (shape.Mode p x))) ≡ []
+one_state : (k p : ℕ) (s : Span) (x : Stay) → stays_at k (bars_in (if_some s (shape.State p x))) ≡ (if p == k then unless_none s x else [])
+one_state k p s x = one_state_if k p x (ticks_of s == 0) (p == k) refl
+
+no_state : (k p : ℕ) (x : ModeStay) (none : Bool) → stays_at k (bars_in (if none then [] else shape.Mode p x ∷ [])) ≡ []
 unfolding stays_at
-no_state k p s x = by_test (ticks_of s == 0)
-  where
-    by_test : (none : Bool) → stays_at k (bars_in (if none then [] else shape.Mode p x ∷ [])) ≡ []
-    by_test true = refl
-    by_test false = refl
+no_state k p x true = refl
+no_state k p x false = refl
+
+one_mode_if : (k p : ℕ) (x : ModeStay) (none is : Bool) → (p == k) ≡ is → mode_stays_at k (bars_in (if none then [] else shape.Mode p x ∷ [])) ≡ (if is then (if none then [] else x ∷ []) else [])
+unfolding mode_stays_at
+one_mode_if k p x true true e = refl
+one_mode_if k p x true false e = refl
+one_mode_if k p x false true e = ap (λ (b : Bool). if_in b x ++ []) e
+one_mode_if k p x false false e = ap (λ (b : Bool). if_in b x ++ []) e
 
 one_mode : (k p : ℕ) (s : Span) (x : ModeStay) → mode_stays_at k (bars_in (if_some s (shape.Mode p x))) ≡ (if p == k then unless_none s x else [])
-unfolding mode_stays_at
-one_mode k p s x = by_test (ticks_of s == 0) (p == k) refl
-  where
-    by_test : (none is : Bool) → (p == k) ≡ is → mode_stays_at k (bars_in (if none then [] else shape.Mode p x ∷ [])) ≡ (if is then (if none then [] else x ∷ []) else [])
-    by_test true true e = refl
-    by_test true false e = refl
-    by_test false true e = ap (λ (b : Bool). if_in b x ++ []) e
-    by_test false false e = ap (λ (b : Bool). if_in b x ++ []) e
+one_mode k p s x = one_mode_if k p x (ticks_of s == 0) (p == k) refl
 
-no_mode : (k p : ℕ) (s : Span) (x : Stay) → mode_stays_at k (bars_in (if_some s (shape.State p x))) ≡ []
+no_mode : (k p : ℕ) (x : Stay) (none : Bool) → mode_stays_at k (bars_in (if none then [] else shape.State p x ∷ [])) ≡ []
 unfolding mode_stays_at
-no_mode k p s x = by_test (ticks_of s == 0)
-  where
-    by_test : (none : Bool) → mode_stays_at k (bars_in (if none then [] else shape.State p x ∷ [])) ≡ []
-    by_test true = refl
-    by_test false = refl
+no_mode k p x true = refl
+no_mode k p x false = refl
 
 if_shown : (b : Bool) (shown : Span) (x : Stay) (ss : List Stay)
     → (if b then unless_none (common x.span shown) (record x { span = common x.span shown }) else []) ++ stays_shown shown ss ≡ stays_shown shown (if_at b x ++ ss)
@@ -116,7 +110,7 @@ states_cut_at k shown (ended.State p x ∷ es) =
 states_cut_at k shown (ended.Mode p x ∷ es) =
     ap (stays_at k) (bars_two (bar_of_stay shown (ended.Mode p x)) (bars_of_stays shown es))
     ∙ (stays_two_at k (bars_in (bar_of_stay shown (ended.Mode p x))) (cut shown es)
-    ∙ (ap (λ (ss : List Stay). ss ++ stays_at k (cut shown es)) (no_state k p (common x.span shown) (record x { span = common x.span shown }))
+    ∙ (ap (λ (ss : List Stay). ss ++ stays_at k (cut shown es)) (no_state k p (record x { span = common x.span shown }) (ticks_of (common x.span shown) == 0))
     ∙ states_cut_at k shown es))
 
 modes_cut_at : (k : ℕ) (shown : Span) (es : List Ended) → mode_stays_at k (cut shown es) ≡ modes_shown shown (mode_stays_at k es)
@@ -131,7 +125,7 @@ modes_cut_at k shown (ended.Mode p x ∷ es) =
 modes_cut_at k shown (ended.State p x ∷ es) =
     ap (mode_stays_at k) (bars_two (bar_of_stay shown (ended.State p x)) (bars_of_stays shown es))
     ∙ (modes_two_at k (bars_in (bar_of_stay shown (ended.State p x))) (cut shown es)
-    ∙ (ap (λ (ss : List ModeStay). ss ++ mode_stays_at k (cut shown es)) (no_mode k p (common x.span shown) (record x { span = common x.span shown }))
+    ∙ (ap (λ (ss : List ModeStay). ss ++ mode_stays_at k (cut shown es)) (no_mode k p (record x { span = common x.span shown }) (ticks_of (common x.span shown) == 0))
     ∙ modes_cut_at k shown es))
 
 states_cut : (o : Option ℕ) (shown : Span) (es : List Ended) → stays_of o (cut shown es) ≡ stays_shown shown (stays_of o es)
