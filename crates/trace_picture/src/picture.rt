@@ -88,9 +88,7 @@ impl Picture {
         let mut ended = Vec::new(self.alloc);
         self.lanes.follow(event, &mut ended)?;
         self.keep_stays(ended.as_slice())?;
-        if event.tick.0 >= self.shown.open().from.0 {
-            self.mark(event)?;
-        }
+        self.mark(event)?;
         Ok(())
     }
 
@@ -250,7 +248,8 @@ impl Picture {
         self.keep(shape)
     }
 
-    /// Keeps what an event of these ticks shows, without states and modes.
+    /// Keeps what an event shows without states and modes, if its tick is shown.
+    #[tactic(auto, using(crate::proofs::Drawn::bars_stay, crate::proofs::Drawn::no_bars, crate::proofs::Drawn::no_module_bars, crate::proofs::Drawn::kept_itself, trace_stays::proofs::Followed::in_own_place))]
     fn mark(&mut self, event: &Event) -> Result<(), MemoryFull>
         ensures shown { self.new.shown ≡ self.old.shown }
         ensures kept { OnOk result (AreKept self.old.lanes self.new.lanes) }
@@ -259,6 +258,9 @@ impl Picture {
         ensures bars { OnOk result
             (bars_in self.new.shapes.items ≡ bars_in self.old.shapes.items) }
     {
+        if event.tick.0 < self.shown.open().from.0 {
+            return Ok(());
+        }
         match &event.partition {
             Some(name) => self.mark_in(name, &event.kind, event.tick),
             None => self.mark_module(&event.kind, event.tick),
@@ -266,6 +268,7 @@ impl Picture {
     }
 
     /// Keeps what an event of the partition with this name shows.
+    #[tactic(auto, using(trace_stays::proofs::Followed::both_in_place))]
     fn mark_in(&mut self, name: &Name, kind: &EventKind, tick: Ticks) -> Result<(), MemoryFull>
         ensures shown { self.new.shown ≡ self.old.shown }
         ensures kept { OnOk result (AreKept self.old.lanes self.new.lanes) }
