@@ -1,6 +1,7 @@
 -- The bars of a picture are the stays of its lines.
 use Rattle.std.proofs.Common.{◌≡◌, ℕ, ◌+◌, ◌≤◌, ◌<◌, Bool, true, false, List, [], ◌∷◌, ◌++◌, length, max, min, Option, Some, None, refl, sym, ap, subst, ◌∙◌, arith, append-nil, append_assoc}
 use Rattle.std.specs.Prelude.{ℤ, ◌==◌, if◌then◌else◌, option_map}
+use Rattle.std.proofs.lemmas.Bool.{le-ltb}
 use Rattle.arrayvec.specs.ArrayVec.{ArrayVec}
 use Rattle.apex_types.specs.Limits.{MOST_TICKS}
 use Rattle.apex_types.specs.Line.{subject_text}
@@ -13,7 +14,7 @@ use Rattle.apex_types.specs.declared.event.Subject.{Subject}
 use Rattle.apex_types.specs.declared.identity.Ticks.{Ticks}
 use Rattle.kernel_meaning.specs.Windows.{Schedule}
 use Rattle.trace_picture.specs.Drawn.{AreDrawn, HasDrawn, HasFinished, HasKept, HasKeptIf, IsDrawnOf, bars_in, lines_before, modes_drawn, modes_shown, shown_after, stays_drawn, stays_shown, unless_none}
-use Rattle.trace_picture.specs.Marked.{bar_of_stay, bars_of_stays, flag_at, if_some, marks_in, marks_of_module, message_at, one_of, owner_in, report_at}
+use Rattle.trace_picture.specs.Marked.{bar_of_stay, bars_of_stays, flag_at, if_some, kept_ticks, marks_in, marks_of_module, message_at, one_of, owner_in, report_at}
 use Rattle.trace_picture.specs.declared.drawing.Drawing.{Drawing}
 use Rattle.trace_picture.specs.declared.picture.Picture.{Picture}
 use Rattle.trace_picture.specs.declared.shape.Owner.{Owner}
@@ -34,6 +35,7 @@ use Rattle.trace_stays.specs.declared.stay.ModeStay.{ModeStay}
 use Rattle.trace_stays.specs.declared.stay.Stay.{Stay}
 use Rattle.trace_stays.proofs.Followed.{both_in_place, modes_two, modes_two_at, stays_two, stays_two_at}
 use Rattle.trace_windows.specs.Whole.{AreWindowsIn, end_in_run}
+use Rattle.trace_windows.specs.declared.windows.Windows.{Windows}
 use Rattle.trace_stays.proofs.Traces.{WillBe, all_read, begins, line_read}
 
 -- ---- bars
@@ -252,6 +254,43 @@ still_open false t s = refl
 still_ends : (b : Bool) (t : ℕ) (s : ShownTicks) → (with_read_if b t s).to ≡ s.to
 still_ends true t s = refl
 still_ends false t s = refl
+
+-- a line behind the end of the ticks changes nothing
+pub line_passed : (e : Event) (old new : Picture) → is_before_end old.shown.to e.tick.0 ≡ false → new.shown ≡ with_read e.tick.0 old.shown → new.lanes ≡ old.lanes → new.shapes ≡ old.shapes → HasDrawn e old new
+line_passed e old new passed shown lanes shapes = record {
+  shown = shown;
+  fits = λ few. subst (λ n. n ≤ 5000) (ap (λ xs. length xs.items) shapes) few;
+  kept = λ few. subst (λ (b : Bool). HasKeptIf b e old new) (sym passed) (lanes, shapes);
+}
+
+-- and one before it is kept, if the picture is not full then
+pub line_drawn : (e : Event) (old read new : Picture) (seen : ShownTicks) (before : ℕ) → is_before_end old.shown.to e.tick.0 ≡ true → seen ≡ with_read e.tick.0 old.shown → HasKept e (record old { shown = seen }) read
+    → new.shown ≡ seen → before ≡ length old.shapes.items → (length new.shapes.items ≤ 5000 → before ≤ 5000) → (length new.shapes.items ≤ 5000 → (new.lanes ≡ read.lanes) × (new.shapes ≡ read.shapes)) → HasDrawn e old new
+line_drawn e old read new seen before early with_line kept shown count fits settled = record {
+  shown = shown ∙ with_line;
+  fits = λ few. subst (λ (n : ℕ). n ≤ 5000) count (fits few);
+  kept = λ few. subst (λ (b : Bool). HasKeptIf b e old new) (sym early) (record {
+    over = kept.over;
+    followed = λ es. subst (λ (l : Lanes). HasFollowed e old.lanes l es (es ++ kept.over)) (sym ((settled few).0)) (kept.followed es);
+    bars = ap (λ xs. bars_in xs.items) ((settled few).1) ∙ (kept.bars
+        ∙ ap (λ (s : Span). bars_in old.shapes.items ++ bars_in (bars_of_stays s kept.over)) (ap open_ticks with_line ∙ still_open (is_before_end old.shown.to e.tick.0) e.tick.0 old.shown));
+  });
+}
+
+pub finished : (p q : Picture) (given : Option Windows) (d : Drawing) (begun : ℕ) → (length q.shapes.items ≤ 5000 → length p.shapes.items ≤ 5000)
+    → (length q.shapes.items ≤ 5000 → q.shapes.items ≡ p.shapes.items
+    ++ bars_of_stays (open_ticks p.shown) (modes_left 0 (shown_ticks p.shown).until.0 p.lanes.partitions.items ++ states_left 0 (shown_ticks p.shown).until.0 p.lanes.processes.items))
+    → length q.shapes.items ≤ begun → begun ≤ 5000 → d.axis.span ≡ kept_ticks p → d.lanes ≡ p.lanes → d.shapes.items ≡ q.shapes.items → d.windows ≡ given → HasFinished p given d
+finished p q given d begun fits rest each few span lanes shapes windows =
+    let enough : length q.shapes.items ≤ 5000 = omega (arith, each, few) in
+    record {
+      fits = fits enough;
+      span = span ∙ ap (λ (b : Bool). if b then shown_ticks p.filled else shown_ticks p.shown) (le-ltb 5000 (length p.shapes.items) (fits enough));
+      lanes = lanes;
+      windows = windows;
+      bars = ap bars_in (shapes ∙ rest enough)
+          ∙ bars_two p.shapes.items (bars_of_stays (open_ticks p.shown) (modes_left 0 (shown_ticks p.shown).until.0 p.lanes.partitions.items ++ states_left 0 (shown_ticks p.shown).until.0 p.lanes.processes.items));
+    }
 
 module _ (from : Ticks) (to : Option Ticks) (events : List Event) where
   abbrev seen : Span

@@ -65,6 +65,7 @@ impl Picture {
     /// # Errors
     ///
     /// Memory ran out.
+    #[tactic(auto, using(crate::proofs::Drawn::line_passed, crate::proofs::Drawn::line_drawn))]
     pub fn add(&mut self, event: &Event) -> Result<(), MemoryFull>
         ensures shown { self.new.shown ≡ with_read event.now.tick.0 self.old.shown }
         ensures drawn { OnOk result (HasDrawn event.now self.old self.new) }
@@ -73,14 +74,15 @@ impl Picture {
             return Ok(());
         }
         let before = self.shapes.len();
-        self.read(event)?;
+        self.keep_line(event)?;
         let more = self.shapes.len().saturating_sub(before);
         self.count = self.count.saturating_add(more as u64);
-        self.settle(before)
+        self.settle(before)?;
+        Ok(())
     }
 
     /// Keeps what an event before the end of the ticks shows.
-    fn read(&mut self, event: &Event) -> Result<(), MemoryFull>
+    fn keep_line(&mut self, event: &Event) -> Result<(), MemoryFull>
         ensures shown { self.new.shown ≡ self.old.shown }
         ensures more { length self.old.shapes.items ≤ length self.new.shapes.items }
         ensures kept { OnOk result (HasKept event.now self.old self.new) }
@@ -134,6 +136,7 @@ impl Picture {
     /// # Errors
     ///
     /// Memory ran out, or the picture would have too many elements.
+    #[tactic(auto, using(crate::proofs::Drawn::finished))]
     pub fn finish(mut self, windows: Option<Windows>, width: Width) -> Result<Drawing, PictureFault>
         ensures drawn { IfOk result (HasFinished self windows) }
         ensures wide { IfOk result (λ drawing. drawing.axis.long ≡ width.pixels * 10 - 1800) }

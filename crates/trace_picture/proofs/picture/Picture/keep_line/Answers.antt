@@ -3,7 +3,7 @@ use Rattle.trace_picture.proofs.Drawn.{has_kept}
 use Rattle.trace_stays.specs.Following.{AreInPlace, AreKept, HasFollowed}
 use Rattle.trace_stays.specs.declared.lanes.Ended.{Ended}
 use Rattle.trace_stays.specs.declared.lanes.Lanes.{Lanes}
-use Rattle.trace_picture.proofs.picture.Picture.read.Goals as goal
+use Rattle.trace_picture.proofs.picture.Picture.keep_line.Goals as goal
 
 pub returns-clause-kept : goal.returns-clause-kept
 returns-clause-kept c =
