@@ -1,6 +1,6 @@
 //! The events in the ticks of a picture.
 
-ghost use Rattle.std.specs.Prelude.{◌≡◌, ◌*◌, ◌-◌, ◌<◌, ◌≤◌, ◌×◌, ◌++◌, ◌∷◌, [], length, IfOk, OnErr, OnOk, Some};
+ghost use Rattle.std.specs.Prelude.{◌≡◌, ◌*◌, ◌-◌, ◌≤◌, ◌++◌, ◌∷◌, [], length, IfOk, OnErr, OnOk, Some};
 ghost use Rattle.apex_types.specs.Line.{subject_text};
 ghost use Rattle.trace_picture.specs.Marked.{bar_of_stay, bars_of_stays, flag_at, is_port, marks_in, marks_of_module, message_at, one_of, owner_in, report_at, way_from, way_in, way_to};
 ghost use Rattle.trace_stays.specs.Following.{AreInPlace, AreKept, process_at};
