@@ -21,7 +21,7 @@ from pathlib import Path
 ROOT = Path(__file__).resolve().parent.parent
 PAGE = ROOT / "docs/TRUST.md"
 CRATES = ROOT / "crates"
-COUNTED = ("B", "V", "K")
+COUNTED = ("B", "V", "K", "D")
 SHARE = re.compile(r"for sentences 2 and 3 (\d+) of (\d+) files")
 LISTED = re.compile(r"^## The (\w+) promises\n\n\|.*\n\|[-|]*\n((?:\|.*\n)*)", re.M)
 WORDS = ("no", "one", "two", "three", "four", "five", "six", "seven", "eight", "nine")

@@ -3,8 +3,6 @@
 // which it is drawn at work; for each partition the ticks in its modes, and those of its windows; how many ticks there are before a shutdown; and
 // how many marks there are of each line without its tick.
 
-const fs = require("fs");
-
 /** The story that the page tells. */
 function storyIn(page) {
   const scripts = [...page.matchAll(/<script>\n([^]*?)<\/script>/g)].map(([, script]) => script);
@@ -56,7 +54,10 @@ function marksOf(story) {
   return marks;
 }
 
-const story = storyIn(fs.readFileSync(process.argv[2], "utf8"));
-const [windows, pieces] = [windowsOf(story, story.ticks), windowsOf(story, 97)];
-const counted = { ...ticksOf(story), stays: staysOf(story), windows, pieces, ticks: story.ticks, up: Math.min(story.down, story.ticks), marks: marksOf(story) };
-console.log(JSON.stringify(counted));
+function countsOf(story) {
+  const [windows, pieces] = [windowsOf(story, story.ticks), windowsOf(story, 97)];
+  return { ...ticksOf(story), stays: staysOf(story), windows, pieces, ticks: story.ticks, up: Math.min(story.down, story.ticks), marks: marksOf(story) };
+}
+
+// In a browser the page is asked for `countsOf(window.page.story)`.
+if (typeof window === "undefined") console.log(JSON.stringify(countsOf(storyIn(require("fs").readFileSync(process.argv[2], "utf8")))));

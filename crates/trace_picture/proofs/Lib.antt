@@ -1,3 +1,4 @@
 pub mod Counts
 pub mod Pages
 pub mod Plain
+pub mod Drawn

@@ -5,3 +5,4 @@ pub mod Escaped
 pub mod Lengths
 pub mod Marked
 pub mod Page
+pub mod Drawn

@@ -1,5 +1,5 @@
 -- The shapes of a line of a trace, and of the stays that are over with it.
-use Rattle.std.specs.Prelude.{◌≡◌, ℕ, ℤ, ◌+◌, ◌-◌, ◌^◌, min, Bool, true, false, ◌==◌, ◌&&◌, if◌then◌else◌, List, [], ◌∷◌, flat_map, Option, Some, None, option_map}
+use Rattle.std.specs.Prelude.{◌≡◌, ℕ, ℤ, ◌+◌, ◌-◌, ◌^◌, min, Bool, true, false, ◌==◌, ◌&&◌, nat_lt, if◌then◌else◌, List, [], ◌∷◌, flat_map, length, Option, Some, None, option_map}
 use Rattle.arrayvec.specs.ArrayVec.{ArrayVec}
 use Rattle.apex_types.specs.Line.{subject_text}
 use Rattle.apex_types.specs.declared.codes.ErrorKind.{ErrorKind}
@@ -21,7 +21,6 @@ use Rattle.trace_stays.specs.Stays.{common, tick, ticks_of}
 use Rattle.trace_stays.specs.declared.lanes.Ended.{Ended}
 use Rattle.trace_stays.specs.declared.lanes.Ended.TheVariants as ended
 use Rattle.trace_stays.specs.declared.lanes.Lanes.{Lanes}
-use Rattle.trace_stays.specs.declared.shown.ShownTicks.{ShownTicks}
 use Rattle.trace_stays.specs.declared.span.Span.{Span}
 
 -- ---- stays that are over: bars for the ticks of the picture
@@ -114,9 +113,5 @@ abbrev pub IsLike : Picture → Picture → Type 0
 IsLike old new = (new.shown ≡ old.shown) × (new.lanes ≡ old.lanes) × (new.way ≡ old.way)
 
 -- the ticks of a picture: those that are shown or, once it is full, those up to the line that filled it
-abbrev pub ticks_if : Option ShownTicks → ShownTicks → Span
-ticks_if None shown = shown_ticks shown
-ticks_if (Some end) shown = shown_ticks end
-
 abbrev pub kept_ticks : Picture → Span
-kept_ticks p = ticks_if p.full p.shown
+kept_ticks p = if nat_lt 5000 (length p.shapes.items) then shown_ticks p.filled else shown_ticks p.shown

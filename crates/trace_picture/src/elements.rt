@@ -1,6 +1,6 @@
 //! The elements of a picture, by the ticks in which they begin.
 
-ghost use Rattle.std.specs.Prelude.{◌≡◌, ◌<◌, ◌+◌, length};
+ghost use Rattle.std.specs.Prelude.{◌≡◌, ◌<◌, ◌≤◌, ◌+◌, length, IfOk, OnOk};
 ghost use Rattle.trace_picture.specs.Elements as spec;
 
 use crate::excess::Excess;
@@ -23,27 +23,42 @@ fn first_tick(shape: &Shape) -> Ticks {
 }
 
 /// Adds the first of these ticks, if there are any.
-fn push_first(begun: &mut Vec<Ticks>, span: Span) -> Result<(), AllocError> {
+fn push_first(begun: &mut Vec<Ticks>, span: Span) -> Result<(), AllocError>
+    ensures { length begun.old.items ≤ length begun.new.items }
+{
     if span.ticks() > 0 {
         begun.push(span.from)?;
     }
     Ok(())
 }
 
+/// Adds the first ticks of the pieces of a stay, one in each stretch with which it has ticks in common.
+fn push_pieces(begun: &mut Vec<Ticks>, stretches: &[Stretch], span: Span) -> Result<(), AllocError>
+    ensures { length begun.old.items ≤ length begun.new.items }
+{
+    for stretch in stretches {
+        push_first(begun, span.within(stretch.span))?;
+    }
+    Ok(())
+}
+
 /// Adds the first ticks of the elements of a shape: those of a stay that is cut at the ends of
-/// windows are its pieces.
+/// windows are its pieces. A shape counts once at the least.
 fn push_shape(
     begun: &mut Vec<Ticks>,
     windows: &Option<Windows>,
     shape: &Shape,
-) -> Result<(), AllocError> {
-    match (windows, shape) {
-        (Some(windows), Shape::State(_, stay)) if is_cut(stay.state) => {
-            for stretch in windows.stretches() {
-                push_first(begun, stay.span.within(stretch.span))?;
-            }
+) -> Result<(), AllocError>
+    ensures { OnOk result (length begun.old.items < length begun.new.items) }
+{
+    let before = begun.len();
+    if let (Some(windows), Shape::State(_, stay)) = (windows, shape) {
+        if is_cut(stay.state) {
+            push_pieces(begun, windows.stretches(), stay.span)?;
         }
-        _ => begun.push(first_tick(shape))?,
+    }
+    if begun.len() == before {
+        begun.push(first_tick(shape))?;
     }
     Ok(())
 }
@@ -54,7 +69,9 @@ pub fn beginnings(
     shown: Span,
     windows: &Option<Windows>,
     shapes: &[Shape],
-) -> Result<Vec<Ticks>, AllocError> {
+) -> Result<Vec<Ticks>, AllocError>
+    ensures { IfOk result (λ begun. length shapes.now ≤ length begun.items) }
+{
     let mut begun = Vec::new(alloc);
     let stretches: &[Stretch] = match windows {
         Some(windows) => windows.stretches(),

@@ -1,9 +1,9 @@
 //! The events in the ticks of a picture.
 
-ghost use Rattle.std.specs.Prelude.{◌≡◌, ◌*◌, ◌-◌, ◌≤◌, ◌++◌, ◌∷◌, [], IfOk, OnErr, OnOk, Some};
+ghost use Rattle.std.specs.Prelude.{◌≡◌, ◌*◌, ◌-◌, ◌≤◌, ◌++◌, ◌∷◌, [], length, IfOk, OnErr, OnOk, Some};
 ghost use Rattle.apex_types.specs.Line.{subject_text};
 ghost use Rattle.trace_picture.specs.Marked.{bar_of_stay, bars_of_stays, flag_at, is_port, marks_in, marks_of_module, message_at, one_of, owner_in, report_at, way_from, way_in, way_to};
-ghost use Rattle.trace_stays.specs.Following.{AreKept, process_at};
+ghost use Rattle.trace_stays.specs.Following.{AreInPlace, AreKept, process_at};
 ghost use Rattle.trace_stays.specs.Shown.{open_ticks};
 
 use crate::axis::Axis;
@@ -31,18 +31,22 @@ pub struct Picture {
     way: Option<Way>,
     /// The number of shapes, also of those that are not kept.
     count: u64,
-    /// The ticks up to the line that filled the picture, once there is one.
-    full: Option<ShownTicks>,
+    /// The ticks up to the line that filled the picture, once it has too many shapes.
+    filled: ShownTicks,
 }
 
 impl Picture {
+    ghost use Rattle.trace_picture.specs.Drawn.{HasDrawn, HasFinished, HasKept, bars_in};
     ghost use Rattle.trace_picture.specs.Marked.{IsLike, IsLikeButLanes, kept_ticks};
-    ghost use Rattle.trace_stays.specs.Shown.{shown_from, with_read};
+    ghost use Rattle.trace_stays.specs.Following.{modes_left, states_left};
+    ghost use Rattle.trace_stays.specs.Shown.{shown_from, shown_ticks, with_read};
 
     /// A picture of the ticks from the first one on and before the second; with none, up to the tick
     /// of the last line.
     pub fn new(alloc: Global, from: Ticks, to: Option<Ticks>) -> Picture
-        ensures { result.shown ≡ shown_from from to }
+        ensures shown { result.shown ≡ shown_from from to }
+        ensures partitions { result.lanes.partitions.items ≡ [] }
+        ensures shapes { result.shapes.items ≡ [] }
     {
         Picture {
             alloc,
@@ -51,7 +55,7 @@ impl Picture {
             shapes: Vec::new(alloc),
             way: None,
             count: 0,
-            full: None,
+            filled: ShownTicks::new(from, to),
         }
     }
 
@@ -61,34 +65,48 @@ impl Picture {
     /// # Errors
     ///
     /// Memory ran out.
+    #[tactic(auto, using(crate::proofs::Drawn::line_passed, crate::proofs::Drawn::line_drawn))]
     pub fn add(&mut self, event: &Event) -> Result<(), MemoryFull>
-        ensures { self.new.shown ≡ with_read event.now.tick.0 self.old.shown }
+        ensures shown { self.new.shown ≡ with_read event.now.tick.0 self.old.shown }
+        ensures drawn { OnOk result (HasDrawn event.now self.old self.new) }
     {
         if !self.shown.read(event.tick) {
             return Ok(());
         }
         let before = self.shapes.len();
+        self.keep_line(event)?;
+        let more = self.shapes.len().saturating_sub(before);
+        self.count = self.count.saturating_add(more as u64);
+        self.settle(before)?;
+        Ok(())
+    }
+
+    /// Keeps what an event before the end of the ticks shows.
+    fn keep_line(&mut self, event: &Event) -> Result<(), MemoryFull>
+        ensures shown { self.new.shown ≡ self.old.shown }
+        ensures more { length self.old.shapes.items ≤ length self.new.shapes.items }
+        ensures kept { OnOk result (HasKept event.now self.old self.new) }
+    {
         let mut ended = Vec::new(self.alloc);
         self.lanes.follow(event, &mut ended)?;
         self.keep_stays(ended.as_slice())?;
-        if event.tick.0 >= self.shown.open().from.0 {
-            self.mark(event)?;
-        }
-        let more = self.shapes.len().saturating_sub(before);
-        self.count = self.count.saturating_add(more as u64);
-        self.settle(before)
+        self.mark(event)?;
+        Ok(())
     }
 
-    /// Lets go of the shapes after the first ones if the picture is full already. If it has too many
+    /// Lets go of the shapes after the first ones if the picture was full with them. If it has too many
     /// now, it keeps the bars of the stays that are not over, and is full.
     fn settle(&mut self, before: usize) -> Result<(), MemoryFull>
-        ensures { self.new.shown ≡ self.old.shown }
+        requires { before ≤ length self.old.shapes.items }
+        ensures shown { self.new.shown ≡ self.old.shown }
+        ensures fits { OnOk result (length self.new.shapes.items ≤ 5000 → before ≤ 5000) }
+        ensures kept { OnOk result (length self.new.shapes.items ≤ 5000 → self.new ≡ self.old) }
     {
-        if self.full.is_some() {
+        if before > MOST_SHAPES {
             self.shapes.truncate(before);
         } else if self.shapes.len() > MOST_SHAPES {
             self.keep_rest()?;
-            self.full = Some(self.shown);
+            self.filled = self.shown;
         }
         Ok(())
     }
@@ -98,9 +116,10 @@ impl Picture {
         ensures value { result ≡ kept_ticks self.now }
         ensures in_order { result.from.0 ≤ result.until.0 }
     {
-        match self.full {
-            Some(end) => end.span(),
-            None => self.shown.span(),
+        if self.shapes.len() > MOST_SHAPES {
+            self.filled.span()
+        } else {
+            self.shown.span()
         }
     }
 
@@ -117,10 +136,10 @@ impl Picture {
     /// # Errors
     ///
     /// Memory ran out, or the picture would have too many elements.
+    #[tactic(auto, using(crate::proofs::Drawn::finished))]
     pub fn finish(mut self, windows: Option<Windows>, width: Width) -> Result<Drawing, PictureFault>
-        ensures windows { IfOk result (λ drawing. drawing.windows ≡ windows) }
+        ensures drawn { IfOk result (HasFinished self windows) }
         ensures wide { IfOk result (λ drawing. drawing.axis.long ≡ width.pixels * 10 - 1800) }
-        ensures span { IfOk result (λ drawing. drawing.axis.span ≡ kept_ticks self) }
     {
         let span = self.span();
         let count = self.end()?;
@@ -145,11 +164,23 @@ impl Picture {
 
     /// Keeps the bars of the stays that end with the trace, unless the picture is full. Returns how many
     /// shapes the whole trace has.
-    fn end(&mut self) -> Result<u64, MemoryFull> {
+    fn end(&mut self) -> Result<u64, MemoryFull>
+        ensures lanes { self.new.lanes ≡ self.old.lanes }
+        ensures fits { OnOk result
+            (length self.new.shapes.items ≤ 5000 → length self.old.shapes.items ≤ 5000) }
+        ensures rest { OnOk result
+            (length self.new.shapes.items ≤ 5000
+            → self.new.shapes.items
+            ≡ self.old.shapes.items
+            ++ bars_of_stays (open_ticks self.old.shown)
+            (modes_left 0 (shown_ticks self.old.shown).until.0 self.old.lanes.partitions.items
+            ++ states_left 0 (shown_ticks self.old.shown).until.0
+            self.old.lanes.processes.items)) }
+    {
         let kept = self.shapes.len();
         self.keep_rest()?;
         let more = self.shapes.len().saturating_sub(kept);
-        if self.full.is_some() {
+        if kept > MOST_SHAPES {
             self.shapes.truncate(kept);
         }
         Ok(self.count.saturating_add(more as u64))
@@ -157,7 +188,14 @@ impl Picture {
 
     /// Keeps the bars of the stays that are not over.
     fn keep_rest(&mut self) -> Result<(), MemoryFull>
-        ensures { self.new.shown ≡ self.old.shown }
+        ensures others { IsLike self.old self.new }
+        ensures rest { OnOk result
+            (self.new.shapes.items
+            ≡ self.old.shapes.items
+            ++ bars_of_stays (open_ticks self.old.shown)
+            (modes_left 0 (shown_ticks self.old.shown).until.0 self.old.lanes.partitions.items
+            ++ states_left 0 (shown_ticks self.old.shown).until.0
+            self.old.lanes.processes.items)) }
     {
         let until = self.shown.span().until;
         let mut ended = Vec::new(self.alloc);
@@ -213,10 +251,19 @@ impl Picture {
         self.keep(shape)
     }
 
-    /// Keeps what an event of these ticks shows, without states and modes.
+    /// Keeps what an event shows without states and modes, if its tick is shown.
+    #[tactic(auto, using(crate::proofs::Drawn::bars_stay, crate::proofs::Drawn::no_bars, crate::proofs::Drawn::no_module_bars, crate::proofs::Drawn::kept_itself, trace_stays::proofs::Followed::in_own_place))]
     fn mark(&mut self, event: &Event) -> Result<(), MemoryFull>
-        ensures { self.new.shown ≡ self.old.shown }
+        ensures shown { self.new.shown ≡ self.old.shown }
+        ensures kept { OnOk result (AreKept self.old.lanes self.new.lanes) }
+        ensures places { OnOk result (AreInPlace self.old.lanes self.new.lanes) }
+        ensures more { length self.old.shapes.items ≤ length self.new.shapes.items }
+        ensures bars { OnOk result
+            (bars_in self.new.shapes.items ≡ bars_in self.old.shapes.items) }
     {
+        if event.tick.0 < self.shown.open().from.0 {
+            return Ok(());
+        }
         match &event.partition {
             Some(name) => self.mark_in(name, &event.kind, event.tick),
             None => self.mark_module(&event.kind, event.tick),
@@ -224,9 +271,11 @@ impl Picture {
     }
 
     /// Keeps what an event of the partition with this name shows.
+    #[tactic(auto, using(trace_stays::proofs::Followed::both_in_place))]
     fn mark_in(&mut self, name: &Name, kind: &EventKind, tick: Ticks) -> Result<(), MemoryFull>
         ensures shown { self.new.shown ≡ self.old.shown }
         ensures kept { OnOk result (AreKept self.old.lanes self.new.lanes) }
+        ensures places { OnOk result (AreInPlace self.old.lanes self.new.lanes) }
         ensures marks { OnOk result
             (self.new.shapes.items
             ≡ self.old.shapes.items
@@ -278,6 +327,7 @@ impl Picture {
         ensures owner { IfOk result
             (λ o. owner_in partition.now who.now self.new.lanes ≡ Some o) }
         ensures kept { OnOk result (AreKept self.old.lanes self.new.lanes) }
+        ensures places { OnOk result (AreInPlace self.old.lanes self.new.lanes) }
         ensures others { IsLikeButLanes self.old self.new }
     {
         match who {
@@ -317,6 +367,7 @@ impl Picture {
         tick: Ticks,
     ) -> Result<(), MemoryFull>
         ensures lanes { OnOk result (AreKept self.old.lanes self.new.lanes) }
+        ensures places { OnOk result (AreInPlace self.old.lanes self.new.lanes) }
         ensures kept { OnOk result
             (self.new.shapes.items
             ≡ self.old.shapes.items

@@ -8,3 +8,4 @@ pub mod Stretches
 pub mod Reading
 pub mod Totals
 pub mod Steps
+pub mod Whole

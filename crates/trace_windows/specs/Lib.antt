@@ -6,3 +6,4 @@ pub mod Standings
 pub mod Uses
 pub mod Counts
 pub mod Runs
+pub mod Whole

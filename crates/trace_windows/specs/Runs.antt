@@ -23,6 +23,11 @@ first from s = max from s.now
 abbrev pub HasPassed : Schedule → (from : ℕ) → Standing → (until : ℕ) → List Row → List Row → Type 0
 HasPassed schedule from s until old new = Adds (use_from schedule s) (first from s) until old new
 
+-- the lines are in the order of their ticks, and none is of a tick before `from`
+abbrev pub AreInOrder : (from : ℕ) → List Event → Type 0
+AreInOrder from [] = Unit {0}
+AreInOrder from (e ∷ es) = (from ≤ e.tick.0) × AreInOrder e.tick.0 es
+
 -- the lines are in the order of their ticks, from `before` on, and none is of a tick later than `until`
 abbrev pub AreBefore : (until before : ℕ) → List Event → Type 0
 AreBefore until before [] = before ≤ until

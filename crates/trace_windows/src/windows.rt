@@ -39,7 +39,8 @@ impl Windows {
     ghost use Rattle.std.specs.Prelude.{false, true, None, is_some, IfErr};
     ghost use Rattle.trace_windows.specs.Frames.{acted, at_first, is_release_at, owner_by, with_line, with_module};
     ghost use Rattle.trace_windows.specs.Names.{place_in};
-    ghost use Rattle.trace_windows.specs.Read.{HasPassed, frames_of, next_behind};
+    ghost use Rattle.trace_windows.specs.Read.{HasPassed, frames_of, next_acted, next_behind, next_module, next_with};
+    ghost use Rattle.trace_windows.specs.Whole.{AreKept, HasBegun, HasClosed, HasRead};
 
     /// The windows of a schedule with these partitions, in the ticks from the first on and before
     /// the second; without it, as far as a run can go. There may be `most` stretches.
@@ -50,10 +51,7 @@ impl Windows {
         shown: (Ticks, Option<Ticks>),
         most: usize,
     ) -> Windows
-        ensures frames { frames_of result ≡ at_first }
-        ensures schedule { result.schedule ≡ schedule }
-        ensures from { result.next ≡ shown.0 }
-        ensures stretches { result.stretches.items ≡ [] }
+        ensures { HasBegun (schedule_of schedule) names.items shown.0.0 shown.1 result }
     {
         let (from, to) = shown;
         let to = match to {
@@ -81,11 +79,7 @@ impl Windows {
     /// out.
     #[tactic(auto, using(crate::proofs::Passed::stays))]
     pub fn read(&mut self, event: &Event) -> Result<(), WindowsFault>
-        ensures frames { OnOk result
-            (frames_of self.new ≡ with_line event.now (frames_of self.old)) }
-        ensures schedule { OnOk result (self.new.schedule ≡ self.old.schedule) }
-        ensures to { OnOk result (self.new.to ≡ self.old.to) }
-        ensures passed { OnOk result (HasPassed self.old self.new) }
+        ensures { OnOk result (HasRead event.now self.old self.new) }
     {
         match &event.partition {
             Some(name) => self.know(name),
@@ -101,10 +95,7 @@ impl Windows {
     #[tactic(auto, using(crate::proofs::Passed::stays, crate::proofs::Passed::passes))]
     pub fn pass_to(&mut self, tick: Ticks) -> Result<(), WindowsFault>
         ensures frames { OnOk result (frames_of self.new ≡ frames_of self.old) }
-        ensures schedule { OnOk result (self.new.schedule ≡ self.old.schedule) }
-        ensures to { OnOk result (self.new.to ≡ self.old.to) }
-        ensures next { OnOk result (self.new.next.0 ≡ next_behind self.old tick.0) }
-        ensures passed { OnOk result (HasPassed self.old self.new) }
+        ensures closed { OnOk result (HasClosed tick.0 self.old self.new) }
     {
         let until = tick.min(self.to);
         if until.0 <= self.next.0 {
@@ -223,8 +214,8 @@ impl Windows {
     fn read_module(&mut self, kind: &EventKind, tick: Ticks) -> Result<(), WindowsFault>
         ensures frames { OnOk result
             (frames_of self.new ≡ with_module kind.now tick.0 (frames_of self.old)) }
-        ensures schedule { OnOk result (self.new.schedule ≡ self.old.schedule) }
-        ensures to { OnOk result (self.new.to ≡ self.old.to) }
+        ensures kept { OnOk result (AreKept self.old self.new) }
+        ensures next { OnOk result (self.new.next.0 ≡ next_module kind.now tick.0 self.old) }
         ensures passed { OnOk result (HasPassed self.old self.new) }
     {
         match kind {
@@ -239,8 +230,8 @@ impl Windows {
     fn act(&mut self, response: Response, tick: Ticks) -> Result<(), WindowsFault>
         ensures frames { OnOk result
             (frames_of self.new ≡ acted response tick.0 (frames_of self.old)) }
-        ensures schedule { OnOk result (self.new.schedule ≡ self.old.schedule) }
-        ensures to { OnOk result (self.new.to ≡ self.old.to) }
+        ensures kept { OnOk result (AreKept self.old self.new) }
+        ensures next { OnOk result (self.new.next.0 ≡ next_acted response tick.0 self.old) }
         ensures passed { OnOk result (HasPassed self.old self.new) }
     {
         match response {

@@ -4,4 +4,5 @@ pub mod Found
 pub mod SoFar
 pub mod Tables
 pub mod Taken
+pub mod Sketched
 pub mod Dumped

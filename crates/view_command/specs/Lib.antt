@@ -14,3 +14,4 @@ pub mod Views
 pub mod Words
 pub mod Windows
 pub mod Summed
+pub mod Drawn

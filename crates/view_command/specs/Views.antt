@@ -27,14 +27,6 @@ windows_fault windows.Memory = fault.Memory
 windows_fault windows.TooMany = fault.TooMany
 windows_fault (windows.Unknown name) = fault.Foreign name
 
--- a picture is shown
-abbrev pub IsOfPicture : Shown → Type 0
-IsOfPicture (shown.Picture picture width windows) = Unit {0}
-IsOfPicture (shown.Saved wires names) = ⊥
-IsOfPicture (shown.Page page windows) = ⊥
-IsOfPicture (shown.Lines listing) = ⊥
-IsOfPicture (shown.Check check) = ⊥
-
 -- a line was found that the trace may not have
 abbrev pub outcome_of : Shown → Outcome
 outcome_of (shown.Check check) = if is_some check.broken then outcome.Found else outcome.Shown

@@ -12,6 +12,7 @@ ghost use Rattle.view_command.specs.Words.{view_app};
 
 mod comparing;
 mod differences;
+mod drawing;
 mod dumping;
 mod grammar;
 mod naming;

@@ -91,7 +91,7 @@ fn view_of(
 {
     let view = match command {
         "summary" => View::Summary(form_of(found)),
-        "svg" => View::Lines(Layout::Picture(width(alloc, command, found)?)),
+        "svg" => View::Picture(width(alloc, command, found)?),
         "html" => View::Lines(Layout::Page),
         "list" => View::Lines(Layout::Listed(chosen(alloc, command, found)?)),
         "check" => View::Lines(checked(alloc, command, found)?),

@@ -9,6 +9,7 @@ ghost use Rattle.view_command.specs.States.{state};
 ghost use Rattle.view_command.specs.Summed.{TakesAll};
 ghost use Rattle.view_command.specs.Texts.{IsTableAsked, IsTraceIn, IsTraceOf, is_late};
 
+use crate::drawing::draw;
 use crate::naming::{Named, Names};
 use crate::opening::{Opened, called, open_text};
 use crate::refusal::Refusal;
@@ -83,6 +84,11 @@ fn bytes_of<R: Read + Drop>(
             let report = sum_up(alloc, text, table, request)?;
             Ok((Outcome::Shown, report.sheet(alloc)?))
         }
+        View::Picture(width) => {
+            let drawing = draw(alloc, text, table, request, width)?;
+            let picture = drawing.text(called(request.trace.as_str()))?;
+            Ok((Outcome::Shown, picture.into_bytes()))
+        }
         View::Lines(layout) => lay_out(alloc, layout, text, table, request),
     }
 }
@@ -102,16 +108,9 @@ fn lay_out<R: Read + Drop>(
         (string_bytes text.name) r) }
 {
     let names = Names::of_view(alloc, &request.kept, request.is_strict, &table)?;
-    let shown = match Shown::new(alloc, layout, request.from, request.to, table) {
-        Ok(shown) => shown,
-        Err(fault) => return Err(of_view(fault)),
-    };
-    let shown = read_named(alloc, text, request, names, shown)?;
-    let outcome = shown.outcome();
-    match shown.into_bytes(alloc, called(request.trace.as_str())) {
-        Ok(bytes) => Ok((outcome, bytes)),
-        Err(fault) => Err(of_view(fault)),
-    }
+    let first = Shown::new(alloc, layout, request.from, request.to, table)?;
+    let shown = read_named(alloc, text, request, names, first)?;
+    Ok((shown.outcome(), shown.into_bytes(alloc)?))
 }
 
 /// Reads every line of a trace, which has to have the names that are asked for.

@@ -1,32 +1,30 @@
-//! The views of a trace: the one file that names the crates which make them.
+//! The views of a trace, and what takes its lines. Summaries and pictures have files of their own.
 
-ghost use Rattle.std.specs.Prelude.{◌≡◌, ⊤, IsErrOf, OnOk};
-ghost use Rattle.view_command.specs.Views.{IsOfPicture, outcome_of, shares_fault, view_fault, windows_fault};
+ghost use Rattle.std.specs.Prelude.{◌≡◌, ⊤, OnOk};
+ghost use Rattle.view_command.specs.Views.{outcome_of, shares_fault, view_fault, windows_fault};
 ghost use Rattle.apex_types.specs.declared.event.Event.{Event};
 ghost use Rattle.trace_lines.specs.declared.filter.Filter.{Filter};
-ghost use Rattle.trace_picture.specs.declared.excess.Excess.{Excess};
+ghost use Rattle.trace_windows.specs.Whole.{HaveRead};
 ghost use Rattle.view_command.specs.declared.views.ViewFault.TheVariants as fault;
 
-use crate::windows::{names_asked, page_windows, windows_of};
+use crate::windows::{names_asked, page_windows};
 use apex_types::{Event, Name, Ticks};
 use std::alloc::{AllocError, Global};
-use std::io;
 use trace_lines::{Check, Filter, Limits, Listing};
 use trace_page::Page;
-use trace_picture::{Excess, Picture, PictureFault, Width};
+use trace_picture::{Excess, PictureFault, Width};
 use trace_stays::MemoryFull;
 use trace_windows::{SharesFault, Windows, WindowsFault};
 use wave_dump::{Wires, saved_view};
 use window_table::ModuleTable;
-
-/// The most windows, and ticks between them, of a picture, which also counts its elements.
-const MOST_OF_PICTURE: usize = 20_000;
 
 /// How a trace is shown.
 #[derive(Drop)]
 pub enum View {
     /// It is summed up.
     Summary(Form),
+    /// It is drawn as a picture of this width.
+    Picture(Width),
     /// Its lines are shown.
     Lines(Layout),
 }
@@ -43,8 +41,6 @@ pub enum Form {
 /// How lines are shown.
 #[derive(Drop)]
 pub enum Layout {
-    /// A picture of this width.
-    Picture(Width),
     /// A saved view of its dump.
     Saved,
     /// A page for a browser.
@@ -89,8 +85,6 @@ pub trait TakeEvents {
 /// What is shown of the events so far.
 #[derive(Drop)]
 pub enum Shown {
-    /// The picture and its width, and the windows of the module table, if one is given.
-    Picture(Picture, Width, Option<Windows>),
     /// The variables of the dump, and the partitions of the module table.
     Saved(Wires, Vec<Name>),
     /// The page, and its windows.
@@ -107,16 +101,8 @@ impl Shown {
         from: Ticks,
         to: Option<Ticks>,
         table: Option<ModuleTable>,
-    ) -> Result<Self, ViewFault>
-        ensures many { IsErrOf result ViewFault.TooMany → ⊥ }
-        ensures crowded { (excess : Excess) → IsErrOf result (ViewFault.Crowded excess)
-            → ⊥ }
-    {
+    ) -> Result<Self, MemoryFull> {
         let shown = match layout {
-            Layout::Picture(width) => {
-                let windows = windows_of(alloc, table, (from, to), MOST_OF_PICTURE)?;
-                Shown::Picture(Picture::new(alloc, from, to), width, windows)
-            }
             Layout::Saved => {
                 Shown::Saved(Wires::new(alloc, from, to), names_asked(alloc, &table)?)
             }
@@ -127,35 +113,22 @@ impl Shown {
         Ok(shown)
     }
 
-    /// Reads the next event, if the filter lets it through. Only the windows of a picture go by all
-    /// lines, and those of a page by its lines of the module.
-    pub fn read(&mut self, kept: &Filter, event: &Event) -> Result<(), ViewFault>
-        ensures many { IsErrOf result ViewFault.TooMany → IsOfPicture self.old }
-        ensures crowded { (excess : Excess) → IsErrOf result (ViewFault.Crowded excess)
-            → IsOfPicture self.old }
-    {
+    /// Reads the next event, if the filter lets it through. Only the windows of a page go by its lines
+    /// of the module in any case.
+    pub fn read(&mut self, kept: &Filter, event: &Event) -> Result<(), MemoryFull> {
         if kept.shows(event) {
             return self.add(event);
         }
         match self {
-            Shown::Picture(_, _, windows) => read_windows(windows, event)?,
             Shown::Page(page, _) if event.partition.is_none() => page.add(event)?,
             _ => {}
         }
         Ok(())
     }
 
-    /// Takes the next event. Only a picture may have too many elements.
-    pub fn add(&mut self, event: &Event) -> Result<(), ViewFault>
-        ensures many { IsErrOf result ViewFault.TooMany → IsOfPicture self.old }
-        ensures crowded { (excess : Excess) → IsErrOf result (ViewFault.Crowded excess)
-            → IsOfPicture self.old }
-    {
+    /// Takes the next event.
+    pub fn add(&mut self, event: &Event) -> Result<(), MemoryFull> {
         match self {
-            Shown::Picture(picture, _, windows) => {
-                read_windows(windows, event)?;
-                picture.add(event)?
-            }
             Shown::Saved(wires, _) => {
                 wires.add(event)?;
             }
@@ -176,17 +149,10 @@ impl Shown {
         }
     }
 
-    /// What is shown of all events of the trace of this name, as the bytes to write.
-    pub fn into_bytes(self, alloc: Global, name: &str) -> Result<Vec<u8>, ViewFault>
-        ensures many { IsErrOf result ViewFault.TooMany → IsOfPicture self }
-        ensures crowded { (excess : Excess) → IsErrOf result (ViewFault.Crowded excess)
-            → IsOfPicture self }
-    {
+    /// What is shown of all events, as the bytes to write.
+    pub fn into_bytes(self, alloc: Global) -> Result<Vec<u8>, MemoryFull> {
         let mut bytes = Vec::new(alloc);
         match self {
-            Shown::Picture(picture, width, windows) => {
-                write_picture(picture, width, windows, name, &mut bytes)?
-            }
             Shown::Saved(wires, names) => {
                 bytes = saved_view(alloc, &wires, names.as_slice())?.into_bytes()
             }
@@ -200,46 +166,25 @@ impl Shown {
 
 impl TakeEvents for Shown {
     fn take(&mut self, kept: &Filter, event: &Event) -> Result<(), ViewFault> {
-        self.read(kept, event)
+        self.read(kept, event)?;
+        Ok(())
     }
 }
 
 /// Reads a line for the windows of the module table, if one is given.
-pub fn read_windows(windows: &mut Option<Windows>, event: &Event) -> Result<(), WindowsFault> {
+pub fn read_windows(windows: &mut Option<Windows>, event: &Event) -> Result<(), WindowsFault>
+    ensures { OnOk result (HaveRead event.now windows.old windows.new) }
+{
     match windows {
         Some(windows) => windows.read(event),
         None => Ok(()),
     }
 }
 
-/// Writes the picture of the trace of this name, with the windows of the module table, if one is given.
-fn write_picture(
-    picture: Picture,
-    width: Width,
-    mut windows: Option<Windows>,
-    name: &str,
-    bytes: &mut Vec<u8>,
-) -> Result<(), ViewFault> {
-    if let Some(windows) = &mut windows {
-        windows.pass_to(picture.until())?;
-    }
-    picture.finish(windows, width)?.write(name, bytes)?;
-    Ok(())
-}
-
 impl From<MemoryFull> for ViewFault {
     ghost from_gives = { λ _ f. f ≡ fault.Memory };
 
     fn from(_: MemoryFull) -> Self {
-        ViewFault::Memory
-    }
-}
-
-/// Bytes in memory take all that is written, unless memory runs out.
-impl From<io::Error> for ViewFault {
-    ghost from_gives = { λ _ f. f ≡ fault.Memory };
-
-    fn from(_: io::Error) -> Self {
         ViewFault::Memory
     }
 }

@@ -7,6 +7,7 @@ ghost use Rattle.view_command.specs.Orders.{asked_text};
 ghost use Rattle.view_command.specs.States.{state};
 ghost use Rattle.view_command.specs.Texts.{IsRefusedTable, IsTable, IsTableAsked, IsTableIn};
 ghost use Rattle.trace_view.specs.Reports.{AreSharesBefore};
+ghost use Rattle.trace_windows.specs.Whole.{HaveBegun};
 ghost use Rattle.view_command.specs.Windows.{IsBadTable, names_of, page_windows, windows_known};
 ghost use Rattle.window_table.specs.Answers.{AnswersText};
 
@@ -125,7 +126,10 @@ pub fn windows_of(
     table: Option<ModuleTable>,
     shown: (Ticks, Option<Ticks>),
     most: usize,
-) -> Result<Option<Windows>, MemoryFull> {
+) -> Result<Option<Windows>, MemoryFull>
+    ensures { IfOk result
+        (λ windows. HaveBegun (windows_known table) shown.0.0 shown.1 windows) }
+{
     let Some(table) = table else {
         return Ok(None);
     };

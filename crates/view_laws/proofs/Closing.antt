@@ -24,8 +24,9 @@ use Rattle.trace_view.specs.declared.extent.Extent.{Extent}
 use Rattle.trace_view.specs.declared.modes.ModeTicks.{ModeTicks}
 use Rattle.trace_view.specs.declared.partitions.PartitionRow.{PartitionRow}
 use Rattle.trace_view.specs.declared.told.Told.{Told}
+use Rattle.trace_windows.specs.Runs.{AreInOrder}
 use Rattle.view_laws.specs.Counted.{AreBeforeTick}
-use Rattle.view_laws.specs.Reading.{AreInOrder, up_to}
+use Rattle.view_laws.specs.Reading.{up_to}
 
 -- all lines are read before the end, or all of them are before the closing end
 abbrev pub Closes : (window closing : Span) → List Event → Type 0

@@ -19,9 +19,10 @@ use Rattle.trace_view.specs.Counting.{ticks_in}
 use Rattle.trace_view.specs.Processes as processes
 use Rattle.trace_view.specs.Turns.{ticks_if, ticks_in_state}
 use Rattle.trace_view.specs.Whole.{process_in}
+use Rattle.trace_windows.specs.Runs.{AreInOrder}
 use Rattle.trace_windows.specs.Uses.{one_if}
 use Rattle.view_laws.specs.Counted.{AreBeforeTick, running_counted}
-use Rattle.view_laws.specs.Reading.{AreInOrder, up_to}
+use Rattle.view_laws.specs.Reading.{up_to}
 use Rattle.view_laws.specs.Shown.{HasOwnWord, HaveNames}
 use Rattle.view_laws.specs.Ticks.{running_in, ticks_when}
 use Rattle.view_laws.proofs.Lines.{AreUpTo, up_to_are}

@@ -11,7 +11,9 @@ pub mod Tallies
 pub mod Counted
 pub mod Closing
 pub mod StateSums
+pub mod OfTicks
 pub mod OfReports
+pub mod OfDrawings
 pub mod Modes
 pub mod ModesOfRuns
 pub mod Stated

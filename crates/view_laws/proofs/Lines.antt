@@ -23,10 +23,11 @@ use Rattle.state_laws.specs.Told as reading
 use Rattle.state_laws.proofs.Subjects.{same_name}
 use Rattle.trace_windows.specs.Frames.{Frames}
 use Rattle.trace_windows.specs.Frames as frames
+use Rattle.trace_windows.specs.Runs.{AreInOrder}
 use Rattle.trace_windows.specs.Standings.{Standing, acted, at_first, in_run, is_running, left_if, passed, passed_if, place_in, running_at, stopped, cleared_if, with_kind, with_line, with_module, with_own, with_place, without_process}
 use Rattle.trace_windows.specs.Uses.{last_from, or_stopped, use_by, use_from, use_if, use_of, works_at}
 use Rattle.trace_windows.proofs.Reading.{line_now}
-use Rattle.view_laws.specs.Reading.{AreInOrder, HaveOwnNames, frames_after, up_to, use_told, use_unless, worker_told}
+use Rattle.view_laws.specs.Reading.{HaveOwnNames, frames_after, up_to, use_told, use_unless, worker_told}
 use Rattle.view_laws.proofs.Owners.{names_in, none_stopped}
 use Rattle.view_laws.proofs.Told.{Tells, passed_tells, module_tells, else_tells, kind_tells}
 

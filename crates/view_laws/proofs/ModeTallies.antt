@@ -21,10 +21,11 @@ use Rattle.trace_view.specs.Whole.{partition_in}
 use Rattle.trace_view.specs.declared.modes.ModeTicks.{ModeTicks}
 use Rattle.trace_view.specs.declared.partitions.PartitionRow.{PartitionRow}
 use Rattle.trace_view.specs.declared.told.Told.{Told}
+use Rattle.trace_windows.specs.Runs.{AreInOrder}
 use Rattle.trace_windows.specs.Uses.{one_if}
 use Rattle.view_laws.specs.Counted.{AreBeforeTick}
 use Rattle.view_laws.specs.Modes.{is_same_mode, mode_counted, mode_in, ticks_for}
-use Rattle.view_laws.specs.Reading.{AreInOrder, up_to}
+use Rattle.view_laws.specs.Reading.{up_to}
 use Rattle.view_laws.specs.Ticks.{has_tick, ticks_when}
 use Rattle.view_laws.proofs.Modes.{after_said, over_said, said_after, said_if, said_over}
 use Rattle.view_laws.proofs.Sums.{few_when, stay_ticks, sum_both, sum_none, sum_of, sum_same, sum_when}

@@ -13,9 +13,10 @@ use Rattle.trace_stays.specs.Stays.{mode_behind, mode_ended}
 use Rattle.trace_stays.specs.Traces.{mode_behind_all, mode_with_line, modes_in}
 use Rattle.trace_stays.specs.declared.stay.HeldMode.{HeldMode}
 use Rattle.trace_stays.specs.declared.stay.ModeStay.{ModeStay}
+use Rattle.trace_windows.specs.Runs.{AreInOrder}
 use Rattle.trace_windows.specs.Uses.{one_if}
 use Rattle.view_laws.specs.Modes.{is_held, is_same_mode, mode_in}
-use Rattle.view_laws.specs.Reading.{AreInOrder, up_to}
+use Rattle.view_laws.specs.Reading.{up_to}
 use Rattle.view_laws.specs.Ticks.{has_tick}
 
 -- ---- the mode that a line says

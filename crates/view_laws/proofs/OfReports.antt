@@ -68,8 +68,8 @@ use Rattle.view_laws.proofs.ModeTallies.{counted_modes}
 use Rattle.view_laws.proofs.ModesCounted as modes
 use Rattle.view_laws.proofs.ModesOfRuns.{image_mode, module_mode}
 use Rattle.view_laws.proofs.OfRuns.{before_in_order, image_many, image_uses, module_many, module_uses, named_row, run_before, shares_so, there_too}
+use Rattle.view_laws.proofs.OfTicks.{ShowTicks, image_ticks, module_ticks}
 use Rattle.view_laws.proofs.Run.{run_members, run_order, run_up_to}
-use Rattle.view_laws.proofs.Running.{image_running, module_running}
 use Rattle.view_laws.proofs.StateSums.{counted_least, counted_most, of_record}
 use Rattle.view_laws.proofs.StatesOfRuns.{image_most, image_state, module_most, module_state}
 
@@ -84,13 +84,6 @@ state_shown wanted p None h = none wanted ∙ ap (λ (q : Process). turns.ticks_
     none Waiting = refl
     none Dormant = refl
 state_shown wanted p (Some row) h = ap (λ (t : Tally). turns.ticks_for wanted t.ticks) h.0
-
--- it is counted, or the runner spends the tick
-rests_least : (a works : Bool) (n : ℕ) → (works ≡ false → n ≡ one_if a) → one_if (a && not works) ≤ n
-rests_least true true n h = omega arith
-rests_least false true n h = omega arith
-rests_least true false n h = let e = h refl in omega (arith, e)
-rests_least false false n h = omega arith
 
 not_running : (s : ProcessState) → is_resting s ≡ true → is_running s ≡ false
 not_running Running e = absurd (false≢true e)
@@ -234,15 +227,7 @@ module _ {C : Type 0} (m : Module C) (devices : List DeviceLine) (n : ℕ) (few 
 
   module _ (names : List (List ℕ)) (first : Ticks) (to : Option Ticks) (windows : Option (Schedule × List (List ℕ))) (report : Report)
       (uses : (k t : ℕ) → t < k → k ≤ MOST_TICKS → use_of m.plan.schedule (at_first names) (trace m devices k) t ≡ use_in m devices t)
-      (runs : (k u t p : ℕ) (name : List ℕ) (who : Subject) → at_number names p ≡ Some name → k ≤ MOST_TICKS → t < k → t < u → HasOwnWord (trace m devices k) who
-      → running_in t (stays_in (trace m devices k) u name (subject_text who) None) ≡ one_if (runs_in_tick m devices p who t))
-      (most : (k u t p : ℕ) (name : List ℕ) (who : Subject) (wanted : ProcessState) → at_number names p ≡ Some name → k ≤ MOST_TICKS → t < k → t < u → HasOwnWord (trace m devices k) who
-      → is_some (state_in_run m devices p who t) ≡ true → is_running wanted ≡ false
-      → state_in wanted t (stays_in (trace m devices k) u name (subject_text who) None) ≤ one_if (ends_in_state m devices p who wanted t))
-      (least : (k u t p : ℕ) (name : List ℕ) (who : Subject) (wanted : ProcessState) → at_number names p ≡ Some name → k ≤ MOST_TICKS → t < k → t < u → HasOwnWord (trace m devices k) who
-      → is_some (state_in_run m devices p who t) ≡ true → is_resting wanted ≡ true
-      → one_if (rests_in_state m devices p who wanted t) ≤ state_in wanted t (stays_in (trace m devices k) u name (subject_text who) None))
-      (mode_is : (k u t p : ℕ) (name : List ℕ) (x : Mode) → at_number names p ≡ Some name → t < k → t < u → mode_in x t (modes_in (trace m devices k) u name None) ≡ one_if (is_in_mode m devices p x t))
+      (shows : ShowTicks m devices names)
       (start_is : (k p : ℕ) (name : List ℕ) → at_number names p ≡ Some name → ((told name (trace m devices k)).starts ≡ starts_in m devices p k) × AreSaidBy name (Some condition.NormalStart) first_told (trace m devices k))
       (given : AreWindowsOf m.plan.schedule names windows) (is : IsReportOf first to windows lines report) (inside : report.extent.window.until.0 ≤ n) where
     abbrev closing : Span
@@ -269,21 +254,21 @@ module _ {C : Type 0} (m : Module C) (devices : List DeviceLine) (n : ℕ) (few 
           (subst (λ (f : ℕ). AreSharesIn windows f (in_run closing.until.0) (lines_read (opened first to).window lines) report.shares) (sym begin) is.shares);
       running = λ p name who here own.
           state_shown Running (known name who) (process_at name (subject_text who) report.processes.items) (is.processes.numbers name (subject_text who))
-          ∙ running_told (opened first to).window closing so within name who (runs_in_tick m devices p who) own (λ k u t enough before shown word. runs k u t p name who here enough before shown word);
+          ∙ running_told (opened first to).window closing so within name who (runs_in_tick m devices p who) own (λ k u t enough before shown word. shows.runs k u t p name who here enough before shown word);
       others = λ p name who wanted here own there other.
           let e = state_shown wanted (known name who) (process_at name (subject_text who) report.processes.items) (is.processes.numbers name (subject_text who)) in
           let l = state_most (opened first to).window closing so within name who wanted (ends_in_state m devices p who wanted) own
-          (λ k u t enough before shown in_it word. most k u t p name who wanted here enough before shown word (there t (omega (arith, shown, in_it))) other) in
+          (λ k u t enough before shown in_it word. shows.most k u t p name who wanted here enough before shown word (there t (omega (arith, shown, in_it))) other) in
           omega (arith, e, l);
       resting = λ p name who wanted here own there rests.
           let e = state_shown wanted (known name who) (process_at name (subject_text who) report.processes.items) (is.processes.numbers name (subject_text who)) in
           let l = state_least (opened first to).window closing so within name who wanted (ends_in_state m devices p who wanted) own
-          (λ k u t enough before shown in_it word. most k u t p name who wanted here enough before shown word (there t (omega (arith, shown, in_it))) (not_running wanted rests))
-          (rests_in_state m devices p who wanted) (λ k u t enough before shown in_it word. least k u t p name who wanted here enough before shown word (there t (omega (arith, shown, in_it))) rests) in
+          (λ k u t enough before shown in_it word. shows.most k u t p name who wanted here enough before shown word (there t (omega (arith, shown, in_it))) (not_running wanted rests))
+          (rests_in_state m devices p who wanted) (λ k u t enough before shown in_it word. shows.least k u t p name who wanted here enough before shown word (there t (omega (arith, shown, in_it))) rests) in
           omega (arith, e, l);
       modes = λ p name x here.
           ap (λ (r : PartitionTotal). ticks_for x r.modes) (is.partitions.numbers name)
-          ∙ mode_told (opened first to).window closing so within name x (is_in_mode m devices p x) (λ k u t before shown. mode_is k u t p name x here before shown);
+          ∙ mode_told (opened first to).window closing so within name x (is_in_mode m devices p x) (λ k u t before shown. shows.mode_is k u t p name x here before shown);
       starts = λ p name x here.
           ap (λ (r : PartitionTotal). starts_for x r.starts) (is.partitions.numbers name)
           ∙ started_told (opened first to).window closing so within name (λ k. let s = start_is k p name here in s.1) x
@@ -299,54 +284,13 @@ module _ {C : Type 0} (m : Module C) (devices : List DeviceLine) (n : ℕ) (few 
 
 -- ---- images and modules
 
--- the partition after a tick
-image_there : (image : Image) (devices : List DeviceLine) (t p : ℕ) (item : Item) → at_number image.items p ≡ Some item → (x : Member MachineControl) × (at_number (members_after (machine_module image) devices (suc t)) p ≡ Some x)
-image_there image devices t p item here =
-    there_too image.items (members_after (machine_module image) devices (suc t)) p item (sym (length-map image.items name_of_item) ∙ image_many image ∙ sym (run_members (machine_module image) devices (suc t))) here
-
-module_there : (table : List ℕ) (sources : List (List ℕ)) (t : Table) (programs : List Program) (devices : List DeviceLine) (i : ℕ) → IsModule table sources t programs → (p : ℕ) (row : Partition) → at_number t.partitions p ≡ Some row
-    → (x : Member SourceControl) × (at_number (members_after (source_module t programs) devices (suc i)) p ≡ Some x)
-module_there table sources t programs devices i accepted p row here =
-    there_too t.partitions (members_after (source_module t programs) devices (suc i)) p row (sym (length-map t.partitions name_of_row) ∙ module_many table sources t programs accepted ∙ sym (run_members (source_module t programs) devices (suc i))) here
-
 image_report : (image : Image) (devices : List DeviceLine) (n : ℕ) (from : Ticks) (to : Option Ticks) (windows : Option (Schedule × List (List ℕ))) (report : Report) → IsLawful image → n ≤ MOST_TICKS
     → AreWindowsOf image.schedule (names_of_image image) windows → IsReportOf from to windows (machine_trace image devices n) report → report.extent.window.until.0 ≤ n
     → TellsRun (machine_module image) devices (machine_trace image devices n) (names_of_image image) from.0 report.extent.window.until.0 report
 image_report image devices n from to windows report lawful few given is inside =
     report_tells (machine_module image) devices n few (names_of_image image) from to windows report
     (λ k t before enough. image_uses image devices k t lawful before enough)
-    (λ k u t p name who here enough before shown own.
-    let r = named_row name_of_item image.items p name here in
-    let c = r.1 in
-    subst (λ (x : List ℕ). running_in t (stays_in (machine_trace image devices k) u x (subject_text who) None) ≡ one_if (runs_in_tick (machine_module image) devices p who t)) c.1
-    (image_running image devices k u t p r.0 who lawful before shown enough c.0 own))
-    (λ k u t p name who wanted here enough before shown own there other.
-    let r = named_row name_of_item image.items p name here in
-    let c = r.1 in
-    let x = image_there image devices t p r.0 c.0 in
-    let h = of_record (machine_module image) devices p t who x.0 x.1
-    (λ (w : Subject) (s : ProcessState). HasOwnWord (machine_trace image devices k) w → state_in wanted t (stays_in (machine_trace image devices k) u r.0.partition.name (subject_text w) None) ≤ one_if (is_same_state wanted s))
-    (λ q row at word. image_most image devices k u t p r.0 x.0 q row wanted lawful before shown enough c.0 x.1 at word other) there in
-    let e = ap (λ (o : Option ProcessState). one_if (is_state wanted o)) h.1 in
-    let l = subst (λ (y : List ℕ). state_in wanted t (stays_in (machine_trace image devices k) u y (subject_text who) None) ≤ one_if (is_same_state wanted h.0)) c.1 (h.2 own) in
-    omega (arith, e, l))
-    (λ k u t p name who wanted here enough before shown own there rests.
-    let r = named_row name_of_item image.items p name here in
-    let c = r.1 in
-    let x = image_there image devices t p r.0 c.0 in
-    let h = of_record (machine_module image) devices p t who x.0 x.1
-    (λ (w : Subject) (s : ProcessState). HasOwnWord (machine_trace image devices k) w → works_in_tick (machine_module image) devices p w t ≡ false
-    → state_in wanted t (stays_in (machine_trace image devices k) u r.0.partition.name (subject_text w) None) ≡ one_if (is_same_state wanted s))
-    (λ q row at word idle. image_state image devices k u t p r.0 x.0 q row wanted lawful before shown enough c.0 x.1 at word rests idle) there in
-    rests_least (is_state wanted (state_in_run (machine_module image) devices p who t)) (works_in_tick (machine_module image) devices p who t) _
-    (λ idle. subst (λ (y : List ℕ). state_in wanted t (stays_in (machine_trace image devices k) u y (subject_text who) None) ≡ one_if (is_same_state wanted h.0)) c.1 (h.2 own idle)
-    ∙ sym (ap (λ (o : Option ProcessState). one_if (is_state wanted o)) h.1)))
-    (λ k u t p name x here before shown.
-    let r = named_row name_of_item image.items p name here in
-    let c = r.1 in
-    let there = image_there image devices t p r.0 c.0 in
-    subst (λ (y : List ℕ). mode_in x t (modes_in (machine_trace image devices k) u y None) ≡ one_if (is_in_mode (machine_module image) devices p x t)) c.1
-    (image_mode image devices k u t p r.0 there.0 x lawful before shown c.0 there.1 ∙ ap (λ (o : Option (Member MachineControl)). one_if (has_mode x o)) (sym there.1)))
+    (image_ticks image devices lawful)
     (λ k p name here.
     let r = named_row name_of_item image.items p name here in
     let c = r.1 in
@@ -360,38 +304,7 @@ module_report : (table : List ℕ) (sources : List (List ℕ)) (t : Table) (prog
 module_report table sources t programs devices n from to windows report accepted few given is inside =
     report_tells (source_module t programs) devices n few (names_of_table t) from to windows report
     (λ k i before enough. module_uses table sources t programs devices k i accepted before enough)
-    (λ k u i p name who here enough before shown own.
-    let r = named_row name_of_row t.partitions p name here in
-    let c = r.1 in
-    subst (λ (x : List ℕ). running_in i (stays_in (source_trace t programs devices k) u x (subject_text who) None) ≡ one_if (runs_in_tick (source_module t programs) devices p who i)) c.1
-    (module_running table sources t programs devices k u i p r.0 who accepted before shown enough c.0 own))
-    (λ k u i p name who wanted here enough before shown own there other.
-    let r = named_row name_of_row t.partitions p name here in
-    let c = r.1 in
-    let x = module_there table sources t programs devices i accepted p r.0 c.0 in
-    let h = of_record (source_module t programs) devices p i who x.0 x.1
-    (λ (w : Subject) (s : ProcessState). HasOwnWord (source_trace t programs devices k) w → state_in wanted i (stays_in (source_trace t programs devices k) u r.0.name (subject_text w) None) ≤ one_if (is_same_state wanted s))
-    (λ q row at word. module_most table sources t programs devices k u i p r.0 x.0 q row wanted accepted before shown enough c.0 x.1 at word other) there in
-    let e = ap (λ (o : Option ProcessState). one_if (is_state wanted o)) h.1 in
-    let l = subst (λ (y : List ℕ). state_in wanted i (stays_in (source_trace t programs devices k) u y (subject_text who) None) ≤ one_if (is_same_state wanted h.0)) c.1 (h.2 own) in
-    omega (arith, e, l))
-    (λ k u i p name who wanted here enough before shown own there rests.
-    let r = named_row name_of_row t.partitions p name here in
-    let c = r.1 in
-    let x = module_there table sources t programs devices i accepted p r.0 c.0 in
-    let h = of_record (source_module t programs) devices p i who x.0 x.1
-    (λ (w : Subject) (s : ProcessState). HasOwnWord (source_trace t programs devices k) w → works_in_tick (source_module t programs) devices p w i ≡ false
-    → state_in wanted i (stays_in (source_trace t programs devices k) u r.0.name (subject_text w) None) ≡ one_if (is_same_state wanted s))
-    (λ q row at word idle. module_state table sources t programs devices k u i p r.0 x.0 q row wanted accepted before shown enough c.0 x.1 at word rests idle) there in
-    rests_least (is_state wanted (state_in_run (source_module t programs) devices p who i)) (works_in_tick (source_module t programs) devices p who i) _
-    (λ idle. subst (λ (y : List ℕ). state_in wanted i (stays_in (source_trace t programs devices k) u y (subject_text who) None) ≡ one_if (is_same_state wanted h.0)) c.1 (h.2 own idle)
-    ∙ sym (ap (λ (o : Option ProcessState). one_if (is_state wanted o)) h.1)))
-    (λ k u i p name x here before shown.
-    let r = named_row name_of_row t.partitions p name here in
-    let c = r.1 in
-    let there = module_there table sources t programs devices i accepted p r.0 c.0 in
-    subst (λ (y : List ℕ). mode_in x i (modes_in (source_trace t programs devices k) u y None) ≡ one_if (is_in_mode (source_module t programs) devices p x i)) c.1
-    (module_mode table sources t programs devices k u i p r.0 there.0 x accepted before shown c.0 there.1 ∙ ap (λ (o : Option (Member SourceControl)). one_if (has_mode x o)) (sym there.1)))
+    (module_ticks table sources t programs devices accepted)
     (λ k p name here.
     let r = named_row name_of_row t.partitions p name here in
     let c = r.1 in

@@ -32,12 +32,12 @@ use Rattle.trace_windows.specs.Frames.{Frames}
 use Rattle.trace_windows.specs.Frames as frames
 use Rattle.trace_windows.specs.Standings.{at_first, in_run}
 use Rattle.trace_windows.specs.Counts.{capped, ticks_for}
-use Rattle.trace_windows.specs.Runs.{AreBefore, AreSharesOf}
+use Rattle.trace_windows.specs.Runs.{AreBefore, AreInOrder, AreSharesOf}
 use Rattle.trace_windows.specs.Uses.{is_same, one_if, ticks_used, use_by, use_of}
 use Rattle.trace_windows.specs.declared.counted.Row.{Row}
 use Rattle.trace_windows.specs.declared.usage.Use.{Use}
 use Rattle.trace_windows.proofs.Counting.{alike}
-use Rattle.view_laws.specs.Reading.{AreInOrder, frames_after, use_told, use_unless, use_with, worker_told}
+use Rattle.view_laws.specs.Reading.{frames_after, use_told, use_unless, use_with, worker_told}
 use Rattle.view_laws.specs.Spent.{name_of_item, name_of_row, names_of_image, names_of_table, use_at, use_in}
 use Rattle.view_laws.proofs.Lines.{AreUpTo, owner_up_to, up_to_are, use_is_told}
 use Rattle.view_laws.proofs.Run.{HasFrames, run_count, run_frames, run_now, run_order, run_up_to}

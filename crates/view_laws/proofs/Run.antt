@@ -36,7 +36,8 @@ use Rattle.module_meaning.specs.Standing.{IsNow}
 use Rattle.module_meaning.specs.Table.{Channel, at_number}
 use Rattle.state_laws.specs.Spending.{before_owner, before_owner_from, before_owner_in}
 use Rattle.trace_windows.specs.Frames.{Frames, at_first, with_line}
-use Rattle.view_laws.specs.Reading.{AreInOrder, frames_after, up_to}
+use Rattle.trace_windows.specs.Runs.{AreInOrder}
+use Rattle.view_laws.specs.Reading.{frames_after, up_to}
 use Rattle.view_laws.proofs.Lines.{AreUpTo, framed, framed_so}
 
 -- ---- lines of a tick

@@ -13,8 +13,9 @@ use Rattle.trace_stays.specs.declared.next.Next.{Next}
 use Rattle.trace_stays.specs.declared.next.Next.TheVariants.{Enters, Gone, Cleared}
 use Rattle.trace_stays.specs.declared.stay.Held.{Held}
 use Rattle.trace_stays.specs.declared.stay.Stay.{Stay}
+use Rattle.trace_windows.specs.Runs.{AreInOrder}
 use Rattle.trace_windows.specs.Uses.{one_if}
-use Rattle.view_laws.specs.Reading.{AreInOrder, up_to}
+use Rattle.view_laws.specs.Reading.{up_to}
 use Rattle.view_laws.specs.Ticks.{has_tick, is_running, is_same_state, state_in}
 use Rattle.view_laws.proofs.Stays.{begins_late, has_late, left_late, not_there}
 

@@ -30,8 +30,9 @@ use Rattle.trace_stays.specs.declared.next.Next.{Next}
 use Rattle.trace_stays.specs.declared.next.Next.TheVariants.{Enters, Gone, Cleared}
 use Rattle.trace_stays.specs.declared.stay.Held.{Held}
 use Rattle.trace_stays.specs.declared.stay.Stay.{Stay}
+use Rattle.trace_windows.specs.Runs.{AreInOrder}
 use Rattle.trace_windows.specs.Uses.{one_if}
-use Rattle.view_laws.specs.Reading.{AreInOrder, up_to}
+use Rattle.view_laws.specs.Reading.{up_to}
 use Rattle.view_laws.specs.Shown.{HasOwnWord}
 use Rattle.view_laws.specs.Ticks.{has_tick, is_running, running_in, runs_told}
 use Rattle.view_laws.proofs.Shown.{AreToldApart, ToldApart, own_word, same_turned}

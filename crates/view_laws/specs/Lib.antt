@@ -6,3 +6,4 @@ pub mod Modes
 pub mod Starts
 pub mod Counted
 pub mod Reports
+pub mod Drawn

@@ -1,5 +1,5 @@
 -- What the lines of a trace say of one tick, read up to this tick.
-use Rattle.std.specs.Prelude.{◌≡◌, ◌≤◌, ℕ, Bool, true, false, nat_lt, if◌then◌else◌, List, [], ◌∷◌, Option, Some, None, slice_get}
+use Rattle.std.specs.Prelude.{◌≡◌, ℕ, Bool, true, false, nat_lt, if◌then◌else◌, List, [], ◌∷◌, Option, Some, None, slice_get}
 use Rattle.apex_types.specs.declared.event.Event.{Event}
 use Rattle.apex_types.specs.declared.event.Subject.{Subject}
 use Rattle.kernel_meaning.specs.Windows.{Schedule, owner, tick_from}
@@ -11,11 +11,6 @@ use Rattle.trace_windows.specs.declared.usage.Use.{Use}
 use Rattle.trace_windows.specs.declared.usage.Use.TheVariants.{Unowned, Down}
 
 -- ---- the lines
-
--- the lines are in the order of their ticks, and none is of a tick before `from`
-abbrev pub AreInOrder : (from : ℕ) → List Event → Type 0
-AreInOrder from [] = Unit {0}
-AreInOrder from (e ∷ es) = (from ≤ e.tick.0) × AreInOrder e.tick.0 es
 
 -- those before the first line of a later tick
 abbrev pub up_to : ℕ → List Event → List Event

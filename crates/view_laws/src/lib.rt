@@ -2,6 +2,7 @@
 //! The functions do nothing, and promise a law each.
 #![tactic(auto)]
 
+pub mod drawings;
 pub mod reports;
 pub mod states;
 pub mod uses;

@@ -24,9 +24,10 @@ ghost use Rattle.pal_meaning.specs.Program.{Program};
 ghost use Rattle.pal_meaning.specs.SourceControl.{SourceControl};
 ghost use Rattle.state_laws.specs.Told.{told};
 ghost use Rattle.trace_stays.specs.Traces.{mode_behind_all, modes_in, stays_in};
+ghost use Rattle.trace_windows.specs.Runs.{AreInOrder};
 ghost use Rattle.trace_windows.specs.Uses.{one_if};
 ghost use Rattle.view_laws.specs.Modes.{is_held, is_same_mode, mode_in};
-ghost use Rattle.view_laws.specs.Reading.{AreInOrder, up_to};
+ghost use Rattle.view_laws.specs.Reading.{up_to};
 ghost use Rattle.view_laws.specs.Shown.{HasOwnWord, ShowsState, mode_shown, state_shown};
 ghost use Rattle.view_laws.specs.Ticks.{is_resting, is_same_state, running_in, runs_in_tick, runs_told, state_in, works_in_tick};
 

@@ -14,11 +14,11 @@ ghost use Rattle.module_meaning.specs.Table.{Table};
 ghost use Rattle.pal_meaning.specs.Program.{Program};
 ghost use Rattle.state_laws.specs.Spending.{owner_in};
 ghost use Rattle.trace_windows.specs.Frames as frames;
-ghost use Rattle.trace_windows.specs.Runs.{AreBefore, AreSharesOf};
+ghost use Rattle.trace_windows.specs.Runs.{AreBefore, AreInOrder, AreSharesOf};
 ghost use Rattle.trace_windows.specs.Standings.{at_first};
 ghost use Rattle.trace_windows.specs.Uses.{use_of};
 ghost use Rattle.trace_windows.specs.declared.counted.Row.{Row};
-ghost use Rattle.view_laws.specs.Reading.{AreInOrder, HaveOwnNames, up_to, use_told};
+ghost use Rattle.view_laws.specs.Reading.{HaveOwnNames, up_to, use_told};
 ghost use Rattle.view_laws.specs.Spent.{AreSpent, names_of_image, names_of_table, use_in};
 
 /// What the views count for a tick is what the lines up to it tell: after a shutdown nothing, in no

@@ -1,0 +1,16 @@
+use Rattle.std.proofs.Common.{rules, List, subst, sym}
+use Rattle.trace_picture.proofs.Drawn.{has_kept}
+use Rattle.trace_stays.specs.Following.{AreInPlace, AreKept, HasFollowed}
+use Rattle.trace_stays.specs.declared.lanes.Ended.{Ended}
+use Rattle.trace_stays.specs.declared.lanes.Lanes.{Lanes}
+use Rattle.trace_picture.proofs.picture.Picture.keep_line.Goals as goal
+
+pub returns-clause-kept : goal.returns-clause-kept
+returns-clause-kept c =
+    let old = c.args.self.now in
+    let new = c.mark.new.self in
+    let mid = c.follow.new.self in
+    let over = c.follow.new.ended.items in
+    let stays = c.keep_stays.ensures.others.1 in
+    has_kept c.args.event.now old new mid over c.keep_stays.new.self.shapes.items (subst (λ (es : List Ended). HasFollowed c.args.event.now old.lanes mid es over) (search rules) c.in_ok-follow.ensures) (search rules)
+    (subst (λ (l : Lanes). AreKept l new.lanes) stays c.in_ok-mark.ensures.kept) (subst (λ (l : Lanes). AreInPlace l new.lanes) stays c.in_ok-mark.ensures.places) c.in_ok-mark.ensures.bars
