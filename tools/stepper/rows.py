@@ -1,0 +1,113 @@
+"""The rows of a state (docs/STATE.md), what they say, and how two states differ."""
+
+from collections.abc import Iterator
+from typing import Any
+
+Row = dict[str, Any]
+# Rows that another row comes before say with their second key to what they belong.
+BELONGING = ("message", "waiter", "stack")
+
+
+def text_of(value: Any) -> str:
+    if isinstance(value, list):
+        return " ".join(map(str, value))
+    return "-" if value is None else str(value)
+
+
+def words_of(row: Row) -> str:
+    """A row as `mb state` writes it without --json."""
+    return " ".join([text_of(row["partition"]), *(f"{key} {text_of(row[key])}" for key in list(row)[1:])])
+
+
+def kind_of(row: Row) -> str:
+    """What the row is of: its first key after the partition."""
+    return list(row)[1]
+
+
+def named(row: Row) -> dict[str, Any]:
+    """The keys that tell the row apart from all others of its kind and partition."""
+    kind = kind_of(row)
+    keys = [] if kind in ("tick", "owner", "mode") else list(row)[1 : 3 if kind in BELONGING else 2]
+    return {it: row[it] for it in keys}
+
+
+def name_of(row: Row) -> tuple[Any, ...]:
+    return (row["partition"], kind_of(row), *named(row).values())
+
+
+def has(row: Row, words: list[str]) -> bool:
+    """Whether the row has the words: its partition, then keys with their values. `_` stands for any word, and of several values the first may do."""
+    partition, *rest = words
+    if partition not in ("_", text_of(row["partition"])):
+        return False
+    while rest:
+        key, *rest = rest
+        if key not in row or key == "partition":
+            return False
+        values = text_of(row[key]).split()
+        if any(wanted not in ("_", value) for wanted, value in zip(rest, values)):
+            return False
+        rest = rest[len(values) :]
+    return True
+
+
+def without_time(row: Row) -> Row | None:
+    """The row without what changes in every tick."""
+    return None if "tick" in row else {key: value for key, value in row.items() if key != "spent"}
+
+
+class State:
+    """The state before a tick."""
+
+    def __init__(self, rows: list[Row]):
+        self.rows = rows
+        self.tick: int = rows[0]["tick"]
+        self.origin: int | None = rows[0]["origin"]
+        self.owner: Row = next(self.of("owner"), {"owner": None, "begin": None, "end": None, "ended": None})
+
+    def of(self, kind: str, partition: str | None = None) -> Iterator[Row]:
+        """The rows of a kind, of all partitions or of one."""
+        return (it for it in self.rows if kind in it and kind_of(it) == kind and partition in (None, it["partition"]))
+
+    def one(self, kind: str, partition: str, name: str) -> Row | None:
+        """The row of a process."""
+        return next((it for it in self.of(kind, partition) if it[kind] == name), None)
+
+    def running(self, partition: str) -> Row | None:
+        """Where the process is that was chosen last in the partition, and has not stopped since."""
+        mode = next(self.of("mode", partition))
+        return self.one("runner", partition, mode["running"]) if mode["running"] else None
+
+    def said(self, words: list[str]) -> list[Row]:
+        """What the rows with these words say, but for what changes in every tick."""
+        return [it for row in self.rows if has(row, words) and (it := without_time(row))]
+
+
+def differences(old: State, new: State) -> list[tuple[str, str]]:
+    """What is not the same in two states, each with the kind of its row, in the order of the rows."""
+    before = {name_of(it): it for it in old.rows}
+    after = {name_of(it): it for it in new.rows}
+    found = [(kind_of(it), f"gone: {words_of(it)}") for name, it in before.items() if name not in after]
+    for name, row in after.items():
+        if name not in before:
+            found.append((kind_of(row), f"new: {words_of(row)}"))
+        elif "tick" not in row:
+            found += [(kind_of(row), it) for it in between(before[name], row)]
+    return found
+
+
+def between(old: Row, new: Row) -> Iterator[str]:
+    """What two rows of one thing say differently. Words of data and of a stack are counted on from the place of their row."""
+    kind = kind_of(new)
+    title = " ".join([text_of(new["partition"]), *(f"{key} {text_of(it)}" for key, it in named(new).items())] if named(new) else [text_of(new["partition"]), kind])
+    if kind not in ("data", "stack"):
+        for key in new:
+            if key != "spent" and old.get(key) != new[key]:
+                yield f"{title}: {key} {text_of(old.get(key))} -> {text_of(new[key])}"
+        return
+    title = title.replace(f"{kind} {new[kind]}", kind, 1)
+    for place, (one, other) in enumerate(zip(old["values"], new["values"]), new[kind]):
+        if one != other:
+            yield f"{title} word {place}: {one} -> {other}"
+    if len(old["values"]) != len(new["values"]):
+        yield f"{title}: {len(old['values'])} -> {len(new['values'])} words from {new[kind]} on"
