@@ -35,25 +35,31 @@ def name_of(row: Row) -> tuple[Any, ...]:
     return (row["partition"], kind_of(row), *named(row).values())
 
 
-def has(row: Row, words: list[str]) -> bool:
-    """Whether the row has the words: its partition, then keys with their values. `_` stands for any word, and of several values the first may do."""
+def fitted(row: Row, words: list[str]) -> dict[str, list[str]] | None:
+    """The values that the words want of the keys of the row, if it has them all. `_` is any word, and of several values the first may do."""
     partition, *rest = words
+    wanted = {}
     if partition not in ("_", text_of(row["partition"])):
-        return False
+        return None
     while rest:
         key, *rest = rest
         if key not in row or key == "partition":
-            return False
+            return None
         values = text_of(row[key]).split()
-        if any(wanted not in ("_", value) for wanted, value in zip(rest, values)):
-            return False
-        rest = rest[len(values) :]
-    return True
+        wanted[key], rest = rest[: len(values)], rest[len(values) :]
+        if any(it not in ("_", value) for it, value in zip(wanted[key], values)):
+            return None
+    return wanted
 
 
-def without_time(row: Row) -> Row | None:
-    """The row without what changes in every tick."""
-    return None if "tick" in row else {key: value for key, value in row.items() if key != "spent"}
+def has(row: Row, words: list[str]) -> bool:
+    return fitted(row, words) is not None
+
+
+def said(row: Row, wanted: dict[str, list[str]]) -> Any:
+    """What is watched in a row: the value of the last key, if no value is wanted of it; else all but what changes in every tick."""
+    key = list(wanted)[-1]
+    return {it: value for it, value in row.items() if it not in ("tick", "spent")} if wanted[key] else row[key]
 
 
 class State:
@@ -78,9 +84,9 @@ class State:
         mode = next(self.of("mode", partition))
         return self.one("runner", partition, mode["running"]) if mode["running"] else None
 
-    def said(self, words: list[str]) -> list[Row]:
-        """What the rows with these words say, but for what changes in every tick."""
-        return [it for row in self.rows if has(row, words) and (it := without_time(row))]
+    def said(self, words: list[str]) -> list[Any]:
+        """What the rows with these words say."""
+        return [said(row, wanted) for row in self.rows if (wanted := fitted(row, words)) is not None]
 
 
 def differences(old: State, new: State) -> list[tuple[str, str]]:
