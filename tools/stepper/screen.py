@@ -6,7 +6,7 @@ import time
 from .session import Session, Wrong
 
 BOLD_FIRST = ("before tick", "trace of", "code of", "changed since")
-KEYS = "type a command and Enter; Enter alone repeats it; `help` lists them; PgUp and PgDn scroll; Ctrl-C ends a search; `quit` ends"
+KEYS = "Enter repeats a command; `help` lists them; PgUp and PgDn scroll; Ctrl-C ends a search"
 ENTER, ESCAPE, ERASE, END_OF_INPUT = ("\n", "\r"), "\x1b", ("\x7f", "\b"), "\x04"
 
 
@@ -14,7 +14,7 @@ class Screen:
     def __init__(self, window: curses.window, session: Session):
         self.window = window
         self.session = session
-        self.shown = session.view()
+        self.shown = [*session.view(), "", *session.help([])]
         self.first = 0
         self.typed = ""
         self.told = KEYS

@@ -9,6 +9,15 @@ from .rows import State
 
 # What a search does at each state, so that somebody may see how far it is.
 Watch = Callable[[int], None]
+# How many states a search looks at. Each is a call of `mb state`, so more would take minutes.
+MOST_STATES = 10_000
+
+
+class Exhausted(Exception):
+    """A search has looked at too many states. It has come to this tick."""
+
+    def __init__(self, tick: int):
+        self.tick = tick
 
 
 class Lines:
@@ -34,25 +43,31 @@ class Lines:
 
 class Changes:
     """The ticks in which what `value` makes of a state becomes another, and one that `wanted` accepts. The state is of one partition or of all, and the value
-    does not depend on the tick itself, or on the ticks that an instruction has spent."""
+    does not depend on the tick itself, or on the ticks that an instruction has spent. Whose the tick is may count or not."""
 
-    def __init__(self, module: Module, partition: str | None, value: Callable[[State], Any], wanted: Callable[[Any], bool] = lambda _: True):
+    def __init__(self, module: Module, partition: str | None, value: Callable[[State], Any], wanted: Callable[[Any], bool] = lambda _: True, with_owner: bool = False):
         self.module = module
         self.partition = partition
         self.value = value
         self.wanted = wanted
+        self.with_owner = with_owner
+        self.looked = 0
 
     def state(self, tick: int) -> State:
+        if self.looked == MOST_STATES:
+            raise Exhausted(tick)
+        self.looked += 1
         return self.module.state(tick, self.partition)
 
     def stops(self, begin: int, end: int, watch: Watch) -> Iterator[int]:
         old = self.value(self.state(begin))
         with closing(self.module.lines(begin, end)) as lines:
-            line = next(lines, (end, ""))[0]
+            ticks = (tick for tick, it in lines if self.partition is None or it.split(" ", 2)[1] in (self.partition, "-"))
+            line = next(ticks, end)
             while begin < end:
                 watch(begin)
                 while line < begin:
-                    line = next(lines, (end, ""))[0]
+                    line = next(ticks, end)
                 begin = self.next_change(begin, min(line, end)) if line > begin else begin + 1
                 new = self.value(self.state(begin))
                 if new != old and self.wanted(new):
@@ -63,13 +78,16 @@ class Changes:
         """The first tick whose state may differ from the one before `tick`, if there is no line before `end`. Without a line no process is chosen and none
         stops. So only the one that runs changes something, when its instruction ends: then it has spent fewer ticks than have gone by."""
         state = self.state(tick)
+        runners = {it["partition"]: state.running(it["partition"]) for it in state.of("mode")}
+        if not self.with_owner and not any(runners.values()):
+            return end
         if state.owner["ended"]:
             return tick + 1
         end = min(end, self.module.next_edge(state, tick) or end)
-        owner = state.owner["partition" if "owner" not in state.owner else "owner"]
-        if owner is None or self.partition not in (None, owner) or not state.running(owner):
+        owner = state.owner["owner"]
+        begun = runners.get(owner)
+        if not begun:
             return end
-        begun = state.running(owner)
 
         def goes_on(at: int) -> bool:
             now = self.state(at).running(owner)

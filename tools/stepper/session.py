@@ -4,9 +4,9 @@ from collections import deque
 from collections.abc import Callable
 from typing import Any
 
-from .module import Module, Refused
-from .rows import State, differences, has, kind_of, words_of
-from .searching import Changes, Lines, Watch, first_stop, last_stop
+from .module import Module
+from .rows import State, differences, has, words_of
+from .searching import Changes, Exhausted, Lines, Watch, first_stop, last_stop
 from .showing import HIDDEN, header_of, of_code, of_partition
 
 MOST_LINES, MOST_CHANGES, MOST_TICKS = 12, 10, 1 << 40
@@ -70,7 +70,8 @@ class Session:
         """Shows the state before a tick, or says that a search up to `where` found none."""
         if tick is None:
             self.missed = True
-            return [f"nothing found up to tick {where}; this is still the state before tick {self.at}"]
+            ticks = f"{self.at} to {where}" if where > self.at else f"{where} to {self.at}"
+            return [f"nothing found from tick {ticks}; this is still the state before tick {self.at}"]
         if tick == self.at:
             return [f"this is the state before tick {tick} already"]
         self.shown.append(self.at)
@@ -89,13 +90,15 @@ class Session:
         return self.go(min(number(words[0]), self.end), 0)
 
     def search(self, search: Lines | Changes, back: bool) -> list[str]:
-        if back:
-            begin = max(self.at - self.reach, 0)
-            return self.go(last_stop(search, begin, self.at, self.watch), begin)
-        end = min(self.at + self.reach, self.end)
-        return self.go(first_stop(search, self.at, end, self.watch), end)
+        begin, end = max(self.at - self.reach, 0), min(self.at + self.reach, self.end)
+        try:
+            found = last_stop(search, begin, self.at, self.watch) if back else first_stop(search, self.at, end, self.watch)
+        except Exhausted as why:
+            return self.go(None, why.tick)
+        return self.go(found, begin if back else end)
 
     def line(self, words: list[str], back: bool = False) -> list[str]:
+        self.judge_partition(words[:1])
         return self.search(Lines(self.module, words), back)
 
     def step(self, words: list[str], back: bool = False) -> list[str]:
@@ -110,14 +113,20 @@ class Session:
 
     def until(self, words: list[str], back: bool = False) -> list[str]:
         self.judge(words)
-        return self.search(Changes(self.module, self.partition_in(words), lambda state: any(has(it, words) for it in state.rows), bool), back)
+        search = Changes(self.module, self.partition_in(words), lambda state: any(has(it, words) for it in state.rows), bool, "owner" in words)
+        return self.search(search, back)
 
     def run(self, words: list[str], back: bool = False) -> list[str]:
         if words or not self.watched:
             raise Wrong("run takes no words" if words else "nothing is watched; `watch WORD..` does")
         partitions = {self.partition_in(it) for it in self.watched}
         partition = partitions.pop() if len(partitions) == 1 else self.partition
-        return self.search(Changes(self.module, partition, lambda state: [state.said(it) for it in self.watched]), back)
+        owner = any("owner" in it for it in self.watched)
+        search = Changes(self.module, partition, lambda state: [state.said(it) for it in self.watched], with_owner=owner)
+        came = self.at
+        shown = self.search(search, back)
+        old, new = (search.value(self.state(it)) for it in (self.at - 1, self.at))
+        return shown if self.at == came else [*(f"watched {it}" for it, *values in zip(self.watch_rows([]), old, new) if values[0] != values[1]), *shown]
 
     def back(self, words: list[str]) -> list[str]:
         if not words:
@@ -133,10 +142,16 @@ class Session:
 
     # ---- words
 
+    def judge_partition(self, words: list[str]) -> None:
+        known = ["-", "_", *self.module.code]
+        if any(it not in known for it in words):
+            raise Wrong(f"the first word is a partition: {', '.join(known)}")
+
     def judge(self, words: list[str]) -> None:
-        partitions = {"-", "_", *self.module.code}
-        if len(words) < 2 or words[0] not in partitions:
-            raise Wrong(f"the words are a partition ({', '.join(sorted(partitions))}), then keys with values as in `rows`")
+        """Refuses words that are none of a row, or of what changes in every tick."""
+        self.judge_partition(words[:1])
+        if len(words) < 2:
+            raise Wrong("the words are a partition, then keys with values, as `rows` shows them")
         if "tick" in words or "spent" in words:
             raise Wrong("`tick` and `spent` change with every tick")
 
@@ -178,6 +193,7 @@ class Session:
         return self.watch_rows([])
 
     def rows(self, words: list[str]) -> list[str]:
+        self.judge_partition(words[:1])
         return [words_of(it) for it in self.state().rows if not words or has(it, words)] or ["no row has these words"]
 
     def changes(self, _: list[str]) -> list[str]:
@@ -201,8 +217,9 @@ class Session:
         begin, count = max(since, self.at - self.reach, 0), 0
         last: deque[str] = deque(maxlen=MOST_LINES)
         for _, line in self.module.lines(begin, self.at):
-            last.append(f"  {line}")
-            count += 1
+            if self.partition in (None, line.split(" ", 2)[1]):
+                last.append(f"  {line}")
+                count += 1
         title = f"trace of tick {begin}" if begin + 1 == self.at else f"trace of ticks {begin} to {self.at - 1}"
         if self.at == 0:
             return []

@@ -5,7 +5,7 @@ from collections.abc import Iterator
 from .rows import Row, State
 
 # Rows that are shown in another way than as a change, or of which only `changes` speaks.
-HIDDEN = ("owner", "mode", "process", "waits", "ready", "runner", "stack", "waiter")
+HIDDEN = ("owner", "mode", "process", "waits", "ready", "runner", "stack")
 NEAR = 2
 
 
@@ -19,9 +19,9 @@ def header_of(state: State) -> str:
 
 
 def of_partition(state: State, mode: Row) -> list[str]:
-    """The mode of a partition, and its processes, without those that do nothing yet."""
+    """The mode of a partition, and its processes, without those that are not created."""
     partition = mode["partition"]
-    processes = [it for it in state.of("process", partition) if it["number"] is not None or it["state"] != "DORMANT"]
+    processes = [it for it in state.of("process", partition) if it["created"] or it["state"] != "DORMANT"]
     name, word, priority = (max((len(str(it[key])) for it in processes), default=0) for key in ("process", "state", "priority"))
     mark = mode["running"] if state.owner["owner"] == partition else None
     shown = [f"{partition} {mode['mode']}" + (f", locked by {mode['holder']}" if mode["holder"] else "")]

@@ -33,7 +33,9 @@ def follow(session: Session) -> int:
     for line in sys.stdin:
         print(f"> {line.rstrip()}")
         try:
-            print("\n".join(session.do(line.rstrip("\n"))), flush=True)
+            for it in session.do(line):
+                print(it)
+            sys.stdout.flush()
         except Wrong as why:
             sys.stdout.flush()
             print(f"{NAME}: {why}", file=sys.stderr)
