@@ -11,13 +11,14 @@ use Rattle.streams.specs.States.{HasFailed}
 use Rattle.streams.specs.declared.names.NameFault.{NameFault}
 use Rattle.streams.specs.declared.names.NameFault.TheVariants as source
 use Rattle.view_command.specs.Faults.{IsUnopened, of_source}
-use Rattle.view_command.specs.declared.refusal.Refusal.TheVariants.{Open, Read, Line, Late, TooMany, Crowded, Table, Foreign, Unknown, Memory, Write}
-use Rattle.view_command.specs.Answers.{IsRefused, IsRefusedByTable, IsTableRefused, IsUnread}
+use Rattle.view_command.specs.declared.refusal.Refusal.TheVariants.{Open, Read, Line, Late, TooMany, Crowded, Table, NoRow, Foreign, Unknown, Memory, Write}
+use Rattle.view_command.specs.Answers.{AreStatesRefused, IsRefused, IsRefusedByStates, IsRefusedByTable, IsTableRefused, IsUnread}
 use Rattle.view_command.specs.Lines.{called}
 use Rattle.view_command.specs.States.{IsUntouched, State}
 use Rattle.view_command.specs.Texts.{IsTable, IsTraceIn, IsTraceOf}
 use Rattle.view_command.specs.declared.refusal.Refusal.{Refusal}
 use Rattle.view_command.proofs.Compared.{unread_in}
+use Rattle.trace_page.specs.States.{wrong_line}
 use Rattle.window_table.specs.Answers.{AnswersText}
 use Rattle.window_table.specs.declared.table.ModuleTable.{ModuleTable}
 
@@ -37,6 +38,18 @@ asked_refused texts asked name before after r (Ok x) is h passed = tt
 asked_refused texts None name before after r (Err e) is h passed = absurd cc
 asked_refused texts (Some n) name before after r (Err e) is h passed =
     subst (λ (v : Refusal). IsRefusedByTable texts n before after v) (sym passed.1) (subst (λ (m : List ℕ). IsRefusedByTable texts m before after r) (sym (same_Some n name is)) h)
+
+-- the states that are asked for are refused
+pub states_refused : {A : Type 0} (texts : Option Contents) (asked : Option (List ℕ)) (name : List ℕ) (before after : State) (r : Refusal) (answer : Result A Refusal) → asked ≡ Some name
+    → IsRefusedByStates texts name before after r → IsErr answer × IsErrAnd answer (λ e. e ≡ r) → IfErr answer (λ e. AreStatesRefused texts asked before after e)
+states_refused texts asked name before after r (Ok x) is h passed = tt
+states_refused texts None name before after r (Err e) is h passed = absurd cc
+states_refused texts (Some n) name before after r (Err e) is h passed =
+    subst (λ (v : Refusal). IsRefusedByStates texts n before after v) (sym passed.1) (subst (λ (m : List ℕ). IsRefusedByStates texts m before after r) (sym (same_Some n name is)) h)
+
+pub states_read : (left : Option (List ℕ)) (text : List ℕ) → IfSome left (λ xs. text ≡ xs) → wrong_line text ≡ None → IfSome left (λ xs. wrong_line xs ≡ None)
+states_read None text same is = tt
+states_read (Some xs) text same is = subst (λ (v : List ℕ). wrong_line v ≡ None) same is
 
 -- ---- a text that is not opened
 
@@ -58,6 +71,7 @@ trace_unopened texts ran name before after mid (Late number shown) out same h = 
 trace_unopened texts ran name before after mid TooMany out same h = absurd h
 trace_unopened texts ran name before after mid (Crowded shapes from until elements) out same h = absurd h
 trace_unopened texts ran name before after mid (Table fault shown) out same h = absurd h
+trace_unopened texts ran name before after mid (NoRow number shown) out same h = absurd h
 trace_unopened texts ran name before after mid (Foreign partition) out same h = absurd h
 trace_unopened texts ran name before after mid (Unknown line) out same h = absurd h
 
@@ -90,6 +104,27 @@ table_unopened texts name before after r (Err e) out h passed = subst (λ (v : R
     go TooMany h = absurd h
     go (Crowded shapes from until elements) h = absurd h
     go (Table fault shown) h = absurd h
+    go (NoRow number shown) h = absurd h
+    go (Foreign partition) h = absurd h
+    go (Unknown line) h = absurd h
+
+-- the states
+pub states_unopened : {A : Type 0} (texts : Option Contents) (name : List ℕ) (before after : State) (r : Refusal) (answer : Result A Refusal)
+    → after.out ≡ before.out → IsUnopened name before.unopened after.unopened r → IsErr answer × IsErrAnd answer (λ e. e ≡ r) → IfErr answer (λ e. IsRefusedByStates texts name before after e)
+states_unopened texts name before after r (Ok x) out h passed = tt
+states_unopened texts name before after r (Err e) out h passed = subst (λ (v : Refusal). IsRefusedByStates texts name before after v) (sym passed.1) (go r h)
+  where
+    go : (r : Refusal) → IsUnopened name before.unopened after.unopened r → IsRefusedByStates texts name before after r
+    go (Open shown) h = (out, h.0, h.1)
+    go Memory h = (h, out)
+    go Write h = absurd h
+    go (Read shown) h = absurd h
+    go (Line number shown) h = absurd h
+    go (Late number shown) h = absurd h
+    go TooMany h = absurd h
+    go (Crowded shapes from until elements) h = absurd h
+    go (Table fault shown) h = absurd h
+    go (NoRow number shown) h = absurd h
     go (Foreign partition) h = absurd h
     go (Unknown line) h = absurd h
 

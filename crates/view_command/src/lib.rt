@@ -14,6 +14,7 @@ mod comparing;
 mod differences;
 mod dumping;
 mod grammar;
+mod module_states;
 mod naming;
 mod opening;
 mod options;
