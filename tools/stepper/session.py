@@ -62,6 +62,8 @@ class Session:
         if name not in COMMANDS:
             raise Wrong(f"there is no command `{name}`; `help` lists them")
         self.last = words
+        if name in MOVING and "step" not in (name, *map(SHORT.get, rest[:1]), *rest[:1]):
+            self.process = None
         return COMMANDS[name](self, rest)
 
     # ---- moving
@@ -175,7 +177,7 @@ class Session:
         """The process that is shown: that of the last `step`, or the one that runs."""
         owner = self.state().owner["owner"]
         mode = next(self.state().of("mode", owner), None) if owner else None
-        return self.process or (mode and mode["running"] and (owner, mode["running"]))
+        return self.process or ((owner, mode["running"]) if mode and mode["running"] else None)
 
     # ---- showing
 

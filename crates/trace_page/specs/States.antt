@@ -15,7 +15,7 @@ is_bare b = (nat_le 48 b && nat_le b 57) || (b == 45) || (nat_le 97 b && nat_le 
 
 -- what may be in quotation marks: no control character, and no backslash
 abbrev pub is_plain : ℕ → Bool
-is_plain b = nat_le 32 b && if b == 92 then false else true
+is_plain b = if b == 92 then false else nat_le 32 b
 
 abbrev pub only : ℕ → ℕ → Place → Option Place
 only wanted b next = if b == wanted then Some next else None
