@@ -35,31 +35,28 @@ def name_of(row: Row) -> tuple[Any, ...]:
     return (row["partition"], kind_of(row), *named(row).values())
 
 
-def fitted(row: Row, words: list[str]) -> dict[str, list[str]] | None:
-    """The values that the words want of the keys of the row, if it has them all. `_` is any word, and of several values the first may do."""
-    partition, *rest = words
-    wanted = {}
-    if partition not in ("_", text_of(row["partition"])):
+def fitted(words: list[str], told: list[str]) -> list[str] | None:
+    """The words for which `_` stands, if what is told begins with the words. `..` stands for any words, or none. `mb state --until` has the same rule."""
+    if not words:
+        return []
+    first, rest = words[0], words[1:]
+    if first == "..":
+        ends = (fitted(rest, told[at:]) for at in range(len(told) + 1))
+        return next((it for it in ends if it is not None), None)
+    if not told or first not in ("_", told[0]):
         return None
-    while rest:
-        key, *rest = rest
-        if key not in row or key == "partition":
-            return None
-        values = text_of(row[key]).split()
-        wanted[key], rest = rest[: len(values)], rest[len(values) :]
-        if any(it not in ("_", value) for it, value in zip(wanted[key], values)):
-            return None
-    return wanted
+    found = fitted(rest, told[1:])
+    return found if found is None or first != "_" else [told[0], *found]
 
 
 def has(row: Row, words: list[str]) -> bool:
-    return fitted(row, words) is not None
+    """Whether the row begins with the words."""
+    return fitted(words, words_of(row).split()) is not None
 
 
-def said(row: Row, wanted: dict[str, list[str]]) -> Any:
-    """What is watched in a row: the value of the last key, if no value is wanted of it; else all but what changes in every tick."""
-    key = list(wanted)[-1]
-    return {it: value for it, value in row.items() if it not in ("tick", "spent")} if wanted[key] else row[key]
+def said(row: Row, words: list[str]) -> Any:
+    """What is watched in a row with the words: those for which `_` stands; else all but what changes in every tick."""
+    return fitted(words, words_of(row).split()) or {key: value for key, value in row.items() if key not in ("tick", "spent")}
 
 
 class State:
@@ -86,7 +83,7 @@ class State:
 
     def said(self, words: list[str]) -> list[Any]:
         """What the rows with these words say."""
-        return [said(row, wanted) for row in self.rows if (wanted := fitted(row, words)) is not None]
+        return [said(it, words) for it in self.rows if has(it, words)]
 
 
 def differences(old: State, new: State) -> list[tuple[str, str]]:

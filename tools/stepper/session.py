@@ -14,13 +14,13 @@ HELP = """\
 tick [N]          t   on by N ticks, by one without a number
 line [WORD..]     l   on to the next line of the trace, or to one that has these words behind its tick; _ is any word
 step [PROCESS]    s   on until the process is at another instruction: one of this name, or the one that is shown
-until WORD..      u   on until a row of the state has these words: a partition, then keys with values; _ is any word
-watch WORD..      w   watches what the rows with these words say; without words lists what is watched
+until WORD..      u   on until a row of the state begins with these words; _ is any word, .. are any words
+watch WORD..      w   watches the rows that begin with these words, or only the words for which _ stands; without words lists what is watched
 drop N                no longer watches number N
 run               r   on until something that is watched changes
 to TICK           g   to the state before this tick
 back COMMAND      b   back by one of tick, line, step, until and run, as they go on; back alone: to the state shown before
-rows [WORD..]         all rows of the state, or those that have these words
+rows [WORD..]         all rows of the state, or those that begin with these words
 changes           c   all that changed since the state shown before
 help              h   these lines
 quit              q   ends
@@ -153,7 +153,7 @@ class Session:
         """Refuses words that are none of a row, or of what changes in every tick."""
         self.judge_partition(words[:1])
         if len(words) < 2:
-            raise Wrong("the words are a partition, then keys with values, as `rows` shows them")
+            raise Wrong("the words are the first ones of a row, as `rows` shows them")
         if "tick" in words or "spent" in words:
             raise Wrong("`tick` and `spent` change with every tick")
 
@@ -196,7 +196,7 @@ class Session:
 
     def rows(self, words: list[str]) -> list[str]:
         self.judge_partition(words[:1])
-        return [words_of(it) for it in self.state().rows if not words or has(it, words)] or ["no row has these words"]
+        return [words_of(it) for it in self.state().rows if not words or has(it, words)] or ["no row begins with these words"]
 
     def changes(self, _: list[str]) -> list[str]:
         if not self.shown:
