@@ -31,15 +31,17 @@ def program() -> str:
 
 
 class Module:
-    """The image of a module with a device text. Both are copies, so that a session shows one run, whatever becomes of the files."""
+    """A module with a device text. All are copies, so that a session shows one run, whatever becomes of the files."""
 
     def __init__(self, table: str, devices: str, sources: list[str]):
         self.mb = program()
         self.folder = tempfile.TemporaryDirectory(prefix="mb-step-")
-        self.image, self.devices = (str(Path(self.folder.name) / it) for it in ("image", "devices"))
+        self.image = str(Path(self.folder.name) / "image")
         self.told("build", "--explain", table, self.image, *sources)
         self.told("run", "--explain", self.image, devices, "0")
-        shutil.copyfile(devices, self.devices)
+        self.table, self.devices, *self.sources = (shutil.copy(it, f"{self.image}_{place}") for place, it in enumerate([table, devices, *sources]))
+        # An `mb` that knows the names of sources writes them into its states.
+        self.has_names = "--sources" in self.told("help", "state")
         self.state = functools.lru_cache(maxsize=1024)(self._state)
         top = tomllib.loads(Path(table).read_text())
         self.frame = top["frame"]
@@ -57,8 +59,11 @@ class Module:
 
     def _state(self, tick: int, partition: str | None = None) -> State:
         """The state before a tick, of all partitions or of one."""
-        chosen = ["--partition", partition] if partition else []
-        text = self.told("state", "--json", *chosen, self.image, self.devices, str(tick))
+        words = ["state", "--json", *(["--partition", partition] if partition else [])]
+        if self.has_names:
+            text = self.told(*words, "--sources", self.table, self.devices, str(tick), *self.sources)
+        else:
+            text = self.told(*words, self.image, self.devices, str(tick))
         return State([json.loads(it) for it in text.splitlines()])
 
     def lines(self, begin: int, end: int) -> Iterator[tuple[int, str]]:

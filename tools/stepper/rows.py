@@ -4,8 +4,10 @@ from collections.abc import Iterator
 from typing import Any
 
 Row = dict[str, Any]
-# Rows that another row comes before say with their second key to what they belong.
-BELONGING = ("message", "waiter", "stack")
+# How many keys of a row tell it apart from the others of its kind and partition, where that is not its first one alone.
+NAMING = {"tick": 0, "owner": 0, "mode": 0, "message": 2, "waiter": 2, "stack": 2, "array": 2, "frame": 2, "local": 3}
+# Rows of values, whose first key is the place of the first of them.
+OF_VALUES = ("data", "stack", "array")
 
 
 def text_of(value: Any) -> str:
@@ -26,8 +28,7 @@ def kind_of(row: Row) -> str:
 
 def named(row: Row) -> dict[str, Any]:
     """The keys that tell the row apart from all others of its kind and partition."""
-    kind = kind_of(row)
-    keys = [] if kind in ("tick", "owner", "mode") else list(row)[1 : 3 if kind in BELONGING else 2]
+    keys = list(row)[1 : 1 + NAMING.get(kind_of(row), 1)]
     return {it: row[it] for it in keys}
 
 
@@ -103,12 +104,12 @@ def between(old: Row, new: Row) -> Iterator[str]:
     """What two rows of one thing say differently. Words of data and of a stack are counted on from the place of their row."""
     kind = kind_of(new)
     title = " ".join([text_of(new["partition"]), *(f"{key} {text_of(it)}" for key, it in named(new).items())] if named(new) else [text_of(new["partition"]), kind])
-    if kind not in ("data", "stack"):
+    if kind not in OF_VALUES:
         for key in new:
             if key != "spent" and old.get(key) != new[key]:
                 yield f"{title}: {key} {text_of(old.get(key))} -> {text_of(new[key])}"
         return
-    title = title.replace(f"{kind} {new[kind]}", kind, 1)
+    title = title.replace(f"{kind} {new[kind]}", kind, 1).replace("array name", "array", 1)
     for place, (one, other) in enumerate(zip(old["values"], new["values"]), new[kind]):
         if one != other:
             yield f"{title} word {place}: {one} -> {other}"

@@ -7,7 +7,7 @@ from typing import Any
 from .module import Module
 from .rows import State, differences, has, words_of
 from .searching import Changes, Exhausted, Lines, Watch, first_stop, last_stop
-from .showing import HIDDEN, header_of, of_code, of_partition
+from .showing import DATA, HIDDEN, header_of, of_code, of_partition
 
 MOST_LINES, MOST_CHANGES, MOST_TICKS = 12, 10, 1 << 40
 HELP = """\
@@ -62,7 +62,7 @@ class Session:
         if name not in COMMANDS:
             raise Wrong(f"there is no command `{name}`; `help` lists them")
         self.last = words
-        if name in MOVING and "step" not in (name, *map(SHORT.get, rest[:1]), *rest[:1]):
+        if name in MOVING and "step" not in (SHORT.get(it, it) for it in words[:2]):
             self.process = None
         return COMMANDS[name](self, rest)
 
@@ -162,16 +162,16 @@ class Session:
 
     def named(self, words: list[str]) -> tuple[str, str]:
         """The process of these words: its name, with its partition before it if several have one of this name."""
+        focus = self.focus()
+        if not words and focus:
+            return focus
         if not words:
-            return self.focus() or self.none_runs()
+            raise Wrong("no process runs here; step [PARTITION] PROCESS")
         *partition, name = words
         found = [(it["partition"], name) for it in self.state().of("process", *partition[:1]) if it["process"] == name]
         if len(found) != 1 or len(words) > 2:
             raise Wrong(f"{len(found)} processes are called `{' '.join(words)}`; step [PARTITION] PROCESS")
         return found[0]
-
-    def none_runs(self) -> tuple[str, str]:
-        raise Wrong("no process runs here; step [PARTITION] PROCESS")
 
     def focus(self) -> tuple[str, str] | None:
         """The process that is shown: that of the last `step`, or the one that runs."""
@@ -228,7 +228,10 @@ class Session:
         return [f"{title}: {count or 'no'} line{'s' if count != 1 else ''}{', the last are' if count > MOST_LINES else ''}", *last]
 
     def changed(self, before: int) -> list[str]:
-        found = [f"  {it}" for kind, it in differences(self.state(before), self.state()) if kind not in HIDDEN]
+        """What changed since another state, data first, and then objects and ports."""
+        hidden = (*HIDDEN, "data") if self.module.has_names else HIDDEN
+        differs = sorted(differences(self.state(before), self.state()), key=lambda it: it[0] not in DATA)
+        found = [f"  {it}" for kind, it in differs if kind not in hidden]
         if not found:
             return []
         more = [f"  {len(found) - MOST_CHANGES} more; `changes` shows them"] if len(found) > MOST_CHANGES else []

@@ -5,7 +5,9 @@ from collections.abc import Iterator
 from .rows import Row, State
 
 # Rows that are shown in another way than as a change, or of which only `changes` speaks.
-HIDDEN = ("owner", "mode", "process", "waits", "ready", "runner", "stack")
+HIDDEN = ("owner", "mode", "process", "waits", "ready", "runner", "stack", "frame", "local")
+# Rows of what a program has written.
+DATA = ("data", "variable", "array")
 NEAR = 2
 
 
@@ -49,10 +51,14 @@ def of_instruction(runner: Row) -> str:
 
 
 def of_code(state: State, code: dict[str, list[str]], partition: str, name: str) -> list[str]:
-    """The instructions around the one where a process is."""
+    """The instructions around the one where a process is, and if names are known, from where it was called, and what the names stand for there."""
     runner = state.one("runner", partition, name)
     if not runner:
         return [f"{partition} {name} has nothing left to do"]
     at, listed = runner["pc"], code[partition]
     near = range(max(at - NEAR, 0), min(at + NEAR + 1, len(listed)))
-    return [f"code of {partition} {name}:", *(f"{'>' if it == at else ' ':>3} {it:5} {listed[it]}" for it in near)]
+    bodies = [it["body"] for it in state.of("frame", partition) if it["process"] == name]
+    chain = f", in {', called by '.join(bodies)}" if len(bodies) > 1 else ""
+    known = [f"{it['local']} {it['value']}" for it in state.of("local", partition) if it["process"] == name and it["frame"] == 0]
+    shown = [f"code of {partition} {name}{chain}:", *(f"{'>' if it == at else ' ':>3} {it:5} {listed[it]}" for it in near)]
+    return [*shown, f"    {', '.join(known)}"] if known else shown
