@@ -7,7 +7,7 @@ from .session import Session, Wrong
 
 BOLD_FIRST = ("before tick", "trace of", "code of", "changed since")
 KEYS = "Enter repeats a command; `help` lists them; PgUp and PgDn scroll; Ctrl-C ends a search"
-ENTER, ESCAPE, ERASE, END_OF_INPUT = ("\n", "\r"), "\x1b", ("\x7f", "\b"), "\x04"
+ENTER, ESCAPE, ERASE, END_OF_INPUT, AGAIN = ("\n", "\r"), "\x1b", ("\x7f", "\b"), "\x04", "\x0c"
 
 
 class Screen:
@@ -76,6 +76,8 @@ class Screen:
             self.typed = self.typed[:-1]
         elif key == ESCAPE:
             self.typed = ""
+        elif key == AGAIN:
+            self.window.clear()
         elif key == END_OF_INPUT and not self.typed:
             self.session.ended = True
         elif isinstance(key, str) and key.isprintable():

@@ -60,20 +60,25 @@ unopened name shown old new f r told is noted = subst (IsUnopened name old new) 
     go (source.Unavailable reason) noted = (is, noted)
     go source.Memory noted = noted
 
--- the trace, with the table taken
+of_unopened : (Q : Refusal → Type 0) (name : List ℕ) (old new : List (List ℕ)) (r : Refusal) → ((shown : String Global) → string_bytes shown ≡ called name → new ≡ old ++ name ∷ [] → Q (Open shown)) → (new ≡ old → Q Memory)
+    → IsUnopened name old new r → Q r
+of_unopened Q name old new (Open shown) opened full h = opened shown h.0 h.1
+of_unopened Q name old new Memory opened full h = full h
+of_unopened Q name old new Write opened full h = absurd h
+of_unopened Q name old new (Read shown) opened full h = absurd h
+of_unopened Q name old new (Line number shown) opened full h = absurd h
+of_unopened Q name old new (Late number shown) opened full h = absurd h
+of_unopened Q name old new TooMany opened full h = absurd h
+of_unopened Q name old new (Crowded shapes from until elements) opened full h = absurd h
+of_unopened Q name old new (Table fault shown) opened full h = absurd h
+of_unopened Q name old new (NoRow number shown) opened full h = absurd h
+of_unopened Q name old new (Foreign partition) opened full h = absurd h
+of_unopened Q name old new (Unknown line) opened full h = absurd h
+
+-- the trace, with the table and the states taken
 trace_unopened : (texts : Option Contents) (ran : Option ℕ) (name : List ℕ) (before after : State) (mid : List (List ℕ)) (r : Refusal) → after.out ≡ before.out → mid ≡ before.unopened → IsUnopened name mid after.unopened r → IsRefused texts ran name before after r
-trace_unopened texts ran name before after mid (Open shown) out same h = (out, h.0, h.1 ∙ ap (λ (l : List (List ℕ)). l ++ name ∷ []) same)
-trace_unopened texts ran name before after mid Memory out same h = (h ∙ same, out)
-trace_unopened texts ran name before after mid Write out same h = absurd h
-trace_unopened texts ran name before after mid (Read shown) out same h = absurd h
-trace_unopened texts ran name before after mid (Line number shown) out same h = absurd h
-trace_unopened texts ran name before after mid (Late number shown) out same h = absurd h
-trace_unopened texts ran name before after mid TooMany out same h = absurd h
-trace_unopened texts ran name before after mid (Crowded shapes from until elements) out same h = absurd h
-trace_unopened texts ran name before after mid (Table fault shown) out same h = absurd h
-trace_unopened texts ran name before after mid (NoRow number shown) out same h = absurd h
-trace_unopened texts ran name before after mid (Foreign partition) out same h = absurd h
-trace_unopened texts ran name before after mid (Unknown line) out same h = absurd h
+trace_unopened texts ran name before after mid r out same h =
+    of_unopened (IsRefused texts ran name before after) name mid after.unopened r (λ shown is noted. (out, is, noted ∙ ap (λ (l : List (List ℕ)). l ++ name ∷ []) same)) (λ kept. (kept ∙ same, out)) h
 
 pub unopened_or : {A : Type 0} (Q : Refusal → Type 0) (texts : Option Contents) (ran : Option ℕ) (name : List ℕ) (before after : State) (mid : List (List ℕ)) (r : Refusal) (answer : Result A Refusal)
     → after.out ≡ before.out → mid ≡ before.unopened → IsUnopened name mid after.unopened r → IsErr answer × IsErrAnd answer (λ e. e ≡ r) → IfErr answer (λ e. IsRefused texts ran name before after e ⊎ Q e)
@@ -92,41 +97,17 @@ second_unopened Q texts ran name before after mid r (Err e) out same h passed =
 pub table_unopened : {A : Type 0} (texts : Option Contents) (name : List ℕ) (before after : State) (r : Refusal) (answer : Result A Refusal)
     → after.out ≡ before.out → IsUnopened name before.unopened after.unopened r → IsErr answer × IsErrAnd answer (λ e. e ≡ r) → IfErr answer (λ e. IsRefusedByTable texts name before after e)
 table_unopened texts name before after r (Ok x) out h passed = tt
-table_unopened texts name before after r (Err e) out h passed = subst (λ (v : Refusal). IsRefusedByTable texts name before after v) (sym passed.1) (go r h)
-  where
-    go : (r : Refusal) → IsUnopened name before.unopened after.unopened r → IsRefusedByTable texts name before after r
-    go (Open shown) h = (out, h.0, h.1)
-    go Memory h = (h, out)
-    go Write h = absurd h
-    go (Read shown) h = absurd h
-    go (Line number shown) h = absurd h
-    go (Late number shown) h = absurd h
-    go TooMany h = absurd h
-    go (Crowded shapes from until elements) h = absurd h
-    go (Table fault shown) h = absurd h
-    go (NoRow number shown) h = absurd h
-    go (Foreign partition) h = absurd h
-    go (Unknown line) h = absurd h
+table_unopened texts name before after r (Err e) out h passed =
+    subst (λ (v : Refusal). IsRefusedByTable texts name before after v) (sym passed.1)
+    (of_unopened (IsRefusedByTable texts name before after) name before.unopened after.unopened r (λ shown is noted. (out, is, noted)) (λ kept. (kept, out)) h)
 
 -- the states
 pub states_unopened : {A : Type 0} (texts : Option Contents) (name : List ℕ) (before after : State) (r : Refusal) (answer : Result A Refusal)
     → after.out ≡ before.out → IsUnopened name before.unopened after.unopened r → IsErr answer × IsErrAnd answer (λ e. e ≡ r) → IfErr answer (λ e. IsRefusedByStates texts name before after e)
 states_unopened texts name before after r (Ok x) out h passed = tt
-states_unopened texts name before after r (Err e) out h passed = subst (λ (v : Refusal). IsRefusedByStates texts name before after v) (sym passed.1) (go r h)
-  where
-    go : (r : Refusal) → IsUnopened name before.unopened after.unopened r → IsRefusedByStates texts name before after r
-    go (Open shown) h = (out, h.0, h.1)
-    go Memory h = (h, out)
-    go Write h = absurd h
-    go (Read shown) h = absurd h
-    go (Line number shown) h = absurd h
-    go (Late number shown) h = absurd h
-    go TooMany h = absurd h
-    go (Crowded shapes from until elements) h = absurd h
-    go (Table fault shown) h = absurd h
-    go (NoRow number shown) h = absurd h
-    go (Foreign partition) h = absurd h
-    go (Unknown line) h = absurd h
+states_unopened texts name before after r (Err e) out h passed =
+    subst (λ (v : Refusal). IsRefusedByStates texts name before after v) (sym passed.1)
+    (of_unopened (IsRefusedByStates texts name before after) name before.unopened after.unopened r (λ shown is noted. (out, is, noted)) (λ kept. (kept, out)) h)
 
 -- the trace was read, and its view is not written
 pub unwritten_or : {A : Type 0} (Q : Refusal → Type 0) (texts : Option Contents) (ran : Option ℕ) (name : List ℕ) (before after : State) (answer : Result A Refusal)
