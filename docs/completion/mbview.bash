@@ -9,7 +9,7 @@ _mbview() {
         list) options=' --from --to --partition --process --kind --port --known --table -h --help' ;;
         check) options=' --from --to --partition --no --at-most --missed --table -h --help' ;;
         diff) options=' --partition --table -h --help' ;;
-        html) options=' --partition --process --kind --port --known --ticks --table -h --help' ;;
+        html) options=' --partition --process --kind --port --known --ticks --table --state -h --help' ;;
         help) options='' ;;
         *) options=' -h --help -V --version' ;;
     esac

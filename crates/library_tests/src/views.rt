@@ -183,7 +183,7 @@ fn tell_page(rt: &HostRuntime, events: &[Event]) -> Option<()> {
     for event in events {
         page.add(event).ok()?;
     }
-    let text = page.into_text(b"").ok()?;
+    let text = page.into_text(b"", b"").ok()?;
     let shown = str::from_utf8(text.as_slice()).ok()?;
     let begins = shown.starts_with("<!doctype html>");
     let is_there = shown.contains("0000000000008 a STATE p RUNNING");

@@ -4,6 +4,7 @@
 // The page defines, before this script:
 //   TRACE    the text of the trace, line by line
 //   WINDOWS  null, or { frame, windows: [[partition, offset, length], ...] } of the module table
+//   ROWS     null, or the rows of states of the module, as `mb state --json` writes them
 //   TICKS    null, or for how many ticks the module ran
 // Nothing is drawn that is not seen, so that a long trace moves as smoothly as a short one.
 
@@ -51,6 +52,36 @@ function lowest(places, fits) {
     else low = middle + 1;
   }
   return low;
+}
+
+// ---- states of the module
+
+/** How the first row of a state begins. */
+const TICK_ROW = '{"partition":null,"tick":';
+
+/** A row of a state: its partition, and its text as `mb state` writes it without --json. A number stays a text, since a word may have more digits than one keeps here. */
+function readRow(row) {
+  const [, partition, ...words] = row.match(/"[^"]*"|[-0-9a-z]+/g).map((it) => (it === "null" ? "-" : it.replaceAll('"', "")));
+  return { partition, text: [partition, ...words].join(" ") };
+}
+
+/** The states that a text has, one after the other. */
+class States {
+  constructor(text) {
+    this.rows = text.split("\n").slice(0, -1);
+    this.begins = [];
+    this.rows.forEach((row, place) => row.startsWith(TICK_ROW) && this.begins.push(place));
+    this.ticks = this.begins.map((place) => Number.parseInt(this.rows[place].slice(TICK_ROW.length), 10));
+  }
+
+  /** The last state before a tick or before an earlier one: which tick that is, and its rows. Without such a state there is none. */
+  upTo(tick) {
+    const known = this.ticks.filter((it) => it <= tick);
+    if (!known.length) return null;
+    const before = known.reduce((one, other) => Math.max(one, other));
+    const place = this.ticks.indexOf(before);
+    return { tick: before, rows: this.rows.slice(this.begins[place], this.begins[place + 1]).map(readRow) };
+  }
 }
 
 // ---- stays in a state
@@ -830,8 +861,9 @@ const TIPPED = 8;
 
 /** What the page does when it is moved, clicked and searched. */
 class Page {
-  constructor(story) {
+  constructor(story, rows) {
     this.story = story;
+    this.moduleStates = rows === null ? null : new States(rows);
     this.view = new View(story);
     this.drawing = new Drawing(document.getElementById("lanes"), this.view);
     this.sought = { words: "", lines: [], place: -1 };
@@ -1137,6 +1169,17 @@ class Page {
     const list = document.getElementById("states");
     list.replaceChildren();
     if (one !== null) for (const it of this.story.statesAt(one)) if (!this.view.hidden.has(it.lane.partition)) this.tellState(list, it);
+    this.tellRows(one);
+  }
+
+  /** Shows the rows of the last state up to a tick, if states are known, without those of partitions that are hidden. */
+  tellRows(tick) {
+    const [before, rows] = ["before", "rows"].map((it) => document.getElementById(it));
+    const state = tick === null || this.moduleStates === null ? null : this.moduleStates.upTo(tick);
+    before.hidden = tick === null || this.moduleStates === null;
+    before.textContent = state ? `state before tick ${state.tick}` : "no state up to this tick";
+    rows.hidden = !state;
+    rows.textContent = state ? state.rows.filter((it) => !this.view.hidden.has(it.partition)).map((it) => it.text).join("\n") : "";
   }
 
   tellState(list, { lane, state, held }) {
@@ -1148,5 +1191,5 @@ class Page {
   }
 }
 
-if (typeof document !== "undefined") window.page = new Page(new Story(readTrace(TRACE), WINDOWS, TICKS));
-if (typeof module !== "undefined") module.exports = { readTrace, textOf, Stays, Story, View, stepOf, firstMark };
+if (typeof document !== "undefined") window.page = new Page(new Story(readTrace(TRACE), WINDOWS, TICKS), ROWS);
+if (typeof module !== "undefined") module.exports = { readTrace, textOf, States, Stays, Story, View, stepOf, firstMark };

@@ -4,7 +4,7 @@ ghost use Rattle.std.specs.Prelude.{◌≡◌, ◌++◌, [], OnOk};
 ghost use Rattle.trace_page.specs.Escaping.{escaped_line};
 
 use crate::escaping::push_escaped;
-use crate::text::{BACK, BEHIND_WINDOWS, BETWEEN, FRONT};
+use crate::text::{BACK, BEHIND_STATES, BEHIND_WINDOWS, BETWEEN, FRONT};
 use crate::windows::NOT_KNOWN;
 use apex_types::{Event, Ticks};
 use std::alloc::Global;
@@ -48,13 +48,13 @@ impl Page {
         Ok(())
     }
 
-    /// The whole page, with the windows of the module table as they are in `windows_text`, or
-    /// `NOT_KNOWN`.
+    /// The whole page, with the windows of the module table as they are in `windows_text`, and states as
+    /// they are in `states_text`, or each `NOT_KNOWN`.
     ///
     /// # Errors
     ///
     /// Memory ran out.
-    pub fn into_text(self, windows: &[u8]) -> Result<Vec<u8>, MemoryFull> {
+    pub fn into_text(self, windows: &[u8], states: &[u8]) -> Result<Vec<u8>, MemoryFull> {
         let ticks = match self.ran {
             Some(ran) => ran.0.to_string(self.alloc)?,
             None => String::from_str(self.alloc, NOT_KNOWN)?,
@@ -65,6 +65,8 @@ impl Page {
         text.extend_from_slice(BETWEEN.as_bytes())?;
         text.extend_from_slice(windows)?;
         text.extend_from_slice(BEHIND_WINDOWS.as_bytes())?;
+        text.extend_from_slice(states)?;
+        text.extend_from_slice(BEHIND_STATES.as_bytes())?;
         text.extend_from_slice(ticks.as_bytes())?;
         text.extend_from_slice(BACK.as_bytes())?;
         Ok(text)

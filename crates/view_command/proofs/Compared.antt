@@ -29,7 +29,7 @@ use Rattle.view_command.specs.Lines.{called}
 use Rattle.view_command.specs.States.{IsUntouched, State}
 use Rattle.view_command.specs.Texts.{AreInRun, IsLateIn, IsLateLine, IsRefusedIn, IsRefusedLine, IsTraceIn}
 use Rattle.view_command.specs.declared.refusal.Refusal.{Refusal}
-use Rattle.view_command.specs.declared.refusal.Refusal.TheVariants.{Open, Read, Line, Late, TooMany, Crowded, Table, Foreign, Unknown, Memory, Write}
+use Rattle.view_command.specs.declared.refusal.Refusal.TheVariants.{Open, Read, Line, Late, TooMany, Crowded, Table, NoRow, Foreign, Unknown, Memory, Write}
 use Rattle.view_command.specs.declared.views.Outcome.{Outcome}
 use Rattle.view_command.specs.declared.views.Outcome.TheVariants.{Shown, Found}
 use Rattle.view_command.specs.Compared.{AreToldBy, AreToldIn, IsInOrder, IsTextOf, asked, first_behind, second_behind, tick_behind}
@@ -302,6 +302,7 @@ unread_in texts ran name shown text before after (Late number s) opens is same h
 unread_in texts ran name shown text before after TooMany opens is same h = same
 unread_in texts ran name shown text before after (Crowded shapes from until elements) opens is same h = same
 unread_in texts ran name shown text before after (Table fault s) opens is same h = absurd h
+unread_in texts ran name shown text before after (NoRow number s) opens is same h = absurd h
 unread_in texts ran name shown text before after (Foreign partition) opens is same h = same
 unread_in texts ran name shown text before after (Unknown line) opens is same h = same
 unread_in texts ran name shown text before after Memory opens is same h = same

@@ -10,7 +10,7 @@ use Rattle.view_command.specs.Lines.{called}
 use Rattle.view_command.specs.States.{IsUntouched, State}
 use Rattle.view_command.specs.Texts.{IsTraceIn}
 use Rattle.view_command.specs.declared.refusal.Refusal.{Refusal}
-use Rattle.view_command.specs.declared.refusal.Refusal.TheVariants.{Open, Read, Line, Late, TooMany, Crowded, Table, Foreign, Unknown, Memory, Write}
+use Rattle.view_command.specs.declared.refusal.Refusal.TheVariants.{Open, Read, Line, Late, TooMany, Crowded, Table, NoRow, Foreign, Unknown, Memory, Write}
 use Rattle.view_command.specs.declared.views.ViewFault.{ViewFault}
 use Rattle.view_command.specs.declared.views.ViewFault.TheVariants as view
 
@@ -40,6 +40,7 @@ unopened_again name before after r (Err e) out h passed = subst (IsCutAgain name
     go TooMany h = absurd h
     go (Crowded shapes from until elements) h = absurd h
     go (Table fault shown) h = absurd h
+    go (NoRow number shown) h = absurd h
     go (Foreign partition) h = absurd h
     go (Unknown line) h = absurd h
 
@@ -52,6 +53,7 @@ cut_again name shown before after (Late number s) is same h = absurd h
 cut_again name shown before after TooMany is same h = absurd h
 cut_again name shown before after (Crowded shapes from until elements) is same h = absurd h
 cut_again name shown before after (Table fault s) is same h = absurd h
+cut_again name shown before after (NoRow number s) is same h = absurd h
 cut_again name shown before after (Foreign partition) is same h = absurd h
 cut_again name shown before after (Unknown line) is same h = absurd h
 cut_again name shown before after Memory is same h = (same, h)
@@ -72,6 +74,7 @@ short texts ran name before after (Late number s) trace h = absurd h
 short texts ran name before after TooMany trace h = inl h
 short texts ran name before after (Crowded shapes from until elements) trace h = inl h
 short texts ran name before after (Table fault s) trace h = absurd h
+short texts ran name before after (NoRow number s) trace h = absurd h
 short texts ran name before after (Foreign partition) trace h = inl h
 short texts ran name before after (Unknown line) trace h = absurd h
 short texts ran name before after Memory trace h = inr (h.0, h.1, trace)

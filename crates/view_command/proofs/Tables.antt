@@ -11,13 +11,14 @@ use Rattle.streams.specs.States.{HasFailed}
 use Rattle.streams.specs.declared.names.NameFault.{NameFault}
 use Rattle.streams.specs.declared.names.NameFault.TheVariants as source
 use Rattle.view_command.specs.Faults.{IsUnopened, of_source}
-use Rattle.view_command.specs.declared.refusal.Refusal.TheVariants.{Open, Read, Line, Late, TooMany, Crowded, Table, Foreign, Unknown, Memory, Write}
-use Rattle.view_command.specs.Answers.{IsRefused, IsRefusedByTable, IsTableRefused, IsUnread}
+use Rattle.view_command.specs.declared.refusal.Refusal.TheVariants.{Open, Read, Line, Late, TooMany, Crowded, Table, NoRow, Foreign, Unknown, Memory, Write}
+use Rattle.view_command.specs.Answers.{AreStatesRefused, IsRefused, IsRefusedByStates, IsRefusedByTable, IsTableRefused, IsUnread}
 use Rattle.view_command.specs.Lines.{called}
 use Rattle.view_command.specs.States.{IsUntouched, State}
 use Rattle.view_command.specs.Texts.{IsTable, IsTraceIn, IsTraceOf}
 use Rattle.view_command.specs.declared.refusal.Refusal.{Refusal}
 use Rattle.view_command.proofs.Compared.{unread_in}
+use Rattle.trace_page.specs.States.{wrong_line}
 use Rattle.window_table.specs.Answers.{AnswersText}
 use Rattle.window_table.specs.declared.table.ModuleTable.{ModuleTable}
 
@@ -38,6 +39,18 @@ asked_refused texts None name before after r (Err e) is h passed = absurd cc
 asked_refused texts (Some n) name before after r (Err e) is h passed =
     subst (λ (v : Refusal). IsRefusedByTable texts n before after v) (sym passed.1) (subst (λ (m : List ℕ). IsRefusedByTable texts m before after r) (sym (same_Some n name is)) h)
 
+-- the states that are asked for are refused
+pub states_refused : {A : Type 0} (texts : Option Contents) (asked : Option (List ℕ)) (name : List ℕ) (before after : State) (r : Refusal) (answer : Result A Refusal) → asked ≡ Some name
+    → IsRefusedByStates texts name before after r → IsErr answer × IsErrAnd answer (λ e. e ≡ r) → IfErr answer (λ e. AreStatesRefused texts asked before after e)
+states_refused texts asked name before after r (Ok x) is h passed = tt
+states_refused texts None name before after r (Err e) is h passed = absurd cc
+states_refused texts (Some n) name before after r (Err e) is h passed =
+    subst (λ (v : Refusal). IsRefusedByStates texts n before after v) (sym passed.1) (subst (λ (m : List ℕ). IsRefusedByStates texts m before after r) (sym (same_Some n name is)) h)
+
+pub states_read : (left : Option (List ℕ)) (text : List ℕ) → IfSome left (λ xs. text ≡ xs) → wrong_line text ≡ None → IfSome left (λ xs. wrong_line xs ≡ None)
+states_read None text same is = tt
+states_read (Some xs) text same is = subst (λ (v : List ℕ). wrong_line v ≡ None) same is
+
 -- ---- a text that is not opened
 
 pub unopened : (name : List ℕ) (shown : String Global) (old new : List (List ℕ)) (f : NameFault) (r : Refusal) → r ≡ of_source shown f → string_bytes shown ≡ called name → IsNotedFault name old new f → IsUnopened name old new r
@@ -47,19 +60,25 @@ unopened name shown old new f r told is noted = subst (IsUnopened name old new) 
     go (source.Unavailable reason) noted = (is, noted)
     go source.Memory noted = noted
 
--- the trace, with the table taken
+of_unopened : (Q : Refusal → Type 0) (name : List ℕ) (old new : List (List ℕ)) (r : Refusal) → ((shown : String Global) → string_bytes shown ≡ called name → new ≡ old ++ name ∷ [] → Q (Open shown)) → (new ≡ old → Q Memory)
+    → IsUnopened name old new r → Q r
+of_unopened Q name old new (Open shown) opened full h = opened shown h.0 h.1
+of_unopened Q name old new Memory opened full h = full h
+of_unopened Q name old new Write opened full h = absurd h
+of_unopened Q name old new (Read shown) opened full h = absurd h
+of_unopened Q name old new (Line number shown) opened full h = absurd h
+of_unopened Q name old new (Late number shown) opened full h = absurd h
+of_unopened Q name old new TooMany opened full h = absurd h
+of_unopened Q name old new (Crowded shapes from until elements) opened full h = absurd h
+of_unopened Q name old new (Table fault shown) opened full h = absurd h
+of_unopened Q name old new (NoRow number shown) opened full h = absurd h
+of_unopened Q name old new (Foreign partition) opened full h = absurd h
+of_unopened Q name old new (Unknown line) opened full h = absurd h
+
+-- the trace, with the table and the states taken
 trace_unopened : (texts : Option Contents) (ran : Option ℕ) (name : List ℕ) (before after : State) (mid : List (List ℕ)) (r : Refusal) → after.out ≡ before.out → mid ≡ before.unopened → IsUnopened name mid after.unopened r → IsRefused texts ran name before after r
-trace_unopened texts ran name before after mid (Open shown) out same h = (out, h.0, h.1 ∙ ap (λ (l : List (List ℕ)). l ++ name ∷ []) same)
-trace_unopened texts ran name before after mid Memory out same h = (h ∙ same, out)
-trace_unopened texts ran name before after mid Write out same h = absurd h
-trace_unopened texts ran name before after mid (Read shown) out same h = absurd h
-trace_unopened texts ran name before after mid (Line number shown) out same h = absurd h
-trace_unopened texts ran name before after mid (Late number shown) out same h = absurd h
-trace_unopened texts ran name before after mid TooMany out same h = absurd h
-trace_unopened texts ran name before after mid (Crowded shapes from until elements) out same h = absurd h
-trace_unopened texts ran name before after mid (Table fault shown) out same h = absurd h
-trace_unopened texts ran name before after mid (Foreign partition) out same h = absurd h
-trace_unopened texts ran name before after mid (Unknown line) out same h = absurd h
+trace_unopened texts ran name before after mid r out same h =
+    of_unopened (IsRefused texts ran name before after) name mid after.unopened r (λ shown is noted. (out, is, noted ∙ ap (λ (l : List (List ℕ)). l ++ name ∷ []) same)) (λ kept. (kept ∙ same, out)) h
 
 pub unopened_or : {A : Type 0} (Q : Refusal → Type 0) (texts : Option Contents) (ran : Option ℕ) (name : List ℕ) (before after : State) (mid : List (List ℕ)) (r : Refusal) (answer : Result A Refusal)
     → after.out ≡ before.out → mid ≡ before.unopened → IsUnopened name mid after.unopened r → IsErr answer × IsErrAnd answer (λ e. e ≡ r) → IfErr answer (λ e. IsRefused texts ran name before after e ⊎ Q e)
@@ -78,20 +97,17 @@ second_unopened Q texts ran name before after mid r (Err e) out same h passed =
 pub table_unopened : {A : Type 0} (texts : Option Contents) (name : List ℕ) (before after : State) (r : Refusal) (answer : Result A Refusal)
     → after.out ≡ before.out → IsUnopened name before.unopened after.unopened r → IsErr answer × IsErrAnd answer (λ e. e ≡ r) → IfErr answer (λ e. IsRefusedByTable texts name before after e)
 table_unopened texts name before after r (Ok x) out h passed = tt
-table_unopened texts name before after r (Err e) out h passed = subst (λ (v : Refusal). IsRefusedByTable texts name before after v) (sym passed.1) (go r h)
-  where
-    go : (r : Refusal) → IsUnopened name before.unopened after.unopened r → IsRefusedByTable texts name before after r
-    go (Open shown) h = (out, h.0, h.1)
-    go Memory h = (h, out)
-    go Write h = absurd h
-    go (Read shown) h = absurd h
-    go (Line number shown) h = absurd h
-    go (Late number shown) h = absurd h
-    go TooMany h = absurd h
-    go (Crowded shapes from until elements) h = absurd h
-    go (Table fault shown) h = absurd h
-    go (Foreign partition) h = absurd h
-    go (Unknown line) h = absurd h
+table_unopened texts name before after r (Err e) out h passed =
+    subst (λ (v : Refusal). IsRefusedByTable texts name before after v) (sym passed.1)
+    (of_unopened (IsRefusedByTable texts name before after) name before.unopened after.unopened r (λ shown is noted. (out, is, noted)) (λ kept. (kept, out)) h)
+
+-- the states
+pub states_unopened : {A : Type 0} (texts : Option Contents) (name : List ℕ) (before after : State) (r : Refusal) (answer : Result A Refusal)
+    → after.out ≡ before.out → IsUnopened name before.unopened after.unopened r → IsErr answer × IsErrAnd answer (λ e. e ≡ r) → IfErr answer (λ e. IsRefusedByStates texts name before after e)
+states_unopened texts name before after r (Ok x) out h passed = tt
+states_unopened texts name before after r (Err e) out h passed =
+    subst (λ (v : Refusal). IsRefusedByStates texts name before after v) (sym passed.1)
+    (of_unopened (IsRefusedByStates texts name before after) name before.unopened after.unopened r (λ shown is noted. (out, is, noted)) (λ kept. (kept, out)) h)
 
 -- the trace was read, and its view is not written
 pub unwritten_or : {A : Type 0} (Q : Refusal → Type 0) (texts : Option Contents) (ran : Option ℕ) (name : List ℕ) (before after : State) (answer : Result A Refusal)

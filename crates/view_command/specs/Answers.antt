@@ -10,16 +10,16 @@ use Rattle.streams.specs.Contents.{Contents}
 use Rattle.streams.specs.States.{HasFailed, IsFlushed, IsWritten, Seen, TakesLine}
 use Rattle.view_command.specs.Lines.{called, line_of}
 use Rattle.clap.specs.Walk.{Row}
-use Rattle.view_command.specs.Orders.{AreWrongWords, AsksForNothing, EndsBefore, IsDiff, IsDump, IsNoKind, IsNoLimit, IsNoRun, IsNoTick, IsNoWidth, other_of, ran_of, table_of, trace_of}
+use Rattle.view_command.specs.Orders.{AreWrongWords, AsksForNothing, EndsBefore, IsDiff, IsDump, IsNoKind, IsNoLimit, IsNoRun, IsNoTick, IsNoWidth, other_of, ran_of, states_of, table_of, trace_of}
 use Rattle.view_command.specs.Pages.{IsPageTold}
 use Rattle.view_command.specs.States.{IsUntouched, State}
-use Rattle.view_command.specs.Texts.{IsLateIn, IsLateLine, IsRefusedIn, IsRefusedLine, IsRefusedTableIn, IsTableAsked, IsTraceIn}
+use Rattle.view_command.specs.Texts.{AreStatesAsked, IsLateIn, IsLateLine, IsRefusedIn, IsRefusedLine, IsRefusedRowIn, IsRefusedTableIn, IsTableAsked, IsTraceIn}
 use Rattle.command_words.specs.declared.failure.Failure.{Failure}
 use Rattle.command_words.specs.declared.failure.Failure.TheVariants.{Refused, Usage}
 use Rattle.view_command.specs.declared.views.Outcome.{Outcome}
 use Rattle.view_command.specs.declared.views.Outcome.TheVariants.{Shown, Found}
 use Rattle.view_command.specs.declared.refusal.Refusal.{Refusal}
-use Rattle.view_command.specs.declared.refusal.Refusal.TheVariants.{Open, Read, Line, Late, TooMany, Crowded, Table, Foreign, Unknown, Memory, Write}
+use Rattle.view_command.specs.declared.refusal.Refusal.TheVariants.{Open, Read, Line, Late, TooMany, Crowded, Table, NoRow, Foreign, Unknown, Memory, Write}
 
 -- ---- why a trace is not shown; memory may run out at every step
 
@@ -49,6 +49,7 @@ IsRefused texts ran name before after (Crowded shapes from until elements) = IsU
 IsRefused texts ran name before after (Foreign partition) = IsUntouched before after
 IsRefused texts ran name before after (Unknown line) = IsUntouched before after
 IsRefused texts ran name before after (Table fault shown) = ⊥
+IsRefused texts ran name before after (NoRow number shown) = ⊥
 IsRefused texts ran name before after Memory = IsUntouched before after
 
 -- The module table of this name is not taken: it is not opened, not read, or breaks a rule.
@@ -62,6 +63,18 @@ IsRefusedByTable texts name before after _ = ⊥
 abbrev pub IsTableRefused : Option Contents → Option (List ℕ) → State → State → Refusal → Type 0
 IsTableRefused texts None before after r = ⊥
 IsTableRefused texts (Some name) before after r = IsRefusedByTable texts name before after r
+
+-- The text of states of this name is not taken: it is not opened, not read, or has a line that is no row of a state.
+abbrev pub IsRefusedByStates : Option Contents → List ℕ → State → State → Refusal → Type 0
+IsRefusedByStates texts name before after (Open shown) = (after.out ≡ before.out) × (string_bytes shown ≡ called name) × (after.unopened ≡ before.unopened ++ name ∷ [])
+IsRefusedByStates texts name before after (Read shown) = IsUntouched before after × (string_bytes shown ≡ called name)
+IsRefusedByStates texts name before after (NoRow number shown) = IsUntouched before after × (string_bytes shown ≡ called name) × IsRefusedRowIn texts name number
+IsRefusedByStates texts name before after Memory = IsUntouched before after
+IsRefusedByStates texts name before after _ = ⊥
+
+abbrev pub AreStatesRefused : Option Contents → Option (List ℕ) → State → State → Refusal → Type 0
+AreStatesRefused texts None before after r = ⊥
+AreStatesRefused texts (Some name) before after r = IsRefusedByStates texts name before after r
 
 -- The trace was read to its end, and could not be read again while its dump was written. A beginning of the dump may be
 -- written; the output did not fail.
@@ -79,18 +92,20 @@ abbrev pub IsDiffRefused : Option Contents → Entered → State → State → R
 IsDiffRefused texts entered before after r =
     IsDiff entered × (IsRefused texts None (trace_of entered) before after r ⊎ IsRefused texts None (other_of entered) before after r)
 
--- The trace, one of two that are compared, or the module table is not taken; or a dump is cut short.
+-- The trace, one of two that are compared, the module table or the states are not taken; or a dump is cut short.
 abbrev pub IsRefusedOf : Option Contents → Entered → State → State → Refusal → Type 0
 IsRefusedOf texts entered before after r =
     IsRefused texts (ran_of entered) (trace_of entered) before after r ⊎ IsDiffRefused texts entered before after r
     ⊎ IsTableRefused texts (table_of entered) before after r ⊎ IsDumpRefused texts entered before after r
+    ⊎ AreStatesRefused texts (states_of entered) before after r
 
 -- Both traces were read to their ends, if they were compared; else the trace was, with no line after the end of its
--- run. So was the module table, if one is asked for.
+-- run. So was the module table, if one is asked for, and so were the states, which no dump shows.
 abbrev pub AreTracesIn : Option Contents → Entered → Type 0
 AreTracesIn texts entered =
     (IsDiff entered → IsTraceIn texts None (trace_of entered) × IsTraceIn texts None (other_of entered) × IsTableAsked texts (table_of entered))
-    × ((IsDiff entered → ⊥) → IsTraceIn texts (ran_of entered) (trace_of entered) × IsTableAsked texts (table_of entered))
+    × ((IsDiff entered → ⊥) → IsTraceIn texts (ran_of entered) (trace_of entered) × IsTableAsked texts (table_of entered)
+    × (IsDump entered ⊎ AreStatesAsked texts (states_of entered)))
 
 -- ---- the words, for which the library of command lines reports these errors
 

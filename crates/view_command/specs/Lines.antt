@@ -4,7 +4,7 @@ use Rattle.std.specs.Fmt.{decimal}
 use Rattle.std.specs.Str.{bytes_eq}
 use Rattle.window_table.specs.Answers.{number_of}
 use Rattle.view_command.specs.declared.refusal.Refusal.{Refusal}
-use Rattle.view_command.specs.declared.refusal.Refusal.TheVariants.{Open, Read, Line, Late, TooMany, Crowded, Table, Foreign, Unknown, Memory, Write}
+use Rattle.view_command.specs.declared.refusal.Refusal.TheVariants.{Open, Read, Line, Late, TooMany, Crowded, Table, NoRow, Foreign, Unknown, Memory, Write}
 
 -- the name of a text in a line: `-` means the standard input
 abbrev pub called : List ℕ → List ℕ
@@ -25,6 +25,7 @@ line_of (Crowded shapes from until elements) =
     ++ (decimal elements
     ++ (codes " elements before tick " ++ (decimal until ++ (codes ", and more than 5000 with it; end it there with --to " ++ decimal until))))))))
 line_of (Table fault table) = codes "mbview: " ++ (string_bytes table ++ (codes " breaks rule " ++ (decimal (number_of fault) ++ codes " of a module table")))
+line_of (NoRow number states) = codes "mbview: line " ++ decimal number ++ codes " of " ++ string_bytes states ++ codes " is no row of a state"
 line_of (Foreign partition) = codes "mbview: the trace has a partition that the module table has not: " ++ partition
 line_of (Unknown line) = codes "mbview: " ++ string_bytes line
 line_of Memory = codes "mbview: there is too little memory"

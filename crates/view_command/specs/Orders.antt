@@ -36,6 +36,11 @@ abbrev pub table_of : Entered → Option (List ℕ)
 table_of None = None
 table_of (Some entered) = first_of (codes "table") entered.1
 
+-- the name of the text of states, if a page is to show them
+abbrev pub states_of : Entered → Option (List ℕ)
+states_of None = None
+states_of (Some entered) = first_of (codes "state") entered.1
+
 abbrev pub asked_text : Option (String Global) → Option (List ℕ)
 asked_text asked = option_map string_bytes asked
 
@@ -96,7 +101,7 @@ IsDump (Some entered) = entered.0 ≡ codes "vcd"
 abbrev pub IsShown : List Row → Showing → Type 0
 IsShown rows showing =
     (string_bytes showing.trace ≡ word_at (codes "TRACE") rows) × (asked_text showing.table ≡ first_of (codes "table") rows)
-    × AreTicksIn rows showing.from showing.to showing.ran × AreNamesIn rows showing.kept
+    × AreTicksIn rows showing.from showing.to showing.ran × AreNamesIn rows showing.kept × (asked_text showing.states ≡ first_of (codes "state") rows)
 
 -- the words of a command that shows a trace as waves, or saves how they are viewed
 abbrev pub IsDumped : List Row → Request → Type 0
@@ -117,6 +122,7 @@ abbrev pub IsAsked : Entered → Showing → Type 0
 IsAsked entered showing =
     (IsDiff entered → ⊥) × (string_bytes showing.trace ≡ trace_of entered) × (asked_text showing.table ≡ table_of entered)
     × AreTicksIn (rows_in entered) showing.from showing.to showing.ran × AreNamesIn (rows_in entered) showing.kept
+    × (asked_text showing.states ≡ states_of entered)
 
 -- the request that the words found make
 abbrev pub IsRequest : Entered → Request → Type 0

@@ -4,6 +4,7 @@ use Rattle.apex_types.specs.Line.{text_of}
 use Rattle.apex_types.specs.declared.event.Event.{Event}
 use Rattle.streams.specs.Contents.{Contents}
 use Rattle.trace_text.specs.Trace.{IsReadAs, IsRefusedAt, IsTrace}
+use Rattle.trace_page.specs.States.{wrong_line}
 use Rattle.window_table.specs.Answers.{AnswersText}
 use Rattle.window_table.specs.declared.fault.TableFault.{TableFault}
 use Rattle.window_table.specs.declared.table.ModuleTable.{ModuleTable}
@@ -53,6 +54,11 @@ IsRefusedLine (Some text) line = IsRefusedAt text line
 abbrev pub IsTable : List ℕ → Type 0
 IsTable text = (table : ModuleTable) × AnswersText text (Ok table)
 
+-- this line of it is the first that is no row of a state
+abbrev pub IsRefusedRow : Option (List ℕ) → ℕ → Type 0
+IsRefusedRow None line = Unit {0}
+IsRefusedRow (Some text) line = wrong_line text ≡ Some line
+
 -- ---- the text of a name, if the texts are known
 
 -- the text is a trace of a run of `ran` ticks, if that is known
@@ -87,3 +93,18 @@ IsRefusedTableIn (Some texts) name fault = (text : List ℕ) × (texts name ≡ 
 abbrev pub IsTableAsked : Option Contents → Option (List ℕ) → Type 0
 IsTableAsked texts None = Unit {0}
 IsTableAsked texts (Some name) = IsTableIn texts name
+
+-- the text is one of states
+abbrev pub AreStatesIn : Option Contents → List ℕ → Type 0
+AreStatesIn None name = Unit {0}
+AreStatesIn (Some texts) name = (text : List ℕ) × (texts name ≡ Some text) × (wrong_line text ≡ None)
+
+-- this line of it is the first that is no row of a state
+abbrev pub IsRefusedRowIn : Option Contents → List ℕ → ℕ → Type 0
+IsRefusedRowIn None name line = Unit {0}
+IsRefusedRowIn (Some texts) name line = (text : List ℕ) × (texts name ≡ Some text) × (wrong_line text ≡ Some line)
+
+-- the states, if they are asked for
+abbrev pub AreStatesAsked : Option Contents → Option (List ℕ) → Type 0
+AreStatesAsked texts None = Unit {0}
+AreStatesAsked texts (Some name) = AreStatesIn texts name

@@ -1,10 +1,10 @@
--- Why a text is not taken as a module table, and what a page and a summary have of one.
+-- Why a text is not taken as a module table or as one of states, and what a page and a summary have of a table.
 use Rattle.std.specs.Prelude.{◌≡◌, ℕ, List, map, Option, Some, None, codes, string_bytes}
 use Rattle.kernel_meaning.specs.Windows.{Schedule}
 use Rattle.trace_page.specs.Windows.{windows_text}
-use Rattle.view_command.specs.Texts.{IsRefusedTable}
+use Rattle.view_command.specs.Texts.{IsRefusedRow, IsRefusedTable}
 use Rattle.view_command.specs.declared.refusal.Refusal.{Refusal}
-use Rattle.view_command.specs.declared.refusal.Refusal.TheVariants.{Read, Table, Memory}
+use Rattle.view_command.specs.declared.refusal.Refusal.TheVariants.{Read, Table, NoRow, Memory}
 use Rattle.window_table.specs.Schedules.{schedule_of}
 use Rattle.window_table.specs.declared.table.ModuleTable.{ModuleTable}
 
@@ -14,6 +14,13 @@ IsBadTable text name (Read shown) = string_bytes shown ≡ name
 IsBadTable text name (Table fault shown) = (string_bytes shown ≡ name) × IsRefusedTable text fault
 IsBadTable text name Memory = Unit {0}
 IsBadTable text name _ = ⊥
+
+-- The same of a text of states, which may have a line that is no row of a state.
+abbrev pub AreBadStates : Option (List ℕ) → List ℕ → Refusal → Type 0
+AreBadStates text name (Read shown) = string_bytes shown ≡ name
+AreBadStates text name (NoRow number shown) = (string_bytes shown ≡ name) × IsRefusedRow text number
+AreBadStates text name Memory = Unit {0}
+AreBadStates text name _ = ⊥
 
 -- the names of its partitions, in their order
 abbrev pub names_of : ModuleTable → List (List ℕ)

@@ -49,7 +49,7 @@ abbrev pub page_lines_app : App
 page_lines_app = with_rule (with_rule (with_rule page_app (option_rule (codes "process"))) (option_rule (codes "kind"))) (option_rule (codes "port"))
 
 abbrev pub html_app : App
-html_app = with_rule (with_rule (known_app page_lines_app) (option_rule (codes "ticks"))) (option_rule (codes "table"))
+html_app = with_rule (with_rule (with_rule (known_app page_lines_app) (option_rule (codes "ticks"))) (option_rule (codes "table"))) (option_rule (codes "state"))
 
 abbrev pub list_app : App
 list_app = with_rule (lines_app (codes "list")) (option_rule (codes "table"))

@@ -188,6 +188,11 @@ const HTML: CommandRow = CommandRow {
             value: "TABLE",
             help: "The module table: shows its windows",
         },
+        Argument::Option {
+            name: "state",
+            value: "FILE",
+            help: "What `mb state --every K --json` wrote: shows the last state up to the chosen tick",
+        },
     ],
 };
 

@@ -15,6 +15,7 @@ mod differences;
 mod drawing;
 mod dumping;
 mod grammar;
+mod module_states;
 mod naming;
 mod opening;
 mod options;

@@ -1,12 +1,14 @@
 //! Texts that are opened by their names.
 
-ghost use Rattle.std.specs.Prelude.{◌≡◌, IfErr, IfOk, OnOk, string_bytes};
+ghost use Rattle.std.specs.Prelude.{◌≡◌, ℕ, List, Option, IfErr, IfOk, OnOk, string_bytes};
 ghost use Rattle.streams.specs.Contents.{Opens};
 ghost use Rattle.view_command.specs.Faults.{IsUnopened, of_source};
 ghost use Rattle.view_command.specs.Lines.{called};
+ghost use Rattle.view_command.specs.Windows.{AreBadStates, IsBadTable};
 
 use crate::refusal::Refusal;
 use std::alloc::Global;
+use std::io::ErrorKind;
 use streams::{NameFault, Sources};
 
 /// A text that is not read yet, and what it is called in the line of a refusal.
@@ -47,6 +49,17 @@ fn of_source(name: String, fault: NameFault) -> Refusal
     match fault {
         NameFault::Unavailable(_) => Refusal::Open(name),
         NameFault::Memory => Refusal::Memory,
+    }
+}
+
+/// The refusal of a text that was not read to its end.
+pub fn of_reading(name: String, kind: ErrorKind) -> Refusal
+    ensures table { (text : Option (List ℕ)) → IsBadTable text (string_bytes name) result }
+    ensures states { (text : Option (List ℕ)) → AreBadStates text (string_bytes name) result }
+{
+    match kind {
+        ErrorKind::OutOfMemory => Refusal::Memory,
+        _ => Refusal::Read(name),
     }
 }
 

@@ -45,6 +45,11 @@ pub enum Refusal {
         fault: TableFault,
         table: String,
     },
+    /// The line of that number in the text of that name is no row of a state.
+    NoRow {
+        number: u64,
+        states: String,
+    },
     /// The module table has no partition of this name, and the trace has.
     Foreign(Name),
     /// Neither the trace nor the module table has a name that is asked for, as this text says.
@@ -92,6 +97,12 @@ impl fmt::Display for Refusal {
                 "mbview: {} breaks rule {} of a module table",
                 table.as_str(),
                 fault.number()
+            ),
+            Refusal::NoRow { number, states } => write!(
+                f,
+                "mbview: line {} of {} is no row of a state",
+                *number,
+                states.as_str()
             ),
             Refusal::Foreign(partition) => write!(
                 f,

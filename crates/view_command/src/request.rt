@@ -39,6 +39,8 @@ pub struct Showing {
     pub trace: String,
     /// The name of the module table, by whose windows ticks are counted, if one is asked for.
     pub table: Option<String>,
+    /// The name of the text of states, if a page shows them.
+    pub states: Option<String>,
     /// The first tick that is shown.
     pub from: Ticks,
     /// The tick before which it ends, if it is not the end of the trace.
@@ -92,7 +94,7 @@ fn view_of(
     let view = match command {
         "summary" => View::Summary(form_of(found)),
         "svg" => View::Picture(width(alloc, command, found)?),
-        "html" => View::Lines(Layout::Page),
+        "html" => View::Lines(Layout::Page(None)),
         "list" => View::Lines(Layout::Listed(chosen(alloc, command, found)?)),
         "check" => View::Lines(checked(alloc, command, found)?),
         _ => return Ok(None),
@@ -135,6 +137,7 @@ fn showing_in(
     let table = text(alloc, found, "table")?;
     let asked = ticks(alloc, command, found)?;
     let kept = named(alloc, command, found)?;
+    let states = text(alloc, found, "state")?;
     Ok(Showing {
         trace,
         table,
@@ -142,6 +145,7 @@ fn showing_in(
         to: asked.to,
         ran: asked.ran,
         kept,
+        states,
         is_strict: word(found, "known") == "true",
     })
 }

@@ -2,14 +2,15 @@
 
 ghost use Rattle.std.specs.Prelude.{◌≡◌, ◌⊎◌, ◌-◌, ◌^◌, ◌<◌, IfErr, IfOk, OnOk, string_bytes};
 ghost use Rattle.streams.specs.States.{IsFlushed, seen};
-ghost use Rattle.view_command.specs.Answers.{IsRefused, IsTableRefused, IsUnread};
+ghost use Rattle.view_command.specs.Answers.{AreStatesRefused, IsRefused, IsTableRefused, IsUnread};
 ghost use Rattle.view_command.specs.Faults as faults;
 ghost use Rattle.view_command.specs.Orders.{asked_text, number_of};
 ghost use Rattle.view_command.specs.States.{state};
 ghost use Rattle.view_command.specs.Summed.{TakesAll};
-ghost use Rattle.view_command.specs.Texts.{IsTableAsked, IsTraceIn, IsTraceOf, is_late};
+ghost use Rattle.view_command.specs.Texts.{AreStatesAsked, IsTableAsked, IsTraceIn, IsTraceOf, is_late};
 
 use crate::drawing::draw;
+use crate::module_states::states_asked;
 use crate::naming::{Named, Names};
 use crate::opening::{Opened, called, open_text};
 use crate::refusal::Refusal;
@@ -39,6 +40,8 @@ pub fn show<F: Sources, O: Stream>(
         (string_bytes request.now.trace)) }
     ensures table { OnOk result
         (IsTableAsked (F.texts sources.old) (asked_text request.now.table)) }
+    ensures states { OnOk result
+        (AreStatesAsked (F.texts sources.old) (asked_text request.now.states)) }
     ensures opened { OnOk result (F.unopened sources.new ≡ F.unopened sources.old) }
     ensures flushed { OnOk result
         (IsFlushed (seen O.taken O.failures O.is_flushed out.old)
@@ -50,9 +53,14 @@ pub fn show<F: Sources, O: Stream>(
         (state (F.unopened sources.new) (seen O.taken O.failures O.is_flushed out.new)) r
         ⊎ IsTableRefused (F.texts sources.old) (asked_text request.now.table)
         (state (F.unopened sources.old) (seen O.taken O.failures O.is_flushed out.old))
+        (state (F.unopened sources.new) (seen O.taken O.failures O.is_flushed out.new)) r
+        ⊎ AreStatesRefused (F.texts sources.old) (asked_text request.now.states)
+        (state (F.unopened sources.old) (seen O.taken O.failures O.is_flushed out.old))
         (state (F.unopened sources.new) (seen O.taken O.failures O.is_flushed out.new)) r) }
 {
     let table = table_asked(alloc, &request.table, sources)?;
+    let states = states_asked(alloc, &request.states, sources)?;
+    let view = view.with_states(states);
     let trace = request.trace.as_str();
     let text = open_text(alloc, trace, sources)?;
     let shown = bytes_of(alloc, view, text, table, request)?;

@@ -11,7 +11,7 @@ use crate::windows::{names_asked, page_windows};
 use apex_types::{Event, Name, Ticks};
 use std::alloc::{AllocError, Global};
 use trace_lines::{Check, Filter, Limits, Listing};
-use trace_page::Page;
+use trace_page::{NOT_KNOWN, Page};
 use trace_picture::{Excess, PictureFault, Width};
 use trace_stays::MemoryFull;
 use trace_windows::{SharesFault, Windows, WindowsFault};
@@ -29,6 +29,16 @@ pub enum View {
     Lines(Layout),
 }
 
+impl View {
+    /// The view with states of the module, if it shows them.
+    pub fn with_states(self, states: Option<Vec<u8>>) -> View {
+        match self {
+            View::Lines(Layout::Page(_)) => View::Lines(Layout::Page(states)),
+            view => view,
+        }
+    }
+}
+
 /// How a summary is written.
 #[derive(Clone, Copy)]
 pub enum Form {
@@ -43,8 +53,8 @@ pub enum Form {
 pub enum Layout {
     /// A saved view of its dump.
     Saved,
-    /// A page for a browser.
-    Page,
+    /// A page for a browser, with states of the module as its script reads them, if they are known.
+    Page(Option<Vec<u8>>),
     /// The chosen lines, unchanged.
     Listed(Filter),
     /// The first of the chosen lines that is one too many.
@@ -87,8 +97,8 @@ pub trait TakeEvents {
 pub enum Shown {
     /// The variables of the dump, and the partitions of the module table.
     Saved(Wires, Vec<Name>),
-    /// The page, and its windows.
-    Page(Page, Vec<u8>),
+    /// The page, its windows, and the states of the module.
+    Page(Page, Vec<u8>, Option<Vec<u8>>),
     Lines(Listing),
     Check(Check),
 }
@@ -106,7 +116,9 @@ impl Shown {
             Layout::Saved => {
                 Shown::Saved(Wires::new(alloc, from, to), names_asked(alloc, &table)?)
             }
-            Layout::Page => Shown::Page(Page::new(alloc, to), page_windows(alloc, &table)?),
+            Layout::Page(states) => {
+                Shown::Page(Page::new(alloc, to), page_windows(alloc, &table)?, states)
+            }
             Layout::Listed(filter) => Shown::Lines(Listing::new(alloc, filter)),
             Layout::Check(filter, limits) => Shown::Check(Check::new(alloc, filter, limits)),
         };
@@ -120,7 +132,7 @@ impl Shown {
             return self.add(event);
         }
         match self {
-            Shown::Page(page, _) if event.partition.is_none() => page.add(event)?,
+            Shown::Page(page, _, _) if event.partition.is_none() => page.add(event)?,
             _ => {}
         }
         Ok(())
@@ -132,7 +144,7 @@ impl Shown {
             Shown::Saved(wires, _) => {
                 wires.add(event)?;
             }
-            Shown::Page(page, _) => page.add(event)?,
+            Shown::Page(page, _, _) => page.add(event)?,
             Shown::Lines(listing) => listing.add(event)?,
             Shown::Check(check) => check.add(event)?,
         }
@@ -156,7 +168,9 @@ impl Shown {
             Shown::Saved(wires, names) => {
                 bytes = saved_view(alloc, &wires, names.as_slice())?.into_bytes()
             }
-            Shown::Page(page, windows) => bytes = page.into_text(windows.as_slice())?,
+            Shown::Page(page, windows, states) => {
+                bytes = page.into_text(windows.as_slice(), known_or_not(&states))?
+            }
             Shown::Lines(listing) => bytes = listing.into_text(),
             Shown::Check(check) => bytes = check.into_text(alloc),
         }
@@ -168,6 +182,14 @@ impl TakeEvents for Shown {
     fn take(&mut self, kept: &Filter, event: &Event) -> Result<(), ViewFault> {
         self.read(kept, event)?;
         Ok(())
+    }
+}
+
+/// The text of the states in the script of a page, also if they are not known.
+fn known_or_not(states: &Option<Vec<u8>>) -> &[u8] {
+    match states {
+        Some(states) => states.as_slice(),
+        None => NOT_KNOWN.as_bytes(),
     }
 }
 

@@ -1,6 +1,6 @@
 //! The module table, by whose windows ticks are counted and shown.
 
-ghost use Rattle.std.specs.Prelude.{◌≡◌, ℕ, List, Option, IfErr, IfOk, IfSome, OnOk, Ok, string_bytes};
+ghost use Rattle.std.specs.Prelude.{◌≡◌, IfErr, IfOk, IfSome, OnOk, Ok, string_bytes};
 ghost use Rattle.streams.specs.States.{Seen};
 ghost use Rattle.view_command.specs.Answers.{IsRefusedByTable, IsTableRefused};
 ghost use Rattle.view_command.specs.Orders.{asked_text};
@@ -11,11 +11,11 @@ ghost use Rattle.trace_windows.specs.Whole.{HaveBegun};
 ghost use Rattle.view_command.specs.Windows.{IsBadTable, names_of, page_windows, windows_known};
 ghost use Rattle.window_table.specs.Answers.{AnswersText};
 
-use crate::opening::{Opened, open_text};
+use crate::opening::{Opened, of_reading, open_text};
 use crate::refusal::Refusal;
 use apex_types::{Name, Ticks};
 use std::alloc::{AllocError, Global};
-use std::io::{ErrorKind, Read};
+use std::io::Read;
 use streams::Sources;
 use trace_page::{NOT_KNOWN, windows_text};
 use trace_stays::MemoryFull;
@@ -71,16 +71,6 @@ fn read_from<R: Read + Drop>(alloc: Global, table: Opened<R>) -> Result<ModuleTa
         Ok(table) => Ok(table),
         Err(TableFault::Memory) => Err(Refusal::Memory),
         Err(fault) => Err(Refusal::Table { fault, table: name }),
-    }
-}
-
-/// The refusal of a text that was not read to its end.
-fn of_reading(name: String, kind: ErrorKind) -> Refusal
-    ensures { (text : Option (List ℕ)) → IsBadTable text (string_bytes name) result }
-{
-    match kind {
-        ErrorKind::OutOfMemory => Refusal::Memory,
-        _ => Refusal::Read(name),
     }
 }
 

@@ -11,14 +11,14 @@ returns-in_err-shown-clause-refused g c =
     let texts = g.F.Sources.texts c.args.sources.now in
     let left = g.F.Reader.Read.remaining c.in_ok-text.text.reader in
     let opens : Opens texts (string_bytes c.args.request.now.trace) left =
-    subst (λ n. Opens texts n left) c.as_str-trace.ensures.value (subst (λ t. Opens t c.as_str-trace.result.now left) c.table_asked.ensures.kept c.in_ok-text.ensures.opened) in
+    subst (λ n. Opens texts n left) c.as_str-trace.ensures.value (subst (λ t. Opens t c.as_str-trace.result.now left) c.table_asked.ensures.kept (subst (λ t. Opens t c.as_str-trace.result.now left) c.states_asked.ensures.kept c.in_ok-text.ensures.opened)) in
     unread_or _ texts (number_of c.args.request.now.ran) (string_bytes c.args.request.now.trace) (string_bytes c.in_ok-text.text.name) left _ _ c.in_err-shown.field-0.0 c.from_residual-in_err-shown.result
     opens (subst (λ n. string_bytes c.in_ok-text.text.name ≡ called n) c.as_str-trace.ensures.value c.in_ok-text.ensures.called) (search rules) c.in_err-shown.ensures.refused c.from_residual-in_err-shown.ensures
 
 pub returns-in_err-text-clause-refused : goal.returns-in_err-text-clause-refused
 returns-in_err-text-clause-refused g c =
     let unopened = g.F.Sources.unopened in
-    let mid = unopened c.table_asked.new.sources in
+    let mid = unopened c.states_asked.new.sources in
     let r = c.in_err-text.field-0.0 in
     unopened_or _ _ (number_of c.args.request.now.ran) (string_bytes c.args.request.now.trace) _ _ mid r c.from_residual-in_err-text.result
     (search rules) (search rules) (subst (λ n. IsUnopened n mid (unopened c.open_text.new.sources) r) c.as_str-trace.ensures.value c.in_err-text.ensures.refused) c.from_residual-in_err-text.ensures
@@ -28,7 +28,7 @@ returns-clause-trace g c =
     let texts = g.F.Sources.texts c.args.sources.now in
     let left = g.F.Reader.Read.remaining c.in_ok-text.text.reader in
     let opens : Opens texts (string_bytes c.args.request.now.trace) left =
-    subst (λ n. Opens texts n left) c.as_str-trace.ensures.value (subst (λ t. Opens t c.as_str-trace.result.now left) c.table_asked.ensures.kept c.in_ok-text.ensures.opened) in
+    subst (λ n. Opens texts n left) c.as_str-trace.ensures.value (subst (λ t. Opens t c.as_str-trace.result.now left) c.table_asked.ensures.kept (subst (λ t. Opens t c.as_str-trace.result.now left) c.states_asked.ensures.kept c.in_ok-text.ensures.opened)) in
     traced_in texts (number_of c.args.request.now.ran) (string_bytes c.args.request.now.trace) left opens c.in_ok-shown.ensures.trace
 
 pub returns-in_err-write_bytes-clause-refused : goal.returns-in_err-write_bytes-clause-refused
@@ -36,6 +36,6 @@ returns-in_err-write_bytes-clause-refused g c =
     let texts = g.F.Sources.texts c.args.sources.now in
     let left = g.F.Reader.Read.remaining c.in_ok-text.text.reader in
     let opens : Opens texts (string_bytes c.args.request.now.trace) left =
-    subst (λ n. Opens texts n left) c.as_str-trace.ensures.value (subst (λ t. Opens t c.as_str-trace.result.now left) c.table_asked.ensures.kept c.in_ok-text.ensures.opened) in
+    subst (λ n. Opens texts n left) c.as_str-trace.ensures.value (subst (λ t. Opens t c.as_str-trace.result.now left) c.table_asked.ensures.kept (subst (λ t. Opens t c.as_str-trace.result.now left) c.states_asked.ensures.kept c.in_ok-text.ensures.opened)) in
     unwritten_or _ texts (number_of c.args.request.now.ran) (string_bytes c.args.request.now.trace) _ _ c.from_residual-in_err-write_bytes.result (search rules) (search rules)
     (traced_in texts (number_of c.args.request.now.ran) (string_bytes c.args.request.now.trace) left opens c.in_ok-shown.ensures.trace) c.from_residual-in_err-write_bytes.ensures

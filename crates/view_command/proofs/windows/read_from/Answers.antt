@@ -2,7 +2,7 @@ use Rattle.view_command.proofs.Tables.{read_whole, table_read}
 use Rattle.view_command.proofs.windows.read_from.Goals as goal
 
 pub returns-in-Err-clause-refused : goal.returns-in-Err-clause-refused
-returns-in-Err-clause-refused g c = c.of_reading.ensures (g.R.Read.remaining c.args.table.reader)
+returns-in-Err-clause-refused g c = c.of_reading.ensures.table (g.R.Read.remaining c.args.table.reader)
 
 pub returns-in-Ok-clause-table : goal.returns-in-Ok-clause-table
 returns-in-Ok-clause-table g c =

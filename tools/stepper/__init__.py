@@ -1,0 +1,1 @@
+"""A view that steps through a run of a module, over `mb build`, `mb state` and `mb run`."""
