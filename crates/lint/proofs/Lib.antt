@@ -1,5 +1,6 @@
 pub mod Adding
 pub mod Blocks
+pub mod LockedBlocks
 pub mod Naming
 pub mod UnderWay
 pub mod Pieces
