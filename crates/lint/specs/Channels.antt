@@ -1,12 +1,12 @@
 -- What is wrong about the channels of a partition's ports: none leads to a destination port, or its messages get stale too soon.
-use Rattle.std.specs.Prelude.{ℕ, ◌+◌, ◌==◌, Bool, false, not, ◌&&◌, List, [], ◌++◌, ◌∷◌, Option, Some, None, option_map}
+use Rattle.std.specs.Prelude.{ℕ, ◌+◌, ◌-◌, ◌==◌, Bool, false, not, ◌&&◌, List, [], ◌++◌, ◌∷◌, Option, Some, None, option_map, slice_get}
 use Rattle.std.specs.List.{list_any}
 use Rattle.apex_types.specs.declared.row.ChannelEnd.{ChannelEnd}
 use Rattle.apex_types.specs.declared.row.ChannelEnd.TheVariants as ends
 use Rattle.apex_types.specs.declared.row.PortKind.{PortKind}
 use Rattle.apex_types.specs.declared.row.PortKind.TheVariants as kinds
 use Rattle.apex_types.specs.declared.row.PortRow.{PortRow}
-use Rattle.module_meaning.specs.Table.{Channel, Partition, at_number, is_source}
+use Rattle.module_meaning.specs.Table.{Channel, Partition, is_source}
 use Rattle.lint.specs.Arrays.{is_less}
 use Rattle.lint.specs.Views.{Found, if_so}
 use Rattle.lint.specs.declared.finding.FindingKind.TheVariants as finding
@@ -28,7 +28,7 @@ unconnected_port cs partition port row =
 -- the period of the partition that sends from this end
 abbrev pub period_of : List Partition → ChannelEnd → Option ℕ
 period_of rows ends.Device = None
-period_of rows (ends.Port p q) = option_map (λ row. row.period) (at_number rows p.0)
+period_of rows (ends.Port p q) = option_map (λ row. row.period) (slice_get rows (p.0 - 1))
 
 abbrev pub refresh_of : PortKind → Option ℕ
 refresh_of (kinds.Sampling refresh) = Some refresh

@@ -31,14 +31,27 @@ fn is_end_at(place: Place, end: ChannelEnd) -> bool
     }
 }
 
+/// Returns true if one of the destinations of a channel is the port at this place.
+#[tactic(auto, using(std::proofs::lemmas::List::drop_more))]
+fn is_among(place: Place, ends: &[ChannelEnd]) -> bool
+    ensures { result ≡ list_any (meant.is_end_at place.partition place.port) ends.now }
+{
+    for end in ends {
+        if is_end_at(place, *end) {
+            return true;
+        }
+    }
+    false
+}
+
 /// Returns true if a channel leads to the port at this place.
 fn leads_to(place: Place, channel: &ChannelRow) -> bool
     ensures { result ≡ meant.leads_to place.partition place.port (channel_view channel.now) }
 {
-    channel.destinations.iter().any(|end| is_end_at(place, *end))
+    is_among(place, &channel.destinations)
 }
 
-/// Returns true if a channel leads to the port at this place.
+/// Returns true if one of the channels leads to the port at this place.
 #[tactic(auto, using(std::proofs::lemmas::List::drop_more))]
 fn is_connected(channels: &[ChannelRow], place: Place) -> bool
     ensures { result
@@ -59,9 +72,10 @@ fn period_of(rows: &[PartitionRow], source: ChannelEnd) -> Option<u64>
     match source {
         ChannelEnd::Device => None,
         ChannelEnd::Port(partition, _) => {
-            let place = partition.0.checked_sub(1)?;
-            let row = rows.get(usize::from(place))?;
-            Some(u64::from(row.period))
+            match rows.get(usize::from(partition.0.saturating_sub(1))) {
+                Some(row) => Some(u64::from(row.period)),
+                None => None,
+            }
         }
     }
 }
@@ -78,21 +92,23 @@ fn refresh_of(kind: PortKind) -> Option<u64>
 
 /// Returns true if a message that comes through a channel to a port is stale before its sender has
 /// the next period.
+fn is_stale(rows: &[PartitionRow], place: Place, row: &PortRow, channel: &ChannelRow) -> bool
+    ensures { result
+        ≡ meant.is_stale (map partition_view rows.now) place.partition place.port row.now
+        (channel_view channel.now) }
+{
+    leads_to(place, channel) && is_less(refresh_of(row.kind), period_of(rows, channel.source))
+}
+
+/// Returns true if this is so of one of the channels.
 #[tactic(auto, using(std::proofs::lemmas::List::drop_more))]
-fn is_any_stale(
-    rows: &[PartitionRow],
-    channels: &[ChannelRow],
-    place: Place,
-    row: &PortRow,
-) -> bool
+fn is_any_stale(rows: &[PartitionRow], channels: &[ChannelRow], place: Place, row: &PortRow) -> bool
     ensures { result
         ≡ list_any (meant.is_stale (map partition_view rows.now) place.partition place.port row.now)
         (map channel_view channels.now) }
 {
     for channel in channels {
-        if leads_to(place, channel)
-            && is_less(refresh_of(row.kind), period_of(rows, channel.source))
-        {
+        if is_stale(rows, place, row, channel) {
             return true;
         }
     }
@@ -120,7 +136,11 @@ fn add_at_port<'a>(
         subject: row.name.as_str(),
     };
     let receives = row.direction == PortDirection::Destination;
-    add_if(receives && !is_connected(channels, place), finding, findings)?;
+    add_if(
+        receives && !is_connected(channels, place),
+        finding,
+        findings,
+    )?;
     let kind = FindingKind::ShortRefresh;
     let stale = is_any_stale(rows, channels, place, row);
     add_if(stale, Finding { kind, ..finding }, findings)

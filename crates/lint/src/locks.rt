@@ -67,20 +67,21 @@ fn add_wait(
     add_if(locked && may_wait(service, arguments), finding, findings)
 }
 
-/// Adds the services of a block that may wait while preemption is locked.
+/// Adds the services of a block that may wait while preemption is locked, if it was so before or
+/// not.
 #[cycle(locked_waits)]
 fn add_block(
     names: &IndexSet<String>,
-    locked: bool,
+    before: bool,
     block: &[Stmt],
     findings: &mut Vec<Finding<'_>>,
 ) -> Result<(), AllocError>
     ensures { OnOk result
         (found_all findings.new.items
         ≡ found_all findings.old.items
-        ++ meant.waits_while_locked locked (block_of (texts names.now.keys) block.now)) }
+        ++ meant.waits_while_locked before (block_of (texts names.now.keys) block.now)) }
 {
-    let mut locked = locked;
+    let mut locked = before;
     for statement in block {
         add_statement(names, locked, statement, findings)?;
         locked = locked_after(locked, &statement.kind);
