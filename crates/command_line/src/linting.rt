@@ -70,7 +70,14 @@ fn show_module<O: Stream>(alloc: Global, read: &ReadModule, out: &mut O) -> Resu
     let trees = read.trees.as_slice();
     let sources = read.accepted.sources.as_slice();
     let mut found = Vec::new(alloc);
-    add_found(alloc, table, Rows { number: 1, rows }, trees, sources, &mut found)?;
+    add_found(
+        alloc,
+        table,
+        Rows { number: 1, rows },
+        trees,
+        sources,
+        &mut found,
+    )?;
     let shown = found.as_slice();
     show_findings(shown, out)?;
     Ok(Outcome::of_findings(shown))

@@ -66,6 +66,7 @@ fn is_connected(channels: &[ChannelRow], place: Place) -> bool
 }
 
 /// The period of the partition that sends from an end.
+#[tactic(auto, using(crate::proofs::PortRows::row_at))]
 fn period_of(rows: &[PartitionRow], source: ChannelEnd) -> Option<u64>
     ensures { result ≡ meant.period_of (map partition_view rows.now) source }
 {
