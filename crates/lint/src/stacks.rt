@@ -29,10 +29,9 @@ fn words_of_expr(known: &[u64], expr: &Expr) -> u64
         Expr::Element(_, _, index) => words_of_expr(known, index),
         Expr::Unary(_, operand) => words_of_expr(known, operand),
         Expr::Chain(first, links) => words_of_expr(known, first).max(words_of_links(known, links)),
-        Expr::Apply(procedure, arguments) => {
-            let own = called(known, *procedure).max(1);
-            own.max(words_of_exprs(known, arguments))
-        }
+        Expr::Apply(procedure, arguments) => called(known, *procedure)
+            .max(1)
+            .max(words_of_exprs(known, arguments)),
     }
 }
 
