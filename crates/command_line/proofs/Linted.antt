@@ -1,7 +1,6 @@
 -- What is found in the texts of the files that are named.
-use Rattle.std.proofs.Common.{◌≡◌, ℕ, Bool, true, false, List, [], ◌∷◌, ◌++◌, length, map, Option, Result, Ok, Err, IfErr, OnOk, refl, sym, ap, subst, ◌∙◌, append-nil, append_assoc, arith}
-use Rattle.apex_types.specs.declared.cost.Costs.{Costs}
-use Rattle.module_meaning.specs.Table.{Partition}
+use Rattle.std.proofs.Common.{◌≡◌, ℕ, ◌+◌, Bool, true, false, List, [], ◌∷◌, ◌++◌, length, map, Option, Result, Ok, Err, IfErr, OnOk, refl, sym, ap, subst, ◌∙◌, append-nil, append_assoc, arith}
+use Rattle.module_meaning.specs.Table.{Partition, Table}
 use Rattle.pal_meaning.specs.Syntax as written
 use Rattle.pal_base.specs.Answers.{IsRefused}
 use Rattle.pal_base.specs.WrittenView.{program_of}
@@ -9,10 +8,8 @@ use Rattle.pal_base.specs.declared.fault.PalFault.{PalFault}
 use Rattle.pal_base.specs.declared.fault.Refusal.{Refusal as Refused}
 use Rattle.pal_base.specs.declared.fault.Refusal.TheVariants as refused
 use Rattle.pal_base.specs.declared.checked.Checked.{Checked}
-use Rattle.pal_base.specs.declared.program.Process.{Process}
 use Rattle.pal_base.specs.declared.syntax.Program as tree
-use Rattle.lint.specs.Findings.{findings}
-use Rattle.lint.specs.Slow.{slow_processes}
+use Rattle.lint.specs.Findings.{partition_findings}
 use Rattle.lint.specs.Views.{found_all}
 use Rattle.lint.specs.declared.report.PartitionFindings.{PartitionFindings}
 use Rattle.window_table.specs.Views.{partition_view, table_of}
@@ -35,53 +32,48 @@ pub more_trees : (text : List ℕ) (texts : List (List ℕ)) (p : tree.Program) 
 more_trees text texts p old mid new pushed own (trees, rest, are) =
     (p ∷ trees, rest ∙ subst (λ (m : List tree.Program). m ++ trees ≡ old ++ p ∷ trees) (sym pushed) (append_assoc old (p ∷ []) trees), (own.0, are))
 
-pub more_found : (costs : Costs) (all : List PartitionRow) (row : PartitionRow) (rows : List PartitionRow) (p : tree.Program) (trees : List tree.Program) (given : Checked) (accepted : List Checked) (f : PartitionFindings) (old mid new : List PartitionFindings)
-    → mid ≡ old ++ f ∷ [] → IsFoundOf costs (map partition_view all) (partition_view row) (program_of p) given f → AddsFound costs all rows trees accepted mid new → AddsFound costs all (row ∷ rows) (p ∷ trees) (given ∷ accepted) old new
-more_found costs all row rows p trees given accepted f old mid new pushed own (found, rest, are) =
+pub more_found : (t : Table) (number : ℕ) (row : PartitionRow) (rows : List PartitionRow) (p : tree.Program) (trees : List tree.Program) (given : Checked) (accepted : List Checked) (f : PartitionFindings) (old mid new : List PartitionFindings)
+    → mid ≡ old ++ f ∷ [] → IsFoundOf t number (partition_view row) (program_of p) given f → AddsFound t (number + 1) rows trees accepted mid new → AddsFound t number (row ∷ rows) (p ∷ trees) (given ∷ accepted) old new
+more_found t number row rows p trees given accepted f old mid new pushed own (found, rest, are) =
     (f ∷ found, rest ∙ subst (λ (m : List PartitionFindings). m ++ found ≡ old ++ f ∷ found) (sym pushed) (append_assoc old (f ∷ []) found), (own, are))
 
-pub more_found_by : {E : Type 0} (answer : Result (Unit {0}) E) (costs : Costs) (all read rows later : List PartitionRow) (row : PartitionRow) (trees more : List tree.Program) (p : tree.Program) (accepted others : List Checked) (given : Checked) (processes : List Process) (f : PartitionFindings) (old mid new : List PartitionFindings)
-    → read ≡ all → rows ≡ row ∷ later → trees ≡ p ∷ more → accepted ≡ given ∷ others → processes ≡ given.program.processes.items → mid ≡ old ++ f ∷ [] → f.partition.now ≡ row.name
-    → found_all f.findings.items ≡ findings (map partition_view read) row.ports.items (program_of p) ++ slow_processes costs processes
-    → OnOk answer (AddsFound costs all later more others mid new) → OnOk answer (AddsFound costs all rows trees accepted old new)
-more_found_by (Err e) costs all read rows later row trees more p accepted others given processes f old mid new of_all one two three same pushed named found rest = tt
-more_found_by (Ok x) costs all read rows later row trees more p accepted others given processes f old mid new of_all one two three same pushed named found rest =
-    let own : IsFoundOf costs (map partition_view all) (partition_view row) (program_of p) given f = record {
-      partition = named;
-      findings = found ∙ ap (λ (rs : List PartitionRow). findings (map partition_view rs) row.ports.items (program_of p) ++ slow_processes costs processes) of_all
-          ∙ ap (λ ps. findings (map partition_view all) row.ports.items (program_of p) ++ slow_processes costs ps) same;
-    } in
-    subst (λ (rs : List PartitionRow). AddsFound costs all rs trees accepted old new) (sym one)
-    (subst (λ (ts : List tree.Program). AddsFound costs all (row ∷ later) ts accepted old new) (sym two)
-    (subst (λ (gs : List Checked). AddsFound costs all (row ∷ later) (p ∷ more) gs old new) (sym three)
-    (more_found costs all row later p more given others f old mid new pushed own rest)))
+pub more_found_by : {E : Type 0} (answer : Result (Unit {0}) E) (t : Table) (number : ℕ) (rows later : List PartitionRow) (row : PartitionRow) (trees more : List tree.Program) (p : tree.Program) (accepted others : List Checked) (given : Checked) (f : PartitionFindings) (old mid new : List PartitionFindings)
+    → rows ≡ row ∷ later → trees ≡ p ∷ more → accepted ≡ given ∷ others → mid ≡ old ++ f ∷ [] → f.partition.now ≡ row.name
+    → found_all f.findings.items ≡ partition_findings t number row.ports.items (program_of p) given.program
+    → OnOk answer (AddsFound t (number + 1) later more others mid new) → OnOk answer (AddsFound t number rows trees accepted old new)
+more_found_by (Err e) t number rows later row trees more p accepted others given f old mid new one two three pushed named found rest = tt
+more_found_by (Ok x) t number rows later row trees more p accepted others given f old mid new one two three pushed named found rest =
+    let own : IsFoundOf t number (partition_view row) (program_of p) given f = record { partition = named; findings = found } in
+    subst (λ (rs : List PartitionRow). AddsFound t number rs trees accepted old new) (sym one)
+    (subst (λ (ts : List tree.Program). AddsFound t number (row ∷ later) ts accepted old new) (sym two)
+    (subst (λ (gs : List Checked). AddsFound t number (row ∷ later) (p ∷ more) gs old new) (sym three)
+    (more_found t number row later p more given others f old mid new pushed own rest)))
 
 -- a list has come to its end
-pub no_rows : (costs : Costs) (all rows : List PartitionRow) (trees : List tree.Program) (accepted : List Checked) (old : List PartitionFindings) → length rows ≡ 0 → AddsFound costs all rows trees accepted old old
-no_rows costs all [] trees accepted old e = ([], sym (append-nil old), refl)
-no_rows costs all (r ∷ rows) trees accepted old e = absurd (omega (arith, e))
+pub no_rows : (t : Table) (number : ℕ) (rows : List PartitionRow) (trees : List tree.Program) (accepted : List Checked) (old : List PartitionFindings) → length rows ≡ 0 → AddsFound t number rows trees accepted old old
+no_rows t number [] trees accepted old e = ([], sym (append-nil old), refl)
+no_rows t number (r ∷ rows) trees accepted old e = absurd (omega (arith, e))
 
-pub no_trees : (costs : Costs) (all rows : List PartitionRow) (trees : List tree.Program) (accepted : List Checked) (old : List PartitionFindings) → length trees ≡ 0 → AddsFound costs all rows trees accepted old old
-no_trees costs all [] trees accepted old e = ([], sym (append-nil old), refl)
-no_trees costs all (r ∷ rows) [] accepted old e = ([], sym (append-nil old), refl)
-no_trees costs all (r ∷ rows) (t ∷ trees) accepted old e = absurd (omega (arith, e))
+pub no_trees : (t : Table) (number : ℕ) (rows : List PartitionRow) (trees : List tree.Program) (accepted : List Checked) (old : List PartitionFindings) → length trees ≡ 0 → AddsFound t number rows trees accepted old old
+no_trees t number [] trees accepted old e = ([], sym (append-nil old), refl)
+no_trees t number (r ∷ rows) [] accepted old e = ([], sym (append-nil old), refl)
+no_trees t number (r ∷ rows) (p ∷ trees) accepted old e = absurd (omega (arith, e))
 
-pub no_sources : (costs : Costs) (all rows : List PartitionRow) (trees : List tree.Program) (accepted : List Checked) (old : List PartitionFindings) → length accepted ≡ 0 → AddsFound costs all rows trees accepted old old
-no_sources costs all [] trees accepted old e = ([], sym (append-nil old), refl)
-no_sources costs all (r ∷ rows) [] accepted old e = ([], sym (append-nil old), refl)
-no_sources costs all (r ∷ rows) (t ∷ trees) [] old e = ([], sym (append-nil old), refl)
-no_sources costs all (r ∷ rows) (t ∷ trees) (a ∷ accepted) old e = absurd (omega (arith, e))
+pub no_sources : (t : Table) (number : ℕ) (rows : List PartitionRow) (trees : List tree.Program) (accepted : List Checked) (old : List PartitionFindings) → length accepted ≡ 0 → AddsFound t number rows trees accepted old old
+no_sources t number [] trees accepted old e = ([], sym (append-nil old), refl)
+no_sources t number (r ∷ rows) [] accepted old e = ([], sym (append-nil old), refl)
+no_sources t number (r ∷ rows) (p ∷ trees) [] old e = ([], sym (append-nil old), refl)
+no_sources t number (r ∷ rows) (p ∷ trees) (a ∷ accepted) old e = absurd (omega (arith, e))
 
 -- the module whose findings these are
 pub module_found : (m : ReadModule) (rows : List PartitionRow) (trees : List tree.Program) (accepted : List Checked) (old new : List PartitionFindings) → rows ≡ m.accepted.table.partitions.items → trees ≡ m.trees.items → accepted ≡ m.accepted.sources.items → old ≡ []
-    → AddsFound m.accepted.table.costs m.accepted.table.partitions.items rows trees accepted old new → AreFoundOfModule m new
+    → AddsFound (table_of m.accepted.table) 1 rows trees accepted old new → AreFoundOfModule m new
 module_found m rows trees accepted old new one two three none h =
-    let costs = m.accepted.table.costs in
-    let all = m.accepted.table.partitions.items in
-    subst (λ (rs : List PartitionRow). AddsFound costs all rs m.trees.items m.accepted.sources.items [] new) one
-    (subst (λ (ts : List tree.Program). AddsFound costs all rows ts m.accepted.sources.items [] new) two
-    (subst (λ (gs : List Checked). AddsFound costs all rows trees gs [] new) three
-    (subst (λ (o : List PartitionFindings). AddsFound costs all rows trees accepted o new) none h)))
+    let t = table_of m.accepted.table in
+    subst (λ (rs : List PartitionRow). AddsFound t 1 rs m.trees.items m.accepted.sources.items [] new) one
+    (subst (λ (ts : List tree.Program). AddsFound t 1 rows ts m.accepted.sources.items [] new) two
+    (subst (λ (gs : List Checked). AddsFound t 1 rows trees gs [] new) three
+    (subst (λ (o : List PartitionFindings). AddsFound t 1 rows trees accepted o new) none h)))
 
 pub all_trees : (texts : List (List ℕ)) (old new : List tree.Program) → old ≡ [] → AddsTrees texts old new → AreTrees texts (map program_of new)
 all_trees texts old new none (trees, same, are) =
@@ -89,17 +81,17 @@ all_trees texts old new none (trees, same, are) =
     subst (λ (ps : List tree.Program). AreTrees texts (map program_of ps)) (sym whole) are
 
 -- what is found of accepted sources is what is found of their texts
-all_found : (costs : Costs) (all rows : List Partition) (texts : List (List ℕ)) (trees : List written.Program) (givens : List Checked) (found : List PartitionFindings)
-    → AreSources rows texts givens → AreTrees texts trees → AreFoundOf costs all rows trees givens found → AreAllFound costs all rows texts found
-all_found costs all [] [] trees [] found s t f = subst (AreAllFound costs all [] []) (sym f) tt
-all_found costs all [] [] trees (g ∷ givens) found s t f = absurd s
-all_found costs all [] (text ∷ texts) trees givens found s t f = absurd s
-all_found costs all (row ∷ rows) [] trees givens found s t f = absurd s
-all_found costs all (row ∷ rows) (text ∷ texts) trees [] found s t f = absurd s
-all_found costs all (row ∷ rows) (text ∷ texts) [] (g ∷ givens) found s t f = absurd t
-all_found costs all (row ∷ rows) (text ∷ texts) (p ∷ trees) (g ∷ givens) [] s t f = absurd f
-all_found costs all (row ∷ rows) (text ∷ texts) (p ∷ trees) (g ∷ givens) (x ∷ found) s t f =
-    (record { given = g; accepted = s.0; tree = p; written = t.0; of_tree = f.0 }, all_found costs all rows texts trees givens found s.1 t.1 f.1)
+all_found : (t : Table) (number : ℕ) (rows : List Partition) (texts : List (List ℕ)) (trees : List written.Program) (givens : List Checked) (found : List PartitionFindings)
+    → AreSources rows texts givens → AreTrees texts trees → AreFoundOf t number rows trees givens found → AreAllFound t number rows texts found
+all_found t number [] [] trees [] found a b f = subst (AreAllFound t number [] []) (sym f) tt
+all_found t number [] [] trees (g ∷ givens) found a b f = absurd a
+all_found t number [] (text ∷ texts) trees givens found a b f = absurd a
+all_found t number (row ∷ rows) [] trees givens found a b f = absurd a
+all_found t number (row ∷ rows) (text ∷ texts) trees [] found a b f = absurd a
+all_found t number (row ∷ rows) (text ∷ texts) [] (g ∷ givens) found a b f = absurd b
+all_found t number (row ∷ rows) (text ∷ texts) (p ∷ trees) (g ∷ givens) [] a b f = absurd f
+all_found t number (row ∷ rows) (text ∷ texts) (p ∷ trees) (g ∷ givens) (x ∷ found) a b f =
+    (record { given = g; accepted = a.0; tree = p; written = b.0; of_tree = f.0 }, all_found t (number + 1) rows texts trees givens found a.1 b.1 f.1)
 
 found_in : (files : Option Contents) (table : List ℕ) (sources : List (List ℕ)) (m : ReadModule) (new : List PartitionFindings) → IsModuleIn files table sources m → AreFoundOfModule m new → AreFoundIn files table sources new
 found_in files table sources m new is (found, same, are) =
@@ -109,8 +101,8 @@ found_in files table sources m new is (found, same, are) =
       of_texts = record {
         rows = rows;
         accepted = is.read.accepted.accepted;
-        of_rows = subst (AreAllFound rows.costs rows.partitions rows.partitions is.texts.source_texts) (sym same)
-            (all_found rows.costs rows.partitions rows.partitions is.texts.source_texts (map program_of m.trees.items) m.accepted.sources.items found is.read.accepted.programs is.read.trees are);
+        of_rows = subst (AreAllFound rows 1 rows.partitions is.texts.source_texts) (sym same)
+            (all_found rows 1 rows.partitions is.texts.source_texts (map program_of m.trees.items) m.accepted.sources.items found is.read.accepted.programs is.read.trees are);
       };
     }
 

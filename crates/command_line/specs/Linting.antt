@@ -1,8 +1,7 @@
 -- What of a module is accepted and probably not meant.
-use Rattle.std.specs.Prelude.{◌≡◌, ℕ, Bool, List, [], ◌∷◌, ◌++◌, map, Option, Result, Ok, Err}
+use Rattle.std.specs.Prelude.{◌≡◌, ℕ, ◌+◌, Bool, List, [], ◌∷◌, ◌++◌, map, Option, Result, Ok, Err}
 use Rattle.std.specs.Io.KnownBytes.{Appends}
 use Rattle.apex_types.specs.Line.{TakesBeginning}
-use Rattle.apex_types.specs.declared.cost.Costs.{Costs}
 use Rattle.module_meaning.specs.Accepted.{IsTable}
 use Rattle.module_meaning.specs.Table.{Partition, Table}
 use Rattle.pal_meaning.specs.Grammar.{IsProgramOf}
@@ -10,12 +9,11 @@ use Rattle.pal_meaning.specs.Syntax as written
 use Rattle.pal_base.specs.WrittenView.{program_of}
 use Rattle.pal_base.specs.declared.checked.Checked.{Checked}
 use Rattle.pal_base.specs.declared.syntax.Program as tree
-use Rattle.lint.specs.Findings.{findings}
+use Rattle.lint.specs.Findings.{partition_findings}
 use Rattle.lint.specs.Sentences.{findings_text, have_findings}
-use Rattle.lint.specs.Slow.{slow_processes}
 use Rattle.lint.specs.Views.{found_all}
 use Rattle.lint.specs.declared.report.PartitionFindings.{PartitionFindings}
-use Rattle.window_table.specs.Views.{partition_view}
+use Rattle.window_table.specs.Views.{partition_view, table_of}
 use Rattle.window_table.specs.declared.table.PartitionRow.{PartitionRow}
 use Rattle.module.specs.Costs.{IsAcceptedModule}
 use Rattle.module.specs.Sources.{IsSource}
@@ -29,21 +27,21 @@ use Rattle.command_line.specs.declared.refusal.Refusal.TheVariants.{Memory, Writ
 
 -- ---- of accepted sources
 
--- What is found in a source, both as written and as accepted, for the partition of a row in a table with these costs and rows.
-pub record IsFoundOf (costs : Costs) (all : List Partition) (row : Partition) (source : written.Program) (given : Checked) (found : PartitionFindings) : Type 0 where
+-- What is found in a source, both as written and as accepted, for the partition of a row, which has this number in the table.
+pub record IsFoundOf (t : Table) (number : ℕ) (row : Partition) (source : written.Program) (given : Checked) (found : PartitionFindings) : Type 0 where
   pub partition : found.partition.now ≡ row.name
-  pub findings : found_all found.findings.items ≡ findings all row.ports source ++ slow_processes costs given.program.processes.items
+  pub findings : found_all found.findings.items ≡ partition_findings t number row.ports source given.program
 
--- one for each partition, in order
-abbrev pub AreFoundOf : Costs → List Partition → List Partition → List written.Program → List Checked → List PartitionFindings → Type 0
-AreFoundOf costs all (row ∷ rows) (source ∷ sources) (given ∷ accepted) (f ∷ found) = IsFoundOf costs all row source given f × AreFoundOf costs all rows sources accepted found
-AreFoundOf costs all (row ∷ rows) (source ∷ sources) (given ∷ accepted) [] = ⊥
-AreFoundOf costs all _ _ _ found = found ≡ []
+-- one for each partition, in order, the first of which has this number
+abbrev pub AreFoundOf : Table → ℕ → List Partition → List written.Program → List Checked → List PartitionFindings → Type 0
+AreFoundOf t number (row ∷ rows) (source ∷ sources) (given ∷ accepted) (f ∷ found) = IsFoundOf t number row source given f × AreFoundOf t (number + 1) rows sources accepted found
+AreFoundOf t number (row ∷ rows) (source ∷ sources) (given ∷ accepted) [] = ⊥
+AreFoundOf t number _ _ _ found = found ≡ []
 
 -- added after what is already there
-abbrev pub AddsFound : Costs → List PartitionRow → List PartitionRow → List tree.Program → List Checked → List PartitionFindings → List PartitionFindings → Type 0
-AddsFound costs all rows trees accepted old new =
-    (found : List PartitionFindings) × (new ≡ old ++ found) × AreFoundOf costs (map partition_view all) (map partition_view rows) (map program_of trees) accepted found
+abbrev pub AddsFound : Table → ℕ → List PartitionRow → List tree.Program → List Checked → List PartitionFindings → List PartitionFindings → Type 0
+AddsFound t number rows trees accepted old new =
+    (found : List PartitionFindings) × (new ≡ old ++ found) × AreFoundOf t number (map partition_view rows) (map program_of trees) accepted found
 
 -- the text is that of a program
 abbrev pub HasTree : List ℕ → Type 0
@@ -69,7 +67,7 @@ pub record IsReadModule (table : List ℕ) (sources : List (List ℕ)) (m : Read
 
 -- this is found of a module
 abbrev pub AreFoundOfModule : ReadModule → List PartitionFindings → Type 0
-AreFoundOfModule m found = AddsFound m.accepted.table.costs m.accepted.table.partitions.items m.accepted.table.partitions.items m.trees.items m.accepted.sources.items [] found
+AreFoundOfModule m found = AddsFound (table_of m.accepted.table) 1 m.accepted.table.partitions.items m.trees.items m.accepted.sources.items [] found
 
 -- the findings of a module were written, if there are any
 abbrev pub AreShown : Bool → ReadModule → Option (List ℕ) → Option (List ℕ) → Type 0
@@ -89,20 +87,20 @@ AreToldOf m old new (Err r) = AreNotShown m old new r
 -- ---- of texts
 
 -- The source is accepted for its partition and is the text of this program, and this is found of it.
-pub record IsFound (costs : Costs) (all : List Partition) (row : Partition) (source : List ℕ) (found : PartitionFindings) : Type 0 where
+pub record IsFound (t : Table) (number : ℕ) (row : Partition) (source : List ℕ) (found : PartitionFindings) : Type 0 where
   pub given : Checked
   pub accepted : IsSource row source given
   pub tree : written.Program
   pub written : IsProgramOf source tree
-  pub of_tree : IsFoundOf costs all row tree given found
+  pub of_tree : IsFoundOf t number row tree given found
 
-abbrev pub AreAllFound : Costs → List Partition → List Partition → List (List ℕ) → List PartitionFindings → Type 0
-AreAllFound costs all [] [] [] = Unit {0}
-AreAllFound costs all (row ∷ rows) (source ∷ sources) (f ∷ found) = IsFound costs all row source f × AreAllFound costs all rows sources found
-AreAllFound costs all _ _ _ = ⊥
+abbrev pub AreAllFound : Table → ℕ → List Partition → List (List ℕ) → List PartitionFindings → Type 0
+AreAllFound t number [] [] [] = Unit {0}
+AreAllFound t number (row ∷ rows) (source ∷ sources) (f ∷ found) = IsFound t number row source f × AreAllFound t (number + 1) rows sources found
+AreAllFound t number _ _ _ = ⊥
 
 -- The table and the sources are accepted, and this is found of them.
 pub record AreFound (table : List ℕ) (sources : List (List ℕ)) (found : List PartitionFindings) : Type 0 where
   pub rows : Table
   pub accepted : IsTable table rows
-  pub of_rows : AreAllFound rows.costs rows.partitions rows.partitions sources found
+  pub of_rows : AreAllFound rows 1 rows.partitions sources found

@@ -1,10 +1,11 @@
 //! What of a module is accepted and probably not meant.
 
-ghost use Rattle.std.specs.Prelude.{◌≡◌, ◌-◌, ◌^◌, ◌<◌, map, IfOk, IfErr, OnOk};
+ghost use Rattle.std.specs.Prelude.{◌≡◌, ◌≤◌, ◌+◌, ◌-◌, ◌^◌, ◌<◌, length, map, IfOk, IfErr, OnOk};
 ghost use Rattle.lint.specs.Sentences.{findings_text};
 ghost use Rattle.pal_base.specs.WrittenView.{program_of};
 ghost use Rattle.pal_base.specs.declared.fault.Refusal.TheVariants.{Memory};
 ghost use Rattle.pal_meaning.specs.Grammar.{IsProgramOf};
+ghost use Rattle.window_table.specs.Views.{table_of};
 ghost use Rattle.command_line.specs.Orders.{Lint};
 ghost use Rattle.command_line.specs.Reading.{IsUncostedText, texts_of};
 ghost use Rattle.command_line.specs.States.{state};
@@ -69,7 +70,14 @@ fn show_module<O: Stream>(alloc: Global, read: &ReadModule, out: &mut O) -> Resu
     let trees = read.trees.as_slice();
     let sources = read.accepted.sources.as_slice();
     let mut found = Vec::new(alloc);
-    add_found(alloc, table, rows, trees, sources, &mut found)?;
+    add_found(
+        alloc,
+        table,
+        Rows { number: 1, rows },
+        trees,
+        sources,
+        &mut found,
+    )?;
     let shown = found.as_slice();
     show_findings(shown, out)?;
     Ok(Outcome::of_findings(shown))
@@ -143,22 +151,30 @@ fn add_trees(alloc: Global, sources: &[Vec<u8>], trees: &mut Vec<Program>) -> Re
     add_trees(alloc, sources, trees)
 }
 
+/// Rows of a table, the first of which has this number in it.
+#[derive(Clone, Copy)]
+struct Rows<'a> {
+    number: usize,
+    rows: &'a [PartitionRow],
+}
+
 /// Adds what is found for the partitions of these rows of the table, with their sources as written
 /// and as accepted.
 #[tactic(auto, using(crate::proofs::Linted::no_rows, crate::proofs::Linted::no_trees, crate::proofs::Linted::no_sources))]
 fn add_found<'a>(
     alloc: Global,
     table: &'a ModuleTable,
-    rows: &'a [PartitionRow],
+    rows: Rows<'a>,
     trees: &'a [Program],
     sources: &'a [Checked],
     found: &mut Vec<PartitionFindings<'a>>,
 ) -> Result<(), AllocError>
+    requires { rows.number + length rows.rows.now ≤ u64.MAX }
     ensures { OnOk result
-        (AddsFound table.now.costs table.now.partitions.items rows.now trees.now sources.now
+        (AddsFound (table_of table.now) rows.entry.number rows.entry.rows.now trees.now sources.now
         found.old.items found.new.items) }
 {
-    let Some((row, rows)) = rows.split_first() else {
+    let Some((row, later)) = rows.rows.split_first() else {
         return Ok(());
     };
     let Some((tree, trees)) = trees.split_first() else {
@@ -167,9 +183,12 @@ fn add_found<'a>(
     let Some((source, sources)) = sources.split_first() else {
         return Ok(());
     };
-    let processes = source.program.processes.as_slice();
-    let all = table.partitions.as_slice();
-    found.push(partition_findings(alloc, all, row, tree, &table.costs, processes)?)?;
+    let number = rows.number;
+    found.push(partition_findings(alloc, table, number, row, tree, &source.program)?)?;
+    let rows = Rows {
+        number: number + 1,
+        rows: later,
+    };
     add_found(alloc, table, rows, trees, sources, found)
 }
 

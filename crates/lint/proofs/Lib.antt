@@ -1,5 +1,7 @@
 pub mod Adding
 pub mod Blocks
+pub mod LockedBlocks
+pub mod PortRows
 pub mod Naming
 pub mod UnderWay
 pub mod Pieces

@@ -11,7 +11,10 @@ pub mod Does
 pub mod Recursion
 pub mod DoingView
 pub mod Lives
+pub mod Locks
+pub mod Channels
 pub mod Slow
+pub mod Stacks
 pub mod Unused
 pub mod Findings
 pub mod Listed

@@ -4,11 +4,12 @@ use Rattle.std.specs.List.{list_any}
 use Rattle.apex_types.specs.ServiceShape.{service_word}
 use Rattle.apex_types.specs.declared.denotation.ObjectKind.{ObjectKind}
 use Rattle.apex_types.specs.declared.denotation.ObjectKind.TheVariants as object
+use Rattle.apex_types.specs.declared.service.Service.{Service}
 use Rattle.pal_meaning.specs.Syntax as written
 use Rattle.pal_meaning.specs.WellFormed.{is_same_kind}
 use Rattle.lint.specs.Calls.{Call, calls_of, calls_of_init, calls_of_procedures, done_in}
 use Rattle.lint.specs.Mentions.{Mention}
-use Rattle.lint.specs.Plain.{first_of, is_name, is_zero, last_or, name_in}
+use Rattle.lint.specs.Plain.{Plain, first_of, is_name, is_zero, last_or, name_in}
 use Rattle.lint.specs.Services.{created_kind, is_start, is_set_mode, is_periodic_wait, is_handler_creation, is_error_status, always_waits, has_time_out, awaited_kind, signalled_kind}
 use Rattle.lint.specs.Uses.{may_be, may_be_number, means}
 use Rattle.lint.specs.Arrays.{is_less}
@@ -127,9 +128,12 @@ long_capacity p = if_so (is_longer p.capacity p.period) (found finding.LongCapac
 
 -- ---- INIT
 
--- a service that waits, or whose time-out is not written as 0
+-- a service with these arguments waits, or its time-out is not written as 0
+abbrev pub may_wait : Service → List Plain → Bool
+may_wait service arguments = always_waits service || (has_time_out service && not (is_zero (last_or None arguments)))
+
 abbrev pub waits : Call → Bool
-waits c = always_waits c.service || (has_time_out c.service && not (is_zero (last_or None c.arguments)))
+waits c = may_wait c.service c.arguments
 
 abbrev pub wait_in_init : Call → List Found
 wait_in_init c = if waits c then found finding.WaitInInit (service_word c.service) ∷ [] else []

@@ -30,10 +30,14 @@ opening finding.NoPeriodicWait = codes "nothing waits for the next release of "
 opening finding.LongCapacity = codes "the time capacity is above the period of "
 opening finding.NoErrorStatus = codes "the handler takes no error"
 opening finding.WaitInInit = codes "INIT calls a service that waits: "
+opening finding.WaitWhileLocked = codes "preemption is locked at a service that waits: "
 opening finding.UnusedVariable = codes "no statement names the variable "
 opening finding.UnusedProcedure = codes "no statement calls the procedure "
 opening finding.UnusedParameter = codes "no statement names the parameter "
+opening finding.UnconnectedPort = codes "no channel leads to the port "
+opening finding.ShortRefresh = codes "the refresh is below the period of the sender: "
 opening finding.AboveCapacity = codes "the time capacity is below the cost of "
+opening finding.SmallStack = codes "the stack is too small for the calls in "
 
 -- what to do about it
 abbrev pub advice : FindingKind → List ℕ
@@ -58,10 +62,14 @@ advice finding.NoPeriodicWait = codes "call PERIODIC_WAIT at the end of each rou
 advice finding.LongCapacity = codes "a deadline after the next release is no deadline; lower the time capacity"
 advice finding.NoErrorStatus = codes "call GET_ERROR_STATUS in the handler until no error is left"
 advice finding.WaitInInit = codes "leave the wait to a process, or give the time-out 0"
+advice finding.WaitWhileLocked = codes "call UNLOCK_PREEMPTION before it, or give the time-out 0"
 advice finding.UnusedVariable = codes "take it out"
 advice finding.UnusedProcedure = codes "take it out"
 advice finding.UnusedParameter = codes "take it out, and the arguments of its calls"
+advice finding.UnconnectedPort = codes "add it to a channel, or take it out"
+advice finding.ShortRefresh = codes "each message is stale before the next one comes; raise the refresh"
 advice finding.AboveCapacity = codes "raise the time capacity, or let the body do less"
+advice finding.SmallStack = codes "raise it, or call less deeply"
 
 -- the line in the source, if the finding has one
 abbrev pub place_text : ℕ → List ℕ

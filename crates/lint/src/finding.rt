@@ -50,14 +50,22 @@ pub enum FindingKind {
     NoErrorStatus,
     /// INIT calls a service that waits.
     WaitInInit,
+    /// A service waits while preemption is locked.
+    WaitWhileLocked,
     /// No statement names a variable or an array; or a local, in its body.
     UnusedVariable,
     /// No statement names a procedure.
     UnusedProcedure,
     /// No statement of its body names a parameter.
     UnusedParameter,
+    /// No channel leads to a destination port.
+    UnconnectedPort,
+    /// A message is valid for less than the period of the partition that sends it.
+    ShortRefresh,
     /// The body of a process costs more than its time capacity, each construct counted once.
     AboveCapacity,
+    /// A chain of calls takes more words than the stack has.
+    SmallStack,
 }
 
 /// A finding: its line in the source, from 1, or 0 if it is about the row of the table; what is

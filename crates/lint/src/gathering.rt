@@ -15,7 +15,7 @@ use crate::declarations::Declarations;
 use crate::finding::Finding;
 use crate::mentions::{Mention, add_all};
 use crate::unused::add_unused;
-use crate::{does, lives, port_rules, recursion};
+use crate::{does, lives, locks, port_rules, recursion};
 use apex_types::{ObjectKind, PortRow};
 use pal_base::syntax::Program;
 use std::alloc::{AllocError, Global};
@@ -232,7 +232,8 @@ fn add_waits<'a>(
     lives::add_never_normal(names, &calls, program.init.line, findings)?;
     add_by_procedures(alloc, program, done, findings)?;
     let calls = init_calls(alloc, program, done)?;
-    lives::add_waits(names, &calls, findings)
+    lives::add_waits(names, &calls, findings)?;
+    locks::add_locked_waits(program, findings)
 }
 
 /// What is found in a source for a partition with these ports, in a table with these rows: about

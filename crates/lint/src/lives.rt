@@ -1,8 +1,9 @@
 //! What is never created, started or ended in its first round, and what waits where nothing may.
 
 ghost use Rattle.std.specs.Prelude.{◌≡◌, ◌++◌, [], ℕ, List, map, flat_map, option_map, OnOk};
-ghost use Rattle.pal_base.specs.View.{declaration_of, declared_of, integer_of, name_of, process_of, stack_body_of, texts};
+ghost use Rattle.pal_base.specs.View.{declaration_of, declared_of, exprs_of, integer_of, name_of, process_of, stack_body_of, texts};
 ghost use Rattle.lint.specs.Lives as meant;
+ghost use Rattle.lint.specs.Plain.{plains};
 ghost use Rattle.lint.specs.Views.{call_of, calls_seen, found_all, mentions_seen};
 
 use crate::arrays::is_less;
@@ -14,9 +15,11 @@ use crate::names::text_of;
 use crate::plain::{is_zero, last_plain, value_of};
 use crate::services::{always_waits, has_time_out};
 use crate::wanted::{Wanted, expect, is_met, is_met_in_either};
-use apex_types::ObjectKind;
+use apex_types::{ObjectKind, Service};
 use indexmap::IndexSet;
-use pal_base::syntax::{Declaration, DeclarationKind, Identifier, Numeral, Process, StackBody};
+use pal_base::syntax::{
+    Declaration, DeclarationKind, Expr, Identifier, Numeral, Process, StackBody,
+};
 use std::alloc::{AllocError, Global};
 
 /// The kind of object that a declaration makes known.
@@ -365,12 +368,19 @@ pub fn add_no_error_status<'a, 'p>(
     add_unless(takes, finding, findings)
 }
 
-/// Returns true if a service waits, or if its time-out is not written as 0.
+/// Returns true if a service with these arguments waits, or if its time-out is not written as 0.
+pub fn may_wait(service: Service, arguments: &[Expr]) -> bool
+    ensures { (names : List (List ℕ))
+        → result ≡ meant.may_wait service (plains (exprs_of names arguments.now)) }
+{
+    always_waits(service) || (has_time_out(service) && !is_zero(last_plain(arguments)))
+}
+
+/// Returns true if a call may wait.
 fn waits(call: &Call<'_>) -> bool
     ensures { (names : List (List ℕ)) → result ≡ meant.waits (call_of names call.now) }
 {
-    always_waits(call.service)
-        || (has_time_out(call.service) && !is_zero(last_plain(call.arguments)))
+    may_wait(call.service, call.arguments)
 }
 
 /// Adds the calls of INIT that wait.

@@ -32,10 +32,14 @@ impl FindingKind {
             FindingKind::LongCapacity => "the time capacity is above the period of ",
             FindingKind::NoErrorStatus => "the handler takes no error",
             FindingKind::WaitInInit => "INIT calls a service that waits: ",
+            FindingKind::WaitWhileLocked => "preemption is locked at a service that waits: ",
             FindingKind::UnusedVariable => "no statement names the variable ",
             FindingKind::UnusedProcedure => "no statement calls the procedure ",
             FindingKind::UnusedParameter => "no statement names the parameter ",
+            FindingKind::UnconnectedPort => "no channel leads to the port ",
+            FindingKind::ShortRefresh => "the refresh is below the period of the sender: ",
             FindingKind::AboveCapacity => "the time capacity is below the cost of ",
+            FindingKind::SmallStack => "the stack is too small for the calls in ",
         }
     }
 
@@ -72,10 +76,16 @@ impl FindingKind {
             FindingKind::NoErrorStatus =>
                 "call GET_ERROR_STATUS in the handler until no error is left",
             FindingKind::WaitInInit => "leave the wait to a process, or give the time-out 0",
+            FindingKind::WaitWhileLocked =>
+                "call UNLOCK_PREEMPTION before it, or give the time-out 0",
             FindingKind::UnusedVariable => "take it out",
             FindingKind::UnusedProcedure => "take it out",
             FindingKind::UnusedParameter => "take it out, and the arguments of its calls",
+            FindingKind::UnconnectedPort => "add it to a channel, or take it out",
+            FindingKind::ShortRefresh =>
+                "each message is stale before the next one comes; raise the refresh",
             FindingKind::AboveCapacity => "raise the time capacity, or let the body do less",
+            FindingKind::SmallStack => "raise it, or call less deeply",
         }
     }
 }

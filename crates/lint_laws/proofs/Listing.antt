@@ -6,15 +6,17 @@ use Rattle.std.proofs.lemmas.Bool.{false≢true}
 use Rattle.apex_types.specs.declared.denotation.ObjectKind.{ObjectKind}
 use Rattle.apex_types.specs.declared.denotation.ObjectKind.TheVariants as object
 use Rattle.apex_types.specs.declared.row.PortRow.{PortRow}
+use Rattle.apex_types.specs.declared.service.Service.{Service}
 use Rattle.module_meaning.specs.Table.{Partition}
 use Rattle.pal_meaning.specs.Syntax as written
 use Rattle.lint.specs.Arrays.{array_of, is_beyond, long_length, long_length_of, name_or_none, small_array, small_array_of}
 use Rattle.lint.specs.Calls.{Call, all_calls, calls_of_init, calls_of_procedures, done_in}
 use Rattle.lint.specs.Does.{found_at_call, found_at_mention, unset_number}
 use Rattle.lint.specs.Findings.{body_findings, creation_findings, findings, port_findings, round_findings, wait_findings}
-use Rattle.lint.specs.Lives.{Creation, NormalMode, Signal, Wait, Wanted, all_never_signalled, found, is_kind, long_capacity, never_signalled, takes_no_error, handler_never_created, lacking, meets, never_created, never_normal, never_started, object_kind, objects_never_created, processes_never_created, wait_in_init, waits_in_init, without_wait, without_waits}
+use Rattle.lint.specs.Lives.{Creation, NormalMode, Signal, Wait, Wanted, all_never_signalled, found, is_kind, long_capacity, may_wait, never_signalled, takes_no_error, handler_never_created, lacking, meets, never_created, never_normal, never_started, object_kind, objects_never_created, processes_never_created, wait_in_init, waits_in_init, without_wait, without_waits}
+use Rattle.lint.specs.Locks.{locked_after, locked_in_body, locked_in_kind, locked_waits, wait_while_locked, waits_while_locked, waits_while_locked_in}
 use Rattle.lint.specs.Mentions.{Mention, Read, Element, Apply, Write, ByZero, Test, Ask, Leave, Endless, all_mentions}
-use Rattle.lint.specs.Plain.{first_of, name_in}
+use Rattle.lint.specs.Plain.{Plain, first_of, name_in}
 use Rattle.lint.specs.Ports.{better_row, contradicts_direction, contradicts_kind, is_for_ports, port_of_call, undeclared_port, unknown_port, wrong_use, wrong_use_of}
 use Rattle.lint.specs.Recursion.{endless_procedure}
 use Rattle.lint.specs.Services.{numbered_kind, port_direction, port_kind, sent_kind, stored_kind, takes_number}
@@ -210,6 +212,38 @@ waits_plain : (p : written.Program) → ArePlain (waits_in_init p)
 unfolding watched
 waits_plain p = each wait_in_init (λ c. either _ (_ ∷ []) [] (refl, tt) tt) (calls_of_init p)
 
+locked_plain : (locked : Bool) (s : Service) (arguments : List Plain) → ArePlain (wait_while_locked locked s arguments)
+unfolding watched
+locked_plain locked s arguments = either _ (_ ∷ []) [] (refl, tt) tt
+
+mutual
+  locked_block_plain : (locked : Bool) (b : written.Block) → ArePlain (waits_while_locked locked b)
+  locked_block_plain locked written.NoStmt = tt
+  locked_block_plain locked (written.MoreStmts s rest) = both _ _ (locked_stmt_plain locked s) (locked_block_plain (locked_after locked s) rest)
+
+  locked_stmt_plain : (locked : Bool) (s : written.Stmt) → ArePlain (waits_while_locked_in locked s)
+  locked_stmt_plain locked (written.CallService s arguments targets) = locked_plain locked s _
+  locked_stmt_plain locked (written.If test block) = locked_block_plain locked block
+  locked_stmt_plain locked (written.IfElse test block other) = both _ _ (locked_block_plain locked block) (locked_block_plain locked other)
+  locked_stmt_plain locked (written.While test block) = locked_block_plain locked block
+  locked_stmt_plain locked (written.Assign target value) = tt
+  locked_stmt_plain locked (written.AssignElement array index value) = tt
+  locked_stmt_plain locked (written.Work ticks) = tt
+  locked_stmt_plain locked (written.Return value) = tt
+
+locked_kind_plain : (k : written.Kind) → ArePlain (locked_in_kind k)
+locked_kind_plain (written.Procedure parameters body) = locked_block_plain false body.block
+locked_kind_plain (written.Variable value) = tt
+locked_kind_plain (written.Array size values) = tt
+locked_kind_plain (written.Semaphore first maximum discipline) = tt
+locked_kind_plain written.Event = tt
+locked_kind_plain (written.Buffer words messages discipline) = tt
+locked_kind_plain (written.Blackboard words) = tt
+locked_kind_plain written.Port = tt
+
+locks_plain : (p : written.Program) → ArePlain (locked_waits p)
+locks_plain p = both _ _ (each (λ q. locked_in_body q.body) (λ q. locked_block_plain false q.body.block) p.processes) (each (λ d. locked_in_kind d.kind) (λ d. locked_kind_plain d.kind) p.declarations)
+
 periods_plain : (p : written.Program) → ArePlain (round_findings p)
 unfolding watched
 periods_plain p =
@@ -252,7 +286,7 @@ watched_part f rows ports p w h =
 
     by_part : IsListed f (port_findings rows ports p ++ body_findings p ++ creation_findings p) ⊎ IsListed f (wait_findings p) → (IsListed f (objects_never_created (all_calls p) p.declarations) ⊎ IsListed f (processes_never_created (all_calls p) p.processes)) ⊎ IsListed f (never_normal p)
     by_part (inl k) = inl (by_made (listed_in f (port_findings rows ports p ++ body_findings p) (creation_findings p) k))
-    by_part (inr k) = inr (first_part f (never_normal p) (round_findings p) w (periods_plain p) (first_part f (never_normal p ++ round_findings p) (waits_in_init p) w (waits_plain p) k))
+    by_part (inr k) = inr (first_part f (never_normal p) (round_findings p) w (periods_plain p) (first_part f (never_normal p ++ round_findings p) (waits_in_init p) w (waits_plain p) (first_part f (never_normal p ++ round_findings p ++ waits_in_init p) (locked_waits p) w (locks_plain p) k)))
 
 -- ---- what each of them says
 

@@ -1,7 +1,7 @@
 use Rattle.std.proofs.Common.{ap, ◌∙◌}
 use Rattle.lint.specs.Plain.{is_zero}
 use Rattle.lint.proofs.Waits.{waits_by_time_out}
-use Rattle.lint.proofs.lives.waits.Goals as goal
+use Rattle.lint.proofs.lives.may_wait.Goals as goal
 
 pub returns-then-has_time_out : goal.returns-then-has_time_out
 returns-then-has_time_out c names =
