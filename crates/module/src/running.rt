@@ -58,7 +58,7 @@ pub fn run<S: Sink>(
 }
 
 /// Runs the image as [`run`] does, and reports to a watcher how far the run is, in rising order:
-/// after at most 2^20 ticks each time, once the sink has taken their text, and at the end.
+/// after at most 2^20 ticks each time, or as many as the watcher allows, once the sink has taken their text, and at the end.
 ///
 /// # Errors
 ///
@@ -108,6 +108,14 @@ fn at_once(ticks: u64) -> u32
     }
 }
 
+/// The ticks until the next report: as many as the watcher allows, at least one.
+fn pause<W: Watch>(watch: &W) -> u64
+    ensures some { 0 < result }
+    ensures few { result ≤ 2 ^ 20 }
+{
+    u64::from(watch.pause().min(MOST_UNTOLD)).max(1)
+}
+
 /// Offers nothing to a sink, which may use the time for what it has kept back.
 fn offer_nothing<S: Sink>(sink: &mut S) -> Result<(), RunFault>
     requires { S.failures sink.old < 2 ^ 64 - 1 }
@@ -146,7 +154,7 @@ fn run_ticks<S: Sink, W: Watch>(
     let mut left = ticks;
     let mut lines = devices;
     while left > 0 && !machine.is_shut_down() {
-        let stop = left.saturating_sub(u64::from(MOST_UNTOLD));
+        let stop = left.saturating_sub(pause(watch));
         while left > stop && !machine.is_shut_down() {
             let count = machine.advance(lines, at_once(left - stop), sink)?;
             if count > 0 {

@@ -16,6 +16,9 @@ pub trait Watch {
     /// something happens, each time with more.
     fn reached(&mut self, made: u64, ticks: u64)
         ensures { Hears (told self.old) (told self.new) ((made, ticks) ∷ []) };
+
+    /// How many ticks may run until the next report; no number is too small or too great.
+    fn pause(&self) -> u32;
 }
 
 /// Watches nothing.
@@ -26,4 +29,8 @@ impl Watch for Unwatched {
     fn begin(&mut self) {}
 
     fn reached(&mut self, _made: u64, _ticks: u64) {}
+
+    fn pause(&self) -> u32 {
+        u32::MAX
+    }
 }
