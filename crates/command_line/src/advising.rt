@@ -34,7 +34,10 @@ fn signed<S: AsStr>(alloc: Global, words: &[S]) -> Option<Error>
     let words = spelled(alloc, words).ok()?;
     let word = signed_word(words.as_slice())?;
     let dashed = dashed(alloc, words.as_slice()).ok()?;
-    let matches = grammar(alloc).ok()?.try_get_matches_from(dashed.as_slice()).ok()?;
+    let matches = grammar(alloc)
+        .ok()?
+        .try_get_matches_from(dashed.as_slice())
+        .ok()?;
     let (name, found) = matches.subcommand()?;
     let argument = dashed_number(found)?;
     signed_number(alloc, name, argument, word).ok()

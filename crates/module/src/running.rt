@@ -20,7 +20,7 @@ use crate::building::build;
 use crate::fault::{BuildAndRunFault, RunFault};
 use crate::machine::Machine;
 use crate::ticks::split_tick;
-use crate::watch::{Unwatched, Watch};
+use crate::watch::{MOST_UNTOLD, Unwatched, Watch, pause};
 use apex_types::limits::MOST_TICKS;
 use apex_types::{DeviceLine, Sink};
 use image::load_image;
@@ -58,7 +58,8 @@ pub fn run<S: Sink>(
 }
 
 /// Runs the image as [`run`] does, and reports to a watcher how far the run is, in rising order:
-/// after at most 2^20 ticks each time, or as many as the watcher allows, once the sink has taken their text, and at the end.
+/// after at most 2^20 ticks each time, or as many as the watcher allows, once the sink has taken
+/// their text, and at the end.
 ///
 /// # Errors
 ///
@@ -94,9 +95,6 @@ pub fn run_watched<S: Sink, W: Watch>(
     run_ticks(&mut machine, &lines, ticks, sink, watch)
 }
 
-/// The most ticks that are made between two offers of nothing.
-const MOST_UNTOLD: u32 = 1 << 20;
-
 /// `ticks`, or the most that are made between two offers of nothing.
 fn at_once(ticks: u64) -> u32
     ensures { result ≤ ticks }
@@ -106,14 +104,6 @@ fn at_once(ticks: u64) -> u32
     } else {
         MOST_UNTOLD
     }
-}
-
-/// The ticks until the next report: as many as the watcher allows, at least one.
-fn pause<W: Watch>(watch: &W) -> u64
-    ensures some { 0 < result }
-    ensures few { result ≤ 2 ^ 20 }
-{
-    u64::from(watch.pause().min(MOST_UNTOLD)).max(1)
 }
 
 /// Offers nothing to a sink, which may use the time for what it has kept back.

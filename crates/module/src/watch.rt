@@ -1,7 +1,10 @@
 //! Watchers of a run.
 
-ghost use Rattle.std.specs.Prelude.{◌≡◌, [], ◌∷◌, None};
+ghost use Rattle.std.specs.Prelude.{◌≡◌, ◌<◌, ◌≤◌, ◌^◌, [], ◌∷◌, None};
 ghost use Rattle.module.specs.Watched.{Hears, Told};
+
+/// The most ticks that are made between two offers of nothing.
+pub const MOST_UNTOLD: u32 = 1 << 20;
 
 /// Gets reports on how far a run is. Nothing of the run depends on it.
 pub trait Watch {
@@ -19,6 +22,14 @@ pub trait Watch {
 
     /// How many ticks may run until the next report; no number is too small or too great.
     fn pause(&self) -> u32;
+}
+
+/// The ticks until the next report: as many as the watcher allows, at least one.
+pub fn pause<W: Watch>(watch: &W) -> u64
+    ensures some { 0 < result }
+    ensures few { result ≤ 2 ^ 20 }
+{
+    u64::from(watch.pause().min(MOST_UNTOLD)).max(1)
 }
 
 /// Watches nothing.

@@ -9,7 +9,7 @@ ghost use Rattle.module.specs.Written.{AreFrom};
 ghost use Rattle.command_line.specs.StopSteps.{IsHeld, IsReported};
 
 use apex_types::{DeviceLine, Sink, WriterSink, put_all};
-use module::{Machine, RunFault, Watch, split_tick};
+use module::{Machine, RunFault, Watch, pause, split_tick};
 
 /// How many of the next `most` ticks come before the first of these lines, which are of the next tick
 /// or later.
@@ -111,7 +111,7 @@ pub fn tell<S: Sink, W: Watch>(
         (λ last. IsReported told made ticks last (W.told watch.old) (W.told watch.new)) }
     ensures untold { OnErr result (W.told watch.new ≡ W.told watch.old) }
 {
-    if made.saturating_sub(told) < MOST_UNTOLD {
+    if made.saturating_sub(told) < pause(watch).min(MOST_UNTOLD) {
         return Ok(told);
     }
     if sink.put(&[]).is_err() {
