@@ -123,7 +123,10 @@ fn which_sources(
     names: ModuleNames<'_>,
 ) -> Result<String, AllocError> {
     if names.sources.len() > rows.len() {
-        let needless = needless_files(alloc, rows, names.sources)?;
+        let mut needless = needless_files(alloc, rows, names.sources)?;
+        if needless.len() == names.sources.len() {
+            needless.clear();
+        }
         return sentence_on(alloc, " By its name too many", needless.as_slice());
     }
     let mut lacking = lacking_names(alloc, rows, names.sources)?;
