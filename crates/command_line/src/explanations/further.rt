@@ -127,7 +127,7 @@ fn which_sources(
         if needless.len() == names.sources.len() {
             needless.clear();
         }
-        return sentence_on(alloc, " By its name too many", needless.as_slice());
+        return sentence_on(alloc, " Too many by its name:", needless.as_slice());
     }
     let mut lacking = lacking_names(alloc, rows, names.sources)?;
     if lacking.len() == rows.len() {
