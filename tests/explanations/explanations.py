@@ -16,7 +16,8 @@ begins with `N times:` stands for N lines with what follows; behind a line `--`,
 
 `module_rows` has those in the module of the folder `module`, four sources with their table: what it is; for each change a line with the name of
 the file, a line of it and how many lines are replaced from there, then the new lines, each behind `+`; or the name and `crlf` or `bom`, for carriage
-returns at all ends of lines and a byte order mark; behind a line `--`, all that standard error says.
+returns at all ends of lines and a byte order mark; behind a line `--`, all that standard error says. A first line behind `$` has the words of the
+command, where they are others than `check` with the table and the sources in their order.
 
 Each mistake is tried with `--explain`, and with `--explain=json`, where what is wanted is read off the lines for people. The sentence of a rule comes
 before what is wrong by it; the pages have its number.
@@ -173,9 +174,12 @@ def changed_module(changes):
 
 def explain_module(program, flag, changes, folder):
     """What the program says of the module with these changes."""
+    words = ["check", *MODULE]
+    if changes[0].startswith("$ "):
+        words, changes = changes[0].split()[1:], changes[1:]
     for name, text in changed_module(changes).items():
         (folder / name).write_bytes(text)
-    done = subprocess.run([program, "check", flag, *MODULE], cwd=folder, stdin=subprocess.DEVNULL, capture_output=True, text=True, timeout=60)
+    done = subprocess.run([program, words[0], flag, *words[1:]], cwd=folder, stdin=subprocess.DEVNULL, capture_output=True, text=True, timeout=60)
     return done.returncode, done.stdout, done.stderr
 
 

@@ -1,5 +1,5 @@
 -- From the outcome of a command to its exit status.
-use Rattle.std.proofs.Common.{◌≡◌, ◌⊎◌, inl, inr, ℕ, ◌+◌, ◌-◌, ◌^◌, ◌<◌, Bool, true, false, [], ◌∷◌, Some, Result, Ok, Err, refl, sym, ap, subst, ◌∙◌, arith, true≢false}
+use Rattle.std.proofs.Common.{◌≡◌, ◌⊎◌, inl, inr, ℕ, ◌+◌, ◌-◌, ◌^◌, ◌<◌, Bool, true, false, List, [], ◌∷◌, Option, Some, Result, Ok, Err, refl, sym, ap, subst, ◌∙◌, arith, true≢false}
 use Rattle.std.specs.Prelude.{IfErr, IsErr, IsErrAnd, ◌≢◌}
 use Rattle.clap.specs.Faults.{is_simple_and_free}
 use Rattle.clap.specs.Kinds.{HasKind, Kinds, IsAmong}
@@ -95,6 +95,13 @@ words_untaken kinds order s e answer has h =
     go : (answer : Result Outcome (Failure Refusal)) → IsErr answer → IfErr answer (λ f. AnswersWords kinds order s s (Err f)) → AnswersWords kinds order s s answer
     go (Ok x) is_err told = absurd (true≢false (sym is_err))
     go (Err f) is_err told = told
+
+-- what is told of an error is told of one of the same kind
+pub told_alike : (e f : Error) (unwritten : Option (List ℕ)) (old_out new_out old_err new_err : Seen) (status : ℕ) → kind_of f ≡ kind_of e → IsUsageTold f unwritten old_out new_out old_err new_err status → IsUsageTold e unwritten old_out new_out old_err new_err status
+told_alike e f unwritten old_out new_out old_err new_err status same h = record {
+  mistake = λ m. h.mistake (subst IsMistake (sym same) m);
+  help = λ k. h.help (subst IsHelp (sym same) k);
+}
 
 -- ---- whether an explanation is asked for
 

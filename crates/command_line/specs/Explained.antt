@@ -9,7 +9,7 @@ use Rattle.image.specs.declared.fault.ImageFault.{ImageFault}
 use Rattle.module_meaning.specs.Table.{Partition, Table}
 use Rattle.command_line.specs.Explanation.{explanation, IsLengthExplanation, IsSourceExplanation, IsTableExplanation}
 use Rattle.command_line.specs.Files.{IsDeviceExplanation, IsImageExplanation, IsReplayExplanation}
-use Rattle.command_line.specs.Sentences.{command_sentence, device_sentence, file_sentence, image_sentence, replay_sentence, source_sentence, table_sentence}
+use Rattle.command_line.specs.Sentences.{command_sentence, device_sentence, file_sentence, image_sentence, replay_sentence, source_sentence, table_sentence, write_sentence}
 use Rattle.command_line.specs.declared.explanations.sentences.CommandFault.{CommandFault}
 use Rattle.command_line.specs.declared.explanations.sentences.CommandFault.TheVariants as command
 use Rattle.module_meaning.specs.Accepted.{IsTable}
@@ -34,6 +34,7 @@ use Rattle.command_line.specs.declared.explaining.SourceFile.{SourceFile}
 use Rattle.command_line.specs.declared.explaining.Note.{Note}
 use Rattle.command_line.specs.declared.explaining.Note.TheVariants.{Unwanted, Wanted, Explained}
 use Rattle.command_line.specs.declared.refusal.Refusal.{Refusal}
+use Rattle.streams.specs.declared.names.Reason.{Reason}
 use Rattle.command_line.specs.declared.refusal.Refusal.TheVariants.{Build, Run, Replay, Inputs, File, LongTable, Memory, Write}
 
 abbrev pub build_sentence : BuildFault → List ℕ
@@ -94,9 +95,13 @@ form_in styled.Json rule = json rule
 abbrev pub report_in : Style → List ℕ → List ℕ → Report
 report_in style rule file = record { file = file; form = form_in style rule }
 
--- the object of a refusal without a finding: what its line says, with the sentence of the rule as advice
+-- the object of a refusal without a finding: what its line says, with a sentence as advice
+abbrev pub object_with : Refusal → List ℕ → List ℕ
+object_with r sentence = rule_line (rule_of r) (rule_of r) sentence
+
+-- the same with the sentence of the rule
 abbrev pub object_of : Refusal → List ℕ
-object_of r = rule_line (rule_of r) (rule_of r) (sentence_of r)
+object_of r = object_with r (sentence_of r)
 
 -- If objects were wanted and none is noted, there may be that of the refusal.
 abbrev pub IsObjectOf : Refusal → Note → Note → Type 0
@@ -106,6 +111,28 @@ IsObjectOf r old new = new ≡ old
 abbrev pub IsCompleted : Result Outcome (Failure Refusal) → Note → Note → Type 0
 IsCompleted (Err (Refused r)) old new = IsObjectOf r old new
 IsCompleted outcome old new = new ≡ old
+
+-- standard output took no more bytes
+abbrev pub is_of_write : Refusal → Bool
+is_of_write (Run run.Write) = true
+is_of_write (Replay run.Write) = true
+is_of_write (Inputs inputs.Write) = true
+is_of_write Write = true
+is_of_write r = false
+
+-- why it took no more, in a style
+abbrev pub write_text : Style → Refusal → Reason → List ℕ
+write_text styled.Plain r reason = write_sentence reason ++ 10 ∷ []
+write_text styled.Json r reason = object_with r (write_sentence reason)
+
+-- If an explanation was wanted and none is noted, that may be why standard output took no more bytes.
+abbrev pub IsReasonOf : Refusal → Reason → Note → Note → Type 0
+IsReasonOf r reason (Wanted style) (Explained text more) = (is_of_write r ≡ true) × (string_bytes text ≡ write_text style r reason)
+IsReasonOf r reason old new = new ≡ old
+
+abbrev pub HasReason : Result Outcome (Failure Refusal) → Reason → Note → Note → Type 0
+HasReason (Err (Refused r)) reason old new = IsReasonOf r reason old new
+HasReason outcome reason old new = new ≡ old
 
 -- the sentence of a rule, or nothing for objects, which have none
 abbrev pub sentence_in : Style → CommandFault → List ℕ

@@ -73,9 +73,19 @@ command_sentence command.Write = codes "Standard output took no more bytes."
 
 -- a file that was not opened, read or written
 abbrev pub file_sentence : Reason → List ℕ
-file_sentence reason.Missing = codes "The file cannot be opened, read or written: nothing has this name, or a folder in it is missing."
+file_sentence reason.Missing = codes "The file cannot be opened, read or written: nothing has this name."
+file_sentence reason.NoFolder = codes "The file cannot be opened, read or written: a folder in its name is missing."
+file_sentence reason.NotInFolder = codes "The file cannot be opened, read or written: what its name takes for a folder is none."
 file_sentence reason.Folder = codes "The file cannot be opened, read or written: it is a folder."
 file_sentence reason.Denied = codes "The file cannot be opened, read or written: it is not allowed."
 file_sentence reason.Unwritable = codes "The file cannot be opened, read or written: nothing can be written there."
+file_sentence reason.Full = codes "The file cannot be opened, read or written: no room is left there."
 file_sentence reason.WasRead = codes "The file is not written, because this command has read it."
+file_sentence reason.Left = codes "The file cannot be opened, read or written: whoever read it has gone."
 file_sentence reason.Other = codes "The file cannot be opened, read or written."
+
+-- bytes that standard output did not take
+abbrev pub write_sentence : Reason → List ℕ
+write_sentence reason.Full = codes "Standard output took no more bytes: no room is left there."
+write_sentence reason.Left = codes "Standard output took no more bytes: whoever read them has gone."
+write_sentence r = command_sentence command.Write

@@ -54,7 +54,7 @@ fn has_dash_among(found: &ArgMatches<'_>, names: &[&str]) -> bool
 }
 
 /// Returns true if a word that was found for the argument `name` is `-`.
-fn has_dash_at(found: &ArgMatches<'_>, name: &str) -> bool
+pub fn has_dash_at(found: &ArgMatches<'_>, name: &str) -> bool
     ensures { result ≡ has_dash_at (rows_of (found_of found.now)) name.now }
 {
     are_dashed(found.get_strs(name).unwrap_or(&[]))

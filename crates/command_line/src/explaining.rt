@@ -5,12 +5,13 @@ ghost use Rattle.module.specs.Costs.{AreCosts};
 ghost use Rattle.module_meaning.specs.Accepted.{IsTable};
 ghost use Rattle.window_table.specs.Views.{partition_view, table_of};
 ghost use Rattle.finding_lines.specs.Reports.{form_of, report_of};
-ghost use Rattle.command_line.specs.Explained.{IsCompleted, IsExplained, IsExplainedWith, IsLengthExplained, IsLengthExplainedWith, IsNoted, IsNotedAs, IsNotedBy, IsNoteOf, IsOfImage, IsOfInputs, IsOfReplay, IsOfRun, build_sentence, costed_file, costed_of, files_of, form_in, inputs_sentence, object_of, report_in, report_on, run_sentence, sentence_in, sentence_of, sentence_of_replay, source_file, source_of, told_text};
+ghost use Rattle.command_line.specs.Explained.{HasReason, IsCompleted, IsExplained, IsExplainedWith, IsLengthExplained, IsLengthExplainedWith, IsNoted, IsNotedAs, IsNotedBy, IsNoteOf, IsOfImage, IsOfInputs, IsOfReplay, IsOfRun, build_sentence, costed_file, costed_of, files_of, form_in, inputs_sentence, is_of_write, object_with, report_in, report_on, run_sentence, sentence_in, sentence_of, sentence_of_replay, source_file, source_of, told_text, write_text};
 
 use crate::explanations::{
     CommandFault, ModuleTexts, command_sentence, device_sentence, explain_devices, explain_image,
     explain_inputs, explain_length, explain_rest, explain_source, explain_table, explanation_of,
     file_sentence, image_sentence, partitions_of, replay_sentence, source_sentence, table_sentence,
+    write_sentence,
 };
 use crate::order::ModuleNames;
 use crate::outcome::Outcome;
@@ -24,6 +25,7 @@ use pal::BodyCost;
 use pal_base::fault::PalFault;
 use std::alloc::{AllocError, Global};
 use std::fmt;
+use streams::Reason;
 use window_table::{ModuleTable, PartitionRow, read_table};
 
 /// How a refusal is explained.
@@ -76,6 +78,30 @@ impl Note {
         }
     }
 
+    /// Notes why standard output took no more bytes, if an explanation of that is wanted and there is
+    /// memory for it.
+    pub fn explain_write(
+        &mut self,
+        alloc: Global,
+        outcome: &Result<Outcome, Failure<Refusal>>,
+        reason: Reason,
+    )
+        ensures { HasReason outcome.now reason self.old self.new }
+    {
+        let Err(Failure::Refused(refusal)) = outcome else {
+            return;
+        };
+        let Note::Wanted(style) = *self else {
+            return;
+        };
+        if !is_of_write(refusal) {
+            return;
+        }
+        if let Ok(text) = write_text(alloc, style, refusal, reason) {
+            *self = Note::Explained(text, String::new(alloc));
+        }
+    }
+
     /// Notes the object of a refusal without a finding, if objects are wanted and there is memory for
     /// it.
     pub fn complete(&mut self, alloc: Global, outcome: &Result<Outcome, Failure<Refusal>>)
@@ -87,7 +113,7 @@ impl Note {
         let Note::Wanted(Style::Json) = self else {
             return;
         };
-        if let Ok(text) = object_of(alloc, refusal) {
+        if let Ok(text) = object_with(alloc, refusal, sentence_of(refusal)) {
             *self = Note::Explained(text, String::new(alloc));
         }
     }
@@ -631,13 +657,42 @@ fn inputs_sentence(fault: &InputsFault) -> &'static str
     }
 }
 
-/// The object of a refusal: what its line says, with the sentence of the rule as advice.
-fn object_of(alloc: Global, refusal: &Refusal) -> Result<String, AllocError>
-    ensures { IfOk result (λ text. string_bytes text ≡ object_of refusal.now) }
+/// The object of a refusal: what its line says, with a sentence as advice.
+fn object_with(alloc: Global, refusal: &Refusal, sentence: &str) -> Result<String, AllocError>
+    ensures { IfOk result (λ text. string_bytes text ≡ object_with refusal.now sentence.now) }
 {
     let rule = Rule { refusal };
     let rule = format!(in alloc; "{rule}")?;
-    rule_line(alloc, rule.as_str(), rule.as_str(), sentence_of(refusal))
+    rule_line(alloc, rule.as_str(), rule.as_str(), sentence)
+}
+
+/// Returns true if standard output took no more bytes.
+fn is_of_write(refusal: &Refusal) -> bool
+    ensures { result ≡ is_of_write refusal.now }
+{
+    matches!(
+        refusal,
+        Refusal::Run(RunFault::Write)
+            | Refusal::Replay(RunFault::Write)
+            | Refusal::Inputs(InputsFault::Write)
+            | Refusal::Write
+    )
+}
+
+/// Why standard output took no more bytes, in a style.
+fn write_text(
+    alloc: Global,
+    style: Style,
+    refusal: &Refusal,
+    reason: Reason,
+) -> Result<String, AllocError>
+    ensures { IfOk result (λ text. string_bytes text ≡ write_text style refusal.now reason) }
+{
+    let sentence = write_sentence(reason);
+    match style {
+        Style::Plain => format!(in alloc; "{sentence}\n"),
+        Style::Json => object_with(alloc, refusal, sentence),
+    }
 }
 
 /// The report of a refusal: its line, and an explanation after it if the words ask for one.

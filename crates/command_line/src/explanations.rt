@@ -13,5 +13,5 @@ pub use further::{ModuleTexts, explain_rest, partitions_of};
 pub use report::explanation as explanation_of;
 pub use sentences::{
     CommandFault, command_sentence, device_sentence, file_sentence, image_sentence,
-    replay_sentence, source_sentence, table_sentence,
+    replay_sentence, source_sentence, table_sentence, write_sentence,
 };

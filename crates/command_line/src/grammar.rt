@@ -2,10 +2,11 @@
 
 ghost use Rattle.std.specs.Prelude.{◌≡◌, IfOk};
 ghost use Rattle.clap.specs.Values.{kind_of};
-ghost use Rattle.clap.specs.declared.error.kind.ErrorKind.TheVariants.{ValueValidation};
+ghost use Rattle.clap.specs.declared.error.kind.ErrorKind.TheVariants.{UnknownArgument, ValueValidation};
 ghost use Rattle.command_words.specs.Grammar.{IsCommand};
 ghost use Rattle.command_line.specs.Words.{mb_app};
 
+use clap::error::ErrorKind;
 use clap::{Command, Error};
 use command_words::{Argument, CommandRow, ExitStatus, Page, Program};
 use std::alloc::{AllocError, Global};
@@ -280,10 +281,27 @@ pub fn bad_tick(alloc: Global, word: &str) -> Result<Error, AllocError>
 fn bad_number(alloc: Global, name: &str, argument: &str, word: &str) -> Result<Error, AllocError>
     ensures { IfOk result (λ error. kind_of error ≡ ValueValidation) }
 {
-    let message = format!(in alloc;
-        "invalid value '{word}' for '<{argument}>': one or more digits, at most 1099511627776"
-    )?;
+    let message = number_message(alloc, argument, word)?;
     PROGRAM.usage_error(alloc, name, message.as_str())
+}
+
+/// The same for a number with a sign, which the library takes for an option.
+pub fn signed_number(
+    alloc: Global,
+    name: &str,
+    argument: &str,
+    word: &str,
+) -> Result<Error, AllocError>
+    ensures { IfOk result (λ error. kind_of error ≡ UnknownArgument) }
+{
+    let message = number_message(alloc, argument, word)?;
+    PROGRAM.usage_error_of(alloc, ErrorKind::UnknownArgument, name, message.as_str())
+}
+
+fn number_message(alloc: Global, argument: &str, word: &str) -> Result<String, AllocError> {
+    format!(in alloc;
+        "invalid value '{word}' for '<{argument}>': one or more digits, at most 1099511627776"
+    )
 }
 
 /// The usage error of a word that is `-`, of the command of that name.

@@ -16,6 +16,7 @@ ghost use Rattle.streams.specs.States.{seen};
 ghost use Rattle.command_line.specs.Watched.{IsWatched};
 ghost use Rattle.command_line.specs.Words.{mb_app};
 
+mod advising;
 mod commands;
 mod dashes;
 mod explaining;
@@ -114,6 +115,7 @@ fn answer<S: AsStr, F: Files, O: Stream, E: Stream, W: Watch>(
         note: Note::Unwanted,
     };
     let outcome = perform(alloc, words, files, out, watch, &mut noted);
+    noted.note.explain_write(alloc, &outcome, out.reason());
     noted.note.complete(alloc, &outcome);
-    tell(outcome, noted, out, err)
+    tell(alloc, words, outcome, noted, out, err)
 }

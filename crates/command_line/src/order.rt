@@ -13,11 +13,13 @@ use clap::ArgMatches;
 use command_words::word;
 use state_rows::Form as RowForm;
 
-/// The files of a module: its table and its sources.
+/// The files of a module: its table and its sources, and the file that its image is written to, if
+/// one is.
 #[derive(Clone, Copy)]
 pub struct ModuleNames<'a> {
     pub table: &'a str,
     pub sources: &'a [&'a str],
+    pub image: Option<&'a str>,
 }
 
 /// The words of `mb run`.
@@ -175,6 +177,7 @@ fn module_names<'a, 'w: 'a>(found: &'a ArgMatches<'w>) -> ModuleNames<'a>
     ModuleNames {
         table: word(found, "TABLE"),
         sources: words(found, "SOURCE"),
+        image: found.get_str("IMAGE"),
     }
 }
 

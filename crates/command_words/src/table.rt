@@ -145,11 +145,28 @@ impl Program {
     ) -> Result<Error, AllocError>
         ensures { IfOk result (λ error. kind_of error ≡ ValueValidation) }
     {
+        self.usage_error_of(alloc, ErrorKind::ValueValidation, command, message)
+    }
+
+    /// The usage error of that kind in the words of the command of that name.
+    ///
+    /// # Errors
+    ///
+    /// Only if memory runs out.
+    pub fn usage_error_of(
+        &self,
+        alloc: Global,
+        kind: ErrorKind,
+        command: &str,
+        message: &str,
+    ) -> Result<Error, AllocError>
+        ensures { IfOk result (λ error. kind_of error ≡ kind) }
+    {
         let program = self.name;
         let shown = format!(in alloc; "{program} {command}")?;
         self.named(alloc, command)?
             .bin_name(shown.as_str())?
-            .error(ErrorKind::ValueValidation, message)
+            .error(kind, message)
     }
 
     /// The command of that name, or the program if it has none.

@@ -6,7 +6,7 @@ use Rattle.engine_meaning.specs.Digits.{same}
 use Rattle.module_meaning.specs.DeviceText.{plain_number, word}
 use Rattle.image_findings.specs.Names.{mark_of}
 use Rattle.image_findings.specs.Parts.{Part}
-use Rattle.image_findings.specs.What.{What, Wrong, Carriage, Comment, Empty, NoPart, NoTick, NoEvent, NoKind, NoReceiver, NoName, NoWords, NoWord, More}
+use Rattle.image_findings.specs.What.{What, Wrong, Carriage, Comment, Empty, Tab, Nul, NoPart, NoTick, NoEvent, NoKind, NoReceiver, NoName, NoWords, NoWord, More}
 use Rattle.image_findings.specs.declared.names.TextKind.{TextKind}
 
 abbrev pub wrong : ℕ → What → Wrong
@@ -71,11 +71,21 @@ is_byte wanted (Some byte) = byte == wanted
 abbrev pub last_of : List ℕ → Option ℕ
 last_of bytes = slice_get bytes (length bytes - 1)
 
--- a wrong line is empty, a comment, or ended by a carriage return, or else it has a wrong part
+-- how much of a line is left at its first byte of this number, if it has one
+abbrev pub left_at : ℕ → List ℕ → Option ℕ
+left_at wanted [] = None
+left_at wanted (byte ∷ bytes) = if byte == wanted then Some (length (byte ∷ bytes)) else left_at wanted bytes
+
+-- a byte of this number in the line, or else what is wrong with a part
+abbrev pub odd_byte : ℕ → What → List ℕ → Wrong → Wrong
+odd_byte wanted what line part = elim (left_at wanted line) [ Some left ↦ wrong left what | None ↦ part ]
+
+-- a wrong line is empty, a comment, or ended by a carriage return, or has a tab or a NUL, or else a wrong part
 abbrev pub blemish : List ℕ → Wrong → Wrong
 blemish [] part = wrong 0 Empty
 blemish (byte ∷ bytes) part =
-    if byte == 35 then wrong (length (byte ∷ bytes)) Comment else if is_byte 13 (last_of (byte ∷ bytes)) then wrong 1 Carriage else part
+    if byte == 35 then wrong (length (byte ∷ bytes)) Comment else if is_byte 13 (last_of (byte ∷ bytes)) then wrong 1 Carriage else
+    odd_byte 9 Tab (byte ∷ bytes) (odd_byte 0 Nul (byte ∷ bytes) part)
 
 -- what is wrong with the form of a line of these parts
 abbrev pub form_wrong : TextKind → List ℕ → List Part → Option Wrong

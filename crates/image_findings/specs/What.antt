@@ -8,6 +8,9 @@ pub data What : Type 0 where
   Carriage : What
   Comment : What
   Empty : What
+  -- a tab or a NUL is in the line
+  Tab : What
+  Nul : What
   -- a part of the line has no bytes
   NoPart : What
   -- the text is no tick, or nothing follows it

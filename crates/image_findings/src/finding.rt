@@ -11,6 +11,10 @@ pub enum What<'a> {
     Comment,
     /// The line has no bytes.
     Empty,
+    /// A tab is in the line.
+    Tab,
+    /// A NUL is in the line.
+    Nul,
     /// A part of the line has no bytes: two spaces, or one at an end.
     NoPart,
     /// The text is no tick.

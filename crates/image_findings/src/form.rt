@@ -24,8 +24,8 @@ pub fn form_wrong<'a>(kind: TextKind, line: &'a [u8], parts: &[Part<'a>]) -> Opt
     }
 }
 
-/// What is said of a wrong line: that it is empty, a comment or ended by a carriage return, or else
-/// which part is wrong.
+/// What is said of a wrong line: that it is empty, a comment or ended by a carriage return, that a
+/// tab or a NUL is in it, or else which part is wrong.
 fn blemish<'a>(line: &[u8], part: Wrong<'a>) -> Wrong<'a>
     ensures { wrong_of result ≡ spec.blemish line.now (wrong_of part.entry) }
 {
@@ -37,10 +37,36 @@ fn blemish<'a>(line: &[u8], part: Wrong<'a>) -> Wrong<'a>
             } else if is_carriage(line.last()) {
                 wrong(1, What::Carriage)
             } else {
-                part
+                let part = odd_byte(0, What::Nul, line, part);
+                odd_byte(b'\t', What::Tab, line, part)
             }
         }
     }
+}
+
+/// That this byte is in a line, or else which part is wrong.
+fn odd_byte<'a>(byte: u8, what: What<'a>, line: &[u8], part: Wrong<'a>) -> Wrong<'a>
+    ensures { wrong_of result
+        ≡ spec.odd_byte byte (what_of what.entry) line.now (wrong_of part.entry) }
+{
+    match left_at(byte, line) {
+        Some(left) => wrong(left, what),
+        None => part,
+    }
+}
+
+/// How much of a line is left at the first byte of this number.
+fn left_at(wanted: u8, line: &[u8]) -> Option<usize>
+    ensures { result ≡ spec.left_at wanted line.now }
+{
+    let mut rest = line;
+    while let Some((byte, others)) = rest.split_first() {
+        if *byte == wanted {
+            return Some(rest.len());
+        }
+        rest = others;
+    }
+    None
 }
 
 fn is_carriage(byte: Option<&u8>) -> bool

@@ -45,6 +45,8 @@ impl fmt::Display for Said<'_> {
             What::Carriage => f.write_str("the line ends with a carriage return"),
             What::Comment => f.write_str("the line begins with `#`, and there are no comments"),
             What::Empty => f.write_str("the line is empty"),
+            What::Tab => f.write_str("a tab is in the line"),
+            What::Nul => f.write_str("a NUL is in the line"),
             What::NoPart => f.write_str("a part of the line is empty"),
             What::NoTick(text) => said_of(f, text, "is no tick"),
             What::NoEvent => f.write_str("nothing stands behind the tick"),
@@ -95,24 +97,13 @@ fn said_of<W: fmt::Write>(f: &mut fmt::Formatter<W>, text: &[u8], said: &str) ->
     write!(f, "`{text}` {said}")
 }
 
-/// What is advised for a byte that no line has and nobody sees, in the line at an offset of a text.
+/// What is advised for bytes that nobody sees: a byte order mark before the line at an offset of a
+/// text, or NULs after its last line.
 pub fn odd_byte_advice(text: &[u8], offset: usize) -> Option<&'static str> {
     let (before, ahead) = text.split_at(offset.min(text.len()));
-    let begun = before
-        .iter()
-        .rev()
-        .take_while(|byte| **byte != b'\n')
-        .count();
-    let length = ahead.iter().take_while(|byte| **byte != b'\n').count();
-    let (_, line) = before.split_at(before.len().saturating_sub(begun));
-    let (rest, _) = ahead.split_at(length.min(ahead.len()));
-    if text.starts_with(b"\xEF\xBB\xBF") && before.len() == begun {
+    if text.starts_with(b"\xEF\xBB\xBF") && !before.contains(&b'\n') {
         Some("Save the text without a byte order mark.")
-    } else if line.starts_with(b"#") || rest.starts_with(b"#") {
-        None
-    } else if line.contains(&b'\t') || rest.contains(&b'\t') {
-        Some("Write one space in place of each tab.")
-    } else if line.contains(&0) || rest.contains(&0) {
+    } else if ahead.is_empty() && before.ends_with(b"\0") {
         Some("Leave the NUL out.")
     } else {
         None
@@ -129,7 +120,11 @@ pub fn advice(alloc: Global, names: &Names<'_>, what: What<'_>) -> Result<String
     match what {
         What::Unended => String::from_str(alloc, "End it with a line feed."),
         What::Carriage => String::from_str(alloc, "End each line with a line feed alone."),
-        What::Comment | What::Empty | What::More(_) => String::from_str(alloc, "Leave it out."),
+        What::Tab => String::from_str(alloc, "Write one space in place of each tab."),
+        What::Comment | What::Empty | What::Nul | What::More(_) => String::from_str(
+            alloc,
+            "Leave it out.",
+        ),
         What::NoPart => String::from_str(
             alloc,
             "Parts of a line stand one space apart, and none is before or behind them.",

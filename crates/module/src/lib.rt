@@ -47,4 +47,4 @@ pub use stating::{WantedState, a_state_decides_the_rest, state, ticks_make_the_s
 pub use telling::{WantedInputs, inputs, inputs_watched};
 pub use ticks::split_tick;
 pub use upgrading::upgrade;
-pub use watch::{Unwatched, Watch};
+pub use watch::{Unwatched, Watch, pause};

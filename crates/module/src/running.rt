@@ -20,7 +20,7 @@ use crate::building::build;
 use crate::fault::{BuildAndRunFault, RunFault};
 use crate::machine::Machine;
 use crate::ticks::split_tick;
-use crate::watch::{Unwatched, Watch};
+use crate::watch::{MOST_UNTOLD, Unwatched, Watch, pause};
 use apex_types::limits::MOST_TICKS;
 use apex_types::{DeviceLine, Sink};
 use image::load_image;
@@ -58,7 +58,8 @@ pub fn run<S: Sink>(
 }
 
 /// Runs the image as [`run`] does, and reports to a watcher how far the run is, in rising order:
-/// after at most 2^20 ticks each time, once the sink has taken their text, and at the end.
+/// after at most 2^20 ticks each time, or as many as the watcher allows, once the sink has taken
+/// their text, and at the end.
 ///
 /// # Errors
 ///
@@ -93,9 +94,6 @@ pub fn run_watched<S: Sink, W: Watch>(
     let lines = machine.devices(alloc, devices)?;
     run_ticks(&mut machine, &lines, ticks, sink, watch)
 }
-
-/// The most ticks that are made between two offers of nothing.
-const MOST_UNTOLD: u32 = 1 << 20;
 
 /// `ticks`, or the most that are made between two offers of nothing.
 fn at_once(ticks: u64) -> u32
@@ -146,7 +144,7 @@ fn run_ticks<S: Sink, W: Watch>(
     let mut left = ticks;
     let mut lines = devices;
     while left > 0 && !machine.is_shut_down() {
-        let stop = left.saturating_sub(u64::from(MOST_UNTOLD));
+        let stop = left.saturating_sub(pause(watch));
         while left > stop && !machine.is_shut_down() {
             let count = machine.advance(lines, at_once(left - stop), sink)?;
             if count > 0 {

@@ -13,7 +13,7 @@ mod writer;
 mod writing;
 
 pub use files::Files;
-pub use names::{FailedNames, NameFault, Reason, reason_of};
+pub use names::{FailedNames, NameFault, Reason, named_reason, reason_of};
 pub use read_names::ReadNames;
 pub use reading::{Reading, read_beginning};
 pub use sources::Sources;

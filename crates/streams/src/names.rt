@@ -2,7 +2,7 @@
 
 ghost use Rattle.std.specs.Prelude.{◌≡◌, ◌++◌, ◌∷◌, [], OnOk, OnErr};
 ghost use Rattle.streams.specs.Names.{names_of};
-ghost use Rattle.streams.specs.Reasons.{reason_of};
+ghost use Rattle.streams.specs.Reasons.{named_reason, reason_of};
 ghost use Rattle.streams.specs.Noted.{IsNotedFault};
 
 use std::alloc::{AllocError, Global};
@@ -13,12 +13,20 @@ use std::io::ErrorKind;
 pub enum Reason {
     /// Nothing has this name.
     Missing,
+    /// A folder in the name is missing.
+    NoFolder,
+    /// What the name takes for a folder is none.
+    NotInFolder,
     /// The name is that of a folder.
     Folder,
     /// It is not allowed.
     Denied,
     /// Nothing can be written there.
     Unwritable,
+    /// No room is left there.
+    Full,
+    /// Whoever read it has gone.
+    Left,
     /// It was read before, and so it is not written.
     WasRead,
     Other,
@@ -30,10 +38,23 @@ pub fn reason_of(kind: ErrorKind) -> Reason
 {
     match kind {
         ErrorKind::NotFound => Reason::Missing,
+        ErrorKind::NotADirectory => Reason::NotInFolder,
         ErrorKind::IsADirectory => Reason::Folder,
         ErrorKind::PermissionDenied => Reason::Denied,
         ErrorKind::ReadOnlyFilesystem => Reason::Unwritable,
+        ErrorKind::StorageFull | ErrorKind::QuotaExceeded => Reason::Full,
+        ErrorKind::BrokenPipe => Reason::Left,
         _ => Reason::Other,
+    }
+}
+
+/// The reason for an error of this kind, where a folder in the name may be missing.
+pub fn named_reason(kind: ErrorKind, lacks_folder: bool) -> Reason
+    ensures { result ≡ named_reason kind lacks_folder }
+{
+    match kind {
+        ErrorKind::NotFound if lacks_folder => Reason::NoFolder,
+        _ => reason_of(kind),
     }
 }
 
@@ -85,14 +106,21 @@ impl FailedNames {
         }
     }
 
-    /// The fault of a call on this name that failed with an error of this kind.
-    pub fn fault_of(&mut self, alloc: Global, name: &str, kind: ErrorKind) -> NameFault
+    /// The fault of a call on this name that failed with an error of this kind; a folder in the name
+    /// may be missing.
+    pub fn fault_of(
+        &mut self,
+        alloc: Global,
+        name: &str,
+        kind: ErrorKind,
+        lacks_folder: bool,
+    ) -> NameFault
         ensures memory { kind ≡ ErrorKind.OutOfMemory → result ≡ NameFault.Memory }
         ensures noted { IsNotedFault name.now (names_of self.old) (names_of self.new) result }
     {
         match kind {
             ErrorKind::OutOfMemory => NameFault::Memory,
-            _ => self.unavailable(alloc, name, reason_of(kind)),
+            _ => self.unavailable(alloc, name, named_reason(kind, lacks_folder)),
         }
     }
 }

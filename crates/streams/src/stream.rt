@@ -3,6 +3,7 @@
 ghost use Rattle.std.specs.Prelude.{◌≡◌, ◌+◌, ◌-◌, ◌^◌, ◌<◌, Bool, true, OnOk, OnErr, IfSome};
 ghost use Rattle.std.specs.Io.KnownBytes.{Appends, Keeps};
 
+use crate::names::Reason;
 use apex_types::{Sink, SinkFault};
 use std::fmt::Display;
 
@@ -26,4 +27,7 @@ pub trait Stream: Sink {
         ensures flushed { OnOk result (is_flushed self.new ≡ true) }
         ensures quiet { OnOk result (Self.failures self.new ≡ Self.failures self.old) }
         ensures failed { OnErr result (Self.failures self.new ≡ Self.failures self.old + 1) };
+
+    /// Why it failed last, as far as the host says.
+    fn reason(&self) -> Reason;
 }

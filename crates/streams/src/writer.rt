@@ -2,15 +2,18 @@
 
 ghost use Rattle.std.specs.Prelude.{◌≡◌, true};
 
+use crate::names::{Reason, reason_of};
 use crate::stream::Stream;
 use apex_types::{Sink, SinkFault};
 use std::io::Write;
 
-/// A writer, with its failures so far, and whether all that it took was flushed.
+/// A writer, with its failures so far and the reason for the last one, and whether all that it took
+/// was flushed.
 #[derive(Drop)]
 pub struct WriterStream<W: Write> {
     writer: W,
     failures: u64,
+    reason: Reason,
     is_flushed: bool,
 }
 
@@ -22,6 +25,7 @@ impl<W: Write> WriterStream<W> {
         WriterStream {
             writer,
             failures: 0,
+            reason: Reason::Other,
             is_flushed: true,
         }
     }
@@ -40,7 +44,8 @@ impl<W: Write> Sink for WriterStream<W> {
                 Ok(0)
             }
             Ok(count) => Ok(count),
-            Err(_) => {
+            Err(error) => {
+                self.reason = reason_of(error.kind());
                 self.failures += 1;
                 Err(SinkFault)
             }
@@ -53,15 +58,32 @@ impl<W: Write> Stream for WriterStream<W> {
 
     fn put_text<D: std::fmt::Display + Drop>(&mut self, text: D) -> Result<(), SinkFault> {
         self.is_flushed = false;
-        let outcome = write!(self.writer, "{text}");
-        self.failures += u64::from(outcome.is_err());
-        outcome.map_err(|_| SinkFault)
+        match write!(self.writer, "{text}") {
+            Ok(()) => Ok(()),
+            Err(error) => {
+                self.reason = reason_of(error.kind());
+                self.failures += 1;
+                Err(SinkFault)
+            }
+        }
     }
 
     fn flush(&mut self) -> Result<(), SinkFault> {
-        let outcome = self.writer.flush();
-        self.failures += u64::from(outcome.is_err());
-        self.is_flushed = outcome.is_ok();
-        outcome.map_err(|_| SinkFault)
+        match self.writer.flush() {
+            Ok(()) => {
+                self.is_flushed = true;
+                Ok(())
+            }
+            Err(error) => {
+                self.is_flushed = false;
+                self.reason = reason_of(error.kind());
+                self.failures += 1;
+                Err(SinkFault)
+            }
+        }
+    }
+
+    fn reason(&self) -> Reason {
+        self.reason
     }
 }

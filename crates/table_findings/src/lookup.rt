@@ -54,13 +54,9 @@ impl<'a> Lookup<'a> {
         str::from_utf8(word).unwrap_or("")
     }
 
-    /// The name of the partition at a place of the list.
-    fn partition_name(self, index: usize) -> &'a str {
-        let path = [
-            Step::Key("partition"),
-            Step::Element(index),
-            Step::Key("name"),
-        ];
+    /// The name at a place of the list at a key.
+    fn name_in(self, list: &str, index: usize) -> &'a str {
+        let path = [Step::Key(list), Step::Element(index), Step::Key("name")];
         match self.places.first_at(&path) {
             Some(entry) => self.word_of(entry),
             None => "",
@@ -83,7 +79,8 @@ impl<'a> Lookup<'a> {
                     && ports_key.as_str() == "port"
                     && key.as_str() == "name"
                 {
-                    let (partition, port) = (self.partition_name(*index), self.word_of(entry));
+                    let partition = self.name_in("partition", *index);
+                    let port = self.word_of(entry);
                     ports.push(format!(in alloc; "{partition}.{port}")?)?;
                 }
             }
@@ -101,11 +98,14 @@ impl<'a> Lookup<'a> {
     /// Where a port is an end first.
     fn first_end(self, alloc: Global, end: &str) -> Result<Option<String>, AllocError> {
         for entry in self.places.entries() {
-            if is_end(entry.path.as_slice()) && self.word_of(entry) == end {
-                let line = self.line_of(entry);
-                return Ok(Some(format!(in alloc;
-                    "Name a port at one end only: this one is the end in line {line}."
-                )?));
+            if let Some(index) = channel_of_end(entry.path.as_slice()) {
+                if self.word_of(entry) == end {
+                    let (number, line) = (index.saturating_add(1), self.line_of(entry));
+                    let name = self.name_in("channel", index);
+                    return Ok(Some(format!(in alloc;
+                        "Name a port at one end only: this one is an end of channel {number} ({name}), in line {line}."
+                    )?));
+                }
             }
         }
         Ok(None)
@@ -159,20 +159,25 @@ impl<'a> Lookup<'a> {
     }
 }
 
-/// Returns true if a path is that of an end of a channel.
-fn is_end(path: &[OwnedStep]) -> bool {
-    match path {
+/// The place of the channel of which a path is that of an end.
+fn channel_of_end(path: &[OwnedStep]) -> Option<usize> {
+    let (list, index, key, wanted) = match path {
         [
             OwnedStep::Key(list),
-            OwnedStep::Element(_),
+            OwnedStep::Element(index),
             OwnedStep::Key(key),
-        ] => { list.as_str() == "channel" && key.as_str() == "source" }
+        ] => (list, *index, key, "source"),
         [
             OwnedStep::Key(list),
-            OwnedStep::Element(_),
+            OwnedStep::Element(index),
             OwnedStep::Key(key),
             OwnedStep::Element(_),
-        ] => list.as_str() == "channel" && key.as_str() == "destinations",
-        _ => false,
+        ] => (list, *index, key, "destinations"),
+        _ => return None,
+    };
+    if list.as_str() == "channel" && key.as_str() == wanted {
+        Some(index)
+    } else {
+        None
     }
 }

@@ -103,12 +103,115 @@ fn of_number(alloc: Global, is_plain: bool, module: ModuleTexts<'_>) -> Option<S
     let said = format!(in alloc;
         "the number of partitions is {wanted}, and that of sources {given}: {files}"
     ).ok()?;
-    let advice = format!(in alloc; "Give one for each partition, in this order: {order}.").ok()?;
+    let which = which_sources(alloc, rows, module.names).ok()?;
+    let which = which.as_str();
+    let advice = format!(in alloc;
+        "Give one for each partition, in this order: {order}.{which}"
+    ).ok()?;
     let report = Report {
         file: module.names.table,
         form: form(is_plain, "sources"),
     };
     file_lines(alloc, report, said.as_str(), advice.as_str()).ok()
+}
+
+/// Which sources are missing or too many, as far as the names of their files say, and what is taken
+/// for IMAGE.
+fn which_sources(
+    alloc: Global,
+    rows: &[PartitionRow],
+    names: ModuleNames<'_>,
+) -> Result<String, AllocError> {
+    if names.sources.len() > rows.len() {
+        let mut needless = needless_files(alloc, rows, names.sources)?;
+        if needless.len() == names.sources.len() {
+            needless.clear();
+        }
+        return sentence_on(alloc, " Too many by its name:", needless.as_slice());
+    }
+    let mut lacking = lacking_names(alloc, rows, names.sources)?;
+    if lacking.len() == rows.len() {
+        lacking.clear();
+    }
+    let mut text = sentence_on(alloc, " No source has the name of", lacking.as_slice())?;
+    if let Some(image) = names.image {
+        let told = format!(in alloc; " IMAGE, the file that is written, is here {image}.")?;
+        text.push_str(told.as_str())?;
+    }
+    Ok(text)
+}
+
+/// A sentence on these words, or nothing if there are none.
+fn sentence_on(alloc: Global, said: &str, words: &[&str]) -> Result<String, AllocError> {
+    if words.is_empty() {
+        return Ok(String::new(alloc));
+    }
+    let words = joined(alloc, words)?;
+    let words = words.as_str();
+    format!(in alloc; "{said} {words}.")
+}
+
+/// The partitions whose names no files of sources have.
+fn lacking_names<'a>(
+    alloc: Global,
+    rows: &'a [PartitionRow],
+    files: &[&str],
+) -> Result<Vec<&'a str>, AllocError> {
+    let mut names = Vec::new(alloc);
+    for row in rows {
+        if !has_file(files, row.name.as_str()) {
+            names.push(row.name.as_str())?;
+        }
+    }
+    Ok(names)
+}
+
+/// The files that have the name of no partition, and those with the name of a file before.
+fn needless_files<'a>(
+    alloc: Global,
+    rows: &[PartitionRow],
+    files: &'a [&'a str],
+) -> Result<Vec<&'a str>, AllocError> {
+    let mut needless = Vec::new(alloc);
+    let mut before = Vec::new(alloc);
+    for file in files {
+        let name = name_in(file);
+        if !has_row(rows, name) || has_file(before.as_slice(), name) {
+            needless.push(*file)?;
+        }
+        before.push(*file)?;
+    }
+    Ok(needless)
+}
+
+fn has_row(rows: &[PartitionRow], name: &str) -> bool {
+    for row in rows {
+        if row.name.as_str() == name {
+            return true;
+        }
+    }
+    false
+}
+
+fn has_file(files: &[&str], name: &str) -> bool {
+    for file in files {
+        if name_in(file) == name {
+            return true;
+        }
+    }
+    false
+}
+
+/// The part of a file's name that may be that of a partition: without folders and ending.
+fn name_in(file: &str) -> &str {
+    let last = match file.rsplit_once('/') {
+        Some((_, last)) => last,
+        None => file,
+    };
+    match last.split_once('.') {
+        Some((name, _)) => name,
+        None => last,
+    }
 }
 
 fn form(is_plain: bool, rule: &str) -> Form<'_> {

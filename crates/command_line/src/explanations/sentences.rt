@@ -2,7 +2,7 @@
 //! command is refused. The pages quote them word for word.
 
 ghost use Rattle.std.specs.Prelude.{◌≡◌};
-ghost use Rattle.command_line.specs.Sentences.{command_sentence, device_sentence, file_sentence, image_sentence, replay_sentence, source_sentence, table_sentence};
+ghost use Rattle.command_line.specs.Sentences.{command_sentence, device_sentence, file_sentence, image_sentence, replay_sentence, source_sentence, table_sentence, write_sentence};
 
 use apex_types::DeviceFault;
 use image::ImageFault;
@@ -157,14 +157,32 @@ pub fn file_sentence(reason: Reason) -> &'static str
     ensures { result.now ≡ file_sentence reason }
 {
     match reason {
-        Reason::Missing =>
-            "The file cannot be opened, read or written: nothing has this name, or a folder in it is missing.",
+        Reason::Missing => "The file cannot be opened, read or written: nothing has this name.",
+        Reason::NoFolder => {
+            "The file cannot be opened, read or written: a folder in its name is missing."
+        }
+        Reason::NotInFolder => {
+            "The file cannot be opened, read or written: what its name takes for a folder is none."
+        }
         Reason::Folder => "The file cannot be opened, read or written: it is a folder.",
         Reason::Denied => "The file cannot be opened, read or written: it is not allowed.",
         Reason::Unwritable => {
             "The file cannot be opened, read or written: nothing can be written there."
         }
+        Reason::Full => "The file cannot be opened, read or written: no room is left there.",
         Reason::WasRead => "The file is not written, because this command has read it.",
+        Reason::Left => "The file cannot be opened, read or written: whoever read it has gone.",
         Reason::Other => "The file cannot be opened, read or written.",
+    }
+}
+
+/// The sentence of bytes that standard output did not take, for this reason.
+pub fn write_sentence(reason: Reason) -> &'static str
+    ensures { result.now ≡ write_sentence reason }
+{
+    match reason {
+        Reason::Full => "Standard output took no more bytes: no room is left there.",
+        Reason::Left => "Standard output took no more bytes: whoever read them has gone.",
+        _ => command_sentence(CommandFault::Write),
     }
 }

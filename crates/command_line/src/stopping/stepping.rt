@@ -9,7 +9,7 @@ ghost use Rattle.module.specs.Written.{AreFrom};
 ghost use Rattle.command_line.specs.StopSteps.{IsHeld, IsReported};
 
 use apex_types::{DeviceLine, Sink, WriterSink, put_all};
-use module::{Machine, RunFault, Watch, split_tick};
+use module::{Machine, RunFault, Watch, pause, split_tick};
 
 /// How many of the next `most` ticks come before the first of these lines, which are of the next tick
 /// or later.
@@ -87,6 +87,13 @@ pub fn hand_on<S: Sink>(text: &[u8], sink: &mut S) -> Result<(), RunFault>
 /// The most ticks that are made between two offers of nothing, but for those that are skipped.
 pub const MOST_UNTOLD: u64 = 1 << 14;
 
+/// The ticks that are made until the next report to this watcher, but for those that are skipped.
+fn most_untold<W: Watch>(watch: &W) -> u64
+    ensures { 0 < result }
+{
+    pause(watch).min(MOST_UNTOLD)
+}
+
 /// Offers nothing to a sink, which may use the time for what it has kept back, and reports to a
 /// watcher how far the run is, if many ticks were made since the last report. Returns after how
 /// many ticks the last report was.
@@ -111,7 +118,8 @@ pub fn tell<S: Sink, W: Watch>(
         (λ last. IsReported told made ticks last (W.told watch.old) (W.told watch.new)) }
     ensures untold { OnErr result (W.told watch.new ≡ W.told watch.old) }
 {
-    if made.saturating_sub(told) < MOST_UNTOLD {
+    let most = most_untold(watch);
+    if made.saturating_sub(told) < most {
         return Ok(told);
     }
     if sink.put(&[]).is_err() {

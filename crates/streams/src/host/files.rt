@@ -72,7 +72,13 @@ impl<'a, R: rt::Files + AllocGlobal> HostFiles<'a, R> {
     {
         let bytes = match read {
             Ok(bytes) => bytes,
-            Err(error) => return Err(self.failed.fault_of(alloc, name, error.kind())),
+            Err(error) => {
+                let lacks_folder = lacks_folder(self.runtime, name);
+                return Err(
+                    self.failed
+                        .fault_of(alloc, name, error.kind(), lacks_folder),
+                );
+            }
         };
         if let Some(id) = self.id_of(name) {
             if self.ids.push(id).is_err() {
@@ -83,6 +89,14 @@ impl<'a, R: rt::Files + AllocGlobal> HostFiles<'a, R> {
             Ok(()) => Ok(bytes),
             Err(_) => Err(NameFault::Memory),
         }
+    }
+}
+
+/// Returns true if the folder in a file's name is missing.
+pub fn lacks_folder<R: rt::Files>(runtime: &R, name: &str) -> bool {
+    match name.rsplit_once('/') {
+        Some((folder, _)) => !folder.is_empty() && fs::metadata(runtime, folder).is_err(),
+        None => false,
     }
 }
 
@@ -125,10 +139,13 @@ impl<'a, R: rt::Files + AllocGlobal> Files for HostFiles<'a, R> {
     fn replace(&mut self, name: &str, bytes: &[u8]) -> Result<(), NameFault> {
         match fs::write(self.runtime, name, bytes) {
             Ok(()) => Ok(()),
-            Err(error) => Err(
-                self.failed
-                    .fault_of(self.runtime.alloc(), name, error.kind()),
-            ),
+            Err(error) => {
+                let lacks_folder = lacks_folder(self.runtime, name);
+                Err(
+                    self.failed
+                        .fault_of(self.runtime.alloc(), name, error.kind(), lacks_folder),
+                )
+            }
         }
     }
 }

@@ -3,7 +3,7 @@
 ghost use Rattle.std.specs.Prelude.{◌≡◌, ◌+◌, ◌-◌, ◌^◌, ◌<◌, OnErr, OnOk};
 ghost use Rattle.std.specs.Io.KnownBytes.{Keeps};
 
-use crate::Stream;
+use crate::{Reason, Stream};
 use apex_types::{Sink, SinkFault};
 use std::fmt::Display;
 use std::time::{Clock, Duration, Instant};
@@ -85,5 +85,9 @@ impl<'a, S: Stream, C: Clock> Stream for PromptStream<'a, S, C> {
 
     fn flush(&mut self) -> Result<(), SinkFault> {
         self.stream.flush()
+    }
+
+    fn reason(&self) -> Reason {
+        self.stream.reason()
     }
 }

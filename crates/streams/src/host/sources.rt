@@ -2,6 +2,7 @@
 
 ghost use Rattle.streams.specs.Names.{names_of};
 
+use crate::host::files::lacks_folder;
 use crate::{FailedNames, NameFault, Sources};
 use std::alloc::AllocGlobal;
 use std::fs::{self, File};
@@ -51,10 +52,13 @@ impl<'a> Sources for HostSources<'a> {
         }
         match fs::open(self.runtime, name) {
             Ok(file) => Ok(HostText::Named(file)),
-            Err(error) => Err(
-                self.unopened
-                    .fault_of(self.runtime.alloc(), name, error.kind()),
-            ),
+            Err(error) => {
+                let lacks_folder = lacks_folder(self.runtime, name);
+                Err(
+                    self.unopened
+                        .fault_of(self.runtime.alloc(), name, error.kind(), lacks_folder),
+                )
+            }
         }
     }
 

@@ -156,9 +156,9 @@ loop-left-preserved g c =
     let now = (machine_of c.loop-left-2.machine).standing.now in
     let above : last < now = elim c.loop-left-2-test.branch [
       | goal.then-loop-left-2-test+else-not-is_shut_down-2 w ↦ omega (arith, i.some (search rules), i.count, c.loop-left.invariant.count)
-      | goal.else-loop-left-2-test w ↦ omega (arith, w.loop-left-2-test.false, c.loop-left-test.true, c.saturating_sub-stop.ensures, i.count, c.loop-left.invariant.count)
+      | goal.else-loop-left-2-test w ↦ omega (arith, w.loop-left-2-test.false, c.loop-left-test.true, c.saturating_sub-stop.ensures, c.pause.ensures.some, i.count, c.loop-left.invariant.count)
     ] in
-    let near : now ≤ last + 2 ^ 20 = omega (arith, i.above, c.saturating_sub-stop.ensures, i.count, c.loop-left.invariant.count) in
+    let near : now ≤ last + 2 ^ 20 = omega (arith, i.above, c.saturating_sub-stop.ensures, c.pause.ensures.few, i.count, c.loop-left.invariant.count) in
     record {
       image = i.image;
       failed = i.failed;
