@@ -7,6 +7,7 @@ from .session import Session, Wrong
 
 BOLD_FIRST = ("before tick", "trace of", "code of", "changed since")
 KEYS = "Enter repeats a command; `help` lists them; PgUp and PgDn scroll; Ctrl-C ends a search"
+MOST_FAILED = 100
 ENTER, ESCAPE, ERASE, END_OF_INPUT, AGAIN = ("\n", "\r"), "\x1b", ("\x7f", "\b"), "\x04", "\x0c"
 
 
@@ -88,15 +89,18 @@ def browse(session: Session) -> int:
     """Shows the session until it ends."""
 
     def show(window: curses.window) -> None:
-        screen = Screen(window, session)
+        screen, failed = Screen(window, session), 0
         while not session.ended:
             screen.draw()
             try:
                 screen.key(window.get_wch())
+                failed = 0
             except KeyboardInterrupt:
                 screen.typed = ""
             except curses.error:
-                pass  # the terminal has another size
+                # Another size of the terminal fails once. A terminal that is gone fails each time.
+                failed += 1
+                session.ended = failed == MOST_FAILED
 
     curses.wrapper(show)
     return 0
