@@ -191,7 +191,7 @@ const HTML: CommandRow = CommandRow {
         Argument::Option {
             name: "state",
             value: "FILE",
-            help: "What `mb state --every K --json` wrote: shows the last state up to the chosen tick",
+            help: "What `mb state --json` wrote: shows the last state up to the chosen tick",
         },
     ],
 };
