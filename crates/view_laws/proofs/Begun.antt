@@ -1,5 +1,5 @@
 -- The starts that a summary counts for a partition of a run are those that its lines tell.
-use Rattle.std.proofs.Common.{◌≡◌, ◌<◌, ◌≤◌, ℕ, zero, suc, Bool, true, false, List, [], ◌∷◌, Option, Some, None, refl, sym, ap, ◌∙◌, subst, arith}
+use Rattle.std.proofs.Common.{◌≡◌, ◌<◌, ℕ, Bool, true, false, List, [], ◌∷◌, Option, Some, None, refl, sym, ap, ◌∙◌, subst, arith}
 use Rattle.std.specs.Prelude.{◌+◌, ◌&&◌, nat_le, if◌then◌else◌}
 use Rattle.std.proofs.lemmas.Bool.{false≢true, lt-ltb}
 use Rattle.std.proofs.lemmas.Option.{none-some}
@@ -36,7 +36,6 @@ use Rattle.trace_view.specs.declared.starts.Starts.{Starts}
 use Rattle.trace_view.specs.declared.told.Told.{Told as Known}
 use Rattle.trace_windows.specs.Uses.{one_if}
 use Rattle.view_laws.specs.Counted.{AreBeforeTick}
-use Rattle.view_laws.specs.Modes.{is_same_mode}
 use Rattle.view_laws.specs.Starts.{is_in_mode, is_same_condition, is_with, starts_for, starts_when, starts_with}
 use Rattle.view_laws.proofs.Shown.{same_turned}
 

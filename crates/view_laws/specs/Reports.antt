@@ -50,8 +50,7 @@ AreSharesSpent m devices from until (Some s) = AreSpent m devices from until s.c
 
 -- In the ticks of the report, each row of what the processor did has the ticks that it spends so in the run. Each runner has the ticks in RUNNING in which it
 -- runs. Of each other state it has no more than those after which it is in the state; of READY and WAITING it has all of these that it does not spend. Each
--- partition has the ticks in a mode after which it is in the mode, and its starts in each mode and with each condition, of which the greatest number of 64 bits is
--- counted.
+-- partition has the ticks in a mode after which it is in the mode. It has its starts in each mode and with each condition, at most 2^64 - 1 of them.
 pub record TellsRun {C : Type 0} (m : Module C) (devices : List DeviceLine) (lines : List Event) (names : List (List ℕ)) (from until : ℕ) (report : Report) : Type 0 where
   pub spent : AreSharesSpent m devices from until report.shares
   pub running : (p : ℕ) (name : List ℕ) (who : Subject) → at_number names p ≡ Some name → HasOwnWord lines who
