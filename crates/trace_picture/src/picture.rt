@@ -137,7 +137,6 @@ impl Picture {
     /// # Errors
     ///
     /// Memory ran out, or the picture would have too many elements.
-    #[tactic(auto, using(crate::proofs::Drawn::finished))]
     pub fn finish(mut self, windows: Option<Windows>, width: Width) -> Result<Drawing, PictureFault>
         ensures drawn { IfOk result (HasFinished self windows) }
         ensures wide { IfOk result (λ drawing. drawing.axis.long ≡ width.pixels * 10 - 1800) }
