@@ -166,6 +166,13 @@ no_module_bars t (event.Arrive port words) = refl
 no_module_bars t (event.Lost port words) = refl
 no_module_bars t (event.Out channel words) = refl
 
+pub longer : (old new more : List Shape) → new ≡ old ++ more → length old ≤ length new
+longer old new more added = subst (λ (xs : List Shape). length old ≤ length xs) (sym added) (behind old)
+  where
+    behind : (xs : List Shape) → length xs ≤ length (xs ++ more)
+    behind [] = omega arith
+    behind (x ∷ xs) = let l = behind xs in omega (arith, l)
+
 -- so the bars stay
 pub bars_stay : (old new more : List Shape) → new ≡ old ++ more → bars_in more ≡ [] → bars_in new ≡ bars_in old
 bars_stay old new more added none = ap bars_in added ∙ (bars_two old more ∙ (ap (λ (es : List Ended). bars_in old ++ es) none ∙ append-nil (bars_in old)))

@@ -84,7 +84,8 @@ impl Picture {
     /// Keeps what an event before the end of the ticks shows.
     fn keep_line(&mut self, event: &Event) -> Result<(), MemoryFull>
         ensures shown { self.new.shown ≡ self.old.shown }
-        ensures more { length self.old.shapes.items ≤ length self.new.shapes.items }
+        ensures more { OnOk result
+            (length self.old.shapes.items ≤ length self.new.shapes.items) }
         ensures kept { OnOk result (HasKept event.now self.old self.new) }
     {
         let mut ended = Vec::new(self.alloc);
@@ -136,7 +137,6 @@ impl Picture {
     /// # Errors
     ///
     /// Memory ran out, or the picture would have too many elements.
-    #[tactic(auto, using(crate::proofs::Drawn::finished))]
     pub fn finish(mut self, windows: Option<Windows>, width: Width) -> Result<Drawing, PictureFault>
         ensures drawn { IfOk result (HasFinished self windows) }
         ensures wide { IfOk result (λ drawing. drawing.axis.long ≡ width.pixels * 10 - 1800) }
@@ -252,12 +252,13 @@ impl Picture {
     }
 
     /// Keeps what an event shows without states and modes, if its tick is shown.
-    #[tactic(auto, using(crate::proofs::Drawn::bars_stay, crate::proofs::Drawn::no_bars, crate::proofs::Drawn::no_module_bars, crate::proofs::Drawn::kept_itself, trace_stays::proofs::Followed::in_own_place))]
+    #[tactic(auto, using(crate::proofs::Drawn::bars_stay, crate::proofs::Drawn::longer, crate::proofs::Drawn::no_bars, crate::proofs::Drawn::no_module_bars, crate::proofs::Drawn::kept_itself, trace_stays::proofs::Followed::in_own_place))]
     fn mark(&mut self, event: &Event) -> Result<(), MemoryFull>
         ensures shown { self.new.shown ≡ self.old.shown }
         ensures kept { OnOk result (AreKept self.old.lanes self.new.lanes) }
         ensures places { OnOk result (AreInPlace self.old.lanes self.new.lanes) }
-        ensures more { length self.old.shapes.items ≤ length self.new.shapes.items }
+        ensures more { OnOk result
+            (length self.old.shapes.items ≤ length self.new.shapes.items) }
         ensures bars { OnOk result
             (bars_in self.new.shapes.items ≡ bars_in self.old.shapes.items) }
     {
