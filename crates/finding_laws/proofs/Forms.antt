@@ -5,8 +5,8 @@ use Rattle.apex_types.specs.declared.device.DeviceFault.TheVariants as fault
 use Rattle.engine_meaning.specs.Digits.{same}
 use Rattle.module_meaning.specs.DeviceText.{words}
 use Rattle.module_base.specs.TextLines.{line_by_pieces}
-use Rattle.image_findings.specs.Form.{blemish, event_wrong, fault_wrong, is_byte, last_of, message_wrong, part_or, parts_wrong, words_wrong, wrong, wrong_part}
-use Rattle.image_findings.specs.What.{What, Wrong, Carriage, Comment, NoTick, NoKind, NoName, NoWord, NoWords, More}
+use Rattle.image_findings.specs.Form.{blemish, event_wrong, fault_wrong, is_byte, last_of, left_at, message_wrong, odd_byte, part_or, parts_wrong, words_wrong, wrong, wrong_part}
+use Rattle.image_findings.specs.What.{What, Wrong, Carriage, Comment, NoTick, NoKind, NoName, NoWord, NoWords, Nul, More, Tab}
 use Rattle.image_findings.specs.declared.names.TextKind.{TextKind}
 
 -- there is a form and nothing is wrong, or there is none, and what is wrong is the form
@@ -85,9 +85,15 @@ of_line true b n w h = refl
 of_line false true n w h = refl
 of_line false false n w h = h
 
+of_place : (place : Option ℕ) (what : What) (w : Wrong) → rule_of what ≡ fault.Form → rule_of w.what ≡ fault.Form → rule_of (elim place [ Some left ↦ wrong left what | None ↦ w ]).what ≡ fault.Form
+of_place None what w h rest = rest
+of_place (Some left) what w h rest = h
+
 blemish_rule : (line : List ℕ) (w : Wrong) → rule_of w.what ≡ fault.Form → rule_of (blemish line w).what ≡ fault.Form
 blemish_rule [] w h = refl
-blemish_rule (b ∷ bs) w h = of_line (b == 35) (is_byte 13 (last_of (b ∷ bs))) (length (b ∷ bs)) w h
+blemish_rule (b ∷ bs) w h =
+    let tab_or_nul = of_place (left_at 9 (b ∷ bs)) Tab (odd_byte 0 Nul (b ∷ bs) w) refl (of_place (left_at 0 (b ∷ bs)) Nul w refl h) in
+    of_line (b == 35) (is_byte 13 (last_of (b ∷ bs))) (length (b ∷ bs)) (odd_byte 9 Tab (b ∷ bs) (odd_byte 0 Nul (b ∷ bs) w)) tab_or_nul
 
 blemished : {A : Type 0} (line : List ℕ) (o : Option A) (w : Option Wrong) → IsFormed o w → IsFormed o (option_map (blemish line) w)
 blemished line None None h = absurd h

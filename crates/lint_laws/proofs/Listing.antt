@@ -16,7 +16,7 @@ use Rattle.lint.specs.Findings.{body_findings, creation_findings, findings, port
 use Rattle.lint.specs.Lives.{Creation, NormalMode, Signal, Wait, Wanted, all_never_signalled, found, is_kind, long_capacity, may_wait, never_signalled, takes_no_error, handler_never_created, lacking, meets, never_created, never_normal, never_started, object_kind, objects_never_created, processes_never_created, wait_in_init, waits_in_init, without_wait, without_waits}
 use Rattle.lint.specs.Locks.{locked_after, locked_in_body, locked_in_kind, locked_waits, wait_while_locked, waits_while_locked, waits_while_locked_in}
 use Rattle.lint.specs.Mentions.{Mention, Read, Element, Apply, Write, ByZero, Test, Ask, Leave, Endless, all_mentions}
-use Rattle.lint.specs.Plain.{Plain, first_of, name_in}
+use Rattle.lint.specs.Plain.{Plain, first_of, name_in, plains}
 use Rattle.lint.specs.Ports.{better_row, contradicts_direction, contradicts_kind, is_for_ports, port_of_call, undeclared_port, unknown_port, wrong_use, wrong_use_of}
 use Rattle.lint.specs.Recursion.{endless_procedure}
 use Rattle.lint.specs.Services.{numbered_kind, port_direction, port_kind, sent_kind, stored_kind, takes_number}
@@ -222,7 +222,7 @@ mutual
   locked_block_plain locked (written.MoreStmts s rest) = both _ _ (locked_stmt_plain locked s) (locked_block_plain (locked_after locked s) rest)
 
   locked_stmt_plain : (locked : Bool) (s : written.Stmt) → ArePlain (waits_while_locked_in locked s)
-  locked_stmt_plain locked (written.CallService s arguments targets) = locked_plain locked s _
+  locked_stmt_plain locked (written.CallService s arguments targets) = locked_plain locked s (plains arguments)
   locked_stmt_plain locked (written.If test block) = locked_block_plain locked block
   locked_stmt_plain locked (written.IfElse test block other) = both _ _ (locked_block_plain locked block) (locked_block_plain locked other)
   locked_stmt_plain locked (written.While test block) = locked_block_plain locked block
