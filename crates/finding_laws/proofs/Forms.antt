@@ -85,7 +85,10 @@ of_line true b n w h = refl
 of_line false true n w h = refl
 of_line false false n w h = h
 
-of_place : (place : Option ℕ) (what : What) (w : Wrong) → rule_of what ≡ fault.Form → rule_of w.what ≡ fault.Form → rule_of (elim place [ Some left ↦ wrong left what | None ↦ w ]).what ≡ fault.Form
+abbrev placed : Option ℕ → What → Wrong → Wrong
+placed place what w = elim place [ Some left ↦ wrong left what | None ↦ w ]
+
+of_place : (place : Option ℕ) (what : What) (w : Wrong) → rule_of what ≡ fault.Form → rule_of w.what ≡ fault.Form → rule_of (placed place what w).what ≡ fault.Form
 of_place None what w h rest = rest
 of_place (Some left) what w h rest = h
 
