@@ -2,4 +2,4 @@ use Rattle.std.proofs.Common.{length}
 use Rattle.command_line.proofs.linting.+add_found.Given as goal
 
 abbrev pub decreases-add_found : goal.decreases-add_found
-decreases-add_found l = length l.rows.now
+decreases-add_found l = length l.rows.rows.now
