@@ -24,6 +24,7 @@ pub mod Told
 pub mod Refused
 pub mod Replayed
 pub mod Runs
+pub mod Spaced
 pub mod Shutdown
 pub mod Standing
 pub mod Stated

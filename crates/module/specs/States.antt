@@ -1,5 +1,5 @@
--- The promise of writing a state: that of an image's module before a tick.
-use Rattle.std.specs.Prelude.{◌≡◌, ◌<◌, ◌≤◌, ℕ, List, [], ◌++◌, Option, Some, None, Result, Ok, Err, option_map}
+-- The promise of writing a state: that of an image's module before a tick, or those before ticks at equal distances.
+use Rattle.std.specs.Prelude.{◌≡◌, ◌⊎◌, ◌<◌, ◌≤◌, ◌+◌, ◌/◌, ℕ, zero, suc, List, [], ◌∷◌, ◌++◌, Option, Some, None, Result, Ok, Err, option_map}
 use Rattle.std.specs.Io.KnownBytes.{Appends}
 use Rattle.apex_types.specs.Limits.{MOST_TICKS}
 use Rattle.apex_types.specs.Line.{TakesBeginning}
@@ -67,3 +67,33 @@ States read devices n wanted old new (Err NoPartition) = (n ≤ MOST_TICKS) × L
 States read devices n wanted old new (Err (Device f)) = (n ≤ MOST_TICKS) × IsDeviceRefusal read devices f × (new ≡ old)
 States read devices n wanted old new (Err Memory) = new ≡ old
 States read devices n wanted old new (Err Failed) = ⊥
+
+-- ---- states at equal distances
+
+-- so many ticks from t on, each k after the one before
+abbrev pub spaced : (k t count : ℕ) → List ℕ
+spaced k t zero = []
+spaced k t (suc count) = t ∷ spaced k (t + k) count
+
+-- the ticks 0, k, 2k and so on, up to n
+abbrev pub every : (k n : ℕ) → List ℕ
+every k n = spaced k 0 (suc (n / k))
+
+-- the texts of the states before these ticks, one after another
+abbrev pub AreStateTexts : Wanted → Image → List DeviceLine → List ℕ → List ℕ → Type 0
+AreStateTexts wanted image lines [] text = text ≡ []
+AreStateTexts wanted image lines (t ∷ ticks) text =
+    (first : List ℕ) × (rest : List ℕ) × IsStateText wanted image lines t first × AreStateTexts wanted image lines ticks rest × (text ≡ first ++ rest)
+
+-- The text of the states before the ticks 0, k, 2k and so on up to tick n was taken, or a beginning of it.
+abbrev pub TakesStates : (Option (List ℕ) → Option (List ℕ) → List ℕ → Type 0) → Result Image Fault → List ℕ → (k n : ℕ) → Wanted → Option (List ℕ) → Option (List ℕ) → Type 0
+TakesStates Takes read devices k n wanted old new =
+    (image : Image) × (lines : List DeviceLine) × IsRun read devices n image lines × (text : List ℕ) × AreStateTexts wanted image lines (every k n) text × Takes old new text
+
+-- What is written of these states between two states of the sink: their whole text; a prefix of it if the sink failed or
+-- memory ran out. They are refused as one state is.
+abbrev pub StatesEvery : Result Image Fault → List ℕ → (k n : ℕ) → Wanted → Option (List ℕ) → Option (List ℕ) → Result (Unit {0}) RunFault → Type 0
+StatesEvery read devices k n wanted old new (Ok _) = TakesStates Appends read devices k n wanted old new
+StatesEvery read devices k n wanted old new (Err Write) = TakesStates TakesBeginning read devices k n wanted old new
+StatesEvery read devices k n wanted old new (Err Memory) = (new ≡ old) ⊎ TakesStates TakesBeginning read devices k n wanted old new
+StatesEvery read devices k n wanted old new (Err fault) = States read devices n wanted old new (Err fault)

@@ -79,7 +79,10 @@ pub fn state<S: Sink>(
 }
 
 /// The number of the partition with this name, if a name is given.
-fn find_wanted(image: &Image, name: Option<&str>) -> Result<Option<PartitionId>, RunFault>
+pub(crate) fn find_wanted(
+    image: &Image,
+    name: Option<&str>,
+) -> Result<Option<PartitionId>, RunFault>
     ensures { IsFoundFor (image_of image.now) (option_map (λ s. s.now) name.entry) result }
 {
     let Some(name) = name else {
