@@ -7,12 +7,14 @@
 
 mod accepting;
 mod advance;
+mod asked;
 mod bringing;
 mod building;
 mod collected;
 mod costing;
 mod exchange;
 mod fault;
+mod first;
 mod holding;
 mod input;
 mod inputs_fault;
@@ -36,6 +38,7 @@ mod upgrading;
 mod watch;
 mod watching;
 
+pub use asked::stands_for;
 pub use building::{accept_table, build, module_has_one_image};
 pub use costing::{AcceptedModule, PartitionCosts, accept_module, costs};
 pub use fault::{BuildAndRunFault, BuildFault, RunFault};
@@ -44,8 +47,7 @@ pub use load_fault::LoadFault;
 pub use machine::{Machine, ticks_isolate_the_partitions, ticks_make_the_trace};
 pub use replaying::replay;
 pub use running::{build_and_run, run, run_watched};
-pub use series::states;
-pub use stating::{WantedState, a_state_decides_the_rest, state, ticks_make_the_state};
+pub use stating::{Moments, WantedStates, a_state_decides_the_rest, states, ticks_make_the_state};
 pub use telling::{WantedInputs, inputs, inputs_watched};
 pub use ticks::split_tick;
 pub use upgrading::upgrade;

@@ -1,130 +1,102 @@
 //! The states of a module before ticks at equal distances.
 
-ghost use Rattle.std.specs.Prelude.{◌≡◌, ◌≢◌, ◌≤◌, ◌<◌, ◌+◌, ◌*◌, ◌-◌, ◌^◌, suc, IfErr, OnOk, IsErrOf};
+ghost use Rattle.std.specs.Prelude.{◌≡◌, ◌≢◌, ◌≤◌, ◌<◌, ◌+◌, ◌*◌, ◌/◌, ◌-◌, ◌^◌, suc, IfErr, OnOk, IsErrOf};
 ghost use Rattle.apex_types.specs.Limits.{MOST_TICKS};
-ghost use Rattle.machine_meaning.specs.ImageReading.{image_at};
-ghost use Rattle.state_rows.specs.Rows.{rows_in};
 ghost use Rattle.module.specs.Machines.{fresh_machine, machine_of};
-ghost use Rattle.module.specs.States.{StatesEvery, rows_of, spaced};
-ghost use Rattle.module.specs.Stating.{TakesText, number_in, texts_before, wanted_in};
+ghost use Rattle.module.specs.States as meant;
+ghost use Rattle.module.specs.States.{Every};
+ghost use Rattle.module.specs.Stating.{IsShown, number_in, texts_before, AreParted};
 ghost use Rattle.module.specs.Written.{AreFrom};
 
 use crate::fault::RunFault;
 use crate::machine::Machine;
-use crate::stating::{WantedState, find_wanted};
+use crate::stating::{Shown, put_state};
 use crate::ticks::from_tick;
-use apex_types::limits::MOST_TICKS;
-use apex_types::{DeviceLine, PartitionId, Sink, put_all};
-use image::load_image;
-use state_rows::Form;
-use std::alloc::Global;
+use apex_types::{DeviceLine, Sink};
 
-/// Runs the image for `tick` ticks with the device text, and writes the states that its module has
-/// before the ticks 0, `every`, 2 `every` and so on, up to the tick of this number, as
-/// [`state`](crate::state) writes each. After [`RunFault::Write`] the sink has failed once; after it,
-/// and after [`RunFault::Memory`], the sink has taken a prefix of that text.
-///
-/// # Errors
-///
-/// Those of [`state`](crate::state).
-pub fn states<S: Sink>(
-    alloc: Global,
-    image: &[u8],
-    wanted: WantedState<'_>,
-    every: u64,
+/// The ticks 0, `every`, 2 `every` and so on, up to `ticks`.
+#[derive(Clone, Copy)]
+pub struct Series {
+    pub ticks: u64,
+    pub every: u64,
+}
+
+/// Writes the states of a machine before these ticks, with these lines of the devices.
+pub fn put_series<S: Sink>(
+    machine: &mut Machine,
+    devices: &[DeviceLine],
+    series: Series,
+    shown: Shown,
+    text: &mut Vec<u8>,
     sink: &mut S,
-) -> Result<(), RunFault>
-    requires some { 0 < every }
+) -> Result<bool, RunFault>
+    requires few { series.ticks ≤ MOST_TICKS }
+    requires fresh { machine_of machine.old ≡ fresh_machine (machine_of machine.old).image }
+    requires order { AreFrom 0 devices.now }
     requires failures { S.failures sink.old < 2 ^ 64 - 1 }
-    ensures text { StatesEvery (image_at image.now) wanted.entry.devices.now every
-        wanted.entry.tick (wanted_in wanted.entry) (S.taken sink.old) (S.taken sink.new) result }
+    ensures text { IsShown (Every series.entry.every) shown.entry.form
+        (number_in shown.entry.only) (machine_of machine.old).image devices.now
+        series.entry.ticks (S.taken sink.old) (S.taken sink.new) result }
     ensures ok { OnOk result (S.failures sink.new ≡ S.failures sink.old) }
     ensures write { IsErrOf result RunFault.Write → S.failures sink.new ≡ S.failures sink.old + 1 }
     ensures quiet { IfErr result
         (λ fault. fault ≢ RunFault.Write → S.failures sink.new ≡ S.failures sink.old) }
 {
-    if wanted.tick > MOST_TICKS {
-        return Err(RunFault::Ticks);
-    }
-    let image = load_image(alloc, image)?;
-    let only = find_wanted(&image, wanted.partition)?;
-    let mut machine = Machine::load(alloc, image)?;
-    let lines = machine.devices(alloc, wanted.devices)?;
-    let series = Series {
-        form: wanted.form,
-        only,
-        every,
-        more: wanted.tick / every,
+    let spaced = Spaced {
+        every: series.every,
+        more: count_after(series),
     };
-    let mut text = Vec::new(alloc);
-    write_states(&mut machine, &lines, series, &mut text, sink)
+    put_spaced(machine, devices, spaced, shown, text, sink)
 }
 
-/// States at equal distances: which of their rows are written and how, how many ticks the next one is
-/// after each, and how many follow the first.
+/// How many ticks there are after tick 0.
+fn count_after(series: Series) -> u64
+    ensures count { result ≡ series.ticks / series.every }
+    ensures few { result * series.every ≤ series.ticks }
+{
+    if series.every == 0 {
+        return 0;
+    }
+    series.ticks / series.every
+}
+
+/// Tick 0, and so many more, each so many ticks after the one before.
 #[derive(Clone, Copy)]
-struct Series {
-    form: Form,
-    only: Option<PartitionId>,
+struct Spaced {
     every: u64,
     more: u64,
 }
 
-/// Writes these states of a machine, with these lines of the devices. The text of each is made in
-/// `text`.
-fn write_states<S: Sink>(
+/// Writes the states of a machine before these ticks, with these lines of the devices.
+fn put_spaced<S: Sink>(
     machine: &mut Machine,
     devices: &[DeviceLine],
-    series: Series,
+    spaced: Spaced,
+    shown: Shown,
     text: &mut Vec<u8>,
     sink: &mut S,
-) -> Result<(), RunFault>
+) -> Result<bool, RunFault>
+    requires few { spaced.more * spaced.every ≤ MOST_TICKS }
     requires fresh { machine_of machine.old ≡ fresh_machine (machine_of machine.old).image }
     requires order { AreFrom 0 devices.now }
-    requires few { series.more * series.every ≤ MOST_TICKS }
     requires failures { S.failures sink.old < 2 ^ 64 - 1 }
-    ensures text { TakesText
-        (texts_before series.entry.form (number_in series.entry.only)
-        (machine_of machine.old).image devices.now
-        (spaced series.entry.every 0 (suc series.entry.more))) (S.taken sink.old)
+    ensures text { AreParted
+        (texts_before shown.entry.form (number_in shown.entry.only)
+        (machine_of machine.old).image devices.now (meant.spaced spaced.entry.every 0 (suc spaced.entry.more))) (S.taken sink.old)
         (S.taken sink.new) result }
     ensures ok { OnOk result (S.failures sink.new ≡ S.failures sink.old) }
     ensures write { IsErrOf result RunFault.Write → S.failures sink.new ≡ S.failures sink.old + 1 }
     ensures quiet { IfErr result
         (λ fault. fault ≢ RunFault.Write → S.failures sink.new ≡ S.failures sink.old) }
 {
-    put_state(machine, series, text, sink)?;
-    let mut left = series.more;
+    put_state(machine, shown, text, sink)?;
+    let mut left = spaced.more;
     let mut lines = devices;
     while left > 0 {
-        machine.pass_over(lines, series.every)?;
+        machine.pass_over(lines, spaced.every)?;
         lines = from_tick(lines, machine.now());
-        put_state(machine, series, text, sink)?;
+        put_state(machine, shown, text, sink)?;
         left -= 1;
     }
-    Ok(())
-}
-
-/// Writes the state that a machine has now, before its next tick.
-fn put_state<S: Sink>(
-    machine: &Machine,
-    series: Series,
-    text: &mut Vec<u8>,
-    sink: &mut S,
-) -> Result<(), RunFault>
-    requires { S.failures sink.old < 2 ^ 64 - 1 }
-    ensures text { TakesText
-        (rows_in series.entry.form
-        (rows_of (number_in series.entry.only) (machine_of machine.now).image
-        (machine_of machine.now).standing.now (machine_of machine.now).standing))
-        (S.taken sink.old) (S.taken sink.new) result }
-    ensures ok { OnOk result (S.failures sink.new ≡ S.failures sink.old) }
-    ensures write { IsErrOf result RunFault.Write → S.failures sink.new ≡ S.failures sink.old + 1 }
-    ensures quiet { IfErr result
-        (λ fault. fault ≢ RunFault.Write → S.failures sink.new ≡ S.failures sink.old) }
-{
-    text.clear();
-    machine.state(series.form, series.only, text)?;
-    put_all(sink, text.as_slice())?;
-    Ok(())
+    Ok(true)
 }
