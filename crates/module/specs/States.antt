@@ -86,15 +86,15 @@ watched_rows None image s = Some (watched_of None image s)
 watched_rows (Some name) image s = option_map (λ found. watched_of (Some found.0) image s) (numbered image name)
 
 -- in the state before tick n a row of a partition begins with these words, or none does
-abbrev pub IsWatched : Wanted → Image → List DeviceLine → List (List ℕ) → ℕ → Bool → Type 0
-IsWatched wanted image lines words n found =
+abbrev pub HasRowAt : Wanted → Image → List DeviceLine → List (List ℕ) → ℕ → Bool → Type 0
+HasRowAt wanted image lines words n found =
     (rows : List Row) × (watched_rows wanted.partition image (state_before image lines n) ≡ Some rows) × (has_row words (rows_in form.Text rows) ≡ found)
 
 -- the text of the first such state up to tick n; or no text, if there is none
 abbrev pub IsFirstText : Wanted → Image → List DeviceLine → List (List ℕ) → ℕ → Bool → List ℕ → Type 0
 IsFirstText wanted image lines words n true text =
-    (t : ℕ) × (t ≤ n) × IsWatched wanted image lines words t true × ((u : ℕ) → u < t → IsWatched wanted image lines words u false) × IsStateText wanted image lines t text
-IsFirstText wanted image lines words n false text = ((u : ℕ) → u ≤ n → IsWatched wanted image lines words u false) × (text ≡ [])
+    (t : ℕ) × (t ≤ n) × HasRowAt wanted image lines words t true × ((u : ℕ) → u < t → HasRowAt wanted image lines words u false) × IsStateText wanted image lines t text
+IsFirstText wanted image lines words n false text = ((u : ℕ) → u ≤ n → HasRowAt wanted image lines words u false) × (text ≡ [])
 
 -- the text of the wanted states of a run of n ticks, and whether there is one
 abbrev pub IsTextAt : Moments → Wanted → Image → List DeviceLine → ℕ → Bool → List ℕ → Type 0
