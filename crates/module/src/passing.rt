@@ -29,6 +29,7 @@ impl Machine {
             ((machine_of self.new).standing
             ≡ (elapse (machine_module (machine_of self.old).image).plan devices.now ticks
             (machine_of self.old).standing).state) }
+        ensures sound { OnOk result ((machine_of self.new).failed ≡ false) }
         ensures made { IfErr result (λ fault. ⊥) }
     {
         let mut nowhere = Forgetful;
