@@ -72,6 +72,7 @@ shown_states read loaded devices lines n wanted only old new answer is taken few
   where
     run : IsRun read devices n loaded lines
     run = record { loaded = is; taken = taken; few = few }
+
     go : (answer : Result Bool RunFault) → IsShown wanted.moments wanted.form only loaded lines n old new answer → States read devices n wanted old new answer
     go (Ok found) (text, shown, all) = (loaded, lines, run, text, wanted_text wanted.moments wanted only loaded lines n found text each shown, all)
     go (Err fault.Write) (text, shown, part) = (loaded, lines, run, text, wanted_text wanted.moments wanted only loaded lines n true text each shown, part)
