@@ -5,7 +5,7 @@ use Rattle.apex_types.proofs.Writing.{under_way_end, under_way_start}
 use Rattle.std.proofs.lemmas.Bool.Decides.{Decides-eqb}
 use Rattle.lone_partition.proofs.LinesOfTicks.{not_true, from_lower}
 use Rattle.module.specs.States.{Every, First, Last, every, rows_of, spaced, state_before}
-use Rattle.module.specs.Stating.{AreParted, IsFirst, IsPut, IsShown, text_before, texts_before, watches, watches_before}
+use Rattle.module.specs.Stating.{AreParted, IsBefore, IsFirst, IsPut, IsShown, text_before, texts_before, watches, watches_before}
 use Rattle.module.specs.Written.{tick_of_line}
 use Rattle.module.specs.declared.fault.RunFault.TheVariants as fault
 use Rattle.module.proofs.Standing.{elapse_alike, elapse_more}
@@ -14,10 +14,6 @@ use Rattle.state_rows.specs.Rows.{rows_in}
 use Rattle.state_rows.specs.declared.row.Form.{Form}
 
 -- ---- the machine
-
--- its state is the one before its next tick
-abbrev pub IsBefore : Image → List DeviceLine → Machine → Type 0
-IsBefore image lines m = m.standing ≡ state_before image lines m.standing.now
 
 -- these lines are those of its next tick and of later ones
 abbrev pub AreAlike : Machine → (lines devices : List DeviceLine) → Type 0
@@ -29,7 +25,7 @@ before_first image lines m fresh =
     ap (λ (x : Machine). x.standing) fresh ∙ ap (state_before image lines) (sym now)
 
 -- k ticks later
-later_state : (image : Image) (m : Machine) (lines devices : List DeviceLine) (k : ℕ) → m.image ≡ image → IsBefore image devices m → AreAlike m lines devices
+pub later_state : (image : Image) (m : Machine) (lines devices : List DeviceLine) (k : ℕ) → m.image ≡ image → IsBefore image devices m → AreAlike m lines devices
     → (elapse (machine_module m.image).plan lines k m.standing).state ≡ state_before image devices (m.standing.now + k)
 later_state image m lines devices k same before alike =
     let plan = (machine_module image).plan in

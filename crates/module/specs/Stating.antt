@@ -11,6 +11,7 @@ use Rattle.state_rows.specs.Rows.{rows_in}
 use Rattle.state_rows.specs.declared.row.Form.{Form}
 use Rattle.state_rows.specs.declared.row.Form.TheVariants.{Text}
 use Rattle.module.specs.Asked.{has_row}
+use Rattle.module.specs.Machines.{Machine}
 use Rattle.module.specs.States.{Moments, Last, Every, First, Wanted, AreSeveral, LacksWanted, every, rows_of, state_before, wanted_rows, watched_of, watched_rows}
 use Rattle.module.specs.declared.fault.RunFault.{RunFault}
 use Rattle.module.specs.declared.fault.RunFault.TheVariants.{Memory, Partition, Write}
@@ -38,6 +39,10 @@ AreFor image name only =
 abbrev pub IsFoundFor : Image → Option (List ℕ) → Result (Option PartitionId) RunFault → Type 0
 IsFoundFor image name (Ok only) = AreFor image name (number_in only)
 IsFoundFor image name (Err fault) = (fault ≡ Partition) × LacksWanted (Ok image) name
+
+-- the state of a machine is the one before its next tick
+abbrev pub IsBefore : Image → List DeviceLine → Machine → Type 0
+IsBefore image lines m = m.standing ≡ state_before image lines m.standing.now
 
 -- the text of these rows of the state before a tick, and of those before several ticks
 abbrev pub text_before : Form → Option ℕ → Image → List DeviceLine → ℕ → List ℕ

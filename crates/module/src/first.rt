@@ -5,17 +5,18 @@ ghost use Rattle.apex_types.specs.Limits.{MOST_TICKS};
 ghost use Rattle.state_rows.specs.Rows.{rows_in};
 ghost use Rattle.state_rows.specs.declared.row.Form.TheVariants.{Text};
 ghost use Rattle.module.specs.Machines.{fresh_machine, machine_of};
-ghost use Rattle.module.specs.States.{First, state_before, watched_of};
-ghost use Rattle.module.specs.Stating.{IsFirst, IsShown, number_in, watches};
+ghost use Rattle.module.specs.States.{First, watched_of};
+ghost use Rattle.module.specs.Stating.{IsBefore, IsFirst, IsShown, number_in, watches};
 ghost use Rattle.module.specs.Written.{AreFrom};
 
 use crate::asked::has_row;
 use crate::fault::RunFault;
 use crate::machine::Machine;
+use crate::passing::MOST_AT_ONCE;
 use crate::stating::{Shown, put_state};
 use crate::ticks::from_tick;
-use apex_types::limits::MOST_TICKS;
-use apex_types::{DeviceLine, PartitionId, Sink};
+use apex_types::{DeviceLine, PartitionId, Sink, Ticks};
+use lone_partition::{at_most, until_line};
 use state_rows::Form;
 use std::alloc::AllocError;
 
@@ -56,7 +57,8 @@ pub fn put_first<S: Sink>(
 }
 
 /// Makes the ticks of a machine before its first state in which a row begins with some words, with
-/// these lines of the devices. Returns whether there is one.
+/// these lines of the devices. Returns whether there is one. Where nothing happens, and after a
+/// shutdown, the rows of the partitions stay.
 fn pass_to_first(
     machine: &mut Machine,
     devices: &[DeviceLine],
@@ -68,10 +70,8 @@ fn pass_to_first(
     requires fresh { machine_of machine.old ≡ fresh_machine (machine_of machine.old).image }
     requires order { AreFrom 0 devices.now }
     ensures image { OnOk result ((machine_of machine.new).image ≡ (machine_of machine.old).image) }
-    ensures before { OnOk result
-        ((machine_of machine.new).standing
-        ≡ state_before (machine_of machine.old).image devices.now
-        (machine_of machine.new).standing.now) }
+    ensures before { OnOk result (IsBefore (machine_of machine.old).image devices.now
+        (machine_of machine.new)) }
     ensures first { IfOk result
         (λ found. IsFirst (map (λ a. a.now) wait.entry.words.now) (number_in only)
         (machine_of machine.old).image devices.now wait.entry.ticks
@@ -81,7 +81,13 @@ fn pass_to_first(
     let mut left = wait.ticks;
     let mut lines = devices;
     let mut found = machine.watches(wait.words, only, text)?;
-    while left > 0 && !found {
+    while left > 0 && !found && !machine.is_shut_down() {
+        let quiet = until_line(lines, Ticks(machine.now()), at_most(left, MOST_AT_ONCE));
+        let count = machine.skip(quiet);
+        if count > 0 {
+            left -= u64::from(count);
+            continue;
+        }
         machine.pass_over(lines, 1)?;
         lines = from_tick(lines, machine.now());
         found = machine.watches(wait.words, only, text)?;

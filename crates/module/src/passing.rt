@@ -16,7 +16,7 @@ use lone_partition::at_most;
 
 /// The most ticks that are made at once. Before a burst the windows are looked through in which its
 /// partition stays the owner, as far as this.
-const MOST_AT_ONCE: u32 = 1 << 20;
+pub(crate) const MOST_AT_ONCE: u32 = 1 << 20;
 
 impl Machine {
     /// Makes so many ticks, with these lines of the devices, and keeps none of the lines of the trace.

@@ -1,8 +1,8 @@
 use Rattle.module.proofs.Prelude.{◌≡◌, ◌≤◌, ◌+◌, false, suc, MOST_TICKS, IsUnderWay, machine_of, AreFrom}
 use Rattle.std.proofs.Common.{◌*◌}
 use Rattle.module.specs.States.{spaced}
-use Rattle.module.specs.Stating.{number_in, texts_before}
-use Rattle.module.proofs.Spaced.{AreAlike, IsBefore}
+use Rattle.module.specs.Stating.{IsBefore, number_in, texts_before}
+use Rattle.module.proofs.Spaced.{AreAlike}
 use Rattle.module.proofs.series.put_spaced.Given as goal
 
 abbrev pub invariant-loop-left : goal.invariant-loop-left
