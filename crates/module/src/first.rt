@@ -41,8 +41,8 @@ pub fn put_first<S: Sink>(
     requires fresh { machine_of machine.old ≡ fresh_machine (machine_of machine.old).image }
     requires order { AreFrom 0 devices.now }
     requires failures { S.failures sink.old < 2 ^ 64 - 1 }
-    ensures text { IsShown (First (map (λ a. a.now) wait.entry.words.now)) shown.entry.form
-        (number_in shown.entry.only) (machine_of machine.old).image devices.now
+    ensures text { IsShown (First (map (λ a. a.now) wait.entry.words.now)) shown.form
+        (number_in shown.only) (machine_of machine.old).image devices.now
         wait.entry.ticks (S.taken sink.old) (S.taken sink.new) result }
     ensures ok { OnOk result (S.failures sink.new ≡ S.failures sink.old) }
     ensures write { IsErrOf result RunFault.Write → S.failures sink.new ≡ S.failures sink.old + 1 }

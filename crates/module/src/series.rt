@@ -34,9 +34,9 @@ pub fn put_series<S: Sink>(
     requires fresh { machine_of machine.old ≡ fresh_machine (machine_of machine.old).image }
     requires order { AreFrom 0 devices.now }
     requires failures { S.failures sink.old < 2 ^ 64 - 1 }
-    ensures text { IsShown (Every series.entry.every) shown.entry.form
-        (number_in shown.entry.only) (machine_of machine.old).image devices.now
-        series.entry.ticks (S.taken sink.old) (S.taken sink.new) result }
+    ensures text { IsShown (Every series.every) shown.form
+        (number_in shown.only) (machine_of machine.old).image devices.now
+        series.ticks (S.taken sink.old) (S.taken sink.new) result }
     ensures ok { OnOk result (S.failures sink.new ≡ S.failures sink.old) }
     ensures write { IsErrOf result RunFault.Write → S.failures sink.new ≡ S.failures sink.old + 1 }
     ensures quiet { IfErr result
@@ -81,8 +81,8 @@ fn put_spaced<S: Sink>(
     requires order { AreFrom 0 devices.now }
     requires failures { S.failures sink.old < 2 ^ 64 - 1 }
     ensures text { AreParted
-        (texts_before shown.entry.form (number_in shown.entry.only)
-        (machine_of machine.old).image devices.now (meant.spaced spaced.entry.every 0 (suc spaced.entry.more))) (S.taken sink.old)
+        (texts_before shown.form (number_in shown.only)
+        (machine_of machine.old).image devices.now (meant.spaced spaced.every 0 (suc spaced.more))) (S.taken sink.old)
         (S.taken sink.new) result }
     ensures ok { OnOk result (S.failures sink.new ≡ S.failures sink.old) }
     ensures write { IsErrOf result RunFault.Write → S.failures sink.new ≡ S.failures sink.old + 1 }

@@ -135,8 +135,8 @@ fn put_wanted<S: Sink>(
     requires fresh { machine_of machine.old ≡ fresh_machine (machine_of machine.old).image }
     requires order { AreFrom 0 devices.now }
     requires failures { S.failures sink.old < 2 ^ 64 - 1 }
-    ensures text { IsShown (wanted_in wanted.entry).moments shown.entry.form
-        (number_in shown.entry.only) (machine_of machine.old).image devices.now
+    ensures text { IsShown (wanted_in wanted.entry).moments shown.form
+        (number_in shown.only) (machine_of machine.old).image devices.now
         wanted.entry.tick (S.taken sink.old) (S.taken sink.new) result }
     ensures ok { OnOk result (S.failures sink.new ≡ S.failures sink.old) }
     ensures write { IsErrOf result RunFault.Write → S.failures sink.new ≡ S.failures sink.old + 1 }
@@ -175,7 +175,7 @@ fn put_last<S: Sink>(
     requires fresh { machine_of machine.old ≡ fresh_machine (machine_of machine.old).image }
     requires order { AreFrom 0 devices.now }
     requires failures { S.failures sink.old < 2 ^ 64 - 1 }
-    ensures text { IsShown Last shown.entry.form (number_in shown.entry.only)
+    ensures text { IsShown Last shown.form (number_in shown.only)
         (machine_of machine.old).image devices.now ticks (S.taken sink.old) (S.taken sink.new)
         result }
     ensures ok { OnOk result (S.failures sink.new ≡ S.failures sink.old) }
@@ -198,8 +198,8 @@ pub(crate) fn put_state<S: Sink>(
 ) -> Result<(), RunFault>
     requires { S.failures sink.old < 2 ^ 64 - 1 }
     ensures text { IsPut
-        (rows_in shown.entry.form
-        (rows_of (number_in shown.entry.only) (machine_of machine.now).image
+        (rows_in shown.form
+        (rows_of (number_in shown.only) (machine_of machine.now).image
         (machine_of machine.now).standing.now (machine_of machine.now).standing))
         (S.taken sink.old) (S.taken sink.new) result }
     ensures ok { OnOk result (S.failures sink.new ≡ S.failures sink.old) }
