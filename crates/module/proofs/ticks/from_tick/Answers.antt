@@ -3,6 +3,3 @@ use Rattle.module.proofs.ticks.from_tick.Goals as goal
 
 pub loop-first-init : goal.loop-first-init
 loop-first-init c = record { order = c.requires; kept = λ t above. refl }
-
-pub loop-first-preserved : goal.loop-first-preserved
-loop-first-preserved c = ?
