@@ -16,7 +16,7 @@ use Rattle.machine_meaning.specs.MachineControl.{MachineControl, code_limit, sav
 use Rattle.pal_meaning.specs.Resolve.{Entry, declaration_entries, no_counts}
 use Rattle.pal_meaning.specs.Syntax as written
 use Rattle.state_rows.specs.Rows.{Value, Nothing, Signed, Row}
-use Rattle.state_rows.specs.States.{field, number, placed, placed_from, row, word, word_rows}
+use Rattle.state_rows.specs.States.{field, number, placed, row, word, word_rows}
 
 -- a word, if it is there
 abbrev pub signed_or_none : Option ℤ → Value
@@ -115,26 +115,29 @@ abbrev pub frame_row : Chain → ℕ → ℕ → BodyNames → Row
 frame_row c place pc b =
     row c.partition (number (codes "frame") place ∷ word (codes "process") c.own.name ∷ word (codes "body") b.name ∷ number (codes "pc") pc ∷ [])
 
--- a parameter or local with its value
-abbrev pub local_row : Chain → ℕ → ℕ → ℕ → List ℕ → List Row
-local_row c place fp slot name =
+-- a parameter or local of a frame, with its value
+abbrev pub local_row : Chain → ℕ → List ℕ → Option ℤ → Row
+local_row c place name value =
     row c.partition
     (word (codes "local") name
     ∷ number (codes "frame") place
     ∷ word (codes "process") c.own.name
-    ∷ field (codes "value") (signed_or_none (slice_get c.stack (fp + slot)))
+    ∷ field (codes "value") (signed_or_none value)
     ∷ [])
-    ∷ []
+
+-- the same by its place among these words
+abbrev pub slot_rows : Chain → ℕ → List ℤ → ℕ → List ℕ → List Row
+slot_rows c place words slot name = local_row c place name (slice_get words slot) ∷ []
 
 -- the parameters are in the first words of a frame, and the locals after them
-abbrev pub body_rows : Chain → ℕ → Frame → BodyNames → List Row
-body_rows c place f b =
-    frame_row c place f.pc b
-    ∷ placed_from (local_row c place f.fp) 0 b.parameters
-    ++ placed_from (local_row c place f.fp) (length b.parameters) b.locals
+abbrev pub body_rows : Chain → ℕ → ℕ → List ℤ → BodyNames → List Row
+body_rows c place pc words b =
+    frame_row c place pc b
+    ∷ placed (slot_rows c place words) b.parameters
+    ++ placed (slot_rows c place (drop (length b.parameters) words)) b.locals
 
 abbrev pub frame_rows : Chain → ℕ → Frame → List Row
-frame_rows c place f = body_rows c place f (body_at c f.pc)
+frame_rows c place f = body_rows c place f.pc (drop f.fp c.stack) (body_at c f.pc)
 
 -- the frame to which a routine would return: its call is the instruction before the saved one
 abbrev pub saved_frame : Option ℕ → Option ℕ → Option Frame
@@ -142,10 +145,10 @@ saved_frame None fp = None
 saved_frame (Some zero) fp = None
 saved_frame (Some (suc pc)) fp = option_map (λ fp. record { pc = pc; fp = fp }) fp
 
-abbrev pub caller_of : List ℤ → ℕ → Option RoutineRow → Option Frame
-caller_of stack fp None = None
-caller_of stack fp (Some r) =
-    saved_frame (saved_within code_limit (slice_get stack (fp + r.slots))) (saved_within fp (slice_get stack (fp + r.slots + 1)))
+-- a routine saves two words after its parameters and locals
+abbrev pub caller_of : ℕ → List ℤ → Option RoutineRow → Option Frame
+caller_of fp words None = None
+caller_of fp words (Some r) = saved_frame (saved_within code_limit (slice_get words r.slots)) (saved_within fp (slice_get words (r.slots + 1)))
 
 -- the last of so many routines
 abbrev pub last_of : List RoutineRow → ℕ → Option RoutineRow
@@ -154,7 +157,7 @@ last_of routines (suc n) = slice_get routines n
 
 -- the frame that called a frame; none for the own body of a runner
 abbrev pub caller : Chain → Frame → Option Frame
-caller c f = caller_of c.stack f.fp (last_of c.routines (begun_at c.routines f.pc))
+caller c f = caller_of f.fp (drop f.fp c.stack) (last_of c.routines (begun_at c.routines f.pc))
 
 -- the rows of a frame and of those that called it, at most so many frames
 abbrev pub frames_from : Chain → (most place : ℕ) → Option Frame → List Row
