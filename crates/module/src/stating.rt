@@ -1,6 +1,6 @@
 //! The state of a module before a tick.
 
-ghost use Rattle.std.specs.Prelude.{◌≡◌, ◌≢◌, ◌≤◌, ◌<◌, ◌+◌, ◌-◌, ◌^◌, ◌++◌, ℕ, List, Option, Ok, IfErr, IfOk, OnOk, IsErrOf, option_map, slice_get};
+ghost use Rattle.std.specs.Prelude.{◌≡◌, ◌≢◌, ◌≤◌, ◌<◌, ◌+◌, ◌-◌, ◌^◌, ◌++◌, ℕ, List, Option, Some, Ok, IfErr, IfOk, OnOk, IsErrOf, option_map, slice_get};
 ghost use Rattle.apex_types.specs.Limits.{MOST_TICKS};
 ghost use Rattle.apex_types.specs.declared.device.DeviceLine.{DeviceLine};
 ghost use Rattle.image.specs.Items.{items_of};
@@ -15,6 +15,7 @@ ghost use Rattle.state_rows.specs.Rows.{rows_in};
 ghost use Rattle.state_rows.specs.States.{members_rows};
 ghost use Rattle.module.specs.Machines as machines;
 ghost use Rattle.module.specs.Machines.{HaveTicked, fresh_machine, machine_of};
+ghost use Rattle.module.specs.NamedStates.{wanted_number};
 ghost use Rattle.module.specs.States.{States, rows_of, rows_of_both, state_before};
 ghost use Rattle.module.specs.Running.{AreRefused};
 ghost use Rattle.module.specs.Stating.{IsFoundFor, IsTextFor, number_in, wanted_in};
@@ -79,8 +80,14 @@ pub fn state<S: Sink>(
 }
 
 /// The number of the partition with this name, if a name is given.
-fn find_wanted(image: &Image, name: Option<&str>) -> Result<Option<PartitionId>, RunFault>
-    ensures { IsFoundFor (image_of image.now) (option_map (λ s. s.now) name.entry) result }
+pub(crate) fn find_wanted(
+    image: &Image,
+    name: Option<&str>,
+) -> Result<Option<PartitionId>, RunFault>
+    ensures found { IsFoundFor (image_of image.now) (option_map (λ s. s.now) name.entry) result }
+    ensures number { IfOk result
+        (λ only. wanted_number (image_of image.now) (option_map (λ s. s.now) name.entry)
+        ≡ Some (number_in only)) }
 {
     let Some(name) = name else {
         return Ok(None);

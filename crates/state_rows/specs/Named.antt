@@ -211,7 +211,3 @@ abbrev pub named_rows : Item → written.Program → Member MachineControl → L
 named_rows i t x =
     let w = x.world in
     names_of_world w.kernel.fixed.name i.partition.ports i.section.routines t w.words w.controls w.kernel.processes.rows
-
-abbrev pub all_named_rows : List Item → List written.Program → List (Member MachineControl) → List Row
-all_named_rows (i ∷ is) (t ∷ ts) (x ∷ xs) = named_rows i t x ++ all_named_rows is ts xs
-all_named_rows _ _ _ = []

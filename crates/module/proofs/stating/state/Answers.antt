@@ -15,7 +15,7 @@ returns-in_err-only-clause-text g c =
     let few : wanted.tick ≤ MOST_TICKS = search rules in
     let answer : c.from_residual-in_err-only.result ≡ Err fault = search rules in
     subst (λ (r : Result (Unit {0}) RunFault). States read wanted.devices.now wanted.tick (wanted_in wanted) old old r) (sym answer)
-    (none_found read (image_of c.in_ok-image.image) wanted.devices.now wanted.tick (wanted_in wanted) old fault c.in_ok-image.ensures few c.in_err-only.ensures.0 c.in_err-only.ensures.1)
+    (none_found read (image_of c.in_ok-image.image) wanted.devices.now wanted.tick (wanted_in wanted) old fault c.in_ok-image.ensures few c.in_err-only.ensures.found.0 c.in_err-only.ensures.found.1)
 
 pub returns-in_err-text-clause-text : goal.returns-in_err-text-clause-text
 returns-in_err-text-clause-text g c =
@@ -36,7 +36,7 @@ returns-in_err-put_all-clause-text g c =
     let taken = g.S.Sink.taken in
     let few : wanted.tick ≤ MOST_TICKS = search rules in
     let text = c.in_ok-text.text.items in
-    let s = stated read loaded wanted.devices.now wanted.tick (wanted_in wanted) (number_in c.in_ok-only.only) text c.in_ok-image.ensures few c.in_ok-only.ensures c.in_ok-text.ensures.text in
+    let s = stated read loaded wanted.devices.now wanted.tick (wanted_in wanted) (number_in c.in_ok-only.only) text c.in_ok-image.ensures few c.in_ok-only.ensures.found c.in_ok-text.ensures.text in
     let answer : c.from_residual-in_err-put_all.result ≡ Err Write = search rules in
     subst (λ (r : Result (Unit {0}) RunFault). States read wanted.devices.now wanted.tick (wanted_in wanted) (taken c.args.sink.now) (taken c.put_all.new.sink) r) (sym answer)
     (loaded, s.0, s.1, text, s.2, subst (λ (bytes : List ℕ). TakesBeginning (taken c.args.sink.now) (taken c.put_all.new.sink) bytes) c.as_slice.ensures.value c.in_err-put_all.ensures.beginning)
@@ -49,5 +49,5 @@ returns-clause-text g c =
     let taken = g.S.Sink.taken in
     let few : wanted.tick ≤ MOST_TICKS = search rules in
     let text = c.in_ok-text.text.items in
-    let s = stated read loaded wanted.devices.now wanted.tick (wanted_in wanted) (number_in c.in_ok-only.only) text c.in_ok-image.ensures few c.in_ok-only.ensures c.in_ok-text.ensures.text in
+    let s = stated read loaded wanted.devices.now wanted.tick (wanted_in wanted) (number_in c.in_ok-only.only) text c.in_ok-image.ensures few c.in_ok-only.ensures.found c.in_ok-text.ensures.text in
     (loaded, s.0, s.1, text, s.2, subst (λ (bytes : List ℕ). Appends (taken c.args.sink.now) (taken c.put_all.new.sink) bytes) c.as_slice.ensures.value c.in_ok-put_all.ensures.ok)
