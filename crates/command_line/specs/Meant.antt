@@ -3,6 +3,7 @@ use Rattle.std.specs.Prelude.{map, option_map}
 use Rattle.command_line.specs.Orders as asked
 use Rattle.module.specs.States.{Wanted}
 use Rattle.command_line.specs.declared.order.InputsWords.{InputsWords}
+use Rattle.command_line.specs.declared.order.NamedStateWords.{NamedStateWords}
 use Rattle.command_line.specs.declared.order.ReplayWords.{ReplayWords}
 use Rattle.command_line.specs.declared.order.RunWords.{RunWords}
 use Rattle.command_line.specs.declared.order.StateWords.{StateWords}
@@ -24,6 +25,10 @@ wanted_in words = record { form = words.form; partition = option_map (λ s. s.no
 abbrev pub state_meant : StateWords → asked.Order
 state_meant words = asked.ShowState words.image.now words.devices.now words.tick.now (wanted_in words)
 
+abbrev pub names_meant : NamedStateWords → asked.Order
+names_meant words =
+    asked.ShowNames words.state.image.now (map (λ s. s.now) words.sources.now) words.state.devices.now words.state.tick.now (wanted_in words.state)
+
 abbrev pub meant : Order → asked.Order
 meant order.First = asked.First
 meant (order.Check names) = asked.Check names.table.now (map (λ s. s.now) names.sources.now)
@@ -32,6 +37,7 @@ meant (order.Run words is_watched) = run_meant words
 meant (order.Replay words) = replay_meant words
 meant (order.Inputs words is_watched) = inputs_meant words
 meant (order.State words) = state_meant words
+meant (order.NamedState words) = names_meant words
 meant (order.Cost names) = asked.Cost names.table.now (map (λ s. s.now) names.sources.now)
 meant (order.Dis image) = asked.Dis image.now
 meant (order.Upgrade old new) = asked.Upgrade old.now new.now

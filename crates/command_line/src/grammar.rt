@@ -134,12 +134,17 @@ const STATE: CommandRow = CommandRow {
             value: "PARTITION",
             help: "Writes only the rows of the module and of this partition",
         },
+        Argument::Flag {
+            name: "sources",
+            help: "IMAGE is a module table: builds it with the sources, and writes their names, too",
+        },
         IMAGE,
         DEVICES,
         Argument::Word {
             name: "TICK",
             help: "The tick before which the state is shown, at most 1099511627776",
         },
+        ANY_SOURCES,
     ],
 };
 
@@ -191,10 +196,7 @@ const LOAD: CommandRow = CommandRow {
             help: "Writes a picture of the frame",
         },
         TABLE,
-        Argument::AnyWords {
-            name: "SOURCE",
-            help: "The file of each partition's source, in the order of the table",
-        },
+        ANY_SOURCES,
     ],
 };
 
@@ -226,6 +228,11 @@ const TABLE: Argument = Argument::Word {
 };
 
 const SOURCES: Argument = Argument::Words {
+    name: "SOURCE",
+    help: "The file of each partition's source, in the order of the table",
+};
+
+const ANY_SOURCES: Argument = Argument::AnyWords {
     name: "SOURCE",
     help: "The file of each partition's source, in the order of the table",
 };

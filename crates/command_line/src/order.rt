@@ -57,6 +57,26 @@ pub struct StateWords<'a> {
     pub partition: Option<&'a str>,
 }
 
+/// The words of `mb state` with sources: `image` is the name of the table.
+#[derive(Clone, Copy)]
+pub struct NamedStateWords<'a> {
+    pub state: StateWords<'a>,
+    pub sources: &'a [&'a str],
+}
+
+impl<'a> NamedStateWords<'a> {
+    /// The table and the sources.
+    pub fn names(self) -> ModuleNames<'a>
+        ensures table { result.table.now ≡ self.entry.state.image.now }
+        ensures sources { result.sources.now ≡ self.entry.sources.now }
+    {
+        ModuleNames {
+            table: self.state.image,
+            sources: self.sources,
+        }
+    }
+}
+
 /// The words of a command, and the number in its word for ticks.
 #[derive(Clone, Copy)]
 pub struct Timed<W> {
@@ -89,6 +109,9 @@ pub enum Order<'a> {
     },
     State {
         words: StateWords<'a>,
+    },
+    NamedState {
+        words: NamedStateWords<'a>,
     },
     Cost {
         names: ModuleNames<'a>,
@@ -142,9 +165,7 @@ fn order_named<'a, 'w: 'a>(name: &str, found: &'a ArgMatches<'w>) -> Order<'a>
             words: inputs_words(found),
             is_watched: is_flagged(found, "progress"),
         },
-        "state" => Order::State {
-            words: state_words(found),
-        },
+        "state" => state_order(found),
         "cost" => Order::Cost {
             names: module_names(found),
         },
@@ -216,7 +237,7 @@ fn inputs_words<'a, 'w: 'a>(found: &'a ArgMatches<'w>) -> InputsWords<'a>
 
 /// The words of `mb state`.
 fn state_words<'a, 'w: 'a>(found: &'a ArgMatches<'w>) -> StateWords<'a>
-    ensures { state_meant result ≡ spec.state_of (rows_of (found_of found.now)) }
+    ensures { state_meant result ≡ spec.image_state_of (rows_of (found_of found.now)) }
 {
     StateWords {
         image: word(found, "IMAGE"),
@@ -224,6 +245,20 @@ fn state_words<'a, 'w: 'a>(found: &'a ArgMatches<'w>) -> StateWords<'a>
         tick: word(found, "TICK"),
         form: row_form_of(found),
         partition: word_if_any(found, "partition"),
+    }
+}
+
+/// What `mb state` asks for: the state of an image or, with sources, of a module with their names.
+fn state_order<'a, 'w: 'a>(found: &'a ArgMatches<'w>) -> Order<'a>
+    ensures { meant result ≡ spec.state_of (rows_of (found_of found.now)) }
+{
+    let state = state_words(found);
+    let sources = words(found, "SOURCE");
+    if is_flagged(found, "sources") || !sources.is_empty() {
+        let words = NamedStateWords { state, sources };
+        Order::NamedState { words }
+    } else {
+        Order::State { words: state }
     }
 }
 
