@@ -171,7 +171,7 @@ pub inputs_of_whole : {files : Option Contents} {image devices image_read text_r
 inputs_of_whole {text_read = text_read} g name n old new answer h =
     tells_alike (image_at g.given.image_bytes) name text_read g.given.text_bytes n old new answer g.same_devices (subst (λ read. Tells read name text_read n old new answer) (sym g.same_image) h)
 
-states_alike : (read : Result Image Fault) (devices whole : List ℕ) (n : ℕ) (wanted : Wanted) (old new : Option (List ℕ)) (answer : Result (Unit {0}) RunFault)
+pub states_alike : (read : Result Image Fault) (devices whole : List ℕ) (n : ℕ) (wanted : Wanted) (old new : Option (List ℕ)) (answer : Result (Unit {0}) RunFault)
     → ((i : Image) → verdict_for i whole ≡ verdict_for i devices) → States read devices n wanted old new answer → States read whole n wanted old new answer
 states_alike read devices whole n wanted old new (Ok x) same (image, lines, r, text, is, out) =
     (image, lines, record { loaded = r.loaded; taken = same image ∙ r.taken; few = r.few }, text, is, out)

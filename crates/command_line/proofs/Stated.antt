@@ -26,7 +26,7 @@ kept_state read devices n wanted old mid new (image, lines, r, text, is, out) ke
 
 -- ---- the number in a word, and its value in 64 bits
 
-states_by : (read : Result Image Fault) (devices : List ℕ) (n v : ℕ) (wanted : Wanted) (old new : Option (List ℕ)) (answer : Result (Unit {0}) RunFault) → n ≡ min v (2 ^ 64 - 1) → States read devices n wanted old new answer → States read devices v wanted old new answer
+pub states_by : (read : Result Image Fault) (devices : List ℕ) (n v : ℕ) (wanted : Wanted) (old new : Option (List ℕ)) (answer : Result (Unit {0}) RunFault) → n ≡ min v (2 ^ 64 - 1) → States read devices n wanted old new answer → States read devices v wanted old new answer
 states_by read devices n v wanted old new (Ok x) is h = subst (λ k. States read devices k wanted old new (Ok x)) (few_same n v is h.2.few) h
 states_by read devices n v wanted old new (Err Write) is h = subst (λ k. States read devices k wanted old new (Err Write)) (few_same n v is h.2.few) h
 states_by read devices n v wanted old new (Err Ticks) is h = (many_same n v is h.0, h.1)
