@@ -70,7 +70,11 @@ fn show_names_at<F: Files, O: Stream>(
         result }
 {
     let words = wanted.words.state;
-    let module = module_named(alloc, wanted.words.names(), files, note)?;
+    let names = ModuleNames {
+        table: words.image,
+        sources: wanted.words.sources,
+    };
+    let module = module_named(alloc, names, files, note)?;
     let devices = read_as(alloc, TextKind::Inputs, words.devices, files)?;
     let given = RunFiles {
         image_name: words.image,

@@ -64,19 +64,6 @@ pub struct NamedStateWords<'a> {
     pub sources: &'a [&'a str],
 }
 
-impl<'a> NamedStateWords<'a> {
-    /// The table and the sources.
-    pub fn names(self) -> ModuleNames<'a>
-        ensures table { result.table.now ≡ self.entry.state.image.now }
-        ensures sources { result.sources.now ≡ self.entry.sources.now }
-    {
-        ModuleNames {
-            table: self.state.image,
-            sources: self.sources,
-        }
-    }
-}
-
 /// The words of a command, and the number in its word for ticks.
 #[derive(Clone, Copy)]
 pub struct Timed<W> {
