@@ -74,11 +74,11 @@ fn show_names_at<F: Files, O: Stream>(
         table: words.image,
         sources: wanted.words.sources,
     };
-    let module = module_named(alloc, names, files, note)?;
+    let built = module_named(alloc, names, files, note)?;
     let devices = read_as(alloc, TextKind::Inputs, words.devices, files)?;
     let given = RunFiles {
         image_name: words.image,
-        image: module.image.as_slice(),
+        image: built.image.as_slice(),
         text_name: words.devices,
         text: devices.as_slice(),
     };
@@ -88,7 +88,7 @@ fn show_names_at<F: Files, O: Stream>(
         form: words.form,
         partition: words.partition,
     };
-    let trees = module.trees.as_slice();
+    let trees = built.trees.as_slice();
     if let Err(fault) = module::named_state(alloc, given.image, trees, shown, out) {
         note.explain_run(alloc, given, &fault);
         return Err(Refusal::Run(fault));
