@@ -129,7 +129,7 @@ impl Members<PartitionProcessor> {
             ≡ text.old.items
             ++ rows_in form
             (names_from (items_of items.now) (map program_of sources.now)
-            (members_in machine self.now) (length items.now) 0)) }
+            (members_in machine self.now) (length (items_of items.now)) 0)) }
     {
         for place in 0..items.len() {
             self.write_names_at(form, items, sources, place, text)?;

@@ -10,4 +10,4 @@ use Rattle.module.proofs.naming_states.Members+PartitionProcessor.write_all_name
 abbrev pub invariant-loop-place : goal.invariant-loop-place
 invariant-loop-place l =
     let names = names_from (items_of l.items) (map program_of l.sources) (members_in machine l.self) in
-    l.text.items ++ rows_in l.form (names (length l.items - l.place) l.place) ≡ l.initial.text.items ++ rows_in l.form (names (length l.items) 0)
+    l.text.items ++ rows_in l.form (names (length (items_of l.items) - l.place) l.place) ≡ l.initial.text.items ++ rows_in l.form (names (length (items_of l.items)) 0)
