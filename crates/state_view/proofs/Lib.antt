@@ -1,3 +1,4 @@
 pub mod Loops
 pub mod Named
 pub mod Places
+pub mod Tables

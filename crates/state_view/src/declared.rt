@@ -6,11 +6,11 @@ ghost use Rattle.state_rows.specs.Fields.{value_of};
 ghost use Rattle.state_rows.specs.Named as meaning;
 ghost use Rattle.state_rows.specs.Rows.{rows_in};
 
+use crate::counts::{Counts, text_of};
 use crate::heading::Heading;
 use crate::words::write_words;
 use apex_types::{Denotation, ObjectKind, Place, PortRow};
 use indexmap::IndexSet;
-use pal::{Counts, text_of};
 use pal_base::syntax::Declaration;
 use state_rows::{Field, Value, number, word};
 use std::alloc::AllocError;

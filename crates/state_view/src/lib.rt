@@ -2,6 +2,7 @@
 #![tactic(auto)]
 
 mod chain;
+mod counts;
 mod declared;
 mod errors;
 mod heading;
