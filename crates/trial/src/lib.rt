@@ -1,8 +1,0 @@
-//! A trial.
-#![tactic(auto)]
-
-mod chain;
-mod declared;
-mod heading;
-mod stub;
-mod words;
