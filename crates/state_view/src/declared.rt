@@ -1,10 +1,12 @@
 //! The rows of the declared names of a source.
 
-ghost use Rattle.std.specs.Prelude.{◌≡◌, ◌++◌, List, OnOk, drop, map};
+ghost use Rattle.std.specs.Prelude.{◌≡◌, ◌++◌, ◌∷◌, [], OnOk, codes, drop, map};
 ghost use Rattle.pal_base.specs.View.{declaration_of, texts};
 ghost use Rattle.state_rows.specs.Fields.{value_of};
 ghost use Rattle.state_rows.specs.Named as meaning;
 ghost use Rattle.state_rows.specs.Rows.{rows_in};
+ghost use Rattle.state_rows.specs.States as rows;
+ghost use Rattle.state_rows.specs.States.{row};
 
 use crate::counts::{Counts, text_of};
 use crate::heading::Heading;
@@ -60,6 +62,29 @@ fn array_in(data: &[i64], place: u32, size: i64) -> &[i64]
     &words[..words.len().min(size as usize)]
 }
 
+/// Appends the row of a variable.
+fn write_variable(
+    of: &Heading,
+    name: &[u8],
+    value: Option<i64>,
+    text: &mut Vec<u8>,
+) -> Result<(), AllocError>
+    ensures { OnOk result
+        (text.new.items
+        ≡ text.old.items
+        ++ rows_in of.now.form
+        (row of.now.name
+        (rows.word (codes "variable") name.now
+        ∷ rows.field (codes "value") (meaning.signed_or_none value) ∷ [])
+        ∷ [])) }
+{
+    let value = Field {
+        key: "value",
+        value: signed_value(value),
+    };
+    of.row(&[word("variable", name), value], text)
+}
+
 /// Appends the rows of a declared name.
 fn write_meaning(
     of: &Heading,
@@ -75,11 +100,7 @@ fn write_meaning(
 {
     match denoted {
         Denotation::Scalar(Place::Data(place)) => {
-            let value = Field {
-                key: "value",
-                value: signed_value(data.get(place as usize).copied()),
-            };
-            of.row(&[word("variable", name), value], text)
+            write_variable(of, name, data.get(place as usize).copied(), text)
         }
         Denotation::Scalar(Place::Slot(_)) => Ok(()),
         Denotation::Array(place, size) => {
