@@ -26,5 +26,5 @@ loop-declaration-preserved c =
     let split = declaration_left names ports ds i x counts next name denoted
     c.loop-declaration-test.true c.declaration-item.is c.text_of-name.ensures (c.meaning-denoted.ensures names)
     (counts_next c.after.result c.loop-declaration.counts c.unwrap_or-counts.result (after counts (declared_of names x.kind)) c.unwrap_or-counts.ensures (c.after.ensures names)) in
-    let written = subst (λ (n : List ℕ). c.write_meaning.new.text.items ≡ c.loop-declaration.text.items ++ rows_in form (meaning_rows partition c.args.data.now n denoted)) c.as_bytes.ensures c.in_ok-write_meaning.ensures in
+    let written = subst (λ (n : List ℕ). c.write_meaning.new.text.items ≡ c.loop-declaration.text.items ++ rows_in form (meaning_rows partition c.args.data.now n denoted)) c.as_bytes.ensures.value c.in_ok-write_meaning.ensures in
     more_entries form partition c.args.data.now e (declaration_entries ports counts (map (declaration_of names) (drop i ds))) (declaration_entries ports next (map (declaration_of names) (drop (i + 1) ds))) _ _ _ split c.loop-declaration.invariant written
