@@ -256,7 +256,8 @@ impl<'a> Chain<'a> {
         self.write_frame_row(place, pc, body, text)?;
         self.write_locals(place, words, body.parameters, text)?;
         let others = words_from(words, body.parameters.len());
-        self.write_locals(place, others, body.locals, text)
+        self.write_locals(place, others, body.locals, text)?;
+        Ok(())
     }
 
     /// Appends the rows of a frame, by its place from the innermost one.
