@@ -78,6 +78,14 @@ all_frames form c n i f old whole done h =
     let none : n - i ≡ 0 = omega (arith, done) in
     sym (append-nil old) ∙ ap (λ k. old ++ rows_in form (frames_from c k i f)) (sym none) ∙ h
 
+-- rows after rows
+pub two : (form : Form) (xs ys : List Row) (first second third : List ℕ) → second ≡ first ++ rows_in form xs → third ≡ second ++ rows_in form ys → third ≡ first ++ rows_in form (xs ++ ys)
+two form xs ys first second third e f =
+    f
+    ∙ ap (λ (bytes : List ℕ). bytes ++ rows_in form ys) e
+    ∙ append_assoc first (rows_in form xs) (rows_in form ys)
+    ∙ ap (λ (bytes : List ℕ). first ++ bytes) (sym (flat_map-append (row_in form) xs ys))
+
 -- ---- bodies and frames
 
 pub after_some : (c : Chain) (n : ℕ) → 1 ≤ n → body_after c n ≡ names_or c.own (procedure_at (n - 1) c.declarations)
