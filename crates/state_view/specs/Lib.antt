@@ -1,3 +1,2 @@
-pub mod Chains
 pub mod Chosen
-pub mod Tables
+pub mod Chains

@@ -8,12 +8,12 @@ ghost use Rattle.state_rows.specs.Rows.{row_in, rows_in};
 ghost use Rattle.state_rows.specs.States.{placed};
 ghost use Rattle.state_view.specs.Chains.{chain_in, frame_in, names_in};
 
-use crate::counts::text_of;
 use crate::declared::{signed_value, words_from};
 use crate::heading::Heading;
 use apex_types::RoutineRow;
 use apex_types::limits::MOST_INSTRUCTIONS;
 use indexmap::IndexSet;
+use pal::text_of;
 use pal_base::syntax::{Declaration, DeclarationKind, Identifier, Program};
 use state_rows::{Field, number, word};
 use std::alloc::AllocError;

@@ -8,11 +8,11 @@ ghost use Rattle.state_rows.specs.Rows.{rows_in};
 ghost use Rattle.state_rows.specs.States as rows;
 ghost use Rattle.state_rows.specs.States.{row};
 
-use crate::counts::{Counts, text_of};
 use crate::heading::Heading;
 use crate::words::write_words;
 use apex_types::{Denotation, ObjectKind, Place, PortRow};
 use indexmap::IndexSet;
+use pal::{Counts, text_of};
 use pal_base::syntax::Declaration;
 use state_rows::{Field, Value, number, word};
 use std::alloc::AllocError;

@@ -2,7 +2,6 @@
 #![tactic(auto)]
 
 mod chain;
-mod counts;
 mod declared;
 mod errors;
 mod heading;

@@ -1,7 +1,7 @@
 -- the rows of one more declared name are written
 use Rattle.std.proofs.Common.{◌≡◌, ◌+◌, ◌++◌, List, ℕ, map, drop, subst}
-use Rattle.state_view.proofs.Tables.{counts_next, declaration_left}
-use Rattle.state_view.specs.Tables.{counts_of}
+use Rattle.pal.proofs.Tables.{counts_next, declaration_left}
+use Rattle.pal.specs.Tables.{counts_of}
 use Rattle.pal_base.specs.View.{declaration_of, declared_of, texts}
 use Rattle.pal_meaning.specs.Resolve.{Entry, after, declaration_entries}
 use Rattle.state_rows.specs.Named.{meaning_rows}

@@ -1,5 +1,5 @@
 use Rattle.std.proofs.Common.{◌≡◌, ◌++◌, drop, map}
-use Rattle.state_view.specs.Tables.{counts_of}
+use Rattle.pal.specs.Tables.{counts_of}
 use Rattle.pal_base.specs.View.{declaration_of, texts}
 use Rattle.pal_meaning.specs.Resolve.{declaration_entries}
 use Rattle.state_rows.specs.Named.{declared_rows, entries_rows}
