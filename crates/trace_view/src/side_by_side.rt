@@ -22,12 +22,19 @@ pub fn compared_tables(
     let mut differing = Table::new(alloc, &NAMES, &NUMBERS)?;
     let mut same = Table::new(alloc, &NAMES, &NUMBERS)?;
     for pair in &pairs_of(alloc, report, other)? {
-        let table = if pair.is_same() { &mut same } else { &mut differing };
-        table.add(&pair.names(), &pair.cells())?;
+        if pair.is_same() {
+            pair.add_to(&mut same)?;
+        } else {
+            pair.add_to(&mut differing)?;
+        }
     }
     let mut text = Vec::new(alloc);
     differing.write("Numbers that differ", &mut text)?;
-    let title = if text.is_empty() { "Numbers that are the same" } else { "\nNumbers that are the same" };
+    let title = if text.is_empty() {
+        "Numbers that are the same"
+    } else {
+        "\nNumbers that are the same"
+    };
     same.write(title, &mut text)?;
     Ok(text)
 }
@@ -48,7 +55,7 @@ pub fn compared_sheet(
     for is_same in [false, true] {
         for pair in &pairs {
             if pair.is_same() == is_same {
-                sheet.add(&pair.names(), 4, &[&pair.cells()])?;
+                pair.add_to_sheet(&mut sheet)?;
             }
         }
     }
@@ -67,14 +74,30 @@ struct Pair {
 }
 
 impl Pair {
-    /// What it is the number of.
-    fn names(&self) -> [&str; 4] {
-        [
+    /// Adds the row of the pair to a table.
+    fn add_to(&self, table: &mut Table) -> Result<(), AllocError> {
+        let names = [
             self.kind.as_str(),
             self.partition.as_str(),
             self.name.as_str(),
-            self.number,
-        ]
+            self.number(),
+        ];
+        table.add(&names, &self.cells())
+    }
+
+    /// Adds the row of the pair to a sheet.
+    fn add_to_sheet(&self, sheet: &mut Sheet) -> Result<(), AllocError> {
+        let names = [
+            self.kind.as_str(),
+            self.partition.as_str(),
+            self.name.as_str(),
+            self.number(),
+        ];
+        sheet.add(&names, names.len(), &[&self.cells()])
+    }
+
+    fn number(&self) -> &str {
+        self.number
     }
 
     fn is_same(&self) -> bool {
@@ -212,7 +235,7 @@ fn push_pairs(
             kind: String::from_str(alloc, row.kind.as_str())?,
             partition: String::from_str(alloc, row.partition.as_str())?,
             name: String::from_str(alloc, row.name.as_str())?,
-            number: heading_at(row.place + place),
+            number: heading_at(row.place, place),
             cell: first,
             other: second,
         })?;
@@ -227,8 +250,9 @@ fn cell_at(row: Option<&NumberRow>, place: usize) -> Cell {
     }
 }
 
-fn heading_at(place: usize) -> &'static str {
-    match HEADINGS.get(place) {
+/// The heading of the cell with this place in a row that begins at the first one.
+fn heading_at(first: usize, place: usize) -> &'static str {
+    match HEADINGS.iter().skip(first).nth(place) {
         Some(heading) => *heading,
         None => "",
     }
