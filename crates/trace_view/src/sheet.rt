@@ -68,21 +68,11 @@ pub const HEADINGS: [&str; 51] = [
 /// What takes the rows of a report.
 pub trait Rows {
     /// Adds a row of these names. The cells begin in the column with this place.
-    fn add(
-        &mut self,
-        names: [&str; 3],
-        place: usize,
-        cells: &[&[Cell]],
-    ) -> Result<(), AllocError>;
+    fn add(&mut self, names: [&str; 3], place: usize, cells: &[&[Cell]]) -> Result<(), AllocError>;
 }
 
 impl Rows for Sheet {
-    fn add(
-        &mut self,
-        names: [&str; 3],
-        place: usize,
-        cells: &[&[Cell]],
-    ) -> Result<(), AllocError> {
+    fn add(&mut self, names: [&str; 3], place: usize, cells: &[&[Cell]]) -> Result<(), AllocError> {
         Sheet::add(self, &names, place, cells)
     }
 }

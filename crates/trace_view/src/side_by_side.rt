@@ -6,6 +6,7 @@ use number_tables::{Cell, Share, Sheet, Table};
 use std::alloc::{AllocError, Global};
 
 const NAMES: [&str; 4] = ["kind", "partition", "name", "number"];
+
 const NUMBERS: [&str; 4] = ["trace", "other", "more", "less"];
 
 /// The numbers of two reports, as two tables: first those that differ, then those that are the same. A number that is 0 or
@@ -49,7 +50,16 @@ pub fn compared_sheet(
     report: &Report,
     other: &Report,
 ) -> Result<Vec<u8>, AllocError> {
-    let headings = ["kind", "partition", "name", "number", "trace", "other", "more", "less"];
+    let headings = [
+        "kind",
+        "partition",
+        "name",
+        "number",
+        "trace",
+        "other",
+        "more",
+        "less",
+    ];
     let mut sheet = Sheet::new(alloc, &headings)?;
     let pairs = pairs_of(alloc, report, other)?;
     for is_same in [false, true] {
@@ -155,12 +165,7 @@ struct NumberRow {
 }
 
 impl Rows for Numbers {
-    fn add(
-        &mut self,
-        names: [&str; 3],
-        place: usize,
-        cells: &[&[Cell]],
-    ) -> Result<(), AllocError> {
+    fn add(&mut self, names: [&str; 3], place: usize, cells: &[&[Cell]]) -> Result<(), AllocError> {
         let [kind, partition, name] = names;
         let mut row = NumberRow {
             kind: String::from_str(self.alloc, kind)?,
@@ -227,7 +232,11 @@ fn push_pairs(
 ) -> Result<(), AllocError> {
     for (place, cell) in row.cells.iter().enumerate() {
         let second = cell_at(partner, place);
-        let (first, second) = if is_other { (second, *cell) } else { (*cell, second) };
+        let (first, second) = if is_other {
+            (second, *cell)
+        } else {
+            (*cell, second)
+        };
         if value(first).unwrap_or(0) == 0 && value(second).unwrap_or(0) == 0 {
             continue;
         }
