@@ -1,9 +1,10 @@
 # Completion of the words of mbview for bash.
 _mbview() {
-    local word=${COMP_WORDS[COMP_CWORD]} commands=' summary svg vcd list check diff html help' options=''
+    local word=${COMP_WORDS[COMP_CWORD]} commands=' summary compare svg vcd list check diff html help' options=''
     case ${COMP_WORDS[1]} in
         help) options=' --man --completion' ;;
         summary) options=' --from --to --partition --process --kind --port --known --ticks --table --csv -h --help' ;;
+        compare) options=' --from --to --partition --process --kind --port --known --ticks --table --csv -h --help' ;;
         svg) options=' --from --to --partition --process --kind --port --known --ticks --table --width -h --help' ;;
         vcd) options=' --from --to --partition --process --kind --port --known --ticks --table --gtkw -h --help' ;;
         list) options=' --from --to --partition --process --kind --port --known --table -h --help' ;;

@@ -65,15 +65,27 @@ pub const HEADINGS: [&str; 51] = [
     "errors",
 ];
 
+/// What takes the rows of a report.
+pub trait Rows {
+    /// Adds a row of these names. The cells begin in the column with this place.
+    fn add(&mut self, names: [&str; 3], place: usize, cells: &[&[Cell]]) -> Result<(), AllocError>;
+}
+
+impl Rows for Sheet {
+    fn add(&mut self, names: [&str; 3], place: usize, cells: &[&[Cell]]) -> Result<(), AllocError> {
+        Sheet::add(self, &names, place, cells)
+    }
+}
+
 /// Adds a row of the trace, and a row of each partition, process, port and channel, and of the errors
 /// of each kind.
-pub fn fill(report: &Report, sheet: &mut Sheet) -> Result<(), AllocError> {
-    sheet.add(&["trace", "", ""], 3, &[&extent_cells(&report.extent)])?;
+pub fn fill<R: Rows>(report: &Report, sheet: &mut R) -> Result<(), AllocError> {
+    sheet.add(["trace", "", ""], 3, &[&extent_cells(&report.extent)])?;
     for total in &report.partitions {
         let modes = mode_cells(total.modes, total.starts);
         let conditions = condition_cells(total.starts.conditions);
         let names = ["partition", total.name.as_str(), ""];
-        sheet.add(&names, 34, &[&modes, &conditions])?;
+        sheet.add(names, 34, &[&modes, &conditions])?;
     }
     add_processes(report, sheet)?;
     for total in &report.routes {
@@ -85,7 +97,7 @@ pub fn fill(report: &Report, sheet: &mut Sheet) -> Result<(), AllocError> {
     Ok(())
 }
 
-fn add_processes(report: &Report, sheet: &mut Sheet) -> Result<(), AllocError> {
+fn add_processes<R: Rows>(report: &Report, sheet: &mut R) -> Result<(), AllocError> {
     let all = report.extent.window.ticks();
     for total in &report.processes {
         let names = [
@@ -95,32 +107,32 @@ fn add_processes(report: &Report, sheet: &mut Sheet) -> Result<(), AllocError> {
         ];
         let states = state_cells(total.tally.ticks, all);
         let times = time_cells(&total.tally, total.spreads);
-        sheet.add(&names, 9, &[&states, &times, &service_cells(&total.tally)])?;
+        sheet.add(names, 9, &[&states, &times, &service_cells(&total.tally)])?;
     }
     Ok(())
 }
 
 /// Adds the row of a port or a channel.
-fn add_route(total: &RouteTotal, sheet: &mut Sheet) -> Result<(), AllocError> {
+fn add_route<R: Rows>(total: &RouteTotal, sheet: &mut R) -> Result<(), AllocError> {
     match &total.route {
         Route::Port(port) => {
             let names = ["port", total.partition.as_str(), port.as_str()];
-            sheet.add(&names, 44, &[&port_cells(total.messages)])
+            sheet.add(names, 44, &[&port_cells(total.messages)])
         }
         Route::Channel(channel) => {
             let names = ["channel", total.partition.as_str(), channel.as_str()];
-            sheet.add(&names, 47, &[&[Cell::Number(total.messages.out)]])
+            sheet.add(names, 47, &[&[Cell::Number(total.messages.out)]])
         }
     }
 }
 
 /// Adds the row of the errors of a kind.
-fn add_error(total: &ErrorTotal, sheet: &mut Sheet) -> Result<(), AllocError> {
+fn add_error<R: Rows>(total: &ErrorTotal, sheet: &mut R) -> Result<(), AllocError> {
     let cells = [
         Cell::Word(total.response.level().word()),
         Cell::Word(total.response.action_word()),
         Cell::Number(total.lines),
     ];
     let names = ["error", total.partition_word(), total.error_word()];
-    sheet.add(&names, 48, &[&cells])
+    sheet.add(names, 48, &[&cells])
 }

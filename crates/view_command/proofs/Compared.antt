@@ -309,14 +309,14 @@ unread_in texts ran name shown text before after Memory opens is same h = same
 unread_in texts ran name shown text before after Write opens is same h = absurd h
 
 -- one of two texts is not read
-pub unread_of_both : {A : Type 0} (texts : Option Contents) (name other shown other_shown : List ℕ) (text other_text : Option (List ℕ)) (before after : State) (r : Refusal) (answer : Result A Refusal)
+pub unread_of_both : {A : Type 0} (texts : Option Contents) (ran : Option ℕ) (name other shown other_shown : List ℕ) (text other_text : Option (List ℕ)) (before after : State) (r : Refusal) (answer : Result A Refusal)
     → Opens texts name text → Opens texts other other_text → shown ≡ called name → other_shown ≡ called other → IsUntouched before after
-    → IsUnread text None shown r ⊎ IsUnread other_text None other_shown r → IsErr answer × IsErrAnd answer (λ e. e ≡ r)
-    → IfErr answer (λ e. IsRefused texts None name before after e ⊎ IsRefused texts None other before after e)
-unread_of_both texts name other shown other_shown text other_text before after r (Ok x) one two is is_other same h passed = tt
-unread_of_both texts name other shown other_shown text other_text before after r (Err e) one two is is_other same h passed =
-    subst (λ (v : Refusal). IsRefused texts None name before after v ⊎ IsRefused texts None other before after v) (sym passed.1) (go h)
+    → IsUnread text ran shown r ⊎ IsUnread other_text ran other_shown r → IsErr answer × IsErrAnd answer (λ e. e ≡ r)
+    → IfErr answer (λ e. IsRefused texts ran name before after e ⊎ IsRefused texts ran other before after e)
+unread_of_both texts ran name other shown other_shown text other_text before after r (Ok x) one two is is_other same h passed = tt
+unread_of_both texts ran name other shown other_shown text other_text before after r (Err e) one two is is_other same h passed =
+    subst (λ (v : Refusal). IsRefused texts ran name before after v ⊎ IsRefused texts ran other before after v) (sym passed.1) (go h)
   where
-    go : IsUnread text None shown r ⊎ IsUnread other_text None other_shown r → IsRefused texts None name before after r ⊎ IsRefused texts None other before after r
-    go (inl u) = inl (unread_in texts None name shown text before after r one is same u)
-    go (inr u) = inr (unread_in texts None other other_shown other_text before after r two is_other same u)
+    go : IsUnread text ran shown r ⊎ IsUnread other_text ran other_shown r → IsRefused texts ran name before after r ⊎ IsRefused texts ran other before after r
+    go (inl u) = inl (unread_in texts ran name shown text before after r one is same u)
+    go (inr u) = inr (unread_in texts ran other other_shown other_text before after r two is_other same u)

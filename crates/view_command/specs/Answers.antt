@@ -10,7 +10,7 @@ use Rattle.streams.specs.Contents.{Contents}
 use Rattle.streams.specs.States.{HasFailed, IsFlushed, IsWritten, Seen, TakesLine}
 use Rattle.view_command.specs.Lines.{called, line_of}
 use Rattle.clap.specs.Walk.{Row}
-use Rattle.view_command.specs.Orders.{AreWrongWords, AsksForNothing, EndsBefore, IsDiff, IsDump, IsNoKind, IsNoLimit, IsNoRun, IsNoTick, IsNoWidth, other_of, ran_of, states_of, table_of, trace_of}
+use Rattle.view_command.specs.Orders.{AreWrongWords, AsksForNothing, EndsBefore, IsDiff, IsDump, IsNoKind, IsNoLimit, IsNoRun, IsNoTick, IsNoWidth, IsOfBoth, other_of, ran_of, states_of, table_of, trace_of}
 use Rattle.view_command.specs.Pages.{IsPageTold}
 use Rattle.view_command.specs.States.{IsUntouched, State}
 use Rattle.view_command.specs.Texts.{AreStatesAsked, IsLateIn, IsLateLine, IsRefusedIn, IsRefusedLine, IsRefusedRowIn, IsRefusedTableIn, IsTableAsked, IsTraceIn}
@@ -92,20 +92,27 @@ abbrev pub IsDiffRefused : Option Contents → Entered → State → State → R
 IsDiffRefused texts entered before after r =
     IsDiff entered × (IsRefused texts None (trace_of entered) before after r ⊎ IsRefused texts None (other_of entered) before after r)
 
--- The trace, one of two that are compared, the module table or the states are not taken; or a dump is cut short.
+-- The summaries of two traces are shown, and the other one is not taken.
+abbrev pub IsOtherRefused : Option Contents → Entered → State → State → Refusal → Type 0
+IsOtherRefused texts entered before after r = IsOfBoth entered × IsRefused texts (ran_of entered) (other_of entered) before after r
+
+-- The trace, one of two, the module table or the states are not taken; or a dump is cut short.
 abbrev pub IsRefusedOf : Option Contents → Entered → State → State → Refusal → Type 0
 IsRefusedOf texts entered before after r =
     IsRefused texts (ran_of entered) (trace_of entered) before after r ⊎ IsDiffRefused texts entered before after r
+    ⊎ IsOtherRefused texts entered before after r
     ⊎ IsTableRefused texts (table_of entered) before after r ⊎ IsDumpRefused texts entered before after r
     ⊎ AreStatesRefused texts (states_of entered) before after r
 
 -- Both traces were read to their ends, if they were compared; else the trace was, with no line after the end of its
--- run. So was the module table, if one is asked for, and so were the states, which no dump shows.
+-- run, and the other one if the summaries of two are shown. So was the module table, if one is asked for, and so were the
+-- states, which no dump shows.
 abbrev pub AreTracesIn : Option Contents → Entered → Type 0
 AreTracesIn texts entered =
     (IsDiff entered → IsTraceIn texts None (trace_of entered) × IsTraceIn texts None (other_of entered) × IsTableAsked texts (table_of entered))
     × ((IsDiff entered → ⊥) → IsTraceIn texts (ran_of entered) (trace_of entered) × IsTableAsked texts (table_of entered)
     × (IsDump entered ⊎ AreStatesAsked texts (states_of entered)))
+    × (IsOfBoth entered → IsTraceIn texts (ran_of entered) (other_of entered))
 
 -- ---- the words, for which the library of command lines reports these errors
 

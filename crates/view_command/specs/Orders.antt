@@ -13,7 +13,7 @@ use Rattle.trace_lines.specs.KindSets.{no_kinds, with_words}
 use Rattle.trace_lines.specs.declared.filter.Filter.{Filter}
 use Rattle.trace_lines.specs.declared.kinds.Kinds.{Kinds}
 use Rattle.view_command.specs.declared.request.Request.{Request}
-use Rattle.view_command.specs.declared.request.Request.TheVariants.{Compare, Dump, Show}
+use Rattle.view_command.specs.declared.request.Request.TheVariants.{Compare, Dump, Show, Summaries}
 use Rattle.view_command.specs.declared.request.Showing.{Showing}
 
 -- the words of the command
@@ -92,6 +92,11 @@ abbrev pub IsDiff : Entered → Type 0
 IsDiff None = ⊥
 IsDiff (Some entered) = entered.0 ≡ codes "diff"
 
+-- the summaries of two traces are to be shown side by side
+abbrev pub IsOfBoth : Entered → Type 0
+IsOfBoth None = ⊥
+IsOfBoth (Some entered) = entered.0 ≡ codes "compare"
+
 -- a trace is to be shown as waves
 abbrev pub IsDump : Entered → Type 0
 IsDump None = ⊥
@@ -108,14 +113,23 @@ abbrev pub IsDumped : List Row → Request → Type 0
 IsDumped rows (Show view showing) = IsShown rows showing
 IsDumped rows (Dump showing) = IsShown rows showing
 IsDumped rows (Compare pair) = ⊥
+IsDumped rows (Summaries both) = ⊥
 
 -- the words of a command that compares two
 abbrev pub IsCompared : List Row → Request → Type 0
 IsCompared rows (Show view showing) = ⊥
 IsCompared rows (Dump showing) = ⊥
+IsCompared rows (Summaries both) = ⊥
 IsCompared rows (Compare pair) =
     (string_bytes pair.first ≡ word_at (codes "TRACE") rows) × (string_bytes pair.second ≡ word_at (codes "OTHER") rows)
     × (asked_text pair.table ≡ first_of (codes "table") rows)
+
+-- the words of a command that shows the summaries of two
+abbrev pub AreBothShown : List Row → Request → Type 0
+AreBothShown rows (Show view showing) = ⊥
+AreBothShown rows (Dump showing) = ⊥
+AreBothShown rows (Compare pair) = ⊥
+AreBothShown rows (Summaries both) = IsShown rows both.showing × (string_bytes both.other ≡ word_at (codes "OTHER") rows)
 
 -- the trace that the words found name, and what of it they ask for
 abbrev pub IsAsked : Entered → Showing → Type 0
@@ -128,6 +142,7 @@ IsAsked entered showing =
 abbrev pub IsRequest : Entered → Request → Type 0
 IsRequest entered (Show view showing) = IsAsked entered showing
 IsRequest entered (Dump showing) = IsDump entered × IsAsked entered showing
+IsRequest entered (Summaries both) = IsOfBoth entered × IsAsked entered both.showing × (string_bytes both.other ≡ other_of entered)
 IsRequest entered (Compare pair) =
     IsDiff entered × (string_bytes pair.first ≡ trace_of entered) × (string_bytes pair.second ≡ other_of entered) × (asked_text pair.table ≡ table_of entered)
 
@@ -213,9 +228,9 @@ AreWrongWords rows =
 abbrev pub IsNoView : List ℕ → Type 0
 IsNoView name = (name ≢ codes "summary") × (name ≢ codes "svg") × (name ≢ codes "html") × (name ≢ codes "list") × (name ≢ codes "check")
 
--- the command has none of these names, and not that of a dump or of comparing two traces
+-- the command has none of these names, and not that of a dump or of two traces
 abbrev pub IsNoCommand : List ℕ → Type 0
-IsNoCommand name = IsNoView name × (name ≢ codes "vcd") × (name ≢ codes "diff")
+IsNoCommand name = IsNoView name × (name ≢ codes "vcd") × (name ≢ codes "diff") × (name ≢ codes "compare")
 
 -- the words found ask for nothing
 abbrev pub AsksForNothing : Entered → Type 0

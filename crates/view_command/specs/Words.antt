@@ -30,8 +30,18 @@ lines_app name = known_app (with_rule (with_rule (with_rule (of_partition_app na
 abbrev pub run_app : List ℕ → App
 run_app name = with_rule (lines_app name) (option_rule (codes "ticks"))
 
+-- the same of two traces
+abbrev pub lines_of_both : App → App
+lines_of_both app =
+    with_rule (known_app (with_rule (with_rule (with_rule (with_rule (with_rule (with_rule app (option_rule (codes "from"))) (option_rule (codes "to"))) (option_rule (codes "partition")))
+    (option_rule (codes "process"))) (option_rule (codes "kind"))) (option_rule (codes "port")))) (option_rule (codes "ticks"))
+
 abbrev pub summary_app : App
 summary_app = with_rule (with_rule (run_app (codes "summary")) (option_rule (codes "table"))) csv_rule
+
+-- the command that shows the summaries of two traces
+abbrev pub both_app : App
+both_app = with_rule (with_rule (lines_of_both (with_rule (with_rule (new_app (codes "compare")) trace_rule) (word_rule (codes "OTHER")))) (option_rule (codes "table"))) csv_rule
 
 -- the command that draws a picture
 abbrev pub svg_app : App
@@ -66,7 +76,7 @@ top_app = on_top (λ s. record s { subcommand_required = true }) (versioned (new
 
 -- the program, with the commands that sum up or draw a trace
 abbrev pub pictures_app : App
-pictures_app = with_subcommand (with_subcommand (with_subcommand top_app summary_app.top) svg_app.top) vcd_app.top
+pictures_app = with_subcommand (with_subcommand (with_subcommand (with_subcommand top_app summary_app.top) both_app.top) svg_app.top) vcd_app.top
 
 abbrev pub view_app : App
 view_app = with_subcommand (with_subcommand (with_subcommand (with_subcommand pictures_app list_app.top) check_app.top) diff_app.top) html_app.top

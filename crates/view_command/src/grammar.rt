@@ -16,7 +16,7 @@ static PROGRAM: Program = Program {
     about: "Shows the trace of a run: what the partitions and their processes did, and when",
     example: "Example: mbview summary trace.txt\nManual: mbview help --man | man -l -",
     wants_command: true,
-    commands: &[SUMMARY, SVG, VCD, LIST, CHECK, DIFF, HTML],
+    commands: &[SUMMARY, COMPARE, SVG, VCD, LIST, CHECK, DIFF, HTML],
     statuses: &[SHOWN, REFUSED, NO_COMMAND, FOUND],
 };
 
@@ -62,6 +62,29 @@ const SUMMARY: CommandRow = CommandRow {
         Argument::Flag {
             name: "csv",
             help: "Writes the table as comma-separated values",
+        },
+    ],
+};
+
+const COMPARE: CommandRow = CommandRow {
+    name: "compare",
+    about: "Writes the summaries of two traces side by side: the numbers that differ come first",
+    example: "Example: mbview compare trace.txt other_trace.txt --partition a",
+    arguments: &[
+        TRACE,
+        OTHER,
+        FROM,
+        TO,
+        PARTITION,
+        PROCESS,
+        KIND,
+        PORT,
+        KNOWN,
+        TICKS,
+        NAMES,
+        Argument::Flag {
+            name: "csv",
+            help: "Writes the numbers as comma-separated values",
         },
     ],
 };
@@ -160,15 +183,7 @@ const DIFF: CommandRow = CommandRow {
     name: "diff",
     about: "Writes where two traces differ first, each partition for itself; the exit status is 3 then",
     example: "Example: mbview diff trace.txt other_trace.txt --partition a",
-    arguments: &[
-        TRACE,
-        Argument::Word {
-            name: "OTHER",
-            help: "The file of the other trace",
-        },
-        PARTITION,
-        NAMES,
-    ],
+    arguments: &[TRACE, OTHER, PARTITION, NAMES],
 };
 
 const HTML: CommandRow = CommandRow {
@@ -199,6 +214,11 @@ const HTML: CommandRow = CommandRow {
 const TRACE: Argument = Argument::Word {
     name: "TRACE",
     help: "The file of a trace, or - for the standard input",
+};
+
+const OTHER: Argument = Argument::Word {
+    name: "OTHER",
+    help: "The file of the other trace",
 };
 
 const FROM: Argument = Argument::Option {
@@ -308,12 +328,12 @@ pub fn no_ticks(
     PROGRAM.usage_error(alloc, command, message.as_str())
 }
 
-/// The usage error of two traces that are both the standard input.
-pub fn one_input(alloc: Global) -> Result<Error, AllocError>
+/// The usage error of two traces that are both the standard input, for the command of that name.
+pub fn one_input(alloc: Global, command: &str) -> Result<Error, AllocError>
     ensures { IfOk result (λ error. kind_of error ≡ ValueValidation) }
 {
     let message = "only one of the two traces may be '-', the standard input";
-    PROGRAM.usage_error(alloc, "diff", message)
+    PROGRAM.usage_error(alloc, command, message)
 }
 
 /// The error of words without a command.

@@ -24,6 +24,7 @@ mod refusal;
 mod request;
 mod search;
 mod showing;
+mod side_by_side;
 mod summing;
 mod telling;
 mod views;
@@ -36,6 +37,7 @@ use pages::tell_page;
 pub use refusal::Refusal;
 use request::{Request, request_of};
 use showing::show;
+use side_by_side::show_both;
 use std::alloc::Global;
 use std::convert::AsStr;
 use streams::{Sources, Stream};
@@ -119,5 +121,6 @@ fn perform<S: AsStr, F: Sources, O: Stream>(
         Request::Show(view, showing) => Ok(show(alloc, view, &showing, sources, out)?),
         Request::Dump(showing) => Ok(dump(alloc, &showing, sources, out)?),
         Request::Compare(pair) => Ok(compare_asked(alloc, &pair, sources, out)?),
+        Request::Summaries(both) => Ok(show_both(alloc, &both, sources, out)?),
     }
 }

@@ -6,13 +6,14 @@ ghost use Rattle.clap.specs.Matches.{found_of};
 ghost use Rattle.clap.specs.Simple.{subcommand_of, subcommand_rows_of};
 ghost use Rattle.clap.specs.Walk.{rows_of};
 ghost use Rattle.view_command.specs.Answers.{IsFailureOfWords, IsInputFailure, IsNothingAsked, IsWordsFailure};
-ghost use Rattle.view_command.specs.Orders.{IsCompared, IsDumped, IsNoView, IsRequest, IsShown};
+ghost use Rattle.view_command.specs.Orders.{AreBothShown, IsCompared, IsDumped, IsNoView, IsRequest, IsShown};
 ghost use Rattle.view_command.specs.Words.{view_app};
 
 use crate::comparing::Pair;
 use crate::grammar::{grammar, no_command, one_input};
 use crate::options::{checked, chosen, named, text, ticks, width};
 use crate::refusal::Refusal;
+use crate::side_by_side::Both;
 use crate::views::{Form, Layout, View};
 use apex_types::Ticks;
 use clap::ArgMatches;
@@ -30,6 +31,8 @@ pub enum Request {
     Dump(Showing),
     /// Two traces are compared.
     Compare(Pair),
+    /// The summaries of two traces are shown side by side.
+    Summaries(Both),
 }
 
 /// The trace to show, and what of it.
@@ -73,6 +76,7 @@ fn requested(alloc: Global, matches: &ArgMatches<'_>) -> Result<Request, Failure
 {
     match matches.subcommand() {
         Some(("diff", found)) => compared(alloc, found),
+        Some(("compare", found)) => both_shown(alloc, found),
         Some(("vcd", found)) => dumped(alloc, found),
         Some((command, found)) => match view_of(alloc, command, found)? {
             Some(view) => Ok(Request::Show(view, showing_in(alloc, command, found)?)),
@@ -151,11 +155,16 @@ fn showing_in(
 }
 
 /// Checks that not both traces are the standard input, which is read once.
-fn check_inputs(alloc: Global, first: &str, second: &str) -> Result<(), Failure<Refusal>>
+fn check_inputs(
+    alloc: Global,
+    command: &str,
+    first: &str,
+    second: &str,
+) -> Result<(), Failure<Refusal>>
     ensures { IfErr result (λ f. IsInputFailure first.now second.now f) }
 {
     if first == "-" && second == "-" {
-        return Err(Failure::Usage(one_input(alloc)?));
+        return Err(Failure::Usage(one_input(alloc, command)?));
     }
     Ok(())
 }
@@ -166,11 +175,26 @@ fn compared(alloc: Global, found: &ArgMatches<'_>) -> Result<Request, Failure<Re
     ensures failed { IfErr result (λ f. IsWordsFailure (rows_of (found_of found.now)) f) }
 {
     let (first, second) = (word(found, "TRACE"), word(found, "OTHER"));
-    check_inputs(alloc, first, second)?;
+    check_inputs(alloc, "diff", first, second)?;
     Ok(Request::Compare(Pair {
         first: String::from_str(alloc, first)?,
         second: String::from_str(alloc, second)?,
         partition: text(alloc, found, "partition")?,
         table: text(alloc, found, "table")?,
+    }))
+}
+
+/// The two traces that were found, and what of them is summed up.
+fn both_shown(alloc: Global, found: &ArgMatches<'_>) -> Result<Request, Failure<Refusal>>
+    ensures request { IfOk result (AreBothShown (rows_of (found_of found.now))) }
+    ensures failed { IfErr result (λ f. IsWordsFailure (rows_of (found_of found.now)) f) }
+{
+    let showing = showing_in(alloc, "compare", found)?;
+    let (first, second) = (word(found, "TRACE"), word(found, "OTHER"));
+    check_inputs(alloc, "compare", first, second)?;
+    Ok(Request::Summaries(Both {
+        showing,
+        other: String::from_str(alloc, second)?,
+        form: form_of(found),
     }))
 }

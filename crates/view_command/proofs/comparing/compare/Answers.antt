@@ -30,7 +30,7 @@ returns-in_err-read_both-clause-refused g c =
     let one : Opens texts (string_bytes c.args.pair.now.first) (remaining c.in_ok-one.one.reader) = subst (λ n. Opens texts n (remaining c.in_ok-one.one.reader)) c.as_str-first.ensures.value c.in_ok-one.ensures.opened in
     let two : Opens texts (string_bytes c.args.pair.now.second) (remaining c.in_ok-other.other.reader) =
     subst (λ n. Opens texts n (remaining c.in_ok-other.other.reader)) c.as_str-second.ensures.value (subst (λ t. Opens t c.as_str-second.result.now (remaining c.in_ok-other.other.reader)) c.in_ok-one.ensures.kept c.in_ok-other.ensures.opened) in
-    unread_of_both texts (string_bytes c.args.pair.now.first) (string_bytes c.args.pair.now.second) (string_bytes c.in_ok-one.one.name) (string_bytes c.in_ok-other.other.name)
+    unread_of_both texts None (string_bytes c.args.pair.now.first) (string_bytes c.args.pair.now.second) (string_bytes c.in_ok-one.one.name) (string_bytes c.in_ok-other.other.name)
     (remaining c.in_ok-one.one.reader) (remaining c.in_ok-other.other.reader) _ _ c.in_err-read_both.field-0.0 c.from_residual-in_err-read_both.result
     one two (subst (λ n. string_bytes c.in_ok-one.one.name ≡ called n) c.as_str-first.ensures.value c.in_ok-one.ensures.called)
     (subst (λ n. string_bytes c.in_ok-other.other.name ≡ called n) c.as_str-second.ensures.value c.in_ok-other.ensures.called) (search rules) c.in_err-read_both.ensures.refused c.from_residual-in_err-read_both.ensures
