@@ -15,3 +15,5 @@ pub mod Run
 pub mod First
 pub mod OfImages
 pub mod OfModules
+pub mod LockSteps
+pub mod LockServices
