@@ -17,3 +17,4 @@ pub mod OfImages
 pub mod OfModules
 pub mod LockSteps
 pub mod LockServices
+pub mod LockObjects
