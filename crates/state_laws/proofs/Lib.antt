@@ -18,3 +18,4 @@ pub mod OfModules
 pub mod LockSteps
 pub mod LockServices
 pub mod LockObjects
+pub mod LockKernel

@@ -21,7 +21,7 @@ use Rattle.apex_types.specs.declared.service.PortCall.{PortCall}
 use Rattle.apex_types.specs.declared.service.PortCall.TheVariants as port
 use Rattle.apex_types.specs.declared.service.Service.{Service}
 use Rattle.engine_meaning.specs.Operators.{is_zero}
-use Rattle.kernel_laws.proofs.Records.{numbered_found}
+use Rattle.kernel_laws.proofs.Records.{IsFound, numbered_found}
 use Rattle.kernel_meaning.specs.BlackboardServices as blackboards
 use Rattle.kernel_meaning.specs.BufferServices as buffers
 use Rattle.kernel_meaning.specs.EventServices as events
@@ -39,25 +39,21 @@ use Rattle.state_laws.proofs.Objects.{of_shared}
 
 -- ---- what is found
 
--- what is found has its own record
-abbrev pub Finds : Processes → Option (Runner × ProcessStatus) → Type 0
-Finds s f = (x : Runner × ProcessStatus) → f ≡ Some x → row_of s x.0 ≡ Some x.1
-
-pub first_found : (s : Processes) (es : List Entry) → Finds s (found_first s es)
+pub first_found : (s : Processes) (es : List Entry) → IsFound s (found_first s es)
 first_found s [] f e = absurd (none-some f e)
 first_found s (x ∷ xs) f e = numbered_found s x.process f e
 
 -- ---- releases
 
 module _ (o : Option Held) (s : Processes) (h : FitsIn o s) where
-  lock_releases_found : (f : Option (Runner × ProcessStatus)) → Finds s f → LockGoes o (releases_found s f)
+  lock_releases_found : (f : Option (Runner × ProcessStatus)) → IsFound s f → LockGoes o (releases_found s f)
   lock_releases_found None found = lock_here o s h
   lock_releases_found (Some f) found = lock_released o s h f.0 f.1 code.NoError (zeros_of_wait f.1.wait) (found f refl)
 
   pub lock_gives : (p : Runner) (r : ProcessStatus) (m : ArrayVec ℤ) → row_of s p ≡ Some r → LockGoes o (gives s p r m)
   lock_gives p r m there = let k = lock_released o s h p r code.NoError (pos (length m.items) ∷ []) there in record { fits = k.fits }
 
-  lock_gives_found : (f : Option (Runner × ProcessStatus)) (m : ArrayVec ℤ) → Finds s f → LockGoes o (gives_found s f m)
+  lock_gives_found : (f : Option (Runner × ProcessStatus)) (m : ArrayVec ℤ) → IsFound s f → LockGoes o (gives_found s f m)
   lock_gives_found None m found = lock_here o s h
   lock_gives_found (Some f) m found = lock_gives f.0 f.1 m (found f refl)
 
@@ -120,21 +116,21 @@ module _ (o : Option Held) where
     signals : (place : ℕ) (x : Semaphore) → Shares (semaphores.signals b place x (first_waiting b.processes (semaphores.list place)))
     signals place x = first (first_waiting b.processes (semaphores.list place)) (first_found b.processes (waiting b.processes (semaphores.list place)))
       where
-        first : (f : Option (Runner × ProcessStatus)) → Finds b.processes f → Shares (semaphores.signals b place x f)
+        first : (f : Option (Runner × ProcessStatus)) → IsFound b.processes f → Shares (semaphores.signals b place x f)
         first None found = record { fits = h }
         first (Some f) found = let k = lock_released o b.processes h f.0 f.1 code.NoError (zeros_of_wait f.1.wait) (found f refl) in record { fits = k.fits }
 
     takes_message : (place : ℕ) (x : Buffer) (m : ArrayVec ℤ) → Shares (buffers.takes_message b place x m (first_waiting b.processes (buffers.list place)))
     takes_message place x m = first (first_waiting b.processes (buffers.list place)) (first_found b.processes (waiting b.processes (buffers.list place)))
       where
-        first : (f : Option (Runner × ProcessStatus)) → Finds b.processes f → Shares (buffers.takes_message b place x m f)
+        first : (f : Option (Runner × ProcessStatus)) → IsFound b.processes f → Shares (buffers.takes_message b place x m f)
         first None found = record { fits = h }
         first (Some f) found = let k = lock_gives o b.processes h f.0 f.1 m (found f refl) in record { fits = k.fits }
 
     admits : (place : ℕ) (x : Buffer) → Shares (buffers.admits b place x (first_waiting b.processes (buffers.list place)))
     admits place x = first (first_waiting b.processes (buffers.list place)) (first_found b.processes (waiting b.processes (buffers.list place)))
       where
-        first : (f : Option (Runner × ProcessStatus)) → Finds b.processes f → Shares (buffers.admits b place x f)
+        first : (f : Option (Runner × ProcessStatus)) → IsFound b.processes f → Shares (buffers.admits b place x f)
         first None found = record { fits = h }
         first (Some f) found = let k = lock_released o b.processes h f.0 f.1 code.NoError (zeros_of_wait f.1.wait) (found f refl) in record { fits = k.fits }
 
@@ -213,7 +209,7 @@ module _ (o : Option Held) where
     lock_queuing : (place : ℕ) (x : Port) (m : ArrayVec ℤ) → Shares (ports.arrives_queuing b place x m (first_waiting b.processes (ports.list place)))
     lock_queuing place x m = first (first_waiting b.processes (ports.list place)) (first_found b.processes (waiting b.processes (ports.list place)))
       where
-        first : (f : Option (Runner × ProcessStatus)) → Finds b.processes f → Shares (ports.arrives_queuing b place x m f)
+        first : (f : Option (Runner × ProcessStatus)) → IsFound b.processes f → Shares (ports.arrives_queuing b place x m f)
         first None found = either_shared (is_full x) _ _ (record { fits = h }) (record { fits = h })
         first (Some f) found = let k = lock_gives o b.processes h f.0 f.1 m (found f refl) in record { fits = k.fits }
 
@@ -228,7 +224,7 @@ module _ (o : Option Held) where
     lock_enters place e None = record { fits = h }
     lock_enters place e (Some x) = either_shared (is_full x) (nothing b) _ (record { fits = h }) (entered (numbered e.process (row_of b.processes (runner.Process e.process))) (numbered_found b.processes e.process))
       where
-        entered : (f : Option (Runner × ProcessStatus)) → Finds b.processes f → Shares (ports.enters_found b place x f)
+        entered : (f : Option (Runner × ProcessStatus)) → IsFound b.processes f → Shares (ports.enters_found b place x f)
         entered None found = record { fits = h }
         entered (Some f) found = let k = lock_released o b.processes h f.0 f.1 code.NoError (zeros_of_wait f.1.wait) (found f refl) in record { fits = k.fits }
 
