@@ -19,3 +19,4 @@ pub mod LockSteps
 pub mod LockServices
 pub mod LockObjects
 pub mod LockKernel
+pub mod LockRuns

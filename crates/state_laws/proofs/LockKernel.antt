@@ -76,6 +76,17 @@ started_free [] i r e = absurd (none-some r e)
 started_free (x ∷ xs) zero r e = ap (λ (y : ProcessStatus). waits_on_lock y.wait) (sym (same_Some (record (forgotten x) { state = Ready }) r e))
 started_free (x ∷ xs) (suc i) r e = forgotten_free (x ∷ xs) (suc i) r e
 
+-- a mode that a Clear may lead to, if it is one
+abbrev pub IsOther : Option Mode → Type 0
+IsOther None = Unit {0}
+IsOther (Some m) = is_normal m ≡ false
+
+by_action : (a : PartitionAction) → IsOther (mode_of_action a)
+by_action action.Ignore = tt
+by_action action.Idle = refl
+by_action action.WarmStart = refl
+by_action action.ColdStart = refl
+
 module _ (o : Option Held) (k : Kernel) (h : FitsIn o k.processes) where
   started : Fits None (ready_init (slice_get (map forgotten k.processes.rows) 0) (map forgotten k.processes.rows)) lock.Free
   started = let a = started_agrees k.processes.rows h.named (with_state Init Ready first_told) (λ w. refl) refl in record { named = a.named; waits = started_free k.processes.rows; holder = tt; held = refl }
@@ -122,14 +133,12 @@ module _ (o : Option Held) (k : Kernel) (h : FitsIn o k.processes) where
       by_response (response.Partition a) = let g = lock_acts p e a in record { fits = g.fits }
       by_response (response.Module a) = record { fits = h }
 
-  pub lock_then_clears : (a : PartitionAction) → LocksIn o (then_clears k (mode_of_action a))
-  lock_then_clears action.Ignore = lock_still []
-  lock_then_clears action.Idle = lock_clears mode.Idle condition.HmPartitionRestart refl
-  lock_then_clears action.WarmStart = lock_clears mode.WarmStart condition.HmPartitionRestart refl
-  lock_then_clears action.ColdStart = lock_clears mode.ColdStart condition.HmPartitionRestart refl
+  pub lock_then_clears : (m : Option Mode) → IsOther m → LocksIn o (then_clears k m)
+  lock_then_clears None n = lock_still []
+  lock_then_clears (Some m) n = lock_clears m condition.HmPartitionRestart n
 
   pub lock_breaks : LocksIn o (breaks k)
-  lock_breaks = let g = lock_then_clears (action_of k.fixed.health error.HardwareFault) in record { fits = g.fits }
+  lock_breaks = let a = action_of k.fixed.health error.HardwareFault in let g = lock_then_clears (mode_of_action a) (by_action a) in record { fits = g.fits }
 
 module _ (o : Option Held) where
   kernel_in_turn : (s u : Step Kernel) → LocksIn o s → LocksIn (all_lock o s.lines) u → LocksIn o (after s u)
@@ -329,6 +338,39 @@ lock_due_from at a (suc n) place free o s h =
 
 pub lock_treats_due : (at : At) (o : Option Held) (k : Kernel) → FitsIn o k.processes → LockGoes o (treats_due at k).step
 lock_treats_due at o k h = lock_due_from at (action_of k.fixed.health error.DeadlineMissed) _ 0 (free_places k.mode (with_errors k)) o k.processes h
+
+-- the mode that a missed deadline leads to
+misses_other : (free : ℕ) (a : PartitionAction) (s : Processes) (i : ProcessIndex) (r : ProcessStatus) → IsOther (misses free a s i r).clears
+misses_other (suc free) a s i r = tt
+misses_other zero a s i r = by_action a
+
+deadline_other : (at : At) (free : ℕ) (a : PartitionAction) (s : Processes) (i : ProcessIndex) (y : Option ProcessStatus) → IsOther (treats_deadline at free a s i y).clears
+deadline_other at free a s i None = tt
+deadline_other at free a s i (Some r) = by_test (is_past at.now.0 r.deadline)
+  where
+    by_test : (b : Bool) → IsOther (if b then misses free a s i r else times.without_clear free (nothing s)).clears
+    by_test true = misses_other free a s i r
+    by_test false = tt
+
+treats_other : (at : At) (free : ℕ) (a : PartitionAction) (s : Processes) (i : ProcessIndex) (y : Option ProcessStatus) → IsOther (treats at free a s i y).clears
+treats_other at free a s i None = tt
+treats_other at free a s i (Some r) = let d = times.treats_due at s (runner.Process i) r r.due in deadline_other at free a d.part i (row_of d.part (runner.Process i))
+
+others_other : (t others : Treated) → IsOther t.clears → IsOther others.clears → IsOther (then_others t others).clears
+others_other t others h k = by_test (is_some t.clears)
+  where
+    by_test : (b : Bool) → IsOther (if b then t else times.treated_after t.step others).clears
+    by_test true = h
+    by_test false = k
+
+due_other : (at : At) (a : PartitionAction) (n place free : ℕ) (s : Processes) → IsOther (due_from at a n place free s).clears
+due_other at a zero place free s = tt
+due_other at a (suc n) place free s =
+    let t = treats at free a s (index place) (row_of s (runner.Process (index place))) in
+    others_other t (due_from at a n (place + 1) t.free t.step.part) (treats_other at free a s (index place) (row_of s (runner.Process (index place)))) (due_other at a n (place + 1) t.free t.step.part)
+
+pub treats_due_other : (at : At) (k : Kernel) → IsOther (treats_due at k).clears
+treats_due_other at k = due_other at (action_of k.fixed.health error.DeadlineMissed) _ 0 (free_places k.mode (with_errors k)) k.processes
 
 -- ---- the choice
 
