@@ -131,7 +131,7 @@ module _ (t : Table) (sources : List program.Program) (judged : IsJudged t) (pla
   abbrev members : List (Member SourceControl)
   members = source_members t.costs t.schedule 1 t.partitions sources
 
-  abbrev first : Member SourceControl
+  abbrev pub first : Member SourceControl
   first = source_record t.costs t.schedule (1 + place) row p
 
   pub at_place : slice_get members place ≡ Some first

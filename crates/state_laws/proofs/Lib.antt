@@ -20,3 +20,4 @@ pub mod LockServices
 pub mod LockObjects
 pub mod LockKernel
 pub mod LockRuns
+pub mod LockLaw

@@ -65,7 +65,7 @@ LocksIn o s = LockGoes o (lifted (λ (k : Kernel). k.processes) s)
 -- ---- Clear
 
 -- no record waits in a service on the lock
-abbrev AreFree : List ProcessStatus → Type 0
+abbrev pub AreFree : List ProcessStatus → Type 0
 AreFree rows = (i : ℕ) (r : ProcessStatus) → slice_get rows i ≡ Some r → waits_on_lock r.wait ≡ false
 
 forgotten_free : (rows : List ProcessStatus) → AreFree (map forgotten rows)

@@ -42,7 +42,7 @@ module _ (image : Image) (lawful : IsLawful image) (place : ℕ) (item : Item) (
   abbrev members : List (Member MachineControl)
   members = machine_members (costs_of image.version) image.schedule 1 image.items
 
-  abbrev first : Member MachineControl
+  abbrev pub first : Member MachineControl
   first = record_of (costs_of image.version) image.schedule (1 + place) item
 
   pub at_place : slice_get members place ≡ Some first
