@@ -11,10 +11,9 @@ use Rattle.apex_types.specs.declared.codes.Mode.{Mode}
 use Rattle.apex_types.specs.declared.codes.Mode.TheVariants as mode
 use Rattle.apex_types.specs.declared.codes.PartitionAction.{PartitionAction}
 use Rattle.apex_types.specs.declared.codes.PartitionAction.TheVariants as action
-use Rattle.apex_types.specs.declared.codes.ProcessState.TheVariants.{Dormant, Ready, Running}
+use Rattle.apex_types.specs.declared.codes.ProcessState.TheVariants.{Ready, Running}
 use Rattle.apex_types.specs.declared.codes.Response.{Response}
 use Rattle.apex_types.specs.declared.codes.Response.TheVariants as response
-use Rattle.apex_types.specs.declared.codes.ReturnCode.{ReturnCode}
 use Rattle.apex_types.specs.declared.codes.ReturnCode.TheVariants as code
 use Rattle.apex_types.specs.declared.codes.StartCondition.{StartCondition}
 use Rattle.apex_types.specs.declared.codes.StartCondition.TheVariants as condition
@@ -34,12 +33,11 @@ use Rattle.apex_types.specs.declared.process.WaitingError.{WaitingError}
 use Rattle.apex_types.specs.declared.service.ArrayPlace.{ArrayPlace}
 use Rattle.apex_types.specs.declared.service.Call.{Call}
 use Rattle.apex_types.specs.declared.service.Call.TheVariants as call
-use Rattle.apex_types.specs.declared.service.Service.{Service}
 use Rattle.apex_types.specs.declared.service.Service.TheVariants as service
 use Rattle.engine_meaning.specs.Engine.{Asks, Nothing, Calls, Faults, Ends}
 use Rattle.kernel_laws.proofs.Places.{mapped}
-use Rattle.kernel_meaning.specs.HealthServices.{acts_on_error, action_of, begins_if_dormant, breaks, create_error_handler, creates_found, enters_mode, faults, free_places, get_error_status, handles, ignores, is_fault, is_handler_created, is_message_length, is_waiting, leaves_none, raise_application_error, raises, raises_application_error, report, response_of, starts_handler, takes_error, tells_error, then_acts, then_clears, waits_or_leaves}
-use Rattle.kernel_meaning.specs.Kernel.{Errors, Kernel, of_errors, of_processes, with_errors, with_objects, with_ports}
+use Rattle.kernel_meaning.specs.HealthServices.{acts_on_error, action_of, begins_if_dormant, breaks, create_error_handler, creates_found, faults, free_places, get_error_status, handles, ignores, is_fault, is_handler_created, is_message_length, is_waiting, leaves_none, raises, raises_application_error, report, response_of, starts_handler, takes_error, tells_error, then_acts, then_clears, waits_or_leaves}
+use Rattle.kernel_meaning.specs.Kernel.{Errors, Kernel, of_processes, with_errors, with_objects, with_ports}
 use Rattle.kernel_meaning.specs.Partition.{are_same, chooses, chooses_with_handler, leaves_processor, pick, preempts, runs, serves, takes_processor, treats_asked, treats_due}
 use Rattle.kernel_meaning.specs.PartitionServices.{clears, ends_body, enters_normal, forgotten, is_cold, is_warm, mode_of, next_release_of, ready_init, set_partition_mode, starts_normally, wants}
 use Rattle.kernel_meaning.specs.PartitionServices as services
@@ -52,9 +50,8 @@ use Rattle.kernel_meaning.specs.Times as times
 use Rattle.kernel_meaning.specs.Times.{Treated, due_from, ends_wait, is_past, misses, mode_of_action, released_at, start_all_waiting, then_others, tick_of, timed_out, treats, treats_deadline}
 use Rattle.state_laws.specs.Locks.{Held}
 use Rattle.state_laws.specs.Told.{first_told, with_state}
-use Rattle.state_laws.proofs.Agreement.{AreDistinct}
 use Rattle.state_laws.proofs.Clears.{idle_agrees, started_agrees}
-use Rattle.state_laws.proofs.LockSteps.{Fits, FitsIn, LockGoes, all_lock, lock_answers, lock_both, lock_either, lock_here, lock_in_turn, lock_released_with, lock_rests_found, lock_set, lock_wakes, waits_on_lock}
+use Rattle.state_laws.proofs.LockSteps.{Fits, FitsIn, LockGoes, all_lock, lock_both, lock_either, lock_here, lock_in_turn, lock_released_with, lock_rests_found, lock_set, lock_wakes, waits_on_lock}
 use Rattle.state_laws.proofs.LockServices.{MayCall, lock_create_process, lock_delayed_start, lock_get_my_id, lock_get_process_id, lock_get_process_status, lock_lock_preemption, lock_periodic_wait, lock_replenish, lock_resume, lock_set_priority, lock_start, lock_start_all, lock_stop, lock_stop_self, lock_suspend, lock_suspend_self, lock_timed_wait, lock_unlock_preemption}
 use Rattle.state_laws.proofs.LockObjects.{lock_objects, lock_ports}
 

@@ -1,6 +1,5 @@
 -- In every run of a lawful image, and of an accepted module, whoever holds the preemption lock by the lines holds it in the kernel.
-use Rattle.std.proofs.Common.{◌≡◌, ℕ, zero, suc, false, List, ◌∷◌, map, Option, Some, None, refl, sym, ap, ◌∙◌, subst}
-use Rattle.std.specs.Prelude.{slice_get}
+use Rattle.std.proofs.Common.{◌≡◌, ℕ, zero, suc, false, List, ◌∷◌, map, Some, None, refl, sym, ap, ◌∙◌, subst}
 use Rattle.std.proofs.lemmas.Option.{none-some, same_Some}
 use Rattle.apex_types.specs.Versions.{costs_of}
 use Rattle.apex_types.specs.declared.device.DeviceLine.{DeviceLine}

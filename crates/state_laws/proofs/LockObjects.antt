@@ -7,12 +7,10 @@ use Rattle.apex_types.specs.declared.codes.Mode.{Mode}
 use Rattle.apex_types.specs.declared.codes.ReturnCode.{ReturnCode}
 use Rattle.apex_types.specs.declared.codes.ReturnCode.TheVariants as code
 use Rattle.apex_types.specs.declared.identity.At.{At}
-use Rattle.apex_types.specs.declared.identity.ListKey.{ListKey}
 use Rattle.apex_types.specs.declared.identity.Runner.{Runner}
 use Rattle.apex_types.specs.declared.identity.Runner.TheVariants as runner
 use Rattle.apex_types.specs.declared.process.Entry.{Entry}
 use Rattle.apex_types.specs.declared.process.ProcessStatus.{ProcessStatus}
-use Rattle.apex_types.specs.declared.process.Wait.TheVariants as wait
 use Rattle.apex_types.specs.declared.process.Waiting.{Waiting as Place}
 use Rattle.apex_types.specs.declared.service.ArrayPlace.{ArrayPlace}
 use Rattle.apex_types.specs.declared.service.ObjectCall.{ObjectCall}

@@ -2,7 +2,7 @@
 use Rattle.std.proofs.Common.{◌≡◌, ◌≢◌, ℕ, zero, suc, ℤ, Bool, true, false, List, [], ◌∷◌, ◌++◌, map, nat_eq, Option, Some, None, refl, sym, ap, ◌∙◌, subst}
 use Rattle.std.specs.Prelude.{if◌then◌else◌, is_some, option_map, slice_get, slice_set}
 use Rattle.std.proofs.lemmas.Bool.{eqb-true, eqb-false, false≢true}
-use Rattle.std.proofs.lemmas.Option.{none-some, same_Some}
+use Rattle.std.proofs.lemmas.Option.{same_Some}
 use Rattle.arrayvec.specs.ArrayVec.{ArrayVec}
 use Rattle.apex_types.specs.Runners.{place_of}
 use Rattle.apex_types.specs.declared.codes.Discipline.{Discipline}
@@ -14,7 +14,6 @@ use Rattle.apex_types.specs.declared.event.Event.{Event}
 use Rattle.apex_types.specs.declared.event.EventKind.{EventKind}
 use Rattle.apex_types.specs.declared.identity.At.{At}
 use Rattle.apex_types.specs.declared.identity.ListKey.{ListKey}
-use Rattle.apex_types.specs.declared.identity.ProcessIndex.{ProcessIndex}
 use Rattle.apex_types.specs.declared.identity.Runner.{Runner}
 use Rattle.apex_types.specs.declared.identity.Runner.TheVariants as runner
 use Rattle.apex_types.specs.declared.process.Entry.{Entry}
@@ -37,19 +36,18 @@ use Rattle.kernel_laws.proofs.Places.{get_set_same, get_set_other}
 use Rattle.kernel_laws.proofs.RecordTick.{acts_same}
 use Rattle.kernel_meaning.specs.HealthServices.{breaks, then_clears}
 use Rattle.kernel_meaning.specs.Kernel.{Fixed, Kernel, of_ports, of_ports_alone, of_processes, with_ports}
-use Rattle.kernel_meaning.specs.Objects.{Port, Ports, port_at}
-use Rattle.kernel_meaning.specs.Partition.{Member, Moved, World, act_all, chooses_with_handler, clearing_phase, choice_phase, control_at, due_phase, first_ready, followed_by, given, is_ready, moved, pick, place_of_port, prepares, spending_phase, spends_chosen, tick, ticked, told, treating_phase, treats_asked, treats_due, unless_held, with_world}
+use Rattle.kernel_meaning.specs.Objects.{Port, port_at}
+use Rattle.kernel_meaning.specs.Partition.{Member, Moved, World, chooses_with_handler, clearing_phase, choice_phase, control_at, due_phase, first_ready, followed_by, given, is_ready, moved, pick, place_of_port, prepares, spending_phase, spends_chosen, tick, ticked, told, treating_phase, treats_asked, treats_due, unless_held, with_world}
 use Rattle.kernel_meaning.specs.PartitionServices.{clears}
 use Rattle.kernel_meaning.specs.PortServices as ports
 use Rattle.kernel_meaning.specs.Processes.{Processes, is_normal, row_of}
-use Rattle.kernel_meaning.specs.Step.{Step, nothing}
-use Rattle.module_meaning.specs.Module.{Module, Stepped, steps_member, trace}
+use Rattle.kernel_meaning.specs.Step.{Step}
+use Rattle.module_meaning.specs.Module.{Module, steps_member, trace}
 use Rattle.state_laws.specs.Locks.{Held, lock_by_lines, lock_from, lock_in, locked_by, locks}
-use Rattle.state_laws.proofs.Agreement.{kept_kernel}
-use Rattle.state_laws.proofs.LockSteps.{Fits, FitsIn, LockGoes, all_lock}
+use Rattle.state_laws.proofs.LockSteps.{FitsIn, all_lock}
 use Rattle.state_laws.proofs.LockServices.{MayCall}
 use Rattle.state_laws.proofs.LockObjects.{lock_admits, lock_arrives}
-use Rattle.state_laws.proofs.LockKernel.{IsOther, LocksIn, lock_asked, lock_breaks, lock_choice, lock_clears, lock_then_clears, lock_treats_due, treats_due_other}
+use Rattle.state_laws.proofs.LockKernel.{LocksIn, lock_asked, lock_breaks, lock_choice, lock_clears, lock_then_clears, lock_treats_due, treats_due_other}
 use Rattle.state_laws.proofs.Members.{AllOf, all_own}
 use Rattle.state_laws.proofs.Moves.{acts_kept}
 use Rattle.state_laws.proofs.Subjects.{name_itself}

@@ -1,5 +1,5 @@
 -- Whoever holds the preemption lock by the lines holds it in the kernel: the services on processes and on time, and the starts.
-use Rattle.std.proofs.Common.{◌≡◌, ℕ, zero, suc, ℤ, pos, negsuc, Bool, true, false, not, List, [], length, Option, Some, None, refl, sym, ap, ◌∙◌, subst}
+use Rattle.std.proofs.Common.{◌≡◌, ℕ, zero, suc, ℤ, pos, negsuc, Bool, true, false, not, List, length, Option, Some, None, refl, sym, ap, ◌∙◌, subst}
 use Rattle.std.specs.Prelude.{◌+◌, ◌-◌, ◌==◌, ◌||◌, if◌then◌else◌, is_some, nat_le}
 use Rattle.std.proofs.lemmas.Bool.{false≢true}
 use Rattle.apex_types.specs.declared.codes.Mode.{Mode}
@@ -27,7 +27,7 @@ use Rattle.kernel_meaning.specs.ProcessServices.{get_process_id, get_process_sta
 use Rattle.kernel_meaning.specs.Step.{Step, nothing, after}
 use Rattle.kernel_meaning.specs.Times.{is_delay, is_duration, amount, released_at, ticks, start_all_waiting, start_from, starts, starts_if_waiting, starts_in_normal, starts_waiting}
 use Rattle.state_laws.specs.Locks.{Held, held_by, one_down, one_up, returns}
-use Rattle.state_laws.proofs.LockSteps.{Fits, FitsIn, HasHolder, LockGoes, all_lock, is_on_lock, waits_on_lock, lock_here, lock_in_turn, lock_set, lock_wakes, lock_waits, lock_rests, lock_rests_found, lock_answers, lock_released_with, others_leave}
+use Rattle.state_laws.proofs.LockSteps.{FitsIn, HasHolder, LockGoes, all_lock, is_on_lock, waits_on_lock, lock_here, lock_in_turn, lock_set, lock_wakes, lock_waits, lock_rests, lock_rests_found, lock_answers, lock_released_with, others_leave}
 
 -- A runner that may lock is a process with a record: in mode NORMAL it is not INIT.
 abbrev pub MayCall : Mode → Processes → Runner → Type 0

@@ -1,17 +1,13 @@
 -- Whoever holds the preemption lock by the lines holds it in the kernel: the changes of one process.
-use Rattle.std.proofs.Common.{◌≡◌, ◌≢◌, ℕ, zero, suc, ℤ, Bool, true, false, List, [], ◌∷◌, ◌++◌, Option, Some, None, refl, sym, ap, ◌∙◌, subst}
-use Rattle.std.specs.Prelude.{◌+◌, slice_get, slice_set, if◌then◌else◌, is_some}
+use Rattle.std.proofs.Common.{◌≡◌, ◌≢◌, ℕ, ℤ, Bool, true, false, List, [], ◌∷◌, ◌++◌, Option, Some, None, refl, sym, ap, ◌∙◌, subst}
+use Rattle.std.specs.Prelude.{slice_get, slice_set, if◌then◌else◌, is_some}
 use Rattle.std.proofs.lemmas.Bool.{false≢true}
-use Rattle.std.proofs.lemmas.Option.{none-some, same_Some}
-use Rattle.apex_types.specs.Runners.{Action, place_of}
+use Rattle.apex_types.specs.Runners.{place_of}
 use Rattle.apex_types.specs.declared.codes.ProcessState.{ProcessState}
 use Rattle.apex_types.specs.declared.codes.ProcessState.TheVariants.{Dormant, Ready, Running, Waiting}
 use Rattle.apex_types.specs.declared.codes.ReturnCode.{ReturnCode}
-use Rattle.apex_types.specs.declared.codes.ReturnCode.TheVariants as code
 use Rattle.apex_types.specs.declared.event.EventKind.{EventKind}
-use Rattle.apex_types.specs.declared.event.EventKind.TheVariants as event
 use Rattle.apex_types.specs.declared.event.Subject.{Subject}
-use Rattle.apex_types.specs.declared.identity.ProcessIndex.{ProcessIndex}
 use Rattle.apex_types.specs.declared.identity.Runner.{Runner}
 use Rattle.apex_types.specs.declared.identity.Runner.TheVariants as runner
 use Rattle.apex_types.specs.declared.process.Due.{Due}
@@ -25,9 +21,8 @@ use Rattle.apex_types.specs.declared.service.Service.TheVariants as service
 use Rattle.kernel_laws.proofs.RecordChoice.{same_runner}
 use Rattle.kernel_meaning.specs.Processes.{Processes, row_of, who_of, subject, answers, answers_wait, no_longer_waits, put_dormant, put_row, put_ready, put_unready, released_with, rests, rests_found, waiting_lines, waits, wakes, without_holder}
 use Rattle.kernel_meaning.specs.Processes as processes
-use Rattle.kernel_meaning.specs.ProcessServices.{is_ready_state}
 use Rattle.kernel_meaning.specs.Step.{Step, nothing, after}
-use Rattle.state_laws.specs.Locks.{Held, becomes, held_by, locks, returns, without}
+use Rattle.state_laws.specs.Locks.{Held, held_by, locks, returns, without}
 use Rattle.state_laws.specs.Told.{is_same}
 use Rattle.state_laws.proofs.Agreement.{AreDistinct, at_each, each, still_named}
 use Rattle.state_laws.proofs.Subjects.{not_same, runner_itself, same_itself, same_place}
