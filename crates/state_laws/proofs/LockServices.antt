@@ -27,7 +27,7 @@ use Rattle.kernel_meaning.specs.ProcessServices.{get_process_id, get_process_sta
 use Rattle.kernel_meaning.specs.Step.{Step, nothing, after}
 use Rattle.kernel_meaning.specs.Times.{is_delay, is_duration, amount, released_at, ticks, start_all_waiting, start_from, starts, starts_if_waiting, starts_in_normal, starts_waiting}
 use Rattle.state_laws.specs.Locks.{Held, held_by, one_down, one_up, returns}
-use Rattle.state_laws.proofs.LockSteps.{FitsIn, HasHolder, LockGoes, all_lock, is_on_lock, waits_on_lock, lock_here, lock_in_turn, lock_set, lock_wakes, lock_waits, lock_rests, lock_rests_found, lock_answers, lock_released_with, others_leave}
+use Rattle.state_laws.proofs.LockSteps.{FitsIn, HasHolder, LockGoes, all_lock, is_on_lock, waits_on_lock, lock_here, lock_either, lock_in_turn, lock_passed, lock_set, lock_wakes, lock_waits, lock_rests, lock_rests_found, lock_answers, lock_released_with, others_leave}
 
 -- A runner that may lock is a process with a record: in mode NORMAL it is not INIT.
 abbrev pub MayCall : Mode → Processes → Runner → Type 0
@@ -40,14 +40,12 @@ module _ (o : Option Held) (s : Processes) (h : FitsIn o s) where
   Kept u = LockGoes o u
 
   test : (b : Bool) (u v : Step Processes) → Kept u → Kept v → Kept (if b then u else v)
-  test true u v k l = k
-  test false u v k l = l
+  test = lock_either o
 
   unless : (b : Bool) (u v : Step Processes) → Kept u → (b ≡ false → Kept v) → Kept (if b then u else v)
-  unless true u v k rest = k
-  unless false u v k rest = rest refl
+  unless = lock_passed o
 
-  pub told : (p : Runner) (v : Service) (c : ReturnCode) (outputs : List ℤ) → is_on_lock v ≡ false → Kept (answers s p v c outputs)
+  told : (p : Runner) (v : Service) (c : ReturnCode) (outputs : List ℤ) → is_on_lock v ≡ false → Kept (answers s p v c outputs)
   told p v c outputs free = lock_answers o s h p v c outputs free
 
   told_then : (p : Runner) (v : Service) (c : ReturnCode) (outputs : List ℤ) (u : Step Processes) → is_on_lock v ≡ false → Kept u → Kept (after (answers s p v c outputs) u)
@@ -191,8 +189,8 @@ module _ (o : Option Held) (s : Processes) (h : FitsIn o s) where
     down (lock.Held (suc zero) q) g = (tt, refl)
     down (lock.Held (suc (suc level)) q) g = (g, refl)
 
-    refuses_lock : (m : Mode) (v : Service) (c : ReturnCode) (outputs : List ℤ) → returns (subject s p) v c o ≡ o → Kept (answers s p v c outputs)
-    refuses_lock m v c outputs e = record { fits = subst (λ (x : Option Held). FitsIn x s) (sym e) h }
+    refuses_lock : (v : Service) (c : ReturnCode) (outputs : List ℤ) → returns (subject s p) v c o ≡ o → Kept (answers s p v c outputs)
+    refuses_lock v c outputs e = record { fits = subst (λ (x : Option Held). FitsIn x s) (sym e) h }
 
     locks_up : (m : Mode) → MayCall m s p → may_not_lock m p ≡ false → Kept (with_lock s p service.LockPreemption (locked_by p s.lock))
     locks_up m may e = by_runner p may e
@@ -206,13 +204,13 @@ module _ (o : Option Held) (s : Processes) (h : FitsIn o s) where
 
     pub lock_lock_preemption : (m : Mode) → MayCall m s p → Kept (lock_preemption m s p)
     lock_lock_preemption m may =
-        unless (may_not_lock m p) _ _ (refuses_lock m service.LockPreemption code.NoAction _ refl)
-        (λ e. test (nat_le MOST_LOCK_LEVEL (level_of s.lock)) _ _ (refuses_lock m service.LockPreemption code.InvalidConfig _ refl) (locks_up m may e))
+        unless (may_not_lock m p) _ _ (refuses_lock service.LockPreemption code.NoAction _ refl)
+        (λ e. test (nat_le MOST_LOCK_LEVEL (level_of s.lock)) _ _ (refuses_lock service.LockPreemption code.InvalidConfig _ refl) (locks_up m may e))
 
     pub lock_unlock_preemption : (m : Mode) → Kept (unlock_preemption m s p)
     lock_unlock_preemption m =
         let d = down s.lock h.holder in
-        test (may_not_lock m p || not (is_held s.lock)) _ _ (refuses_lock m service.UnlockPreemption code.NoAction _ refl)
+        test (may_not_lock m p || not (is_held s.lock)) _ _ (refuses_lock service.UnlockPreemption code.NoAction _ refl)
         (record { fits = record { named = h.named; waits = h.waits; holder = d.0; held = ap one_down h.held ∙ d.1 } })
 
     -- ---- the others
