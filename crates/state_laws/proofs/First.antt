@@ -131,22 +131,22 @@ module _ (t : Table) (sources : List program.Program) (judged : IsJudged t) (pla
   abbrev members : List (Member SourceControl)
   members = source_members t.costs t.schedule 1 t.partitions sources
 
-  abbrev first : Member SourceControl
+  abbrev pub first : Member SourceControl
   first = source_record t.costs t.schedule (1 + place) row p
 
-  at_place : slice_get members place ≡ Some first
+  pub at_place : slice_get members place ≡ Some first
   at_place = members_at t.costs t.schedule 1 t.partitions sources place row p e f
 
   named_here : slice_get (map name_of members) place ≡ Some row.name
   named_here = slice_get-map name_of members place ∙ ap (option_map name_of) at_place
 
-  source_apart : IsApart row.name place (map name_of members)
+  pub source_apart : IsApart row.name place (map name_of members)
   source_apart = all_apart judged.0 t sources judged.1 place row.name named_here
 
   source_agrees : KernelAgrees (restarts first_told) first.world.kernel
   source_agrees = first_agrees (map source_row p.processes) (are_processes source_row (λ (q : program.Process). q.name) (λ q. refl) (λ q. refl) p.processes (apart_of (λ (q : program.Process). q.name) p.processes own)) _ _ _ _
 
-  source_stands : Stands (disciplines_of members (suc place)) (names_of members (suc place)) row.name place (map name_of members) source_apart (restarts first_told) members
+  pub source_stands : Stands (disciplines_of members (suc place)) (names_of members (suc place)) row.name place (map name_of members) source_apart (restarts first_told) members
   source_stands = record {
     own = λ x g.
         let h = source_holds t sources (suc place) x g in

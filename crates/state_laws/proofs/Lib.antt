@@ -15,3 +15,9 @@ pub mod Run
 pub mod First
 pub mod OfImages
 pub mod OfModules
+pub mod LockSteps
+pub mod LockServices
+pub mod LockObjects
+pub mod LockKernel
+pub mod LockRuns
+pub mod LockLaw

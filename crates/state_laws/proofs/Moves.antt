@@ -127,7 +127,7 @@ module _ {C : Type 0} (e : Engine C) where
   act_kept (action.Write place array) w = refl
   act_kept (action.Queue error) w = refl
 
-  acts_kept : (actions : List Action) (w : World C) → kept_kernel (act_all e actions w).kernel ≡ kept_kernel w.kernel
+  pub acts_kept : (actions : List Action) (w : World C) → kept_kernel (act_all e actions w).kernel ≡ kept_kernel w.kernel
   acts_kept [] w = refl
   acts_kept (a ∷ rest) w = acts_kept rest (act e a w) ∙ act_kept a w
 

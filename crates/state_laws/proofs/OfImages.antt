@@ -42,10 +42,10 @@ module _ (image : Image) (lawful : IsLawful image) (place : ℕ) (item : Item) (
   abbrev members : List (Member MachineControl)
   members = machine_members (costs_of image.version) image.schedule 1 image.items
 
-  abbrev first : Member MachineControl
+  abbrev pub first : Member MachineControl
   first = record_of (costs_of image.version) image.schedule (1 + place) item
 
-  at_place : slice_get members place ≡ Some first
+  pub at_place : slice_get members place ≡ Some first
   at_place = members_at (costs_of image.version) image.schedule 1 image.items place item e
 
   image_agrees : KernelAgrees (restarts first_told) first.world.kernel
@@ -58,7 +58,7 @@ module _ (image : Image) (lawful : IsLawful image) (place : ℕ) (item : Item) (
       first_agrees (map machine_row item.section.processes)
       (are_processes machine_row (λ (q : ProcessRow). q.name) (λ q. refl) (λ q. refl) item.section.processes (rows_apart item.partition.period [] item.section.processes bodies.processes)) _ _ _ _
 
-  image_stands : Stands (disciplines_of members (suc place)) (names_of members (suc place)) (name_in item) place (map name_in image.items) (image_apart image lawful place item e) (restarts first_told) members
+  pub image_stands : Stands (disciplines_of members (suc place)) (names_of members (suc place)) (name_in item) place (map name_in image.items) (image_apart image lawful place item e) (restarts first_told) members
   image_stands = record {
     own = λ x g.
         let h = machine_holds image (suc place) x g in

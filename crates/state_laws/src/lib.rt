@@ -2,4 +2,5 @@
 //! The functions do nothing, and promise a law each.
 #![tactic(auto)]
 
+pub mod locks;
 pub mod runs;
