@@ -24,6 +24,8 @@ pub mod Told
 pub mod Refused
 pub mod Replayed
 pub mod Runs
+pub mod Spaced
+pub mod Awaited
 pub mod Shutdown
 pub mod Standing
 pub mod Stated

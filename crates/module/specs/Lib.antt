@@ -4,6 +4,7 @@ pub mod Building
 pub mod Collecting
 pub mod Costs
 pub mod Sources
+pub mod Asked
 pub mod States
 pub mod Stating
 pub mod Standing
