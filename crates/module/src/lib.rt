@@ -47,7 +47,7 @@ pub use load_fault::LoadFault;
 pub use machine::{Machine, ticks_isolate_the_partitions, ticks_make_the_trace};
 pub use replaying::replay;
 pub use running::{build_and_run, run, run_watched};
-pub use stating::{Moments, WantedStates, a_state_decides_the_rest, states, ticks_make_the_state};
+pub use stating::{Moments, WantedStates, a_state_decides_the_rest, state, ticks_make_the_state};
 pub use telling::{WantedInputs, inputs, inputs_watched};
 pub use ticks::split_tick;
 pub use upgrading::upgrade;

@@ -72,7 +72,7 @@ pub struct WantedStates<'a> {
 /// In this order: a tick above 2^40; bytes that are no image; a name of no partition; the lowest
 /// rule that the first wrong line of the device text breaks. Out of memory may come before or after
 /// any of these.
-pub fn states<S: Sink>(
+pub fn state<S: Sink>(
     alloc: Global,
     image: &[u8],
     wanted: WantedStates<'_>,

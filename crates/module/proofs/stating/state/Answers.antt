@@ -3,7 +3,7 @@ use Rattle.std.proofs.Common.{subst}
 use Rattle.module.specs.States.{States}
 use Rattle.module.specs.Stating.{IsShown, number_in, wanted_in}
 use Rattle.module.proofs.Stated.{none_found, shown_states, text_refused}
-use Rattle.module.proofs.stating.states.Goals as goal
+use Rattle.module.proofs.stating.state.Goals as goal
 
 pub returns-in_err-only-clause-text : goal.returns-in_err-only-clause-text
 returns-in_err-only-clause-text g c =
