@@ -43,12 +43,12 @@ awaited_first {words = words} {only = only} {devices = devices} n m found fresh 
 -- ---- rows that stay
 
 -- the rows are those of the partitions, whatever the tick is
-same_rows : (only : Option ℕ) (image : Image) (s t : Standing MachineControl) → s.members ≡ t.members → watched_of only image s ≡ watched_of only image t
-same_rows None image s t same = ap (λ ms. watched_of None image (record { members = ms; now = 0; origin = None })) same
-same_rows (Some number) image s t same = ap (λ ms. watched_of (Some number) image (record { members = ms; now = 0; origin = None })) same
+same_rows : (words : List (List ℕ)) (only : Option ℕ) (image : Image) (s t : Standing MachineControl) → s.members ≡ t.members → watched_of words only image s ≡ watched_of words only image t
+same_rows words None image s t same = ap (λ ms. watched_of words None image (record { members = ms; now = 0; origin = None })) same
+same_rows words (Some number) image s t same = ap (λ ms. watched_of words (Some number) image (record { members = ms; now = 0; origin = None })) same
 
 same_watched : (words : List (List ℕ)) (only : Option ℕ) (image : Image) (s t : Standing MachineControl) → s.members ≡ t.members → watches words only image s ≡ watches words only image t
-same_watched words only image s t same = let is = same_rows only image s t same in rw is refl
+same_watched words only image s t same = let is = same_rows words only image s t same in rw is refl
 
 -- k ticks later, if nothing happens in them
 quiet_state : {words : List (List ℕ)} {only : Option ℕ} {image : Image} {devices lines : List DeviceLine} {n left : ℕ} {m : Machine} {found : Bool} (k quiet : ℕ) → IsAwaited words only image devices lines n left m found

@@ -1,10 +1,21 @@
 //! The words that a row is asked for.
 
-ghost use Rattle.std.specs.Prelude.{◌≡◌, map, option_copied};
+ghost use Rattle.std.specs.Prelude.{◌≡◌, ◌++◌, OnOk, map, option_copied};
 ghost use Rattle.apex_types.specs.Line.{space};
+ghost use Rattle.image.specs.Items.{item_of};
 ghost use Rattle.module.specs.Asked as meant;
+ghost use Rattle.partition.specs.Members.{member_of};
+ghost use Rattle.partition_base.specs.contracts.machine.PartitionProcessorExecutor.TheImpl.{ghosts as machine};
+ghost use Rattle.state_rows.specs.Rows.{rows_in};
 ghost use Rattle.text_lines.specs.Pieces.{pieces_of};
 
+use image::PartitionItem;
+use partition::Partition;
+use partition_base::PartitionProcessor;
+use regions::PartitionMem;
+use state_rows::Form;
+use state_view::{Part, part_with, write_part};
+use std::alloc::AllocError;
 use text_lines::split_at;
 
 /// Whether a word of a line matches the word that is asked for; `_` matches any word.
@@ -61,4 +72,64 @@ pub fn has_row(asked: &[&str], text: &[u8]) -> bool
         rest = behind;
     }
     false
+}
+
+/// Whether the first of these words may be the name of a partition.
+fn asks_partition(asked: &[&str], name: &[u8]) -> bool
+    ensures { result ≡ meant.asks_partition (map (λ a. a.now) asked.now) name.now }
+{
+    match asked.split_first() {
+        Some((first, _)) => is_gap(first) || stands_for(first, name),
+        None => true,
+    }
+}
+
+/// The part of a partition with the rows of the kind that the first of these words names; all rows, if
+/// any kind will do.
+fn part_of_kind(asked: &[&str]) -> Part
+    ensures { result ≡ meant.part_of_kind (map (λ a. a.now) asked.now) }
+{
+    let Some((kind, _)) = asked.split_first() else {
+        return Part::All;
+    };
+    if is_gap(kind) || kind.as_bytes() == b"_".as_slice() {
+        return Part::All;
+    }
+    part_with(kind)
+}
+
+/// The part of a partition in which a row may begin with these words.
+fn asked_part(asked: &[&str]) -> Part
+    ensures { result ≡ meant.asked_part (map (λ a. a.now) asked.now) }
+{
+    let Some((first, rest)) = asked.split_first() else {
+        return Part::All;
+    };
+    if is_gap(first) {
+        return Part::All;
+    }
+    part_of_kind(rest)
+}
+
+/// Appends the rows of a partition among which one with these words is looked for: with no words all.
+pub(crate) fn write_asked(
+    form: Form,
+    asked: &[&str],
+    item: &PartitionItem,
+    partition: &Partition<PartitionProcessor>,
+    memory: &PartitionMem,
+    text: &mut Vec<u8>,
+) -> Result<(), AllocError>
+    ensures { OnOk result
+        (text.new.items
+        ≡ text.old.items
+        ++ rows_in form
+        (meant.asked_rows (map (λ a. a.now) asked.now) (item_of item.now)
+        (member_of machine partition.now memory.now))) }
+{
+    let name = partition.kernel().name();
+    if !asks_partition(asked, name.as_bytes()) {
+        return Ok(());
+    }
+    write_part(form, asked_part(asked), item, partition, memory, text)
 }
