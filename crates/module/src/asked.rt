@@ -40,23 +40,17 @@ fn begins_with(asked: &[&str], text: Option<&[u8]>) -> bool
     let Some((first, rest)) = asked.split_first() else {
         return true;
     };
-    if !is_gap(first) {
-        return match text {
-            Some(text) => {
-                let (word, behind) = split_at(b' ', text);
-                stands_for(first, word) && begins_with(rest, behind)
-            }
-            None => false,
-        };
+    if is_gap(first) && begins_with(rest, text) {
+        return true;
     }
-    let mut left = text;
-    while let Some(words) = left {
-        if begins_with(rest, left) {
-            return true;
-        }
-        left = split_at(b' ', words).1;
+    let Some(text) = text else {
+        return false;
+    };
+    let (word, behind) = split_at(b' ', text);
+    if is_gap(first) {
+        return begins_with(asked, behind);
     }
-    begins_with(rest, None)
+    stands_for(first, word) && begins_with(rest, behind)
 }
 
 /// Whether a row of the text begins with the words that are asked for; `_` matches any word, and `..`
