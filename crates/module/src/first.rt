@@ -134,7 +134,9 @@ impl Machine {
         let items = module.image.partitions.as_slice();
         match only {
             None => module.members.write_all(Form::Text, words, items, text),
-            Some(number) => module.members.write_one(Form::Text, words, items, number, text),
+            Some(number) => module
+                .members
+                .write_one(Form::Text, words, items, number, text),
         }
     }
 }
