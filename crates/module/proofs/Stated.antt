@@ -77,7 +77,7 @@ shown_states read loaded devices lines n wanted only old new answer is taken few
     go (Ok found) (text, shown, all) = (loaded, lines, run, text, wanted_text wanted.moments wanted only loaded lines n found text each shown, all)
     go (Err fault.Write) (text, shown, part) = (loaded, lines, run, text, wanted_text wanted.moments wanted only loaded lines n true text each shown, part)
     go (Err fault.Memory) (inl kept) = inl kept
-    go (Err fault.Memory) (inr (several, text, shown, part)) = inr (several, loaded, lines, run, text, wanted_text wanted.moments wanted only loaded lines n true text each shown, part)
+    go (Err fault.Memory) (inr (several, (text, shown, part))) = inr (several, (loaded, lines, run, text, wanted_text wanted.moments wanted only loaded lines n true text each shown, part))
     go (Err fault.Ticks) h = absurd h
     go (Err (fault.Image f)) h = absurd h
     go (Err fault.Partition) h = absurd h

@@ -98,7 +98,14 @@ pub fn state<S: Sink>(
         only,
     };
     let mut text = Vec::new(alloc);
-    put_wanted(&mut machine, &lines, wanted, shown, &mut text, sink)
+    put_wanted(
+        &mut machine,
+        lines.as_slice(),
+        wanted,
+        shown,
+        &mut text,
+        sink,
+    )
 }
 
 /// The number of the partition with this name, if a name is given.

@@ -39,10 +39,10 @@ loop-left-preserved c =
     let stays = awaited_still still most count i ahead c.skip-count.ensures.skipped c.skip-count.ensures.quiet (omega (arith, c.if-count-gt0.false)) in
     let one : left ≡ suc (left - 1) = omega (arith, c.loop-left-test.true.0) in
     let now = c.now-2.ensures in
-    awaited_passed next c.from_tick.result.now (left - 1) c.in_ok-watches.field-0 stays c.in_ok-pass_over.ensures.image c.in_ok-pass_over.ensures.sound c.in_ok-pass_over.ensures.state
-    (subst (λ t. AreFrom t c.from_tick.result.now) now c.from_tick.ensures.order)
-    (λ u above. c.from_tick.ensures.kept u (subst (λ t. t ≤ u) (sym now) above))
+    awaited_passed next c.from_tick-lines.result.now (left - 1) c.in_ok-watches.field-0 stays c.in_ok-pass_over.ensures.image c.in_ok-pass_over.ensures.sound c.in_ok-pass_over.ensures.state
+    (subst (λ t. AreFrom t c.from_tick-lines.result.now) now c.from_tick-lines.ensures.order)
+    (λ u above. c.from_tick-lines.ensures.kept u (subst (λ t. t ≤ u) (sym now) above))
     c.in_ok-watches.ensures one
 
-pub from_tick-requires : goal.from_tick-requires
-from_tick-requires c = from_first _ c.loop-left.lines.now c.loop-left.invariant.order
+pub from_tick-lines-requires : goal.from_tick-lines-requires
+from_tick-lines-requires c = from_first _ c.loop-left.lines.now c.loop-left.invariant.order

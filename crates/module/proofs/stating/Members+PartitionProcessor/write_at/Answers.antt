@@ -1,4 +1,4 @@
-use Rattle.module.proofs.Prelude.{rules, ◌≡◌, ◌≤◌, ◌<◌, ◌+◌, ◌++◌, Option, Some, OnOk, length, members_in, item_of, items_of, member_of, Item, Member, MachineControl, refl, sym, ap, ◌∙◌, arith, slice_get, slice_get-get_or, slice_get-map}
+use Rattle.module.proofs.Prelude.{rules, map, ◌≡◌, ◌≤◌, ◌<◌, ◌+◌, ◌++◌, Option, Some, OnOk, length, members_in, item_of, items_of, member_of, Item, Member, MachineControl, refl, sym, ap, ◌∙◌, arith, slice_get, slice_get-get_or, slice_get-map}
 use Rattle.std.proofs.Common.{option_map, subst}
 use Rattle.std.proofs.lemmas.Option.{slice_get_read}
 use Rattle.partition_base.specs.contracts.machine.PartitionProcessorExecutor.TheImpl.{ghosts as machine}

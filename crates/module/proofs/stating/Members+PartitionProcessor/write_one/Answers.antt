@@ -1,4 +1,4 @@
-use Rattle.module.proofs.Prelude.{rules, ◌≡◌, ◌++◌, ℕ, Option, Some, OnOk, place_of_number, items_of, members_in, Item, Member, MachineControl, at_number, sym, slice_get}
+use Rattle.module.proofs.Prelude.{rules, map, ◌≡◌, ◌++◌, ℕ, Option, Some, OnOk, place_of_number, items_of, members_in, Item, Member, MachineControl, at_number, sym, slice_get}
 use Rattle.std.proofs.Common.{subst}
 use Rattle.partition_base.specs.contracts.machine.PartitionProcessorExecutor.TheImpl.{ghosts as machine}
 use Rattle.module.specs.Asked.{asked_rows}
