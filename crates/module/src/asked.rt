@@ -1,12 +1,17 @@
 //! The words that a row is asked for.
 
-ghost use Rattle.std.specs.Prelude.{◌≡◌, ◌++◌, OnOk, map, option_copied};
+ghost use Rattle.std.specs.Prelude.{◌≡◌, ◌++◌, ℕ, List, OnOk, map, option_copied};
 ghost use Rattle.apex_types.specs.Line.{space};
 ghost use Rattle.image.specs.Items.{item_of};
+ghost use Rattle.kernel_meaning.specs.Partition.{Member};
+ghost use Rattle.machine_meaning.specs.Image.{Item};
+ghost use Rattle.machine_meaning.specs.MachineControl.{MachineControl};
 ghost use Rattle.module.specs.Asked as meant;
+ghost use Rattle.module.specs.Kinds.{AreOf, IsInItsPart};
 ghost use Rattle.partition.specs.Members.{member_of};
 ghost use Rattle.partition_base.specs.contracts.machine.PartitionProcessorExecutor.TheImpl.{ghosts as machine};
 ghost use Rattle.state_rows.specs.Rows.{rows_in};
+ghost use Rattle.state_rows.specs.States.{member_rows};
 ghost use Rattle.text_lines.specs.Pieces.{pieces_of};
 
 use image::PartitionItem;
@@ -127,3 +132,11 @@ pub(crate) fn write_asked(
     }
     write_part(form, asked_part(asked), item, partition, memory, text)
 }
+
+/// Each row of a kind is in the part of this kind, and each row of a partition names it first.
+#[tactic(auto, using(crate::proofs::Heads::in_its_part, crate::proofs::Heads::are_of))]
+pub fn rows_are_in_their_parts()
+    ensures part { (key : List ℕ) → IsInItsPart key }
+    ensures partition { (i : Item) (x : Member MachineControl)
+        → AreOf x.world.kernel.fixed.name (member_rows i x) }
+{}

@@ -38,7 +38,7 @@ mod upgrading;
 mod watch;
 mod watching;
 
-pub use asked::stands_for;
+pub use asked::{rows_are_in_their_parts, stands_for};
 pub use building::{accept_table, build, module_has_one_image};
 pub use costing::{AcceptedModule, PartitionCosts, accept_module, costs};
 pub use fault::{BuildAndRunFault, BuildFault, RunFault};
