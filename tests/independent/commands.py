@@ -61,6 +61,24 @@ class MachineRoad:
         return Partition(number, row, section.objects, processes, section.handler is not None, engine, schedule, trace)
 
 
+# What the comparison shows of a command that has found nothing: the status 3, and no output.
+NOTHING_FOUND = b"status 3: b'' b''"
+
+
+def begins_with(words, asked):
+    """Whether these words of a row begin with those that are asked for."""
+    if not asked:
+        return True
+    if asked[0] == "..":
+        return any(begins_with(words[n:], asked[1:]) for n in range(len(words) + 1))
+    return bool(words) and asked[0] in ("_", words[0]) and begins_with(words[1:], asked[1:])
+
+
+def has_row(rows, asked):
+    """Whether a row of a partition begins with these words."""
+    return any(begins_with(row.split(), asked) for row in rows if not row.startswith("- "))
+
+
 @functools.lru_cache(maxsize=2)
 def road_of(*files):
     """That of an image, or that of a table and its sources."""
@@ -128,18 +146,30 @@ class Folder:
         return "".join(module.inputs).encode("ascii")
 
     def state(self, *words):
-        form, only, files = text_row, None, []
+        form, only, every, until, files = text_row, None, None, [], []
         words = iter(words)
         for word in words:
             if word == "--json":
                 form = json_row
             elif word == "--partition":
                 only = next(words)
+            elif word == "--every":
+                every = number_of(next(words))
+            elif word.startswith("--until="):
+                until.append(word.removeprefix("--until="))
             else:
                 files.append(word)
         road, devices, tick = self.begin(*files)
         number = None if only is None else number_of_partition(road.table, only)
-        return State(self.module_before(road, devices, tick), tick, number, form).text()
+        read_devices(devices, road.table)
+        if until:
+            found = (n for n in range(tick + 1) if has_row(State(self.module_before(road, devices, n), n, number).rows, until))
+            ticks = [next(found, None)]
+        else:
+            ticks = [tick] if every is None else range(0, tick + 1, every)
+        if ticks == [None]:
+            return NOTHING_FOUND
+        return b"".join(State(self.module_before(road, devices, n), n, number, form).text() for n in ticks)
 
     def module_before(self, road, devices, tick):
         """The module after so many ticks: that of the command before, if it is not past this tick."""

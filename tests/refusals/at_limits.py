@@ -101,7 +101,7 @@ class Limit:
 TOO_LONG = (("check", "compile a 1"), ("build", "compile a 1"))
 TOO_MANY_WORDS = tuple((it, "pal a 5 line 1") for it in ("check", "build", "cost"))
 NO_SOURCE = tuple((it, "pal a 1 line 2") for it in ("check", "build", "cost"))
-TOO_MANY_LINES = tuple((it, "device 4") for it in ("run", "inputs", "state", "state of one"))
+TOO_MANY_LINES = tuple((it, "device 4") for it in ("run", "inputs", "state", "state of one", "states", "first state"))
 LIMITS = [
     Limit("bytes of a name", "MOST_NAME_BYTES", "name"),
     Limit("bytes of a partition's name", "MOST_NAME_BYTES", "name_of_a_partition"),

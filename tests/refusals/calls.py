@@ -154,7 +154,7 @@ class Command:
         self.words = [mb, *module.commands()[name]]
         self.image = (folder / "image").read_bytes()
         self.before = b"before" if name in trial.WRITING else self.image
-        self.may_begin = name == trial.BEGINNING
+        self.may_begin = name in trial.BEGINNING
         self.right = trial.run(self.words, folder)
 
     def ask(self, library, **how):

@@ -81,13 +81,16 @@ def commands(sources, partition, ticks):
         "replay": ["replay", "image", partition, "inputs", str(ticks)],
         "state": ["state", "image", "devices", str(ticks)],
         "state of one": ["state", "--json", "--partition", partition, "image", "devices", str(ticks)],
+        "states": ["state", "--every", str(ticks // 3 + 1), "image", "devices", str(ticks)],
+        "first state": ["state", "image", "devices", str(ticks), "--until", partition, "mode", "NORMAL"],
     }
 
 
 # The commands that write IMAGE.
 WRITING = ("build", "upgrade")
-# The command that may have written a beginning where memory lacks: it holds the text of a tick until it has looked for the line.
-BEGINNING = "until"
+# The commands that may have written a beginning where memory lacks: one holds the text of a tick until it has looked for the line, the other
+# that of a state.
+BEGINNING = ("until", "states")
 
 
 def compiler():

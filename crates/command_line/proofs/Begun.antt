@@ -1,5 +1,7 @@
 -- Files of which a beginning was read: what it settles holds for the whole file.
 use Rattle.std.proofs.Common.{◌≡◌, inl, inr, ℕ, Bool, true, false, List, [], ◌∷◌, ◌++◌, Option, Some, None, Result, Ok, Err, refl, sym, ap, subst, ◌∙◌, append-nil}
+use Rattle.std.specs.Io.KnownBytes.{Appends}
+use Rattle.apex_types.specs.Line.{TakesBeginning}
 use Rattle.apex_types.specs.declared.device.DeviceFault.{DeviceFault}
 use Rattle.isolation.specs.ReplayText.{replay_verdict}
 use Rattle.isolation.specs.declared.input.InputLine.{InputLine}
@@ -9,7 +11,7 @@ use Rattle.machine_meaning.specs.MachineMeaning.{verdict_for}
 use Rattle.module_meaning.specs.Table.{Partition}
 use Rattle.module.specs.Replays.{IsInputRefusal, Replays}
 use Rattle.module.specs.Runs.{IsDeviceRefusal, Runs}
-use Rattle.module.specs.States.{States, Wanted}
+use Rattle.module.specs.States.{HasTaken, States, Wanted}
 use Rattle.module.specs.Telling.{AreRunInputs, IsDeviceRefusalBeside, Tells}
 use Rattle.module.specs.declared.fault.RunFault.{RunFault}
 use Rattle.module.specs.declared.fault.RunFault.TheVariants as run
@@ -171,20 +173,24 @@ pub inputs_of_whole : {files : Option Contents} {image devices image_read text_r
 inputs_of_whole {text_read = text_read} g name n old new answer h =
     tells_alike (image_at g.given.image_bytes) name text_read g.given.text_bytes n old new answer g.same_devices (subst (λ read. Tells read name text_read n old new answer) (sym g.same_image) h)
 
-states_alike : (read : Result Image Fault) (devices whole : List ℕ) (n : ℕ) (wanted : Wanted) (old new : Option (List ℕ)) (answer : Result (Unit {0}) RunFault)
+taken_alike : (Takes : Option (List ℕ) → Option (List ℕ) → List ℕ → Type 0) (read : Result Image Fault) (devices whole : List ℕ) (n : ℕ) (wanted : Wanted) (old new : Option (List ℕ)) (found : Bool)
+    → ((i : Image) → verdict_for i whole ≡ verdict_for i devices) → HasTaken Takes read devices n wanted old new found → HasTaken Takes read whole n wanted old new found
+taken_alike Takes read devices whole n wanted old new found same (image, lines, r, text, is, out) =
+    (image, lines, record { loaded = r.loaded; taken = same image ∙ r.taken; few = r.few }, text, is, out)
+
+states_alike : (read : Result Image Fault) (devices whole : List ℕ) (n : ℕ) (wanted : Wanted) (old new : Option (List ℕ)) (answer : Result Bool RunFault)
     → ((i : Image) → verdict_for i whole ≡ verdict_for i devices) → States read devices n wanted old new answer → States read whole n wanted old new answer
-states_alike read devices whole n wanted old new (Ok x) same (image, lines, r, text, is, out) =
-    (image, lines, record { loaded = r.loaded; taken = same image ∙ r.taken; few = r.few }, text, is, out)
-states_alike read devices whole n wanted old new (Err run.Write) same (image, lines, r, text, is, out) =
-    (image, lines, record { loaded = r.loaded; taken = same image ∙ r.taken; few = r.few }, text, is, out)
+states_alike read devices whole n wanted old new (Ok found) same h = taken_alike Appends read devices whole n wanted old new found same h
+states_alike read devices whole n wanted old new (Err run.Write) same h = taken_alike TakesBeginning read devices whole n wanted old new true same h
 states_alike read devices whole n wanted old new (Err (run.Device f)) same (few, refused, kept) = (few, refusal_alike read devices whole f same refused, kept)
 states_alike read devices whole n wanted old new (Err run.Ticks) same h = h
 states_alike read devices whole n wanted old new (Err (run.Image f)) same h = h
 states_alike read devices whole n wanted old new (Err run.Partition) same h = h
-states_alike read devices whole n wanted old new (Err run.Memory) same h = h
+states_alike read devices whole n wanted old new (Err run.Memory) same (inl kept) = inl kept
+states_alike read devices whole n wanted old new (Err run.Memory) same (inr (several, h)) = inr (several, taken_alike TakesBeginning read devices whole n wanted old new true same h)
 states_alike read devices whole n wanted old new (Err run.Failed) same h = absurd h
 
-pub state_of_whole : {files : Option Contents} {image devices image_read text_read : List ℕ} (g : Given files image devices image_read text_read) (wanted : Wanted) (n : ℕ) (old new : Option (List ℕ)) (answer : Result (Unit {0}) RunFault)
+pub state_of_whole : {files : Option Contents} {image devices image_read text_read : List ℕ} (g : Given files image devices image_read text_read) (wanted : Wanted) (n : ℕ) (old new : Option (List ℕ)) (answer : Result Bool RunFault)
     → States (image_at image_read) text_read n wanted old new answer → IsStateOf g.given wanted n old new answer
 state_of_whole {text_read = text_read} g wanted n old new answer h =
     states_alike (image_at g.given.image_bytes) text_read g.given.text_bytes n wanted old new answer g.same_devices (subst (λ read. States read text_read n wanted old new answer) (sym g.same_image) h)

@@ -21,7 +21,7 @@ use Rattle.command_words.specs.declared.failure.Failure.TheVariants.{Refused, Us
 use Rattle.command_line.specs.declared.refusal.Refusal.{Refusal}
 use Rattle.command_line.specs.declared.refusal.Refusal.TheVariants.{Memory, Write}
 
--- the words are no command, or one of them is wrong: a word for ticks without digits, or a word that is only `-`
+-- the words are no command, or one of them is wrong: a word for ticks that gives no number, or a word that is only `-`
 abbrev pub AreNoCommand : Kinds → Order → Type 0
 AreNoCommand kinds order = AreMistaken kinds ⊎ ((kinds ≡ []) × HasWrongWord order)
 

@@ -1,12 +1,8 @@
 -- Which texts have a line with the words that are asked for.
-use Rattle.std.specs.Prelude.{ℕ, Bool, true, false, ◌&&◌, ◌||◌, List, [], ◌∷◌, codes}
+use Rattle.std.specs.Prelude.{ℕ, Bool, true, false, ◌&&◌, ◌||◌, List, [], ◌∷◌}
 use Rattle.apex_types.specs.Line.{space}
-use Rattle.engine_meaning.specs.Digits.{same}
+use Rattle.module.specs.Asked.{stands_for}
 use Rattle.module_meaning.specs.DeviceText.{pieces, pieces_behind_marks}
-
--- a word that is asked for matches this word of a line: `_` matches any word, and every other word matches only itself
-abbrev pub stands_for : List ℕ → List ℕ → Bool
-stands_for asked word = same asked (codes "_") || same asked word
 
 -- the words match these, one by one
 abbrev pub stand_for : List (List ℕ) → List (List ℕ) → Bool

@@ -1,8 +1,9 @@
 -- The effect of a command that is done.
-use Rattle.std.specs.Prelude.{◌≡◌, ◌≤◌, ◌<◌, ℕ, Bool, true, false, List, [], ◌∷◌, ◌++◌, length, Option, Some, None, Result, Ok, Err, codes}
+use Rattle.std.specs.Prelude.{◌≡◌, ◌≤◌, ◌<◌, ℕ, Bool, true, false, not, List, [], ◌∷◌, ◌++◌, length, Option, Some, None, Result, Ok, Err, codes}
 use Rattle.std.specs.Fmt.{decimal}
 use Rattle.std.specs.Io.KnownBytes.{Appends}
 use Rattle.std.specs.Str.Parse.{IsNumeral, digits_value}
+use Rattle.apex_types.specs.Limits.{MOST_TICKS}
 use Rattle.machine_meaning.specs.Image.{Image}
 use Rattle.machine_meaning.specs.ImageReading.{Fault, image_at}
 use Rattle.command_line.specs.Code.{code_text}
@@ -12,7 +13,7 @@ use Rattle.module.specs.Costs.{AreCosts}
 use Rattle.module.specs.Promises.{Means}
 use Rattle.module.specs.Replays.{Replays}
 use Rattle.module.specs.Runs.{Runs}
-use Rattle.module.specs.States.{States, Wanted}
+use Rattle.module.specs.States.{Every, Moments, States, Wanted}
 use Rattle.module.specs.Telling.{Tells}
 use Rattle.module.specs.Upgrades.{IsUpgraded}
 use Rattle.module.specs.declared.costing.PartitionCosts.{PartitionCosts}
@@ -27,6 +28,7 @@ use Rattle.command_line.specs.Orders.{Order, First, Check, Build, Run, Replay, I
 use Rattle.command_line.specs.Loading.{AreLoaded, IsLoadOfText, IsTextOf, Shown}
 use Rattle.command_line.specs.Linting.{AreFound, IsReadModule}
 use Rattle.command_line.specs.declared.linting.ReadModule.{ReadModule}
+use Rattle.command_line.specs.Outcomes.{is_remarkable}
 use Rattle.command_line.specs.declared.outcome.Outcome.{Outcome}
 use Rattle.command_line.specs.declared.outcome.Outcome.TheVariants.{Usual, Remarkable}
 use Rattle.lint.specs.Sentences.{findings_text, have_findings}
@@ -139,8 +141,8 @@ IsReplayOf given partition n old new answer = Replays (image_at given.image_byte
 abbrev pub AreInputsOf : {files : Option Contents} {image devices : List ℕ} → ImageAndText files image devices → List ℕ → ℕ → Option (List ℕ) → Option (List ℕ) → Result (Unit {0}) InputsFault → Type 0
 AreInputsOf given partition n old new answer = Tells (image_at given.image_bytes) partition given.text_bytes n old new answer
 
--- the output, with this result, of the state before tick n
-abbrev pub IsStateOf : {files : Option Contents} {image devices : List ℕ} → ImageAndText files image devices → Wanted → ℕ → Option (List ℕ) → Option (List ℕ) → Result (Unit {0}) RunFault → Type 0
+-- the output, with this result, of the wanted states of a run of n ticks
+abbrev pub IsStateOf : {files : Option Contents} {image devices : List ℕ} → ImageAndText files image devices → Wanted → ℕ → Option (List ℕ) → Option (List ℕ) → Result Bool RunFault → Type 0
 IsStateOf given wanted n old new answer = States (image_at given.image_bytes) given.text_bytes n wanted old new answer
 
 -- the output of the run of the stored module with this result
@@ -164,10 +166,21 @@ abbrev pub AreInputsDone : List ℕ → List ℕ → List ℕ → ℕ → State 
 AreInputsDone image partition devices n before after =
     (after.files ≡ before.files) × (given : ImageAndText before.files image devices) × AreInputsOf given partition n before.out.taken after.out.taken is_ok
 
--- the state was written that the module of an image has before tick n
-abbrev pub IsStateDone : List ℕ → List ℕ → Wanted → ℕ → State → State → Type 0
-IsStateDone image devices wanted n before after =
-    (after.files ≡ before.files) × (given : ImageAndText before.files image devices) × IsStateOf given wanted n before.out.taken after.out.taken is_ok
+-- the states were written that are wanted of a run of n ticks; if there is none, that is remarkable
+abbrev pub IsStateDone : List ℕ → List ℕ → Wanted → ℕ → Outcome → State → State → Type 0
+IsStateDone image devices wanted n outcome before after =
+    (after.files ≡ before.files) × (given : ImageAndText before.files image devices)
+    × IsStateOf given wanted n before.out.taken after.out.taken (Ok (not (is_remarkable outcome)))
+
+-- ticks between states are given, if at all, as a number in digits, from 1 to 2^40, and no words of a row are given with it
+abbrev pub IsSpacing : Option (List ℕ) → Moments → Type 0
+IsSpacing None moments = Unit {0}
+IsSpacing (Some word) (Every k) = IsNumeral 10 word × (0 < k) × (k ≤ MOST_TICKS)
+IsSpacing (Some word) moments = ⊥
+
+-- the words of `mb state` that are numbers are right
+abbrev pub AreStateNumbers : List ℕ → Option (List ℕ) → Wanted → Type 0
+AreStateNumbers tick every wanted = IsNumeral 10 tick × IsSpacing every wanted.moments
 
 -- An image was built and written as the file of this name, and no other file was touched. This file is none of those that were
 -- read by then, the table and the sources among them.
@@ -193,7 +206,7 @@ IsDone (Build table name sources) before after =
 IsDone (Run image devices ticks until) before after = IsNumeral 10 ticks × IsRunDone image devices until (digits_value 10 ticks) Usual before after
 IsDone (Replay image partition inputs ticks) before after = IsNumeral 10 ticks × IsReplayDone image partition inputs (digits_value 10 ticks) before after
 IsDone (Inputs image partition devices ticks) before after = IsNumeral 10 ticks × AreInputsDone image partition devices (digits_value 10 ticks) before after
-IsDone (ShowState image devices tick wanted) before after = IsNumeral 10 tick × IsStateDone image devices wanted (digits_value 10 tick) before after
+IsDone (ShowState image devices tick every wanted) before after = AreStateNumbers tick every wanted × IsStateDone image devices wanted (digits_value 10 tick) Usual before after
 IsDone (Cost table sources) before after =
     (after.files ≡ before.files) × (costs : List PartitionCosts) × AreCosted before.files table sources costs × Appends before.out.taken after.out.taken (costs_text costs)
 IsDone (Dis name) before after =
@@ -207,10 +220,11 @@ IsDone (Upgrade old new) before after =
 IsDone (Lint table sources) before after = IsLinted false table sources before after
 IsDone Dashed before after = ⊥
 
--- with status 3 something is found, or a line that a run waits for has not come
+-- with status 3 something is found, or what is waited for has not come
 abbrev pub IsRemarkable : Order → State → State → Type 0
 IsRemarkable (Lint table sources) before after = IsLinted true table sources before after
 IsRemarkable (Run image devices ticks until) before after = IsNumeral 10 ticks × IsRunDone image devices until (digits_value 10 ticks) Remarkable before after
+IsRemarkable (ShowState image devices tick every wanted) before after = AreStateNumbers tick every wanted × IsStateDone image devices wanted (digits_value 10 tick) Remarkable before after
 IsRemarkable order before after = ⊥
 
 abbrev pub IsDoneWith : Outcome → Order → State → State → Type 0

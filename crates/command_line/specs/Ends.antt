@@ -43,8 +43,7 @@ EndsInputs image partition devices n before after (Ok Remarkable) = ⊥
 EndsInputs image partition devices n before after (Err r) = AreInputsRefused image partition devices n before after r × IsOfFailed before.failed after.failed r
 
 abbrev pub EndsState : List ℕ → List ℕ → Wanted → ℕ → State → State → Result Outcome Refusal → Type 0
-EndsState image devices wanted n before after (Ok Usual) = IsStateDone image devices wanted n before after × IsWell before after
-EndsState image devices wanted n before after (Ok Remarkable) = ⊥
+EndsState image devices wanted n before after (Ok outcome) = IsStateDone image devices wanted n outcome before after × IsWell before after
 EndsState image devices wanted n before after (Err r) = IsStateRefused image devices wanted n before after r × IsOfFailed before.failed after.failed r
 
 -- ---- words

@@ -1,7 +1,10 @@
 -- What an order of the code asks for.
-use Rattle.std.specs.Prelude.{map, option_map}
+use Rattle.std.specs.Prelude.{◌≡◌, ℕ, List, Option, Some, None, map, option_map}
 use Rattle.command_line.specs.Orders as asked
-use Rattle.module.specs.States.{Wanted}
+use Rattle.module.specs.States.{Moments, Wanted}
+use Rattle.module.specs.Stating.{moments_in}
+use Rattle.module.specs.declared.stating.Moments.{Moments as Code}
+use Rattle.command_line.specs.Done.{IsSpacing}
 use Rattle.command_line.specs.declared.order.InputsWords.{InputsWords}
 use Rattle.command_line.specs.declared.order.ReplayWords.{ReplayWords}
 use Rattle.command_line.specs.declared.order.RunWords.{RunWords}
@@ -19,10 +22,19 @@ abbrev pub inputs_meant : InputsWords → asked.Order
 inputs_meant words = asked.Inputs words.image.now words.partition.now words.devices.now words.ticks.now
 
 abbrev pub wanted_in : StateWords → Wanted
-wanted_in words = record { form = words.form; partition = option_map (λ s. s.now) words.partition }
+wanted_in words = record {
+  form = words.form;
+  partition = option_map (λ s. s.now) words.partition;
+  moments = asked.moments_of (option_map (λ s. s.now) words.every) (map (λ s. s.now) words.until.now);
+}
+
+-- the moments that are read of the words, unless these give no number of ticks between states where they have to
+abbrev pub ReadsMoments : Option (List ℕ) → Moments → Option Code → Type 0
+ReadsMoments every moments None = IsSpacing every moments → ⊥
+ReadsMoments every moments (Some read) = IsSpacing every moments × (moments_in read ≡ moments)
 
 abbrev pub state_meant : StateWords → asked.Order
-state_meant words = asked.ShowState words.image.now words.devices.now words.tick.now (wanted_in words)
+state_meant words = asked.ShowState words.image.now words.devices.now words.tick.now (option_map (λ s. s.now) words.every) (wanted_in words)
 
 abbrev pub meant : Order → asked.Order
 meant order.First = asked.First

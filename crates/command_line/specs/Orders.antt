@@ -1,19 +1,21 @@
 -- The command that the words of a command line ask for.
-use Rattle.std.specs.Prelude.{◌||◌, ℕ, Bool, false, List, [], ◌∷◌, Some, None, if◌then◌else◌, codes}
+use Rattle.std.specs.Prelude.{◌||◌, ℕ, Bool, false, List, [], ◌∷◌, Option, Some, None, if◌then◌else◌, codes}
 use Rattle.std.specs.List.{list_any}
 use Rattle.std.specs.Str.{bytes_eq}
+use Rattle.std.specs.Str.Parse.{digits_value}
 use Rattle.clap.specs.Walk.{Row, first_of}
 use Rattle.command_words.specs.Found.{Entered, word_at, words_at}
 use Rattle.command_line.specs.declared.explaining.Style.{Style}
 use Rattle.command_line.specs.declared.explaining.Style.TheVariants.{Json, Plain}
 use Rattle.command_line.specs.declared.form.Form.{Form}
 use Rattle.command_line.specs.declared.form.Form.TheVariants.{Tables, Rows, Picture}
-use Rattle.module.specs.States.{Wanted}
+use Rattle.module.specs.States as states
+use Rattle.module.specs.States.{Moments, Wanted}
 use Rattle.state_rows.specs.declared.row.Form.{Form as RowForm}
 use Rattle.state_rows.specs.declared.row.Form.TheVariants as row_form
 
--- files and partitions are named; ticks are a word; a run may wait for a line with some words;
--- if a word is only `-`, nothing is asked for
+-- files and partitions are named; ticks are a word, and a number of ticks between states too, if it is given; a run may wait for a line with
+-- some words; if a word is only `-`, nothing is asked for
 pub data Order : Type 0 where
   First : Order
   Check : (table : List ℕ) (sources : List (List ℕ)) → Order
@@ -21,7 +23,7 @@ pub data Order : Type 0 where
   Run : (image : List ℕ) (devices : List ℕ) (ticks : List ℕ) (until : List (List ℕ)) → Order
   Replay : (image : List ℕ) (partition : List ℕ) (inputs : List ℕ) (ticks : List ℕ) → Order
   Inputs : (image : List ℕ) (partition : List ℕ) (devices : List ℕ) (ticks : List ℕ) → Order
-  ShowState : (image : List ℕ) (devices : List ℕ) (tick : List ℕ) (wanted : Wanted) → Order
+  ShowState : (image : List ℕ) (devices : List ℕ) (tick : List ℕ) (every : Option (List ℕ)) (wanted : Wanted) → Order
   Cost : (table : List ℕ) (sources : List (List ℕ)) → Order
   Dis : (image : List ℕ) → Order
   Upgrade : (old : List ℕ) (new : List ℕ) → Order
@@ -65,12 +67,23 @@ form_of rows = if is_flagged (codes "svg") rows then Picture else if is_flagged 
 abbrev pub row_form_of : List Row → RowForm
 row_form_of rows = if is_flagged (codes "json") rows then row_form.Json else row_form.Text
 
+-- The states before ticks that are so many ticks apart, if a word for that is given; with words for a row the first state with such a row;
+-- else only the last.
+abbrev pub moments_of : Option (List ℕ) → List (List ℕ) → Moments
+moments_of None [] = states.Last
+moments_of (Some word) [] = states.Every (digits_value 10 word)
+moments_of every (word ∷ words) = states.First (word ∷ words)
+
 -- those of all partitions, or of the module and the one that is named
 abbrev pub wanted_of : List Row → Wanted
-wanted_of rows = record { form = row_form_of rows; partition = first_of (codes "partition") rows }
+wanted_of rows = record {
+  form = row_form_of rows;
+  partition = first_of (codes "partition") rows;
+  moments = moments_of (first_of (codes "every") rows) (words_at (codes "until") rows);
+}
 
 abbrev pub state_of : List Row → Order
-state_of rows = ShowState (word_at (codes "IMAGE") rows) (word_at (codes "DEVICES") rows) (word_at (codes "TICK") rows) (wanted_of rows)
+state_of rows = ShowState (word_at (codes "IMAGE") rows) (word_at (codes "DEVICES") rows) (word_at (codes "TICK") rows) (first_of (codes "every") rows) (wanted_of rows)
 
 abbrev pub load_of : List Row → Order
 load_of rows = Load (form_of rows) (word_at (codes "TABLE") rows) (words_at (codes "SOURCE") rows)
@@ -99,8 +112,8 @@ abbrev pub order_by_name : Entered → Order
 order_by_name None = First
 order_by_name (Some entered) = order_named entered.0 entered.1
 
--- the arguments that name a file or a partition, or give a number of ticks: all but the words of a line that a run
--- waits for
+-- the arguments that name a file or a partition, or give a number of ticks: all but the words of a line or a row that is
+-- waited for
 abbrev pub named : List (List ℕ)
 named =
     codes "TABLE" ∷ codes "SOURCE" ∷ codes "IMAGE" ∷ codes "DEVICES" ∷ codes "PARTITION" ∷ codes "INPUTS" ∷ codes "TICKS" ∷ codes "TICK" ∷ codes "OLD" ∷ codes "NEW" ∷ []

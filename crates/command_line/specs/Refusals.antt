@@ -19,7 +19,7 @@ use Rattle.module.specs.declared.inputs_fault.InputsFault.TheVariants as input_f
 use Rattle.module.specs.declared.fault.RunFault.{RunFault}
 use Rattle.module.specs.declared.fault.RunFault.TheVariants as faults
 use Rattle.streams.specs.Contents.{Contents, Holds, Spares}
-use Rattle.command_line.specs.Done.{Texts, IsTableIn, IsLongTable, IsBuilt, AreCosted, AreFoundIn, IsLoadIn, IsImageIn, IsImageWritten, IsUpgradedIn, ImageAndText, IsRunOf, IsRunDone, IsReplayOf, IsReplayDone, AreInputsOf, AreInputsDone, IsStateOf, IsStateDone, IsFirstRun, is_ok}
+use Rattle.command_line.specs.Done.{Texts, IsTableIn, IsLongTable, IsBuilt, AreCosted, AreFoundIn, IsLoadIn, IsImageIn, IsImageWritten, IsUpgradedIn, ImageAndText, IsRunOf, IsRunDone, IsReplayOf, IsReplayDone, AreInputsOf, AreInputsDone, IsStateOf, IsStateDone, AreStateNumbers, IsFirstRun, is_ok}
 use Rattle.command_line.specs.Orders.{Order, First as first, Check as check, Build as build, Run as run, Replay as replay, Inputs as inputs, ShowState as show_state, Cost as cost, Dis as dis, Upgrade as upgrade, Load as load, Lint as lint, Dashed as dashed}
 use Rattle.command_line.specs.Loading.{IsRefusedTable, Shown}
 use Rattle.lint.specs.Sentences.{findings_text}
@@ -149,14 +149,14 @@ AreInputsRefused image partition devices n before after Memory = IsUntouched bef
 AreInputsRefused image partition devices n before after Write = HasFailed before.out after.out × AreInputsDone image partition devices n before after
 AreInputsRefused image partition devices n before after _ = ⊥
 
--- why the state before tick n is refused
+-- why the wanted states of a run of n ticks are refused
 abbrev pub IsStateRefused : List ℕ → List ℕ → Wanted → ℕ → State → State → Refusal → Type 0
 IsStateRefused image devices wanted n before after (File name reason) = IsUntouched before after × IsFirstUnread before.files (image ∷ devices ∷ []) (string_bytes name)
 IsStateRefused image devices wanted n before after (Run fault) =
     HasFailedBy fault before.out after.out × (after.files ≡ before.files)
     × (given : ImageAndText before.files image devices) × IsStateOf given wanted n before.out.taken after.out.taken (Err fault)
 IsStateRefused image devices wanted n before after Memory = IsUntouched before after
-IsStateRefused image devices wanted n before after Write = HasFailed before.out after.out × IsStateDone image devices wanted n before after
+IsStateRefused image devices wanted n before after Write = HasFailed before.out after.out × (outcome : Outcome) × IsStateDone image devices wanted n outcome before after
 IsStateRefused image devices wanted n before after _ = ⊥
 
 -- why the run of the stored module is refused, over standard output
@@ -213,17 +213,17 @@ IsRefused (replay image partition text ticks) before after r =
     (IsNumeral 10 ticks ⊎ (r ≡ Memory)) × IsReplayRefused image partition text (digits_value 10 ticks) before after r
 IsRefused (inputs image partition devices ticks) before after r =
     (IsNumeral 10 ticks ⊎ (r ≡ Memory)) × AreInputsRefused image partition devices (digits_value 10 ticks) before after r
-IsRefused (show_state image devices tick wanted) before after r =
-    (IsNumeral 10 tick ⊎ (r ≡ Memory)) × IsStateRefused image devices wanted (digits_value 10 tick) before after r
+IsRefused (show_state image devices tick every wanted) before after r =
+    (AreStateNumbers tick every wanted ⊎ (r ≡ Memory)) × IsStateRefused image devices wanted (digits_value 10 tick) before after r
 IsRefused dashed before after r = IsUntouched before after × (r ≡ Memory)
 
 -- ---- the words
 
--- the word for the ticks is not written in digits, or a word is only `-`
+-- a word for ticks is not written in digits, or gives no number of ticks between states, or a word is only `-`
 abbrev pub HasWrongWord : Order → Type 0
 HasWrongWord (run image devices ticks until) = IsNumeral 10 ticks → ⊥
 HasWrongWord (replay image partition text ticks) = IsNumeral 10 ticks → ⊥
 HasWrongWord (inputs image partition devices ticks) = IsNumeral 10 ticks → ⊥
-HasWrongWord (show_state image devices tick wanted) = IsNumeral 10 tick → ⊥
+HasWrongWord (show_state image devices tick every wanted) = AreStateNumbers tick every wanted → ⊥
 HasWrongWord dashed = Unit {0}
 HasWrongWord _ = ⊥

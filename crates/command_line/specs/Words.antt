@@ -44,7 +44,8 @@ abbrev pub inputs_app : App
 inputs_app = with_rule (with_rule (partition_app (watched_app (codes "inputs"))) (word_rule (codes "DEVICES"))) (word_rule (codes "TICKS"))
 
 abbrev pub state_flags_app : App
-state_flags_app = with_rule (with_rule (explained_app (codes "state")) (flag_rule (codes "json"))) (option_rule (codes "partition"))
+state_flags_app =
+    with_rule (with_rule (with_rule (with_rule (explained_app (codes "state")) (flag_rule (codes "json"))) (option_rule (codes "partition"))) (option_rule (codes "every"))) (sequence_rule (codes "until"))
 
 abbrev pub state_app : App
 state_app = with_rule (with_rule (with_rule state_flags_app (word_rule (codes "IMAGE"))) (word_rule (codes "DEVICES"))) (word_rule (codes "TICK"))

@@ -39,7 +39,7 @@ const NO_COMMAND: ExitStatus = ExitStatus {
 
 const FOUND: ExitStatus = ExitStatus {
     number: 3,
-    meaning: "lint has found something, or no line came for which run --until waits",
+    meaning: "lint has found something, or what run or state waits for with --until did not come",
 };
 
 const CHECK: CommandRow = CommandRow {
@@ -135,11 +135,21 @@ const STATE: CommandRow = CommandRow {
             value: "PARTITION",
             help: "Writes only the rows of the module and of this partition",
         },
+        Argument::Option {
+            name: "every",
+            value: "K",
+            help: "Writes the states before the ticks 0, K, 2K and so on, up to TICK",
+        },
+        Argument::Sequence {
+            name: "until",
+            value: "WORD",
+            help: "Writes the first state with a row that begins with these words, `_` for any one, `..` for any",
+        },
         IMAGE,
         DEVICES,
         Argument::Word {
             name: "TICK",
-            help: "The tick before which the state is shown, at most 1099511627776",
+            help: "The tick before which the state is shown, or the last one, at most 1099511627776",
         },
     ],
 };
@@ -275,6 +285,16 @@ pub fn bad_tick(alloc: Global, word: &str) -> Result<Error, AllocError>
     ensures { IfOk result (λ error. kind_of error ≡ ValueValidation) }
 {
     bad_number(alloc, "state", "TICK", word)
+}
+
+/// The usage error of a word that is no number of ticks between states.
+pub fn bad_spacing(alloc: Global, word: &str) -> Result<Error, AllocError>
+    ensures { IfOk result (λ error. kind_of error ≡ ValueValidation) }
+{
+    let message = format!(in alloc;
+        "invalid value '{word}' for '--every <K>': one or more digits, 1 to 1099511627776, without --until"
+    )?;
+    PROGRAM.usage_error(alloc, "state", message.as_str())
 }
 
 /// The usage error of a word for an argument that is no number.

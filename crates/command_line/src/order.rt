@@ -49,7 +49,7 @@ pub struct InputsWords<'a> {
     pub ticks: &'a str,
 }
 
-/// The words of `mb state`: two names, the tick, and which rows are wanted.
+/// The words of `mb state`: two names, the tick, which rows are wanted, and before which ticks.
 #[derive(Clone, Copy)]
 pub struct StateWords<'a> {
     pub image: &'a str,
@@ -57,6 +57,8 @@ pub struct StateWords<'a> {
     pub tick: &'a str,
     pub form: RowForm,
     pub partition: Option<&'a str>,
+    pub every: Option<&'a str>,
+    pub until: &'a [&'a str],
 }
 
 /// The words of a command, and the number in its word for ticks.
@@ -227,6 +229,8 @@ fn state_words<'a, 'w: 'a>(found: &'a ArgMatches<'w>) -> StateWords<'a>
         tick: word(found, "TICK"),
         form: row_form_of(found),
         partition: word_if_any(found, "partition"),
+        every: word_if_any(found, "every"),
+        until: words(found, "until"),
     }
 }
 

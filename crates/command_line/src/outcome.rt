@@ -11,7 +11,7 @@ use lint::{PartitionFindings, have_findings};
 pub enum Outcome {
     /// As usual.
     Usual,
-    /// Something is found that is probably not meant, or a line that a run waits for has not come.
+    /// Something is found that is probably not meant, or what is waited for has not come.
     Remarkable,
 }
 
@@ -26,7 +26,7 @@ impl Outcome {
         }
     }
 
-    /// The outcome of a run that waits for a line.
+    /// The outcome of waiting for a line of a run, or for a state.
     pub fn of_wait(came: bool) -> Outcome
         ensures { is_remarkable result ≡ not came }
     {

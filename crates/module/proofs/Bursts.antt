@@ -6,6 +6,7 @@ use Rattle.module_meaning.specs.Module.{goes_on}
 use Rattle.kernel_laws.proofs.Quiet.{still_tick}
 use Rattle.lone_partition.proofs.LinesOfTicks as of_any
 use Rattle.module.proofs.DeviceLines.{none_before, of_tick_again}
+use Rattle.module.specs.Pieces.{AreQuiet}
 use Rattle.module.specs.Written.{tick_of_line}
 use Rattle.module.proofs.Standing.{begins_later, skipped_leads}
 use Rattle.lone_partition.proofs.Texts.{text_append}
@@ -129,6 +130,18 @@ pub skip_ticks : {C : Type 0} (plan : Plan) (k n t origin : ℕ) (s : Standing C
 skip_ticks plan k n t origin s here from few begun still =
     let all : n ≡ n + 0 = omega arith in
     (few, refl, ap (λ j. elapse plan [] j s) all ∙ lift plan [] n t origin s [] s.members here from (leads_still plan [] n t origin s.members begun tt still) 0)
+
+-- nothing happens in any of them
+pub quiet_ticks : {C : Type 0} (plan : Plan) (n t origin : ℕ) (s : Standing C) → t ≡ s.now → s.origin ≡ Some origin → 0 < t → AreStill origin t (t + n) s.members → AreQuiet plan s n
+quiet_ticks plan n t origin s here from begun calm k within =
+    let all : k ≤ k = omega arith in
+    (skip_ticks plan k k t origin s here from all begun (λ place x e. still_sooner origin t n k x.world.kernel within (calm place x e))).2
+
+pub quiet_at_once : {C : Type 0} (plan : Plan) (s : Standing C) → AreQuiet plan s 0
+quiet_at_once plan s k within =
+    let none : k ≡ 0 = omega (arith, within) in
+    let same : s.now ≡ s.now + k = omega (arith, none) in
+    ap (λ j. elapse plan [] j s) none ∙ ap (λ t. still (record { members = s.members; now = t; origin = s.origin })) same
 
 -- ticks that were skipped lead on with any device lines that are later
 pub skipped_ahead : {C : Type 0} (plan : Plan) (lines : List DeviceLine) (k : ℕ) (s next : Standing C) → next.now ≡ s.now + k → AreFrom next.now lines → elapse plan [] k s ≡ still next → LeadsTo plan lines k s [] next

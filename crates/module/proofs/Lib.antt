@@ -11,6 +11,7 @@ pub mod Edges
 pub mod Elapsed
 pub mod Sources
 pub mod Headline
+pub mod Heads
 pub mod Isolated
 pub mod Loaded
 pub mod Machines
@@ -24,6 +25,8 @@ pub mod Told
 pub mod Refused
 pub mod Replayed
 pub mod Runs
+pub mod Spaced
+pub mod Awaited
 pub mod Shutdown
 pub mod Standing
 pub mod Stated

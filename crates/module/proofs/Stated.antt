@@ -1,14 +1,13 @@
--- The text of a state, and why there is none.
-use Rattle.module.proofs.Prelude.{◌≡◌, ◌≤◌, ◌<◌, ◌+◌, ◌++◌, ℕ, zero, suc, List, ◌∷◌, length, drop, Option, Some, None, Result, Ok, Err, refl, sym, ap, ◌∙◌, append-nil, append_assoc, arith, slice_get, none-some, same_Some, place_of_number, at_number, OnOk, DeviceFault, DeviceLine, Plan, of_tick, Image, Item, Fault, verdict_for, machine_module, Machine, fresh_machine, Member, MachineControl, MOST_TICKS, AreRefused, Runs, RunFault, Standing, after, elapse, ticks}
+-- The text of states, and why there is none.
+use Rattle.module.proofs.Prelude.{◌≡◌, ◌≤◌, ◌<◌, ◌+◌, ◌++◌, inl, inr, ℕ, zero, suc, Bool, true, false, List, ◌∷◌, length, drop, Option, Some, None, Result, Ok, Err, refl, sym, ap, ◌∙◌, append-nil, append_assoc, arith, slice_get, none-some, same_Some, place_of_number, at_number, OnOk, DeviceFault, DeviceLine, Plan, of_tick, Image, Item, Fault, verdict_for, Member, MachineControl, MOST_TICKS, AreRefused, IsRun, Runs, RunFault, Standing, after, elapse, ticks}
 use Rattle.std.proofs.Common.{[], subst}
 use Rattle.module.specs.declared.fault.RunFault.TheVariants as fault
-use Rattle.module.specs.Runs.{IsRun}
-use Rattle.module.specs.States.{IsStateText, LacksWanted, States, Wanted, rows_of, rows_of_both, state_before, wanted_rows}
-use Rattle.module.specs.Stating.{IsTextFor}
+use Rattle.module.specs.States.{AreStateTexts, Every, First, HasRowAt, IsTextAt, LacksWanted, Last, Moments, States, Wanted, every, rows_of, rows_of_all, rows_of_both, state_before, watched_of}
+use Rattle.module.specs.Stating.{AreFor, IsShown, IsShownText, text_before, texts_before, watches_before}
 use Rattle.module.proofs.Runs.{device_refused}
 use Rattle.std.proofs.lemmas.Grind.{flat_map-append}
 use Rattle.state_rows.specs.Rows.{Row, row_in, rows_in}
-use Rattle.state_rows.specs.States.{members_rows}
+use Rattle.state_rows.specs.States.{member_rows, members_rows}
 use Rattle.state_rows.specs.declared.row.Form.{Form}
 
 abbrev ok_image : Image → Result Image Fault
@@ -18,7 +17,7 @@ ok_image image = Ok image
 
 as_run : (read : Result Image Fault) (devices : List ℕ) (n : ℕ) (wanted : Wanted) (old : Option (List ℕ)) (v : Result (List DeviceLine) DeviceFault) (f : RunFault) → AreRefused v f → Runs read devices n old old (Err f) → States read devices n wanted old old (Err f)
 as_run read devices n wanted old v (fault.Device f) h r = r
-as_run read devices n wanted old v fault.Memory h r = r
+as_run read devices n wanted old v fault.Memory h r = inl r
 as_run read devices n wanted old v fault.Ticks h r = r
 as_run read devices n wanted old v (fault.Image f) h r = r
 as_run read devices n wanted old v fault.Partition h r = absurd r
@@ -39,12 +38,51 @@ none_found read loaded devices n wanted old f is few none lacks =
 
 -- ---- the text
 
--- the text of the wanted rows
-pub stated : (read : Result Image Fault) (loaded : Image) (devices : List ℕ) (n : ℕ) (wanted : Wanted) (only : Option ℕ) (text : List ℕ) → read ≡ ok_image loaded → n ≤ MOST_TICKS
-    → ((k : ℕ) (s : Standing MachineControl) → wanted_rows wanted.partition loaded k s ≡ Some (rows_of only loaded k s)) → IsTextFor loaded devices n wanted.form only text
-    → (lines : List DeviceLine) × IsRun read devices n loaded lines × IsStateText wanted loaded lines n text
-stated read loaded devices n wanted only text is few each t =
-    (t.lines, record { loaded = is; taken = t.taken; few = few }, (rows_of only loaded n (state_before loaded t.lines n), each n (state_before loaded t.lines n), t.rows))
+all_texts : (wanted : Wanted) (only : Option ℕ) (image : Image) (lines : List DeviceLine) (ticks : List ℕ) (text : List ℕ) → AreFor image wanted.partition only → text ≡ texts_before wanted.form only image lines ticks
+    → AreStateTexts wanted image lines ticks text
+all_texts wanted only image lines [] text each is = is
+all_texts wanted only image lines (t ∷ ticks) text each is = (
+  text_before wanted.form only image lines t,
+  texts_before wanted.form only image lines ticks,
+  (rows_of only image t (state_before image lines t), (each [] t (state_before image lines t)).0, refl),
+  all_texts wanted only image lines ticks (texts_before wanted.form only image lines ticks) each refl,
+  is,
+)
+
+row_at : (wanted : Wanted) (only : Option ℕ) (image : Image) (lines : List DeviceLine) (words : List (List ℕ)) (t : ℕ) (found : Bool) → AreFor image wanted.partition only → watches_before words only image lines t ≡ found → HasRowAt wanted image lines words t found
+row_at wanted only image lines words t found each is = (watched_of words only image (state_before image lines t), (each words t (state_before image lines t)).1, is)
+
+wanted_text : (moments : Moments) (wanted : Wanted) (only : Option ℕ) (image : Image) (lines : List DeviceLine) (n : ℕ) (found : Bool) (text : List ℕ) → AreFor image wanted.partition only → IsShownText moments wanted.form only image lines n found text
+    → IsTextAt moments wanted image lines n found text
+wanted_text Last wanted only image lines n found text each (there, is) = (there, (rows_of only image n (state_before image lines n), (each [] n (state_before image lines n)).0, is))
+wanted_text (Every k) wanted only image lines n found text each (there, is) = (there, all_texts wanted only image lines (every k n) text each is)
+wanted_text (First words) wanted only image lines n true text each (t, first, is) = (
+  t,
+  first.0,
+  row_at wanted only image lines words t true each first.1,
+  λ u below. row_at wanted only image lines words u false each (first.2 u below),
+  (rows_of only image t (state_before image lines t), (each [] t (state_before image lines t)).0, is),
+)
+wanted_text (First words) wanted only image lines n false text each (none, is) = (λ u within. row_at wanted only image lines words u false each (none 0 u within), is)
+
+-- the wanted states
+pub shown_states : (read : Result Image Fault) (loaded : Image) (devices : List ℕ) (lines : List DeviceLine) (n : ℕ) (wanted : Wanted) (only : Option ℕ) (old new : Option (List ℕ)) (answer : Result Bool RunFault) → read ≡ ok_image loaded → verdict_for loaded devices ≡ Ok lines
+    → n ≤ MOST_TICKS → AreFor loaded wanted.partition only → IsShown wanted.moments wanted.form only loaded lines n old new answer → States read devices n wanted old new answer
+shown_states read loaded devices lines n wanted only old new answer is taken few each h = go answer h
+  where
+    run : IsRun read devices n loaded lines
+    run = record { loaded = is; taken = taken; few = few }
+
+    go : (answer : Result Bool RunFault) → IsShown wanted.moments wanted.form only loaded lines n old new answer → States read devices n wanted old new answer
+    go (Ok found) (text, shown, all) = (loaded, lines, run, text, wanted_text wanted.moments wanted only loaded lines n found text each shown, all)
+    go (Err fault.Write) (text, shown, part) = (loaded, lines, run, text, wanted_text wanted.moments wanted only loaded lines n true text each shown, part)
+    go (Err fault.Memory) (inl kept) = inl kept
+    go (Err fault.Memory) (inr (several, (text, shown, part))) = inr (several, (loaded, lines, run, text, wanted_text wanted.moments wanted only loaded lines n true text each shown, part))
+    go (Err fault.Ticks) h = absurd h
+    go (Err (fault.Image f)) h = absurd h
+    go (Err fault.Partition) h = absurd h
+    go (Err (fault.Device f)) h = absurd h
+    go (Err fault.Failed) h = absurd h
 
 -- ticks go by, whatever happens in them
 pub elapsed_now : {C : Type 0} (plan : Plan) (lines : List DeviceLine) (n : ℕ) (s : Standing C) → (elapse plan lines n s).state.now ≡ s.now + n
@@ -54,84 +92,78 @@ elapsed_now plan lines (suc n) s =
     let on : (elapse plan lines n (after s own)).state.now ≡ s.now + 1 + n = elapsed_now plan lines n (after s own) in
     omega (arith, on)
 
--- the rows of a machine that has made n ticks
-pub rows_after : (image : Image) (m last : Machine) (lines : List DeviceLine) (n : ℕ) (form : Form) (only : Option ℕ) → m ≡ fresh_machine image → last.image ≡ m.image
-    → last.standing ≡ (elapse (machine_module m.image).plan lines n m.standing).state
-    → rows_in form (rows_of only last.image last.standing.now last.standing) ≡ rows_in form (rows_of only image n (state_before image lines n))
-rows_after image m last lines n form only fresh kept behind =
-    let same : last.image ≡ image = kept ∙ ap (λ (x : Machine). x.image) fresh in
-    let stood : last.standing ≡ state_before image lines n = behind ∙ ap (λ (x : Machine). (elapse (machine_module x.image).plan lines n x.standing).state) fresh in
-    let counted : (state_before image lines n).now ≡ 0 + n = elapsed_now (machine_module image).plan lines n (fresh_machine image).standing in
-    let now : last.standing.now ≡ n = ap (λ (s : Standing _). s.now) stood ∙ counted ∙ omega arith in
-    ap (λ (i : Image). rows_in form (rows_of only i last.standing.now last.standing)) same
-    ∙ ap (λ (k : ℕ). rows_in form (rows_of only image k last.standing)) now
-    ∙ ap (λ (s : Standing _). rows_in form (rows_of only image n s)) stood
-
 -- ---- partition by partition
 
-no_members : (items : List Item) → members_rows items [] ≡ []
-no_members [] = refl
-no_members (i ∷ is) = refl
+no_members : (rows : Item → Member MachineControl → List Row) (items : List Item) → rows_of_all rows items [] ≡ []
+no_members rows [] = refl
+no_members rows (i ∷ is) = refl
 
-no_member : (i : Option Item) → rows_of_both i None ≡ []
-no_member None = refl
-no_member (Some i) = refl
+no_member : (rows : Item → Member MachineControl → List Row) (i : Option Item) → rows_of_both rows i None ≡ []
+no_member rows None = refl
+no_member rows (Some i) = refl
+
+-- the rows of all partitions, with all of each
+pub all_rows : (items : List Item) (members : List (Member MachineControl)) → rows_of_all member_rows items members ≡ members_rows items members
+all_rows [] members = refl
+all_rows (i ∷ is) [] = refl
+all_rows (i ∷ is) (x ∷ xs) = ap (λ (rows : List Row). member_rows i x ++ rows) (all_rows is xs)
 
 -- a partition without an item, or without a member
-pub no_item_rows : (i : Option Item) (x : Option (Member MachineControl)) → i ≡ None → rows_of_both i x ≡ []
-no_item_rows None x e = refl
-no_item_rows (Some i) x e = absurd cc
+pub no_item_rows : (rows : Item → Member MachineControl → List Row) (i : Option Item) (x : Option (Member MachineControl)) → i ≡ None → rows_of_both rows i x ≡ []
+no_item_rows rows None x e = refl
+no_item_rows rows (Some i) x e = absurd cc
 
-pub no_member_rows : (i : Option Item) (x : Option (Member MachineControl)) → x ≡ None → rows_of_both i x ≡ []
-no_member_rows i None e = no_member i
-no_member_rows i (Some x) e = absurd cc
+pub no_member_rows : (rows : Item → Member MachineControl → List Row) (i : Option Item) (x : Option (Member MachineControl)) → x ≡ None → rows_of_both rows i x ≡ []
+no_member_rows rows i None e = no_member rows i
+no_member_rows rows i (Some x) e = absurd cc
 
-none_left : (items : List Item) (place k : ℕ) → members_rows (drop place items) [] ≡ rows_of_both (slice_get items place) None ++ members_rows (drop k items) []
-none_left items place k =
-    no_members (drop place items) ∙ sym (ap (λ (rows : List Row). rows ++ members_rows (drop k items) []) (no_member (slice_get items place)) ∙ no_members (drop k items))
+none_left : (rows : Item → Member MachineControl → List Row) (items : List Item) (place k : ℕ) → rows_of_all rows (drop place items) [] ≡ rows_of_both rows (slice_get items place) None ++ rows_of_all rows (drop k items) []
+none_left rows items place k =
+    no_members rows (drop place items) ∙ sym (ap (λ (rs : List Row). rs ++ rows_of_all rows (drop k items) []) (no_member rows (slice_get items place)) ∙ no_members rows (drop k items))
 
-one_step : (items : List Item) (members : List (Member MachineControl)) (place : ℕ) → place < length items
-    → members_rows (drop place items) (drop place members)
-    ≡ rows_of_both (slice_get items place) (slice_get members place) ++ members_rows (drop (suc place) items) (drop (suc place) members)
-one_step [] members place h = absurd (omega (arith, h))
-one_step (i ∷ items) [] zero h = sym (no_members items)
-one_step (i ∷ items) (x ∷ members) zero h = refl
-one_step (i ∷ items) [] (suc place) h = none_left items place (suc place)
-one_step (i ∷ items) (x ∷ members) (suc place) h = one_step items members place (omega (arith, h))
+one_step : (rows : Item → Member MachineControl → List Row) (items : List Item) (members : List (Member MachineControl)) (place : ℕ) → place < length items
+    → rows_of_all rows (drop place items) (drop place members)
+    ≡ rows_of_both rows (slice_get items place) (slice_get members place) ++ rows_of_all rows (drop (suc place) items) (drop (suc place) members)
+one_step rows [] members place h = absurd (omega (arith, h))
+one_step rows (i ∷ items) [] zero h = sym (no_members rows items)
+one_step rows (i ∷ items) (x ∷ members) zero h = refl
+one_step rows (i ∷ items) [] (suc place) h = none_left rows items place (suc place)
+one_step rows (i ∷ items) (x ∷ members) (suc place) h = one_step rows items members place (omega (arith, h))
 
 -- one more partition
-one_more : (items : List Item) (members : List (Member MachineControl)) (place : ℕ) → place < length items
-    → members_rows (drop place items) (drop place members)
-    ≡ rows_of_both (slice_get items place) (slice_get members place) ++ members_rows (drop (place + 1) items) (drop (place + 1) members)
-one_more items members place h =
+one_more : (rows : Item → Member MachineControl → List Row) (items : List Item) (members : List (Member MachineControl)) (place : ℕ) → place < length items
+    → rows_of_all rows (drop place items) (drop place members)
+    ≡ rows_of_both rows (slice_get items place) (slice_get members place) ++ rows_of_all rows (drop (place + 1) items) (drop (place + 1) members)
+one_more rows items members place h =
     let next : suc place ≡ place + 1 = omega arith in
-    one_step items members place h ∙ ap (λ k. rows_of_both (slice_get items place) (slice_get members place) ++ members_rows (drop k items) (drop k members)) next
+    one_step rows items members place h
+    ∙ ap (λ k. rows_of_both rows (slice_get items place) (slice_get members place) ++ rows_of_all rows (drop k items) (drop k members)) next
 
-all_done : (items : List Item) (members : List (Member MachineControl)) (place : ℕ) → length items ≤ place → members_rows (drop place items) (drop place members) ≡ []
-all_done [] members zero h = refl
-all_done [] members (suc place) h = refl
-all_done (i ∷ items) members zero h = absurd (omega (arith, h))
-all_done (i ∷ items) [] (suc place) h = no_members (drop place items)
-all_done (i ∷ items) (x ∷ members) (suc place) h = all_done items members place (omega (arith, h))
+all_done : (rows : Item → Member MachineControl → List Row) (items : List Item) (members : List (Member MachineControl)) (place : ℕ) → length items ≤ place → rows_of_all rows (drop place items) (drop place members) ≡ []
+all_done rows [] members zero h = refl
+all_done rows [] members (suc place) h = refl
+all_done rows (i ∷ items) members zero h = absurd (omega (arith, h))
+all_done rows (i ∷ items) [] (suc place) h = no_members rows (drop place items)
+all_done rows (i ∷ items) (x ∷ members) (suc place) h = all_done rows items members place (omega (arith, h))
 
 -- the text with one more partition
-pub written_more : (form : Form) (items : List Item) (members : List (Member MachineControl)) (place : ℕ) (old new whole : List ℕ) → place < length items
-    → new ≡ old ++ rows_in form (rows_of_both (slice_get items place) (slice_get members place))
-    → old ++ rows_in form (members_rows (drop place items) (drop place members)) ≡ whole
-    → new ++ rows_in form (members_rows (drop (place + 1) items) (drop (place + 1) members)) ≡ whole
-written_more form items members place old new whole within is so_far =
-    let own = rows_of_both (slice_get items place) (slice_get members place) in
-    let rest = members_rows (drop (place + 1) items) (drop (place + 1) members) in
+pub written_more : (rows : Item → Member MachineControl → List Row) (form : Form) (items : List Item) (members : List (Member MachineControl)) (place : ℕ) (old new whole : List ℕ) → place < length items
+    → new ≡ old ++ rows_in form (rows_of_both rows (slice_get items place) (slice_get members place))
+    → old ++ rows_in form (rows_of_all rows (drop place items) (drop place members)) ≡ whole
+    → new ++ rows_in form (rows_of_all rows (drop (place + 1) items) (drop (place + 1) members)) ≡ whole
+written_more rows form items members place old new whole within is so_far =
+    let own = rows_of_both rows (slice_get items place) (slice_get members place) in
+    let rest = rows_of_all rows (drop (place + 1) items) (drop (place + 1) members) in
     ap (λ (bytes : List ℕ). bytes ++ rows_in form rest) is
     ∙ append_assoc old (rows_in form own) (rows_in form rest)
     ∙ ap (λ (bytes : List ℕ). old ++ bytes) (sym (flat_map-append (row_in form) own rest))
-    ∙ ap (λ (rows : List Row). old ++ rows_in form rows) (sym (one_more items members place within))
+    ∙ ap (λ (rs : List Row). old ++ rows_in form rs) (sym (one_more rows items members place within))
     ∙ so_far
 
-pub written_all : (form : Form) (items : List Item) (members : List (Member MachineControl)) (place : ℕ) (old whole : List ℕ) → length items ≤ place
-    → old ++ rows_in form (members_rows (drop place items) (drop place members)) ≡ whole → old ≡ whole
-written_all form items members place old whole done so_far =
-    sym (append-nil old) ∙ sym (ap (λ (rows : List Row). old ++ rows_in form rows) (all_done items members place done)) ∙ so_far
+pub written_all : (rows : Item → Member MachineControl → List Row) (form : Form) (items : List Item) (members : List (Member MachineControl)) (place : ℕ) (old whole : List ℕ) → length items ≤ place
+    → old ++ rows_in form (rows_of_all rows (drop place items) (drop place members)) ≡ whole → old ≡ whole
+written_all rows form items members place old whole done so_far =
+    sym (append-nil old) ∙ sym (ap (λ (rs : List Row). old ++ rows_in form rs) (all_done rows items members place done)) ∙ so_far
 
 -- ---- rows after rows
 

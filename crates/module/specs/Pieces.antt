@@ -29,6 +29,10 @@ HasPassedSome plan lines k s next old new n = (n ≤ k) × (next.now ≡ s.now +
 abbrev pub HasSkippedSome : {C : Type 0} → Plan → ℕ → Standing C → Standing C → ℕ → Type 0
 HasSkippedSome plan k s next n = (n ≤ k) × (next.now ≡ s.now + n) × (elapse plan [] n s ≡ still next)
 
+-- In each of the next n ticks nothing happens, unless it has device lines.
+abbrev pub AreQuiet : {C : Type 0} → Plan → Standing C → ℕ → Type 0
+AreQuiet plan s n = (k : ℕ) → k ≤ n → elapse plan [] k s ≡ still (record { members = s.members; now = s.now + k; origin = s.origin })
+
 -- n ticks were made, and their lines were written.
 pub record HasRun {C : Type 0} (plan : Plan) (lines : List DeviceLine) (n : ℕ) (s next : Standing C) (old new : Option (List ℕ)) (before after : ℕ) : Type 0 where
   pub told : List Event

@@ -10,6 +10,7 @@ ghost use Rattle.machine_meaning.specs.ImageLimits.{IsLawful};
 ghost use Rattle.machine_meaning.specs.MachineMeaning.{machine_module, machine_trace};
 ghost use Rattle.module.specs.Isolated.{WritesAlone};
 ghost use Rattle.module.specs.Machines as machines;
+ghost use Rattle.module.specs.Pieces.{AreQuiet};
 ghost use Rattle.module.specs.Machines.{HasRunOn, HasSkipped, HasTicked, HaveTicked, fresh_machine, machine_of};
 ghost use Rattle.module_meaning.specs.Standing.{lines_of};
 ghost use Rattle.module.specs.Running.{AreRefused, RunsImage};
@@ -127,7 +128,9 @@ impl Machine {
     /// returns how many. So a caller with device lines asks for no tick of theirs. If it returns 0,
     /// the next tick has to be made.
     pub fn skip(&mut self, most: u32) -> u32
-        ensures { HasSkipped most (machine_of self.old) (machine_of self.new) result }
+        ensures skipped { HasSkipped most (machine_of self.old) (machine_of self.new) result }
+        ensures quiet { AreQuiet (machine_module (machine_of self.old).image).plan
+            (machine_of self.old).standing result }
     {
         self.module.skip_still(most)
     }

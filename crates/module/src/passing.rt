@@ -16,7 +16,7 @@ use lone_partition::at_most;
 
 /// The most ticks that are made at once. Before a burst the windows are looked through in which its
 /// partition stays the owner, as far as this.
-const MOST_AT_ONCE: u32 = 1 << 20;
+pub(crate) const MOST_AT_ONCE: u32 = 1 << 20;
 
 impl Machine {
     /// Makes so many ticks, with these lines of the devices, and keeps none of the lines of the trace.
@@ -29,6 +29,7 @@ impl Machine {
             ((machine_of self.new).standing
             ≡ (elapse (machine_module (machine_of self.old).image).plan devices.now ticks
             (machine_of self.old).standing).state) }
+        ensures sound { OnOk result ((machine_of self.new).failed ≡ false) }
         ensures made { IfErr result (λ fault. ⊥) }
     {
         let mut nowhere = Forgetful;

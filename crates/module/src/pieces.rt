@@ -10,7 +10,7 @@ ghost use Rattle.kernel_laws.specs.Quiet.{AreStill};
 ghost use Rattle.lone_partition.specs.Outputs.{sent_of};
 ghost use Rattle.lone_partition.specs.Pieces.{ticks_by};
 ghost use Rattle.module.specs.Collecting.{BringsNothing};
-ghost use Rattle.module.specs.Pieces.{EndsQuietly, HasNoSource, HasPassedSome, HasPassedSomeBehind, HasSkippedSome};
+ghost use Rattle.module.specs.Pieces.{AreQuiet, EndsQuietly, HasNoSource, HasPassedSome, HasPassedSomeBehind, HasSkippedSome};
 ghost use Rattle.module.specs.Standing.{ticks_in};
 ghost use Rattle.module.specs.Views.{members_in, plan_of, standing_of};
 ghost use Rattle.lone_partition.specs.Written.{IsMade};
@@ -308,10 +308,12 @@ impl<E: Executor<Mem = PartitionMem>> Module<E> {
 
     /// Skips some of `most` ticks in which nothing happens, unless a device line is of one of them;
     /// returns how many. None is skipped from tick 2^40 on.
+    #[tactic(auto, using(crate::proofs::Bursts::quiet_at_once))]
     pub fn skip_still(&mut self, most: u32) -> u32
         ensures image { self.new.image ≡ self.old.image }
         ensures skipped { HasSkippedSome (plan_of self.old.image) most
             (standing_of E.Executor self.old) (standing_of E.Executor self.new) result }
+        ensures quiet { AreQuiet (plan_of self.old.image) (standing_of E.Executor self.old) result }
         ensures unbrought { (p : ℕ) (lines : List DeviceLine) → AreFrom self.new.now.0 lines
             → BringsNothing (plan_of self.old.image) p lines result
             (standing_of E.Executor self.old) (standing_of E.Executor self.new) }

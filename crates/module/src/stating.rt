@@ -1,53 +1,71 @@
-//! The state of a module before a tick.
+//! The states of a module before ticks.
 
-ghost use Rattle.std.specs.Prelude.{◌≡◌, ◌≢◌, ◌≤◌, ◌<◌, ◌+◌, ◌-◌, ◌^◌, ◌++◌, ℕ, List, Option, Ok, IfErr, IfOk, OnOk, IsErrOf, option_map, slice_get};
+ghost use Rattle.std.specs.Prelude.{◌≡◌, ◌≢◌, ◌≤◌, ◌<◌, ◌+◌, ◌-◌, ◌^◌, ◌++◌, ℕ, List, Option, Ok, IfErr, OnOk, IsErrOf, map, option_map, slice_get};
 ghost use Rattle.apex_types.specs.Limits.{MOST_TICKS};
 ghost use Rattle.apex_types.specs.declared.device.DeviceLine.{DeviceLine};
 ghost use Rattle.image.specs.Items.{items_of};
 ghost use Rattle.image.specs.Views.{image_of};
 ghost use Rattle.machine_meaning.specs.Image as meant;
 ghost use Rattle.machine_meaning.specs.ImageReading.{image_at};
-ghost use Rattle.machine_meaning.specs.MachineMeaning.{machine_module, machine_trace, verdict_for};
+ghost use Rattle.machine_meaning.specs.MachineMeaning.{machine_module, machine_trace};
 ghost use Rattle.module_meaning.specs.Standing.{lines_of};
 ghost use Rattle.module_meaning.specs.Table.{at_number};
 ghost use Rattle.partition_base.specs.contracts.machine.PartitionProcessorExecutor.TheImpl.{ghosts as machine};
 ghost use Rattle.state_rows.specs.Rows.{rows_in};
-ghost use Rattle.state_rows.specs.States.{members_rows};
+ghost use Rattle.module.specs.Asked.{asked_rows};
 ghost use Rattle.module.specs.Machines as machines;
 ghost use Rattle.module.specs.Machines.{HaveTicked, fresh_machine, machine_of};
-ghost use Rattle.module.specs.States.{States, rows_of, rows_of_both, state_before};
-ghost use Rattle.module.specs.Running.{AreRefused};
-ghost use Rattle.module.specs.Stating.{IsFoundFor, IsTextFor, number_in, wanted_in};
+ghost use Rattle.module.specs.States.{Last, States, rows_of, rows_of_all, rows_of_both, state_before};
+ghost use Rattle.module.specs.Stating.{IsFoundFor, IsPut, IsShown, number_in, wanted_in};
 ghost use Rattle.module.specs.Views.{members_in};
+ghost use Rattle.module.specs.Written.{AreFrom};
 
+use crate::asked::write_asked;
 use crate::fault::RunFault;
+use crate::first::{Wait, put_first};
 use crate::machine::Machine;
 use crate::member::Members;
 use crate::module_rows::write_module;
 use crate::naming::numbered;
+use crate::series::{Series, put_series};
 use crate::step::number_at;
 use apex_types::limits::MOST_TICKS;
-use apex_types::{PartitionId, Sink, put_all};
+use apex_types::{DeviceLine, PartitionId, Sink, put_all};
 use image::{Image, PartitionItem, load_image};
 use partition_base::PartitionProcessor;
 use state_rows::Form;
-use state_view::write_member;
 use std::alloc::{AllocError, Global};
 
-/// Which state is wanted: of a run with a device text the one before a tick, and of its rows all, or
-/// only those of the module and of one partition.
+/// Before which ticks of a run the state is wanted.
 #[derive(Clone, Copy)]
-pub struct WantedState<'a> {
+pub enum Moments<'a> {
+    /// Only before the last one.
+    Last,
+    /// Before tick 0, and before each tick that is so many after another such one. With 0 only before
+    /// tick 0.
+    Every(u64),
+    /// Before the first tick in whose state a row of a partition begins with these words. `_` matches
+    /// any word, and `..` any words.
+    First(&'a [&'a str]),
+}
+
+/// Which states are wanted: of a run of `tick` ticks with a device text those before some ticks, and
+/// of their rows all, or only those of the module and of one partition.
+#[derive(Clone, Copy)]
+pub struct WantedStates<'a> {
     pub devices: &'a [u8],
     pub tick: u64,
+    pub moments: Moments<'a>,
     pub form: Form,
     pub partition: Option<&'a str>,
 }
 
-/// Runs the image for `tick` ticks with the device text, and writes the state that its module then
-/// has, before the tick of this number: a row a thing. Before tick 0 no partition has started. After
-/// [`RunFault::Write`] the sink has failed once and has taken a prefix of that text; every other
-/// refusal comes before the sink is asked to take anything.
+/// Runs the image for `tick` ticks with the device text, or for less, and writes the states that its
+/// module has before the wanted ticks: a row a thing. Before tick 0 no partition has started. Returns
+/// whether there is such a state. After [`RunFault::Write`] the sink has failed once and has taken a
+/// prefix of that text; after [`RunFault::Memory`] it has taken nothing, or if several states are
+/// wanted a prefix of their text; every other refusal comes before the sink is asked to take
+/// anything.
 ///
 /// # Errors
 ///
@@ -57,9 +75,9 @@ pub struct WantedState<'a> {
 pub fn state<S: Sink>(
     alloc: Global,
     image: &[u8],
-    wanted: WantedState<'_>,
+    wanted: WantedStates<'_>,
     sink: &mut S,
-) -> Result<(), RunFault>
+) -> Result<bool, RunFault>
     requires { S.failures sink.old < 2 ^ 64 - 1 }
     ensures text { States (image_at image.now) wanted.entry.devices.now wanted.entry.tick
         (wanted_in wanted.entry) (S.taken sink.old) (S.taken sink.new) result }
@@ -73,9 +91,21 @@ pub fn state<S: Sink>(
     }
     let image = load_image(alloc, image)?;
     let only = find_wanted(&image, wanted.partition)?;
-    let text = text_of(alloc, image, only, wanted)?;
-    put_all(sink, text.as_slice())?;
-    Ok(())
+    let mut machine = Machine::load(alloc, image)?;
+    let lines = machine.devices(alloc, wanted.devices)?;
+    let shown = Shown {
+        form: wanted.form,
+        only,
+    };
+    let mut text = Vec::new(alloc);
+    put_wanted(
+        &mut machine,
+        lines.as_slice(),
+        wanted,
+        shown,
+        &mut text,
+        sink,
+    )
 }
 
 /// The number of the partition with this name, if a name is given.
@@ -91,26 +121,103 @@ fn find_wanted(image: &Image, name: Option<&str>) -> Result<Option<PartitionId>,
     }
 }
 
-/// The text of the wanted state of an image, with the rows of all partitions or of one.
-fn text_of(
-    alloc: Global,
-    image: Image,
-    only: Option<PartitionId>,
-    wanted: WantedState<'_>,
-) -> Result<Vec<u8>, RunFault>
-    requires { wanted.tick ≤ MOST_TICKS }
-    ensures text { IfOk result
-        (λ text. IsTextFor (image_of image) wanted.entry.devices.now wanted.entry.tick
-        wanted.entry.form (number_in only) text.items) }
-    ensures refused { IfErr result
-        (λ fault. AreRefused (verdict_for (image_of image) wanted.entry.devices.now) fault) }
+/// How rows are written, and of which partition, or of all.
+#[derive(Clone, Copy)]
+pub(crate) struct Shown {
+    pub form: Form,
+    pub only: Option<PartitionId>,
+}
+
+/// Writes the wanted states of a machine, with these lines of the devices. The text of each is made in
+/// `text`. Returns whether there is one.
+fn put_wanted<S: Sink>(
+    machine: &mut Machine,
+    devices: &[DeviceLine],
+    wanted: WantedStates<'_>,
+    shown: Shown,
+    text: &mut Vec<u8>,
+    sink: &mut S,
+) -> Result<bool, RunFault>
+    requires few { wanted.tick ≤ MOST_TICKS }
+    requires fresh { machine_of machine.old ≡ fresh_machine (machine_of machine.old).image }
+    requires order { AreFrom 0 devices.now }
+    requires failures { S.failures sink.old < 2 ^ 64 - 1 }
+    ensures text { IsShown (wanted_in wanted.entry).moments shown.form
+        (number_in shown.only) (machine_of machine.old).image devices.now
+        wanted.entry.tick (S.taken sink.old) (S.taken sink.new) result }
+    ensures ok { OnOk result (S.failures sink.new ≡ S.failures sink.old) }
+    ensures write { IsErrOf result RunFault.Write → S.failures sink.new ≡ S.failures sink.old + 1 }
+    ensures quiet { IfErr result
+        (λ fault. fault ≢ RunFault.Write → S.failures sink.new ≡ S.failures sink.old) }
 {
-    let mut machine = Machine::load(alloc, image)?;
-    let lines = machine.devices(alloc, wanted.devices)?;
-    machine.pass_over(lines.as_slice(), wanted.tick)?;
-    let mut text = Vec::new(alloc);
-    machine.state(wanted.form, only, &mut text)?;
-    Ok(text)
+    match wanted.moments {
+        Moments::Last => put_last(machine, devices, wanted.tick, shown, text, sink),
+        Moments::Every(every) => {
+            let series = Series {
+                ticks: wanted.tick,
+                every,
+            };
+            put_series(machine, devices, series, shown, text, sink)
+        }
+        Moments::First(words) => {
+            let wait = Wait {
+                ticks: wanted.tick,
+                words,
+            };
+            put_first(machine, devices, wait, shown, text, sink)
+        }
+    }
+}
+
+/// Writes the state of a machine after so many ticks, with these lines of the devices.
+fn put_last<S: Sink>(
+    machine: &mut Machine,
+    devices: &[DeviceLine],
+    ticks: u64,
+    shown: Shown,
+    text: &mut Vec<u8>,
+    sink: &mut S,
+) -> Result<bool, RunFault>
+    requires few { ticks ≤ MOST_TICKS }
+    requires fresh { machine_of machine.old ≡ fresh_machine (machine_of machine.old).image }
+    requires order { AreFrom 0 devices.now }
+    requires failures { S.failures sink.old < 2 ^ 64 - 1 }
+    ensures text { IsShown Last shown.form (number_in shown.only)
+        (machine_of machine.old).image devices.now ticks (S.taken sink.old) (S.taken sink.new)
+        result }
+    ensures ok { OnOk result (S.failures sink.new ≡ S.failures sink.old) }
+    ensures write { IsErrOf result RunFault.Write → S.failures sink.new ≡ S.failures sink.old + 1 }
+    ensures quiet { IfErr result
+        (λ fault. fault ≢ RunFault.Write → S.failures sink.new ≡ S.failures sink.old) }
+{
+    machine.pass_over(devices, ticks)?;
+    put_state(machine, shown, text, sink)?;
+    Ok(true)
+}
+
+/// Writes the state that a machine has now, before its next tick. If memory runs out, the sink has
+/// taken nothing.
+pub(crate) fn put_state<S: Sink>(
+    machine: &Machine,
+    shown: Shown,
+    text: &mut Vec<u8>,
+    sink: &mut S,
+) -> Result<(), RunFault>
+    requires { S.failures sink.old < 2 ^ 64 - 1 }
+    ensures text { IsPut
+        (rows_in shown.form
+        (rows_of (number_in shown.only) (machine_of machine.now).image
+        (machine_of machine.now).standing.now (machine_of machine.now).standing))
+        (S.taken sink.old) (S.taken sink.new) result }
+    ensures ok { OnOk result (S.failures sink.new ≡ S.failures sink.old) }
+    ensures write { IsErrOf result RunFault.Write → S.failures sink.new ≡ S.failures sink.old + 1 }
+    ensures quiet { IfErr result
+        (λ fault. fault ≢ RunFault.Write → S.failures sink.new ≡ S.failures sink.old) }
+{
+    text.clear();
+    machine.state(shown.form, shown.only, text)?;
+    put_all(sink, text.as_slice())?;
+    Ok(())
 }
 
 impl Machine {
@@ -133,35 +240,40 @@ impl Machine {
         let items = module.image.partitions.as_slice();
         write_module(form, &module.image, module.now, module.origin, text)?;
         match only {
-            None => module.members.write_all(form, items, text),
-            Some(number) => module.members.write_one(form, items, number, text),
+            None => module.members.write_all(form, &[], items, text),
+            Some(number) => module.members.write_one(form, &[], items, number, text),
         }
     }
 }
 
 impl Members<PartitionProcessor> {
-    /// Appends the rows of all partitions, which have these items.
-    fn write_all(
+    /// Appends the rows of all partitions, which have these items, among which one with these words is
+    /// looked for: with no words all.
+    pub(crate) fn write_all(
         &self,
         form: Form,
+        asked: &[&str],
         items: &[PartitionItem],
         text: &mut Vec<u8>,
     ) -> Result<(), AllocError>
         ensures { OnOk result
             (text.new.items
             ≡ text.old.items
-            ++ rows_in form (members_rows (items_of items.now) (members_in machine self.now))) }
+            ++ rows_in form
+            (rows_of_all (asked_rows (map (λ a. a.now) asked.now)) (items_of items.now)
+            (members_in machine self.now))) }
     {
         for place in 0..items.len() {
-            self.write_at(form, items, place, text)?;
+            self.write_at(form, asked, items, place, text)?;
         }
         Ok(())
     }
 
-    /// Appends the rows of the partition with this number, if there is one.
-    fn write_one(
+    /// Appends such rows of the partition with this number, if there is one.
+    pub(crate) fn write_one(
         &self,
         form: Form,
+        asked: &[&str],
         items: &[PartitionItem],
         number: PartitionId,
         text: &mut Vec<u8>,
@@ -170,19 +282,21 @@ impl Members<PartitionProcessor> {
             (text.new.items
             ≡ text.old.items
             ++ rows_in form
-            (rows_of_both (at_number (items_of items.now) number.0)
+            (rows_of_both (asked_rows (map (λ a. a.now) asked.now))
+            (at_number (items_of items.now) number.0)
             (at_number (members_in machine self.now) number.0))) }
     {
         match number.place() {
-            Some(place) => self.write_at(form, items, usize::from(place), text),
+            Some(place) => self.write_at(form, asked, items, usize::from(place), text),
             None => Ok(()),
         }
     }
 
-    /// Appends the rows of the partition at a place, if there is one.
+    /// Appends such rows of the partition at a place, if there is one.
     fn write_at(
         &self,
         form: Form,
+        asked: &[&str],
         items: &[PartitionItem],
         place: usize,
         text: &mut Vec<u8>,
@@ -191,7 +305,8 @@ impl Members<PartitionProcessor> {
             (text.new.items
             ≡ text.old.items
             ++ rows_in form
-            (rows_of_both (slice_get (items_of items.now) place)
+            (rows_of_both (asked_rows (map (λ a. a.now) asked.now))
+            (slice_get (items_of items.now) place)
             (slice_get (members_in machine self.now) place))) }
     {
         if place >= items.len() {
@@ -201,7 +316,8 @@ impl Members<PartitionProcessor> {
             return Ok(());
         }
         let memory = self.memory.part(number_at(place));
-        write_member(form, &items[place], &self.partitions[place], memory, text)
+        let partition = &self.partitions[place];
+        write_asked(form, asked, &items[place], partition, memory, text)
     }
 }
 

@@ -110,3 +110,20 @@ pub fn split_tick(lines: &[DeviceLine], tick: u64) -> (&[DeviceLine], &[DeviceLi
 {
     lone_partition::split_tick(lines, Ticks(tick))
 }
+
+/// Those of these lines that are of `tick` or later ticks.
+pub(crate) fn from_tick(lines: &[DeviceLine], tick: u64) -> &[DeviceLine]
+    requires { AreFrom 0 lines.now }
+    ensures order { AreFrom tick result.now }
+    ensures kept { (t : ℕ) → tick ≤ t
+        → meaning.of_tick t result.now ≡ meaning.of_tick t lines.now }
+{
+    let mut left = lines;
+    while let Some((first, rest)) = left.split_first() {
+        if first.tick() >= tick {
+            break;
+        }
+        left = rest;
+    }
+    left
+}

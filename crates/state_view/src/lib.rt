@@ -7,6 +7,7 @@ mod lists;
 mod member;
 mod mode;
 mod objects;
+mod parts;
 mod port_rows;
 mod processes;
 mod runners;
@@ -15,3 +16,4 @@ mod waits;
 mod words;
 
 pub use member::write_member;
+pub use parts::{Part, part_with, write_part};

@@ -5,14 +5,8 @@ ghost use Rattle.apex_types.specs.Line.{space};
 ghost use Rattle.command_line.specs.Awaited as meant;
 ghost use Rattle.text_lines.specs.Pieces.{pieces_of};
 
+use module::stands_for;
 use text_lines::split_at;
-
-/// Whether a word of a line matches the word that is asked for; `_` matches any word.
-fn stands_for(asked: &str, word: &[u8]) -> bool
-    ensures { result ≡ meant.stands_for asked.now word.now }
-{
-    asked.as_bytes() == b"_".as_slice() || asked.as_bytes() == word
-}
 
 /// Whether the words of this text, if it is there, are those that are asked for.
 fn stand_for(asked: &[&str], text: Option<&[u8]>) -> bool

@@ -28,7 +28,7 @@ loop-left-preserved-then-count-gt0 g c =
     let i = c.loop-left.invariant in
     let way = reached_kept (g.S.Sink.taken c.tell.new.sink) i.reached c.in_ok-told.ensures.kept in
     let rest = c.loop-left.left - c.from-left.result in
-    let skipped = skipped_before _ (machine_of c.skip-count.new.self) c.until_line-quiet.result c.skip-count.result _ c.skip-count.ensures c.until_line-quiet.ensures.from in
+    let skipped = skipped_before _ (machine_of c.skip-count.new.self) c.until_line-quiet.result c.skip-count.result _ c.skip-count.ensures.skipped c.until_line-quiet.ensures.from in
     let few : c.skip-count.result ≤ c.until_line-quiet.result = skipped.1.2.0 in
     let count : c.loop-left.left ≡ c.skip-count.result + rest = omega (arith, few, c.until_line-quiet.ensures.within, c.at_once.ensures, c.from-left.ensures) in
     let told = subst (λ made. IsReported c.loop-left.told made c.args.wait.ticks c.in_ok-told.told (g.W.Watch.told c.loop-left.watch) (g.W.Watch.told c.tell.new.watch)) c.now.ensures c.in_ok-told.ensures.told in
@@ -49,24 +49,24 @@ returns-in_err-lines-clause-trace g c =
 
 pub overflow_sub-left : goal.overflow_sub-left
 overflow_sub-left g c =
-    let skipped = skipped_before _ (machine_of c.skip-count.new.self) c.until_line-quiet.result c.skip-count.result _ c.skip-count.ensures c.until_line-quiet.ensures.from in
+    let skipped = skipped_before _ (machine_of c.skip-count.new.self) c.until_line-quiet.result c.skip-count.result _ c.skip-count.ensures.skipped c.until_line-quiet.ensures.from in
     let few : c.skip-count.result ≤ c.until_line-quiet.result = skipped.1.2.0 in
     omega (arith, few, c.until_line-quiet.ensures.within, c.at_once.ensures, c.from-left.ensures)
 
 pub tick_held-requires-clause-order : goal.tick_held-requires-clause-order
 tick_held-requires-clause-order g c =
-    let skipped = skipped_before _ (machine_of c.skip-count.new.self) c.until_line-quiet.result c.skip-count.result _ c.skip-count.ensures c.until_line-quiet.ensures.from in
+    let skipped = skipped_before _ (machine_of c.skip-count.new.self) c.until_line-quiet.result c.skip-count.result _ c.skip-count.ensures.skipped c.until_line-quiet.ensures.from in
     skipped.0
 
 pub tick_held-requires-clause-sound : goal.tick_held-requires-clause-sound
 tick_held-requires-clause-sound g c =
-    let skipped = skipped_before _ (machine_of c.skip-count.new.self) c.until_line-quiet.result c.skip-count.result _ c.skip-count.ensures c.until_line-quiet.ensures.from in
+    let skipped = skipped_before _ (machine_of c.skip-count.new.self) c.until_line-quiet.result c.skip-count.result _ c.skip-count.ensures.skipped c.until_line-quiet.ensures.from in
     let way = reached_still (machine_of c.skip-count.new.self) c.until_line-quiet.result c.skip-count.result (reached_kept (g.S.Sink.taken c.tell.new.sink) c.loop-left.invariant.reached c.in_ok-told.ensures.kept) skipped.1 skipped.0 (omega (arith, c.if-count-gt0.false)) in
     way.sound
 
 pub tick_held-requires-clause-few : goal.tick_held-requires-clause-few
 tick_held-requires-clause-few g c =
-    let skipped = skipped_before _ (machine_of c.skip-count.new.self) c.until_line-quiet.result c.skip-count.result _ c.skip-count.ensures c.until_line-quiet.ensures.from in
+    let skipped = skipped_before _ (machine_of c.skip-count.new.self) c.until_line-quiet.result c.skip-count.result _ c.skip-count.ensures.skipped c.until_line-quiet.ensures.from in
     let way = reached_still (machine_of c.skip-count.new.self) c.until_line-quiet.result c.skip-count.result (reached_kept (g.S.Sink.taken c.tell.new.sink) c.loop-left.invariant.reached c.in_ok-told.ensures.kept) skipped.1 skipped.0 (omega (arith, c.if-count-gt0.false)) in
     omega (arith, way.count, c.requires.ticks, c.loop-left-test.true)
 
@@ -74,7 +74,7 @@ pub returns-in_err-hand_on-clause-trace : goal.returns-in_err-hand_on-clause-tra
 returns-in_err-hand_on-clause-trace g c =
     let mid = g.S.Sink.taken c.tell.new.sink in
     let new = g.S.Sink.taken c.hand_on.new.sink in
-    let skipped = skipped_before _ (machine_of c.skip-count.new.self) c.until_line-quiet.result c.skip-count.result _ c.skip-count.ensures c.until_line-quiet.ensures.from in
+    let skipped = skipped_before _ (machine_of c.skip-count.new.self) c.until_line-quiet.result c.skip-count.result _ c.skip-count.ensures.skipped c.until_line-quiet.ensures.from in
     let way = reached_still (machine_of c.skip-count.new.self) c.until_line-quiet.result c.skip-count.result (reached_kept mid c.loop-left.invariant.reached c.in_ok-told.ensures.kept) skipped.1 skipped.0 (omega (arith, c.if-count-gt0.false)) in
     let part = subst (TakesBeginning mid new) c.as_slice.ensures.value c.in_err-hand_on.ensures.beginning in
     ends_broken _ _ _ _ _ _ c.in_err-hand_on.field-0.0 _ (search rules) (inl c.in_err-hand_on.ensures.write)
@@ -85,7 +85,7 @@ returns-then-has_line-clause-trace g c =
     let mid = g.S.Sink.taken c.tell.new.sink in
     let new = g.S.Sink.taken c.hand_on.new.sink in
     let bytes = c.tick_held.new.held.writer.items in
-    let skipped = skipped_before _ (machine_of c.skip-count.new.self) c.until_line-quiet.result c.skip-count.result _ c.skip-count.ensures c.until_line-quiet.ensures.from in
+    let skipped = skipped_before _ (machine_of c.skip-count.new.self) c.until_line-quiet.result c.skip-count.result _ c.skip-count.ensures.skipped c.until_line-quiet.ensures.from in
     let way = reached_still (machine_of c.skip-count.new.self) c.until_line-quiet.result c.skip-count.result (reached_kept mid c.loop-left.invariant.reached c.in_ok-told.ensures.kept) skipped.1 skipped.0 (omega (arith, c.if-count-gt0.false)) in
     let more = subst (Appends mid new) c.as_slice.ensures.value c.in_ok-hand_on.ensures.taken in
     let found : has_line (map (λ a. a.now) c.args.wait.words.now) bytes ≡ true = subst (λ text. has_line (map (λ a. a.now) c.args.wait.words.now) text ≡ true) c.as_slice-in-loop-left.ensures.value (search rules) in
@@ -97,7 +97,7 @@ loop-left-preserved g c =
     let new = g.S.Sink.taken c.hand_on.new.sink in
     let bytes = c.tick_held.new.held.writer.items in
     let left = c.loop-left.left in
-    let skipped = skipped_before _ (machine_of c.skip-count.new.self) c.until_line-quiet.result c.skip-count.result _ c.skip-count.ensures c.until_line-quiet.ensures.from in
+    let skipped = skipped_before _ (machine_of c.skip-count.new.self) c.until_line-quiet.result c.skip-count.result _ c.skip-count.ensures.skipped c.until_line-quiet.ensures.from in
     let way = reached_still (machine_of c.skip-count.new.self) c.until_line-quiet.result c.skip-count.result (reached_kept mid c.loop-left.invariant.reached c.in_ok-told.ensures.kept) skipped.1 skipped.0 (omega (arith, c.if-count-gt0.false)) in
     let more = subst (Appends mid new) c.as_slice.ensures.value c.in_ok-hand_on.ensures.taken in
     let told = subst (λ made. IsReported c.loop-left.told made c.args.wait.ticks c.in_ok-told.told (g.W.Watch.told c.loop-left.watch) (g.W.Watch.told c.tell.new.watch)) c.now.ensures c.in_ok-told.ensures.told in
