@@ -186,6 +186,9 @@ module _ (table : List ℕ) (wholes texts : List (List ℕ)) (all : AllBegun who
     trees = all_trees wholes texts (map program_of m.trees.items) all h.trees;
   }
 
+  named_whole : (image : List ℕ) (trees : List written.Program) → done.IsBuiltWith table texts image trees → done.IsBuiltWith table wholes image trees
+  named_whole image trees h = record { built = image_whole image h.built; trees = all_trees wholes texts trees all h.trees }
+
   load_whole : (shown : Shown) → AreLoaded table texts shown → AreLoaded table wholes shown
   load_whole shown h = record { rows = h.rows; accepted = h.accepted; given = h.given; programs = all_sources h.rows.partitions wholes texts h.given all h.programs; loaded = h.loaded }
 
@@ -224,6 +227,12 @@ module _ (files now : Option Contents) (table : List ℕ) (names : List (List �
     unfolding texts_of_files own_sources
     read_of_files (Ok m) h = record { texts = texts_of_files; read = module_whole given own_sources.0 texts own_sources.2 m h }
     read_of_files (Err e) h = tt
+
+    pub named_of_files : {A E : Type 0} (image : A → List ℕ) (trees : A → List written.Program) (answer : Result A E)
+        → IfOk answer (λ m. done.IsBuiltWith given texts (image m) (trees m)) → IfOk answer (λ m. done.IsBuiltIn files table names (image m) (trees m))
+    unfolding texts_of_files own_sources
+    named_of_files image trees (Ok m) h = record { texts = texts_of_files; of_texts = named_whole given own_sources.0 texts own_sources.2 (image m) (trees m) h }
+    named_of_files image trees (Err e) h = tt
 
     pub loaded_of_files : (shown : Shown) → AreLoaded given texts shown → (whole : Texts files table names) × AreLoaded whole.table_text whole.source_texts shown
     unfolding texts_of_files own_sources

@@ -23,3 +23,4 @@ pub mod Upgrades
 pub mod Views
 pub mod Watched
 pub mod Written
+pub mod NamedStates

@@ -1,11 +1,14 @@
 //! The rows of a partition's state, written from the partition in the module.
 #![tactic(auto)]
 
+mod chain;
+mod declared;
 mod errors;
 mod heading;
 mod lists;
 mod member;
 mod mode;
+mod names;
 mod objects;
 mod port_rows;
 mod processes;
@@ -15,3 +18,4 @@ mod waits;
 mod words;
 
 pub use member::write_member;
+pub use names::write_names;

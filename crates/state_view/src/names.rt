@@ -1,0 +1,162 @@
+//! The rows that show a partition's state by the names of its source.
+
+ghost use Rattle.std.specs.Prelude.{◌≡◌, ◌++◌, OnOk, map, option_map};
+ghost use Rattle.image.specs.Items.{item_of};
+ghost use Rattle.partition.specs.Members.{member_of};
+ghost use Rattle.partition_base.specs.Machines.{controls_of};
+ghost use Rattle.partition_base.specs.Slots.{control_on};
+ghost use Rattle.partition_base.specs.contracts.machine.PartitionProcessorExecutor.TheImpl.{ghosts as machine};
+ghost use Rattle.pal_base.specs.View.{name_of, texts};
+ghost use Rattle.pal_base.specs.WrittenView.{program_of};
+ghost use Rattle.state_rows.specs.Named as meaning;
+ghost use Rattle.state_rows.specs.Rows.{rows_in};
+ghost use Rattle.state_rows.specs.States.{placed};
+
+use crate::chain::{BodyNames, Chain, Frame};
+use crate::declared::write_declared;
+use crate::heading::Heading;
+use crate::values::subject_word;
+use apex_types::{ProcessStatus, RoutineRow};
+use image::PartitionItem;
+use pal_base::syntax::{Identifier, Program};
+use partition::Partition;
+use partition_base::PartitionProcessor;
+use processor::Context;
+use regions::PartitionMem;
+use state_rows::Form;
+use std::alloc::AllocError;
+
+/// The source of a partition, with the routines that its procedures are in the code, and how its
+/// rows are written.
+#[derive(Clone, Copy)]
+struct Source<'a> {
+    of: &'a Heading,
+    program: &'a Program,
+    routines: &'a [RoutineRow],
+}
+
+/// The locals of the own body of the runner with a place.
+fn own_locals(program: &Program, place: usize) -> &[Identifier]
+    ensures { map (name_of (texts program.now.names.keys)) result.now
+        ≡ meaning.own_locals (program_of program.now) place }
+{
+    match place {
+        0 => program.init.body.locals.as_slice(),
+        1 => match &program.handler {
+            Some(handler) => handler.body.locals.as_slice(),
+            None => &[],
+        },
+        _ => match program.processes.get(place - 2) {
+            Some(process) => process.body.locals.as_slice(),
+            None => &[],
+        },
+    }
+}
+
+impl Source<'_> {
+    /// Appends the rows of the frames of a runner, if it has something left to do.
+    fn write_chain(
+        &self,
+        who: &[u8],
+        place: usize,
+        control: Option<(&Context, &[i64])>,
+        text: &mut Vec<u8>,
+    ) -> Result<(), AllocError>
+        ensures { OnOk result
+            (text.new.items
+            ≡ text.old.items
+            ++ rows_in self.now.of.now.form
+            (meaning.chain_rows_if self.now.of.now.name self.now.routines.now
+            (program_of self.now.program.now) who.now place
+            (option_map (λ c. control_on c.0.now c.1.now) control.entry))) }
+    {
+        let Some((context, stack)) = control else {
+            return Ok(());
+        };
+        let own = BodyNames {
+            name: who,
+            parameters: &[],
+            locals: own_locals(self.program, place),
+        };
+        let chain = Chain {
+            of: self.of,
+            own,
+            program: self.program,
+            routines: self.routines,
+            stack,
+        };
+        let innermost = Frame {
+            pc: context.pc(),
+            fp: context.fp(),
+        };
+        chain.write(innermost, text)
+    }
+
+    /// Appends the rows of the frames of all that have something left to do.
+    #[tactic(auto, using(crate::proofs::Loops::more))]
+    fn write_chains(
+        &self,
+        processor: &PartitionProcessor,
+        memory: &PartitionMem,
+        rows: &[ProcessStatus],
+        text: &mut Vec<u8>,
+    ) -> Result<(), AllocError>
+        ensures { OnOk result
+            (text.new.items
+            ≡ text.old.items
+            ++ rows_in self.now.of.now.form
+            (placed
+            (meaning.runner_names self.now.of.now.name self.now.routines.now
+            (program_of self.now.program.now) (controls_of processor.now memory.now))
+            rows.now)) }
+    {
+        for (place, row) in rows.iter().enumerate() {
+            let control = processor.control(memory, place);
+            self.write_chain(subject_word(&row.who), place, control, text)?;
+        }
+        Ok(())
+    }
+}
+
+/// Appends the rows with names of a partition; `item` is its item of the image, and `program` its
+/// source.
+pub fn write_names(
+    form: Form,
+    item: &PartitionItem,
+    program: &Program,
+    partition: &Partition<PartitionProcessor>,
+    memory: &PartitionMem,
+    text: &mut Vec<u8>,
+) -> Result<(), AllocError>
+    ensures { OnOk result
+        (text.new.items
+        ≡ text.old.items
+        ++ rows_in form
+        (meaning.named_rows (item_of item.now) (program_of program.now)
+        (member_of machine partition.now memory.now))) }
+{
+    let kernel = partition.kernel();
+    let name = kernel.name();
+    let of = Heading { form, name };
+    let source = Source {
+        of: &of,
+        program,
+        routines: item.section.routines.as_slice(),
+    };
+    let ports = item.row.ports.as_slice();
+    let declarations = program.declarations.as_slice();
+    write_declared(
+        &of,
+        ports,
+        memory.data(),
+        &program.names,
+        declarations,
+        text,
+    )?;
+    source.write_chains(
+        partition.executor(),
+        memory,
+        kernel.processes().rows(),
+        text,
+    )
+}
