@@ -7,7 +7,7 @@ use Rattle.std.specs.Str.Parse.{IsNumeral, digits_value}
 use Rattle.machine_meaning.specs.Image.{Image}
 use Rattle.machine_meaning.specs.ImageReading.{Fault, image_at}
 use Rattle.machine_meaning.specs.MachineMeaning.{verdict_for}
-use Rattle.pal_meaning.specs.Syntax as written
+use Rattle.state_rows.specs.Named.{Source}
 use Rattle.module.specs.NamedStates.{NamedStates}
 use Rattle.module.specs.States.{Wanted}
 use Rattle.module.specs.declared.fault.RunFault.{RunFault}
@@ -68,87 +68,87 @@ not_built table sources devices wanted n before after (refusal.Inputs fault) sam
 not_built table sources devices wanted n before after refusal.Write same h = absurd h
 
 -- the device text is not read
-pub not_read : (table : List ℕ) (sources : List (List ℕ)) (devices : List ℕ) (wanted : Wanted) (n : ℕ) (before after : State) (r : Refusal) (image : List ℕ) (trees : List written.Program) → IsUntouched before after → IsBuiltIn before.files table sources image trees → IsUnread devices r
+pub not_read : (table : List ℕ) (sources : List (List ℕ)) (devices : List ℕ) (wanted : Wanted) (n : ℕ) (before after : State) (r : Refusal) (image : List ℕ) (made : List Source) → IsUntouched before after → IsBuiltIn before.files table sources image made → IsUnread devices r
     → IsNamedStateRefused table sources devices wanted n before after r
-not_read table sources devices wanted n before after (refusal.File name reason) image trees same built h =
+not_read table sources devices wanted n before after (refusal.File name reason) image made same built h =
     (same, subst (IsFirstUnread before.files (table ∷ sources ++ devices ∷ [])) (sym h) (inr ((built.texts.table_text, built.texts.in_table.0), last_unread before.files sources built.texts.source_texts devices built.texts.in_sources)))
-not_read table sources devices wanted n before after refusal.Memory image trees same built h = same
-not_read table sources devices wanted n before after (refusal.LongTable name) image trees same built h = absurd h
-not_read table sources devices wanted n before after (refusal.Build fault) image trees same built h = absurd h
-not_read table sources devices wanted n before after (refusal.Run fault) image trees same built h = absurd h
-not_read table sources devices wanted n before after (refusal.Replay fault) image trees same built h = absurd h
-not_read table sources devices wanted n before after (refusal.Inputs fault) image trees same built h = absurd h
-not_read table sources devices wanted n before after refusal.Write image trees same built h = absurd h
+not_read table sources devices wanted n before after refusal.Memory image made same built h = same
+not_read table sources devices wanted n before after (refusal.LongTable name) image made same built h = absurd h
+not_read table sources devices wanted n before after (refusal.Build fault) image made same built h = absurd h
+not_read table sources devices wanted n before after (refusal.Run fault) image made same built h = absurd h
+not_read table sources devices wanted n before after (refusal.Replay fault) image made same built h = absurd h
+not_read table sources devices wanted n before after (refusal.Inputs fault) image made same built h = absurd h
+not_read table sources devices wanted n before after refusal.Write image made same built h = absurd h
 
 -- ---- texts that are judged alike
 
-names_alike : (read : Result Image Fault) (devices whole : List ℕ) (n : ℕ) (wanted : Wanted) (trees : List written.Program) (old new : Option (List ℕ)) (answer : Result (Unit {0}) RunFault)
-    → ((i : Image) → verdict_for i whole ≡ verdict_for i devices) → NamedStates read devices n wanted trees old new answer → NamedStates read whole n wanted trees old new answer
-names_alike read devices whole n wanted trees old new (Ok x) same (text, (image, lines, r, named), out) =
+names_alike : (read : Result Image Fault) (devices whole : List ℕ) (n : ℕ) (wanted : Wanted) (made : List Source) (old new : Option (List ℕ)) (answer : Result (Unit {0}) RunFault)
+    → ((i : Image) → verdict_for i whole ≡ verdict_for i devices) → NamedStates read devices n wanted made old new answer → NamedStates read whole n wanted made old new answer
+names_alike read devices whole n wanted made old new (Ok x) same (text, (image, lines, r, named), out) =
     (text, (image, lines, record { loaded = r.loaded; taken = same image ∙ r.taken; few = r.few }, named), out)
-names_alike read devices whole n wanted trees old new (Err Write) same (text, (image, lines, r, named), out) =
+names_alike read devices whole n wanted made old new (Err Write) same (text, (image, lines, r, named), out) =
     (text, (image, lines, record { loaded = r.loaded; taken = same image ∙ r.taken; few = r.few }, named), out)
-names_alike read devices whole n wanted trees old new (Err Ticks) same h = states_alike read devices whole n wanted old new (Err Ticks) same h
-names_alike read devices whole n wanted trees old new (Err (NoImage f)) same h = states_alike read devices whole n wanted old new (Err (NoImage f)) same h
-names_alike read devices whole n wanted trees old new (Err Partition) same h = states_alike read devices whole n wanted old new (Err Partition) same h
-names_alike read devices whole n wanted trees old new (Err (Device f)) same h = states_alike read devices whole n wanted old new (Err (Device f)) same h
-names_alike read devices whole n wanted trees old new (Err Memory) same h = h
-names_alike read devices whole n wanted trees old new (Err Failed) same h = absurd h
+names_alike read devices whole n wanted made old new (Err Ticks) same h = states_alike read devices whole n wanted old new (Err Ticks) same h
+names_alike read devices whole n wanted made old new (Err (NoImage f)) same h = states_alike read devices whole n wanted old new (Err (NoImage f)) same h
+names_alike read devices whole n wanted made old new (Err Partition) same h = states_alike read devices whole n wanted old new (Err Partition) same h
+names_alike read devices whole n wanted made old new (Err (Device f)) same h = states_alike read devices whole n wanted old new (Err (Device f)) same h
+names_alike read devices whole n wanted made old new (Err Memory) same h = h
+names_alike read devices whole n wanted made old new (Err Failed) same h = absurd h
 
 -- In files, a module and a device text; this is judged as the one that was read.
-pub record GivenModule (files : Option Contents) (table : List ℕ) (sources : List (List ℕ)) (devices image : List ℕ) (trees : List written.Program) (text_read : List ℕ) : Type 0 where
+pub record GivenModule (files : Option Contents) (table : List ℕ) (sources : List (List ℕ)) (devices image : List ℕ) (made : List Source) (text_read : List ℕ) : Type 0 where
   pub given : ModuleAndText files table sources devices
   pub same_image : given.image ≡ image
-  pub same_trees : given.trees ≡ trees
+  pub same_made : given.made ≡ made
   pub same_devices : (i : Image) → verdict_for i given.text_bytes ≡ verdict_for i text_read
 
-pub given_module : (files now : Option Contents) (table : List ℕ) (sources : List (List ℕ)) (devices image : List ℕ) (trees : List written.Program) (read given_text : List ℕ)
-    → now ≡ files → given_text ≡ read → IsBuiltIn files table sources image trees → HoldsFrom settles_inputs now devices read → GivenModule files table sources devices image trees given_text
-given_module files now table sources devices image trees read given_text same same_text built in_text =
+pub given_module : (files now : Option Contents) (table : List ℕ) (sources : List (List ℕ)) (devices image : List ℕ) (made : List Source) (read given_text : List ℕ)
+    → now ≡ files → given_text ≡ read → IsBuiltIn files table sources image made → HoldsFrom settles_inputs now devices read → GivenModule files table sources devices image made given_text
+given_module files now table sources devices image made read given_text same same_text built in_text =
     let whole = whole_of settles_inputs files devices read (subst (λ f. HoldsFrom settles_inputs f devices read) same in_text) in
     record {
-      given = record { image = image; trees = trees; built = built; text_bytes = whole.0; in_text = whole.1 };
+      given = record { image = image; made = made; built = built; text_bytes = whole.0; in_text = whole.1 };
       same_image = refl;
-      same_trees = refl;
+      same_made = refl;
       same_devices = λ i. devices_settled whole.0 read whole.2 i ∙ ap (verdict_for i) (sym same_text);
     }
 
-pub names_of_whole : {files : Option Contents} {table : List ℕ} {sources : List (List ℕ)} {devices image : List ℕ} {trees : List written.Program} {text_read : List ℕ} (g : GivenModule files table sources devices image trees text_read) (wanted : Wanted) (n : ℕ) (old new : Option (List ℕ)) (answer : Result (Unit {0}) RunFault)
-    → NamedStates (image_at image) text_read n wanted trees old new answer → IsNamedStateOf g.given wanted n old new answer
-names_of_whole {image = image} {trees = trees} {text_read = text_read} g wanted n old new answer h =
-    names_alike (image_at g.given.image) text_read g.given.text_bytes n wanted g.given.trees old new answer g.same_devices
-    (subst (λ (i : List ℕ). NamedStates (image_at i) text_read n wanted g.given.trees old new answer) (sym g.same_image)
-    (subst (λ (ts : List written.Program). NamedStates (image_at image) text_read n wanted ts old new answer) (sym g.same_trees) h))
+pub names_of_whole : {files : Option Contents} {table : List ℕ} {sources : List (List ℕ)} {devices image : List ℕ} {made : List Source} {text_read : List ℕ} (g : GivenModule files table sources devices image made text_read) (wanted : Wanted) (n : ℕ) (old new : Option (List ℕ)) (answer : Result (Unit {0}) RunFault)
+    → NamedStates (image_at image) text_read n wanted made old new answer → IsNamedStateOf g.given wanted n old new answer
+names_of_whole {image = image} {made = made} {text_read = text_read} g wanted n old new answer h =
+    names_alike (image_at g.given.image) text_read g.given.text_bytes n wanted g.given.made old new answer g.same_devices
+    (subst (λ (i : List ℕ). NamedStates (image_at i) text_read n wanted g.given.made old new answer) (sym g.same_image)
+    (subst (λ (ts : List Source). NamedStates (image_at image) text_read n wanted ts old new answer) (sym g.same_made) h))
 
 -- ---- what is kept by a flush
 
-pub kept_names : (read : Result Image Fault) (devices : List ℕ) (n : ℕ) (wanted : Wanted) (trees : List written.Program) (old mid new : Option (List ℕ)) → NamedStates read devices n wanted trees old mid is_ok → Keeps mid new → NamedStates read devices n wanted trees old new is_ok
-kept_names read devices n wanted trees old mid new (text, is, out) kept = (text, is, Appends-kept old mid new text out kept)
+pub kept_names : (read : Result Image Fault) (devices : List ℕ) (n : ℕ) (wanted : Wanted) (made : List Source) (old mid new : Option (List ℕ)) → NamedStates read devices n wanted made old mid is_ok → Keeps mid new → NamedStates read devices n wanted made old new is_ok
+kept_names read devices n wanted made old mid new (text, is, out) kept = (text, is, Appends-kept old mid new text out kept)
 
 -- ---- the number in a word, and its value in 64 bits
 
-names_by : (read : Result Image Fault) (devices : List ℕ) (n v : ℕ) (wanted : Wanted) (trees : List written.Program) (old new : Option (List ℕ)) (answer : Result (Unit {0}) RunFault) → n ≡ min v (2 ^ 64 - 1) → NamedStates read devices n wanted trees old new answer → NamedStates read devices v wanted trees old new answer
-names_by read devices n v wanted trees old new (Ok x) is h = subst (λ k. NamedStates read devices k wanted trees old new (Ok x)) (few_same n v is h.1.2.few) h
-names_by read devices n v wanted trees old new (Err Write) is h = subst (λ k. NamedStates read devices k wanted trees old new (Err Write)) (few_same n v is h.1.2.few) h
-names_by read devices n v wanted trees old new (Err Ticks) is h = states_by read devices n v wanted old new (Err Ticks) is h
-names_by read devices n v wanted trees old new (Err (NoImage f)) is h = states_by read devices n v wanted old new (Err (NoImage f)) is h
-names_by read devices n v wanted trees old new (Err Partition) is h = states_by read devices n v wanted old new (Err Partition) is h
-names_by read devices n v wanted trees old new (Err (Device f)) is h = states_by read devices n v wanted old new (Err (Device f)) is h
-names_by read devices n v wanted trees old new (Err Memory) is h = h
-names_by read devices n v wanted trees old new (Err Failed) is h = absurd h
+names_by : (read : Result Image Fault) (devices : List ℕ) (n v : ℕ) (wanted : Wanted) (made : List Source) (old new : Option (List ℕ)) (answer : Result (Unit {0}) RunFault) → n ≡ min v (2 ^ 64 - 1) → NamedStates read devices n wanted made old new answer → NamedStates read devices v wanted made old new answer
+names_by read devices n v wanted made old new (Ok x) is h = subst (λ k. NamedStates read devices k wanted made old new (Ok x)) (few_same n v is h.1.2.few) h
+names_by read devices n v wanted made old new (Err Write) is h = subst (λ k. NamedStates read devices k wanted made old new (Err Write)) (few_same n v is h.1.2.few) h
+names_by read devices n v wanted made old new (Err Ticks) is h = states_by read devices n v wanted old new (Err Ticks) is h
+names_by read devices n v wanted made old new (Err (NoImage f)) is h = states_by read devices n v wanted old new (Err (NoImage f)) is h
+names_by read devices n v wanted made old new (Err Partition) is h = states_by read devices n v wanted old new (Err Partition) is h
+names_by read devices n v wanted made old new (Err (Device f)) is h = states_by read devices n v wanted old new (Err (Device f)) is h
+names_by read devices n v wanted made old new (Err Memory) is h = h
+names_by read devices n v wanted made old new (Err Failed) is h = absurd h
 
 -- ---- the command
 
 named_done_by : (table : List ℕ) (sources : List (List ℕ)) (devices : List ℕ) (wanted : Wanted) (n v : ℕ) (before after : State) → n ≡ min v (2 ^ 64 - 1) → IsNamedStateDone table sources devices wanted n before after → IsNamedStateDone table sources devices wanted v before after
 named_done_by table sources devices wanted n v before after is (same, given, named) =
-    (same, given, names_by (image_at given.image) given.text_bytes n v wanted given.trees before.out.taken after.out.taken is_ok is named)
+    (same, given, names_by (image_at given.image) given.text_bytes n v wanted given.made before.out.taken after.out.taken is_ok is named)
 
 pub named_refused_by : (table : List ℕ) (sources : List (List ℕ)) (devices : List ℕ) (wanted : Wanted) (n v : ℕ) (before after : State) (r : Refusal) → n ≡ min v (2 ^ 64 - 1) → IsNamedStateRefused table sources devices wanted n before after r → IsNamedStateRefused table sources devices wanted v before after r
 named_refused_by table sources devices wanted n v before after (refusal.File name reason) is h = h
 named_refused_by table sources devices wanted n v before after (refusal.LongTable name) is h = h
 named_refused_by table sources devices wanted n v before after (refusal.Build fault) is h = h
 named_refused_by table sources devices wanted n v before after (refusal.Run fault) is (failed, same, given, named) =
-    (failed, same, given, names_by (image_at given.image) given.text_bytes n v wanted given.trees before.out.taken after.out.taken (Err fault) is named)
+    (failed, same, given, names_by (image_at given.image) given.text_bytes n v wanted given.made before.out.taken after.out.taken (Err fault) is named)
 named_refused_by table sources devices wanted n v before after refusal.Memory is h = h
 named_refused_by table sources devices wanted n v before after refusal.Write is (failed, done) = (failed, named_done_by table sources devices wanted n v before after is done)
 named_refused_by table sources devices wanted n v before after (refusal.Replay fault) is h = absurd h

@@ -12,7 +12,7 @@ use Rattle.command_line.specs.Costs.{costs_text}
 use Rattle.module.specs.Building.{IsImageOf}
 use Rattle.module.specs.Costs.{AreCosts}
 use Rattle.module.specs.Promises.{Means}
-use Rattle.module.specs.NamedStates.{NamedStates}
+use Rattle.module.specs.NamedStates.{NamedStates, sources_of}
 use Rattle.module.specs.Replays.{Replays}
 use Rattle.module.specs.Runs.{Runs}
 use Rattle.module.specs.States.{Every, Last, Moments, States, Wanted}
@@ -22,6 +22,7 @@ use Rattle.module.specs.declared.costing.PartitionCosts.{PartitionCosts}
 use Rattle.module.specs.declared.fault.BuildAndRunFault.{BuildAndRunFault}
 use Rattle.module.specs.declared.inputs_fault.InputsFault.{InputsFault}
 use Rattle.module.specs.declared.fault.RunFault.{RunFault}
+use Rattle.state_rows.specs.Named.{Source}
 use Rattle.streams.specs.Contents.{Contents, Holds, HoldAll, Spares}
 use Rattle.streams.specs.Reads.{IsUnread, Reads}
 use Rattle.text_beginnings.specs.declared.beginning.TheConstants.{MOST_TABLE_BYTES}
@@ -105,21 +106,23 @@ pub record ImageAndText (files : Option Contents) (image text : List ℕ) : Type
   pub in_image : Holds files image image_bytes
   pub in_text : Holds files text text_bytes
 
--- A table and its sources are accepted, with this image, and the sources are the texts of these programs.
-pub record IsBuiltWith (table : List ℕ) (sources : List (List ℕ)) (image : List ℕ) (trees : List written.Program) : Type 0 where
+-- A table and its sources are accepted, with this image, and the sources are the texts of programs.
+pub record IsBuiltWith (table : List ℕ) (sources : List (List ℕ)) (image : List ℕ) (made : List Source) : Type 0 where
   pub built : IsImageOf table sources image
-  pub trees : AreTrees sources trees
+  pub trees : List written.Program
+  pub are_trees : AreTrees sources trees
+  pub of_trees : made ≡ sources_of sources trees
 
 -- The same of texts in files.
-pub record IsBuiltIn (files : Option Contents) (table : List ℕ) (sources : List (List ℕ)) (image : List ℕ) (trees : List written.Program) : Type 0 where
+pub record IsBuiltIn (files : Option Contents) (table : List ℕ) (sources : List (List ℕ)) (image : List ℕ) (made : List Source) : Type 0 where
   pub texts : Texts files table sources
-  pub of_texts : IsBuiltWith texts.table_text texts.source_texts image trees
+  pub of_texts : IsBuiltWith texts.table_text texts.source_texts image made
 
 -- A module that is built and a text of inputs from outside, in the files of these names.
 pub record ModuleAndText (files : Option Contents) (table : List ℕ) (sources : List (List ℕ)) (text : List ℕ) : Type 0 where
   pub image : List ℕ
-  pub trees : List written.Program
-  pub built : IsBuiltIn files table sources image trees
+  pub made : List Source
+  pub built : IsBuiltIn files table sources image made
   pub text_bytes : List ℕ
   pub in_text : Holds files text text_bytes
 
@@ -167,7 +170,7 @@ IsStateOf given wanted n old new answer = States (image_at given.image_bytes) gi
 
 -- the same with the names of the sources
 abbrev pub IsNamedStateOf : {files : Option Contents} {table : List ℕ} {sources : List (List ℕ)} {devices : List ℕ} → ModuleAndText files table sources devices → Wanted → ℕ → Option (List ℕ) → Option (List ℕ) → Result (Unit {0}) RunFault → Type 0
-IsNamedStateOf given wanted n old new answer = NamedStates (image_at given.image) given.text_bytes n wanted given.trees old new answer
+IsNamedStateOf given wanted n old new answer = NamedStates (image_at given.image) given.text_bytes n wanted given.made old new answer
 
 -- the output of the run of the stored module with this result
 abbrev pub IsFirstRun : Option (List ℕ) → Option (List ℕ) → Result (Unit {0}) BuildAndRunFault → Type 0

@@ -304,6 +304,17 @@ pub fn bad_spacing(alloc: Global, word: &str) -> Result<Error, AllocError>
     PROGRAM.usage_error(alloc, "state", message.as_str())
 }
 
+/// The usage error of ticks between states, or of words of a row, where sources are given.
+pub fn bad_moments(alloc: Global) -> Result<Error, AllocError>
+    ensures { IfOk result (λ error. kind_of error ≡ ValueValidation) }
+{
+    PROGRAM.usage_error(
+        alloc,
+        "state",
+        "'--every <K>' and '--until <WORD>...' are for an IMAGE, without sources",
+    )
+}
+
 /// The usage error of a word for an argument that is no number.
 fn bad_number(alloc: Global, name: &str, argument: &str, word: &str) -> Result<Error, AllocError>
     ensures { IfOk result (λ error. kind_of error ≡ ValueValidation) }

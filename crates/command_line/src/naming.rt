@@ -3,32 +3,33 @@
 ghost use Rattle.std.specs.Prelude.{◌-◌, ◌^◌, ◌<◌, ◌≡◌, map, IfOk, IfErr, OnOk};
 ghost use Rattle.command_line.specs.Done.{IsBuiltIn, IsBuiltWith};
 ghost use Rattle.command_line.specs.Ends.{Answers, EndsNamed};
+ghost use Rattle.command_line.specs.Made.{made_in};
 ghost use Rattle.command_line.specs.Meant.{names_meant, wanted_in};
 ghost use Rattle.command_line.specs.Reading.{IsRefusedText, texts_of};
 ghost use Rattle.command_line.specs.Refusals.{IsNotBuilt};
 ghost use Rattle.command_line.specs.States.{state};
 ghost use Rattle.command_line.specs.Told.{IsOfFailed};
-ghost use Rattle.pal_base.specs.WrittenView.{program_of};
 
 use crate::explaining::{Note, RunFiles};
-use crate::grammar::bad_tick;
+use crate::grammar::{bad_moments, bad_tick};
 use crate::linting::add_trees;
 use crate::order::{ModuleNames, NamedStateWords, Timed};
 use crate::outcome::Outcome;
 use crate::reading::{build_texts, read_as, read_sources, read_table};
 use crate::refusal::Refusal;
 use command_words::{Failure, number_of};
-use module::WantedState;
+use module::{Sources, WantedNames};
 use pal_base::syntax::Program;
 use std::alloc::Global;
 use streams::{Files, Stream};
 use text_beginnings::TextKind;
 
-/// The image of a module, and its sources as they are written.
+/// The image of a module, and its sources in the order of the table: their texts, and the programs
+/// that these are.
 #[derive(Drop)]
 pub struct BuiltModule {
     image: Vec<u8>,
-    /// One for each partition, in the order of the table.
+    texts: Vec<Vec<u8>>,
     trees: Vec<Program>,
 }
 
@@ -49,6 +50,9 @@ pub fn show_names<F: Files, O: Stream>(
     let Some(ticks) = number_of(words.state.tick) else {
         return Err(Failure::Usage(bad_tick(alloc, words.state.tick)?));
     };
+    if words.state.every.is_some() || !words.state.until.is_empty() {
+        return Err(Failure::Usage(bad_moments(alloc)?));
+    }
     Ok(show_names_at(alloc, Timed { words, ticks }, files, out, note)?)
 }
 
@@ -73,6 +77,7 @@ fn show_names_at<F: Files, O: Stream>(
     let names = ModuleNames {
         table: words.image,
         sources: wanted.words.sources,
+        image: None,
     };
     let built = module_named(alloc, names, files, note)?;
     let devices = read_as(alloc, TextKind::Inputs, words.devices, files)?;
@@ -82,14 +87,17 @@ fn show_names_at<F: Files, O: Stream>(
         text_name: words.devices,
         text: devices.as_slice(),
     };
-    let shown = WantedState {
+    let shown = WantedNames {
         devices: given.text,
         tick: wanted.ticks,
         form: words.form,
         partition: words.partition,
     };
-    let trees = built.trees.as_slice();
-    if let Err(fault) = module::named_state(alloc, given.image, trees, shown, out) {
+    let sources = Sources {
+        texts: built.texts.as_slice(),
+        trees: built.trees.as_slice(),
+    };
+    if let Err(fault) = module::named_state(alloc, given.image, sources, shown, out) {
         note.explain_run(alloc, given, &fault);
         return Err(Refusal::Run(fault));
     }
@@ -107,8 +115,7 @@ fn module_named<F: Files>(
 ) -> Result<BuiltModule, Refusal>
     ensures built { IfOk result
         (λ m. IsBuiltIn (F.contents files.old) names.entry.table.now
-        (map (λ s. s.now) names.entry.sources.now) m.image.items
-        (map program_of m.trees.items)) }
+        (map (λ s. s.now) names.entry.sources.now) m.image.items (made_in m)) }
     ensures refused { IfErr result
         (λ r. IsNotBuilt (F.contents files.old) names.entry.table.now
         (map (λ s. s.now) names.entry.sources.now) r) }
@@ -118,7 +125,7 @@ fn module_named<F: Files>(
 {
     let table = read_table(alloc, names.table, files)?;
     let sources = read_sources(alloc, names.sources, files)?;
-    module_of(alloc, names, table.as_slice(), sources.as_slice(), note)
+    module_of(alloc, names, table.as_slice(), sources, note)
 }
 
 /// The module of a table and its sources.
@@ -126,16 +133,19 @@ fn module_of(
     alloc: Global,
     names: ModuleNames<'_>,
     table: &[u8],
-    sources: &[Vec<u8>],
+    texts: Vec<Vec<u8>>,
     note: &mut Note,
 ) -> Result<BuiltModule, Refusal>
     ensures built { IfOk result
-        (λ m. IsBuiltWith table.now (texts_of sources.now) m.image.items
-        (map program_of m.trees.items)) }
-    ensures refused { IfErr result (λ r. IsRefusedText table.now (texts_of sources.now) r) }
+        (λ m. IsBuiltWith table.now (texts_of texts.items) m.image.items (made_in m)) }
+    ensures refused { IfErr result (λ r. IsRefusedText table.now (texts_of texts.items) r) }
 {
-    let image = build_texts(alloc, names, table, sources, note)?;
+    let image = build_texts(alloc, names, table, texts.as_slice(), note)?;
     let mut trees = Vec::new(alloc);
-    add_trees(alloc, sources, &mut trees)?;
-    Ok(BuiltModule { image, trees })
+    add_trees(alloc, texts.as_slice(), &mut trees)?;
+    Ok(BuiltModule {
+        image,
+        texts,
+        trees,
+    })
 }

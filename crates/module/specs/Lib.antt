@@ -24,3 +24,4 @@ pub mod Views
 pub mod Watched
 pub mod Written
 pub mod NamedStates
+pub mod Naming

@@ -102,14 +102,8 @@ pub fn states<S: Sink>(
 }
 
 /// The number of the partition with this name, if a name is given.
-pub(crate) fn find_wanted(
-    image: &Image,
-    name: Option<&str>,
-) -> Result<Option<PartitionId>, RunFault>
-    ensures found { IsFoundFor (image_of image.now) (option_map (λ s. s.now) name.entry) result }
-    ensures number { IfOk result
-        (λ only. wanted_number (image_of image.now) (option_map (λ s. s.now) name.entry)
-        ≡ Some (number_in only)) }
+fn find_wanted(image: &Image, name: Option<&str>) -> Result<Option<PartitionId>, RunFault>
+    ensures { IsFoundFor (image_of image.now) (option_map (λ s. s.now) name.entry) result }
 {
     let Some(name) = name else {
         return Ok(None);

@@ -10,13 +10,26 @@ use Rattle.apex_types.specs.declared.place.Place.TheVariants.{Data, Slot}
 use Rattle.apex_types.specs.declared.process.ProcessStatus.{ProcessStatus}
 use Rattle.apex_types.specs.declared.row.PortRow.{PortRow}
 use Rattle.apex_types.specs.declared.row.RoutineRow.{RoutineRow}
+use Rattle.finding_lines.specs.Texts.{column_of, line_of}
 use Rattle.kernel_meaning.specs.Partition.{Member, control_at}
 use Rattle.machine_meaning.specs.Image.{Item}
 use Rattle.machine_meaning.specs.MachineControl.{MachineControl, code_limit, saved_within}
 use Rattle.pal_meaning.specs.Resolve.{Entry, declaration_entries, no_counts}
 use Rattle.pal_meaning.specs.Syntax as written
-use Rattle.state_rows.specs.Rows.{Value, Nothing, Signed, Row}
+use Rattle.state_rows.specs.Rows.{Value, Nothing, Count, Signed, Row}
 use Rattle.state_rows.specs.States.{field, number, placed, row, word, word_rows}
+
+-- The source of a partition: its text, the program that this is, and for each instruction of the code how many bytes of the text are
+-- left from the first word on of the statement that it comes from.
+pub record Source : Type 0 where
+  pub text : List ℕ
+  pub tree : written.Program
+  pub places : List ℕ
+
+-- a count, if there is one
+abbrev pub count_or_none : Option ℕ → Value
+count_or_none None = Nothing
+count_or_none (Some n) = Count n
 
 -- a word, if it is there
 abbrev pub signed_or_none : Option ℤ → Value
@@ -70,12 +83,12 @@ pub record Frame : Type 0 where
   pub pc : ℕ
   pub fp : ℕ
 
--- what the frames of a runner are read from: the names of its own body, the procedures of the source, the routines that these
--- are in the code, and the words of its stack
+-- what the frames of a runner are read from: the names of its own body, the source, the routines that its procedures are in the
+-- code, and the words of its stack
 pub record Chain : Type 0 where
   pub partition : List ℕ
   pub own : BodyNames
-  pub declarations : List written.Declaration
+  pub source : Source
   pub routines : List RoutineRow
   pub stack : List ℤ
 
@@ -105,15 +118,31 @@ names_or own (Some d) = names_of_kind d.name d.kind
 -- the body in which so many routines have begun
 abbrev pub body_after : Chain → ℕ → BodyNames
 body_after c zero = c.own
-body_after c (suc n) = names_or c.own (procedure_at n c.declarations)
+body_after c (suc n) = names_or c.own (procedure_at n c.source.tree.declarations)
 
 abbrev pub body_at : Chain → ℕ → BodyNames
 body_at c pc = body_after c (begun_at c.routines pc)
 
+-- the line and the column where so many bytes of a text are left
+abbrev pub position : List ℕ → ℕ → ℕ × ℕ
+position text left = let before = take (length text - left) text in (line_of before, column_of before)
+
+-- those of the statement that an instruction comes from
+abbrev pub position_at : Source → ℕ → Option (ℕ × ℕ)
+position_at s pc = option_map (position s.text) (slice_get s.places pc)
+
 -- the row of a frame, where the frames are counted from the innermost one on
 abbrev pub frame_row : Chain → ℕ → ℕ → BodyNames → Row
 frame_row c place pc b =
-    row c.partition (number (codes "frame") place ∷ word (codes "process") c.own.name ∷ word (codes "body") b.name ∷ number (codes "pc") pc ∷ [])
+    let at = position_at c.source pc in
+    row c.partition
+    (number (codes "frame") place
+    ∷ word (codes "process") c.own.name
+    ∷ word (codes "body") b.name
+    ∷ number (codes "pc") pc
+    ∷ field (codes "line") (count_or_none (option_map (λ p. p.0) at))
+    ∷ field (codes "column") (count_or_none (option_map (λ p. p.1) at))
+    ∷ [])
 
 -- a parameter or local of a frame, with its value
 abbrev pub local_row : Chain → ℕ → List ℕ → Option ℤ → Row
@@ -185,29 +214,29 @@ own_locals t zero = t.init.body.locals
 own_locals t (suc zero) = locals_of_handler t.handler
 own_locals t (suc (suc place)) = locals_of_process (slice_get t.processes place)
 
-abbrev pub chain_of : List ℕ → List RoutineRow → written.Program → List ℕ → ℕ → List ℤ → Chain
-chain_of partition routines t who place stack = record {
+abbrev pub chain_of : List ℕ → List RoutineRow → Source → List ℕ → ℕ → List ℤ → Chain
+chain_of partition routines s who place stack = record {
   partition = partition;
-  own = record { name = who; parameters = []; locals = own_locals t place };
-  declarations = t.declarations;
+  own = record { name = who; parameters = []; locals = own_locals s.tree place };
+  source = s;
   routines = routines;
   stack = stack;
 }
 
-abbrev pub chain_rows_if : List ℕ → List RoutineRow → written.Program → List ℕ → ℕ → Option MachineControl → List Row
-chain_rows_if partition routines t who place None = []
-chain_rows_if partition routines t who place (Some c) =
-    chain_rows (chain_of partition routines t who place c.stack) (record { pc = c.pc; fp = c.fp })
+abbrev pub chain_rows_if : List ℕ → List RoutineRow → Source → List ℕ → ℕ → Option MachineControl → List Row
+chain_rows_if partition routines s who place None = []
+chain_rows_if partition routines s who place (Some c) =
+    chain_rows (chain_of partition routines s who place c.stack) (record { pc = c.pc; fp = c.fp })
 
-abbrev pub runner_names : List ℕ → List RoutineRow → written.Program → List (Option MachineControl) → ℕ → ProcessStatus → List Row
-runner_names partition routines t controls place r = chain_rows_if partition routines t (subject_text r.who) place (control_at controls place)
+abbrev pub runner_names : List ℕ → List RoutineRow → Source → List (Option MachineControl) → ℕ → ProcessStatus → List Row
+runner_names partition routines s controls place r = chain_rows_if partition routines s (subject_text r.who) place (control_at controls place)
 
-abbrev pub names_of_world : List ℕ → List PortRow → List RoutineRow → written.Program → List ℤ → List (Option MachineControl) → List ProcessStatus → List Row
-names_of_world partition ports routines t words controls rows =
-    declared_rows partition ports words t.declarations ++ placed (runner_names partition routines t controls) rows
+abbrev pub names_of_world : List ℕ → List PortRow → List RoutineRow → Source → List ℤ → List (Option MachineControl) → List ProcessStatus → List Row
+names_of_world partition ports routines s words controls rows =
+    declared_rows partition ports words s.tree.declarations ++ placed (runner_names partition routines s controls) rows
 
--- the rows with names of a partition, whose source is the text of this program
-abbrev pub named_rows : Item → written.Program → Member MachineControl → List Row
-named_rows i t x =
+-- the rows with names of a partition with this source
+abbrev pub named_rows : Item → Source → Member MachineControl → List Row
+named_rows i s x =
     let w = x.world in
-    names_of_world w.kernel.fixed.name i.partition.ports i.section.routines t w.words w.controls w.kernel.processes.rows
+    names_of_world w.kernel.fixed.name i.partition.ports i.section.routines s w.words w.controls w.kernel.processes.rows

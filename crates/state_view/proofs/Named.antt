@@ -88,11 +88,11 @@ two form xs ys first second third e f =
 
 -- ---- bodies and frames
 
-pub after_some : (c : Chain) (n : ℕ) → 1 ≤ n → body_after c n ≡ names_or c.own (procedure_at (n - 1) c.declarations)
+pub after_some : (c : Chain) (n : ℕ) → 1 ≤ n → body_after c n ≡ names_or c.own (procedure_at (n - 1) c.source.tree.declarations)
 after_some c zero h = absurd (omega (arith, h))
 after_some c (suc n) h =
     let same : n ≡ suc n - 1 = omega arith in
-    ap (λ k. names_or c.own (procedure_at k c.declarations)) same
+    ap (λ k. names_or c.own (procedure_at k c.source.tree.declarations)) same
 
 pub last_of_some : (routines : List RoutineRow) (n : ℕ) → 1 ≤ n → last_of routines n ≡ slice_get routines (n - 1)
 last_of_some routines zero h = absurd (omega (arith, h))

@@ -1,2 +1,3 @@
 pub mod Chosen
 pub mod Chains
+pub mod Sources

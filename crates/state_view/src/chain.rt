@@ -10,11 +10,12 @@ ghost use Rattle.state_view.specs.Chains.{chain_in, frame_in, names_in};
 
 use crate::declared::{signed_value, words_from};
 use crate::heading::Heading;
+use crate::source::{Source, column_value, line_value};
 use apex_types::RoutineRow;
 use apex_types::limits::MOST_INSTRUCTIONS;
 use indexmap::IndexSet;
 use pal::text_of;
-use pal_base::syntax::{Declaration, DeclarationKind, Identifier, Program};
+use pal_base::syntax::{Declaration, DeclarationKind, Identifier};
 use state_rows::{Field, number, word};
 use std::alloc::AllocError;
 
@@ -39,7 +40,7 @@ pub(crate) struct Frame {
 pub(crate) struct Chain<'a> {
     pub(crate) of: &'a Heading,
     pub(crate) own: BodyNames<'a>,
-    pub(crate) program: &'a Program,
+    pub(crate) source: &'a Source<'a>,
     pub(crate) routines: &'a [RoutineRow],
     pub(crate) stack: &'a [i64],
 }
@@ -140,13 +141,13 @@ fn frame_before(pc: u32, fp: u32) -> Option<Frame>
 impl<'a> Chain<'a> {
     /// The body of an instruction.
     fn body_at(&self, pc: u32) -> BodyNames<'a>
-        ensures { names_in (texts self.now.program.now.names.keys) result
+        ensures { names_in (texts self.now.source.now.program.now.names.keys) result
             ≡ meaning.body_at (chain_in self.now) pc }
     {
         match begun_at(self.routines, pc) {
             0 => self.own,
-            count => match procedure_at(self.program.declarations.as_slice(), count - 1) {
-                Some(declaration) => names_of(&self.program.names, declaration),
+            count => match procedure_at(self.source.program.declarations.as_slice(), count - 1) {
+                Some(declaration) => names_of(&self.source.program.names, declaration),
                 None => self.own,
             },
         }
@@ -177,13 +178,22 @@ impl<'a> Chain<'a> {
             ≡ text.old.items
             ++ row_in self.now.of.now.form
             (meaning.frame_row (chain_in self.now) place pc
-            (names_in (texts self.now.program.now.names.keys) body.entry))) }
+            (names_in (texts self.now.source.now.program.now.names.keys) body.entry))) }
     {
+        let at = self.source.position(pc);
         let fields = [
             number("frame", place as u64),
             word("process", self.own.name),
             word("body", body.name),
             number("pc", u64::from(pc)),
+            Field {
+                key: "line",
+                value: line_value(at),
+            },
+            Field {
+                key: "column",
+                value: column_value(at),
+            },
         ];
         self.of.row(&fields, text)
     }
@@ -201,10 +211,10 @@ impl<'a> Chain<'a> {
             ≡ text.old.items
             ++ row_in self.now.of.now.form
             (meaning.local_row (chain_in self.now) place
-            (name_of (texts self.now.program.now.names.keys) name) value)) }
+            (name_of (texts self.now.source.now.program.now.names.keys) name) value)) }
     {
         let fields = [
-            word("local", text_of(&self.program.names, name.name).as_bytes()),
+            word("local", text_of(&self.source.program.names, name.name).as_bytes()),
             number("frame", place as u64),
             word("process", self.own.name),
             Field {
@@ -229,7 +239,7 @@ impl<'a> Chain<'a> {
             ≡ text.old.items
             ++ rows_in self.now.of.now.form
             (placed (meaning.slot_rows (chain_in self.now) place words.now)
-            (map (name_of (texts self.now.program.now.names.keys)) names.now))) }
+            (map (name_of (texts self.now.source.now.program.now.names.keys)) names.now))) }
     {
         for (slot, name) in names.iter().enumerate() {
             self.write_local(place, *name, words.get(slot).copied(), text)?;
@@ -251,7 +261,7 @@ impl<'a> Chain<'a> {
             ≡ text.old.items
             ++ rows_in self.now.of.now.form
             (meaning.body_rows (chain_in self.now) place pc words.now
-            (names_in (texts self.now.program.now.names.keys) body.entry))) }
+            (names_in (texts self.now.source.now.program.now.names.keys) body.entry))) }
     {
         self.write_frame_row(place, pc, body, text)?;
         self.write_locals(place, words, body.parameters, text)?;

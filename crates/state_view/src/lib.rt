@@ -13,9 +13,11 @@ mod objects;
 mod port_rows;
 mod processes;
 mod runners;
+mod source;
 mod values;
 mod waits;
 mod words;
 
 pub use member::write_member;
 pub use names::write_names;
+pub use source::Source;

@@ -11,10 +11,12 @@ ghost use Rattle.pal_base.specs.WrittenView.{program_of};
 ghost use Rattle.state_rows.specs.Named as meaning;
 ghost use Rattle.state_rows.specs.Rows.{rows_in};
 ghost use Rattle.state_rows.specs.States.{placed};
+ghost use Rattle.state_view.specs.Sources.{source_in};
 
 use crate::chain::{BodyNames, Chain, Frame};
 use crate::declared::write_declared;
 use crate::heading::Heading;
+use crate::source::Source;
 use crate::values::subject_word;
 use apex_types::{ProcessStatus, RoutineRow};
 use image::PartitionItem;
@@ -29,9 +31,9 @@ use std::alloc::AllocError;
 /// The source of a partition, with the routines that its procedures are in the code, and how its
 /// rows are written.
 #[derive(Clone, Copy)]
-struct Source<'a> {
+struct Names<'a> {
     of: &'a Heading,
-    program: &'a Program,
+    source: &'a Source<'a>,
     routines: &'a [RoutineRow],
 }
 
@@ -53,7 +55,7 @@ fn own_locals(program: &Program, place: usize) -> &[Identifier]
     }
 }
 
-impl Source<'_> {
+impl Names<'_> {
     /// Appends the rows of the frames of a runner, if it has something left to do.
     fn write_chain(
         &self,
@@ -67,7 +69,7 @@ impl Source<'_> {
             ≡ text.old.items
             ++ rows_in self.now.of.now.form
             (meaning.chain_rows_if self.now.of.now.name self.now.routines.now
-            (program_of self.now.program.now) who.now place
+            (source_in self.now.source.now) who.now place
             (option_map (λ c. control_on c.0.now c.1.now) control.entry))) }
     {
         let Some((context, stack)) = control else {
@@ -76,12 +78,12 @@ impl Source<'_> {
         let own = BodyNames {
             name: who,
             parameters: &[],
-            locals: own_locals(self.program, place),
+            locals: own_locals(self.source.program, place),
         };
         let chain = Chain {
             of: self.of,
             own,
-            program: self.program,
+            source: self.source,
             routines: self.routines,
             stack,
         };
@@ -107,7 +109,7 @@ impl Source<'_> {
             ++ rows_in self.now.of.now.form
             (placed
             (meaning.runner_names self.now.of.now.name self.now.routines.now
-            (program_of self.now.program.now) (controls_of processor.now memory.now))
+            (source_in self.now.source.now) (controls_of processor.now memory.now))
             rows.now)) }
     {
         for (place, row) in rows.iter().enumerate() {
@@ -118,12 +120,11 @@ impl Source<'_> {
     }
 }
 
-/// Appends the rows with names of a partition; `item` is its item of the image, and `program` its
-/// source.
+/// Appends the rows with names of a partition; `item` is its item of the image.
 pub fn write_names(
     form: Form,
     item: &PartitionItem,
-    program: &Program,
+    source: &Source<'_>,
     partition: &Partition<PartitionProcessor>,
     memory: &PartitionMem,
     text: &mut Vec<u8>,
@@ -132,18 +133,19 @@ pub fn write_names(
         (text.new.items
         ≡ text.old.items
         ++ rows_in form
-        (meaning.named_rows (item_of item.now) (program_of program.now)
+        (meaning.named_rows (item_of item.now) (source_in source.now)
         (member_of machine partition.now memory.now))) }
 {
     let kernel = partition.kernel();
     let name = kernel.name();
     let of = Heading { form, name };
-    let source = Source {
+    let names = Names {
         of: &of,
-        program,
+        source,
         routines: item.section.routines.as_slice(),
     };
     let ports = item.row.ports.as_slice();
+    let program = source.program;
     let declarations = program.declarations.as_slice();
     write_declared(
         &of,
@@ -153,7 +155,7 @@ pub fn write_names(
         declarations,
         text,
     )?;
-    source.write_chains(
+    names.write_chains(
         partition.executor(),
         memory,
         kernel.processes().rows(),

@@ -13,7 +13,7 @@ pub returns : goal.returns
 returns c =
     let form = c.args.self.now.of.now.form in
     let chain = chain_in c.args.self.now in
-    let names = texts c.args.self.now.program.now.names.keys in
+    let names = texts c.args.self.now.source.now.program.now.names.keys in
     let b = names_in names c.args.body in
     let words = c.args.words.now in
     let place = c.args.place in

@@ -2,19 +2,19 @@
 use Rattle.std.proofs.Common.{◌≡◌, ◌++◌, [], ℕ, List, Option, Some, option_map, subst, sym}
 use Rattle.std.specs.Prelude.{OnOk}
 use Rattle.partition_base.specs.Slots.{control_on}
-use Rattle.pal_base.specs.WrittenView.{program_of}
 use Rattle.state_rows.specs.Named.{chain_rows}
 use Rattle.state_rows.specs.Rows.{rows_in}
-use Rattle.state_view.proofs.names.Source.write_chain.Goals as goal
+use Rattle.state_view.specs.Sources.{source_in}
+use Rattle.state_view.proofs.names.Names.write_chain.Goals as goal
 
 pub returns : goal.returns
 returns c =
     let form = c.args.self.now.of.now.form in
-    let t = program_of c.args.self.now.program.now in
+    let source = source_in c.args.self.now.source.now in
     let is_written : List (List ℕ) → ℕ → ℕ → Type 0 = λ locals pc fp. OnOk c.write.result (c.write.new.text.items ≡ c.args.text.now.items ++ rows_in form (chain_rows (record {
       partition = c.args.self.now.of.now.name;
       own = record { name = c.args.who.now; parameters = []; locals = locals };
-      declarations = t.declarations;
+      source = source;
       routines = c.args.self.now.routines.now;
       stack = c.in-Some.stack.now;
     }) (record { pc = pc; fp = fp }))) in
