@@ -1,6 +1,10 @@
 -- The words that the instructions of a program come from, in the order of the instructions: each comes from the first word of its
 -- statement, and the end of a body from the brace that closes it. A place is how many bytes of the text are left from a word on.
-use Rattle.std.specs.Prelude.{ℕ, zero, suc, ◌==◌, Bool, false, if◌then◌else◌, List, [], ◌∷◌, ◌++◌, length, map, Option, Some, None}
+use Rattle.std.specs.Prelude.{ℕ, zero, suc, ◌==◌, Bool, false, if◌then◌else◌, List, [], ◌∷◌, ◌++◌, length, Option, Some, None}
+use Rattle.apex_types.specs.ServiceShape.{arguments_of}
+use Rattle.apex_types.specs.declared.service.Service.{Service}
+use Rattle.apex_types.specs.declared.shape.ArgumentKind.{ArgumentKind}
+use Rattle.apex_types.specs.declared.shape.ArgumentKind.TheVariants as argument
 use Rattle.pal_meaning.specs.Lines.{from_word}
 use Rattle.pal_meaning.specs.Syntax as tree
 use Rattle.source_places.specs.Passing.{after_block, after_body, after_else, after_stmt, after_test, inside_body, to_end}
@@ -29,9 +33,24 @@ abbrev mutual
 abbrev pub test_places : List ℕ → tree.Expr → List ℕ
 test_places text test = expr_places (length text) test ++ length text ∷ []
 
--- the arguments of a service, its call, and an instruction for each target
-abbrev pub call_places : ℕ → tree.Exprs → List (List ℕ) → List ℕ
-call_places p arguments targets = exprs_places p arguments ++ p ∷ map (λ x. p) targets
+-- an argument of a service: a name is its number, an array its place and its size
+abbrev pub argument_places : ℕ → ArgumentKind → tree.Expr → List ℕ
+argument_places p argument.Word e = expr_places p e
+argument_places p argument.Array e = p ∷ p ∷ []
+argument_places p (argument.Object kind) e = p ∷ []
+
+abbrev pub arguments_places : ℕ → List ArgumentKind → tree.Exprs → List ℕ
+arguments_places p (k ∷ ks) (tree.MoreExprs e es) = argument_places p k e ++ arguments_places p ks es
+arguments_places p _ _ = []
+
+-- an instruction for each target
+abbrev pub targets_places : ℕ → List (List ℕ) → List ℕ
+targets_places p [] = []
+targets_places p (x ∷ xs) = p ∷ targets_places p xs
+
+-- the arguments of a service, its call and its targets
+abbrev pub call_places : ℕ → Service → tree.Exprs → List (List ℕ) → List ℕ
+call_places p service arguments targets = arguments_places p (arguments_of service) arguments ++ p ∷ targets_places p targets
 
 -- a statement, of the text from its first word on
 abbrev mutual
@@ -45,7 +64,7 @@ abbrev mutual
   stmt_places text (tree.While test block) = test_places text test ++ block_places (after_test test text) block ++ length text ∷ []
   stmt_places text (tree.Work ticks) = length text ∷ []
   stmt_places text (tree.Return value) = expr_places (length text) value ++ length text ∷ []
-  stmt_places text (tree.CallService service arguments targets) = call_places (length text) arguments targets
+  stmt_places text (tree.CallService service arguments targets) = call_places (length text) service arguments targets
 
   pub block_places : List ℕ → tree.Block → List ℕ
   block_places text tree.NoStmt = []

@@ -65,11 +65,10 @@ fn after_targets<'a>(text: &'a [u8], targets: &[Identifier]) -> &'a [u8]
     ensures { (names : List (List ℕ))
         → result.now ≡ spec.after_targets (map (name_of names) targets.now) text.now }
 {
-    let mut rest = text;
-    for _ in targets {
-        rest = next_word(next_word(rest));
+    match targets.split_first() {
+        Some((_, targets)) => after_targets(next_word(next_word(text)), targets),
+        None => text,
     }
-    rest
 }
 
 /// The text after the word of an `if` or a `while`, its test and the brace of its block.
@@ -99,9 +98,8 @@ pub fn after_stmt<'a>(text: &'a [u8], stmt: &Stmt) -> &'a [u8]
             let rest = after_expr(next_word(next_word(text)), index);
             next_word(after_expr(next_word(next_word(rest)), value))
         }
-        StmtKind::If(test, block) | StmtKind::While(test, block) => {
-            next_word(after_block(after_test(text, test), block))
-        }
+        StmtKind::If(test, block) => next_word(after_block(after_test(text, test), block)),
+        StmtKind::While(test, block) => next_word(after_block(after_test(text, test), block)),
         StmtKind::IfElse(test, block, other) => {
             let rest = after_block(after_test(text, test), block);
             next_word(after_block(after_else(rest), other))
@@ -141,11 +139,10 @@ fn after_locals<'a>(text: &'a [u8], locals: &[Identifier]) -> &'a [u8]
     ensures { (names : List (List ℕ))
         → result.now ≡ spec.after_locals (map (name_of names) locals.now) text.now }
 {
-    let mut rest = text;
-    for _ in locals {
-        rest = next_word(next_word(next_word(rest)));
+    match locals.split_first() {
+        Some((_, locals)) => after_locals(next_word(next_word(next_word(text))), locals),
+        None => text,
     }
-    rest
 }
 
 /// The text after the brace of a body and its locals.

@@ -9,6 +9,7 @@ use crate::passing::{
     after_block, after_body, after_else, after_stmt, after_test, inside_body, to_end,
 };
 use crate::text_words::{from_word, next_word};
+use apex_types::{ArgumentKind, Service};
 use pal_base::syntax::{
     Body, Declaration, DeclarationKind, Expr, Identifier, Link, Process, Program, StackBody, Stmt,
     StmtKind,
@@ -32,7 +33,11 @@ pub fn program_places(
     let mut places = Vec::new(alloc);
     let start = from_word(text, 0);
     let declarations = program.declarations.as_slice();
-    add_own(&mut places, after_declarations(start, declarations), program)?;
+    add_own(
+        &mut places,
+        after_declarations(start, declarations),
+        program,
+    )?;
     add_procedures(&mut places, start, declarations)?;
     Ok(places)
 }
@@ -129,18 +134,67 @@ fn add_targets(
     ensures { (names : List (List ℕ))
         → OnOk result
         (places.new.items
-        ≡ places.old.items ++ map (λ x. place) (map (name_of names) targets.now)) }
+        ≡ places.old.items ++ spec.targets_places place (map (name_of names) targets.now)) }
 {
-    for _ in targets {
-        add(places, place)?;
+    match targets.split_first() {
+        Some((_, targets)) => {
+            add(places, place)?;
+            add_targets(places, place, targets)
+        }
+        None => Ok(()),
     }
-    Ok(())
+}
+
+/// Adds the instructions of an argument of a service: a name is its number, an array its place and
+/// its size.
+fn add_argument(
+    places: &mut Vec<usize>,
+    place: usize,
+    kind: ArgumentKind,
+    argument: &Expr,
+) -> Result<(), AllocError>
+    ensures { (names : List (List ℕ))
+        → OnOk result
+        (places.new.items
+        ≡ places.old.items ++ spec.argument_places place kind (expr_of names argument.now)) }
+{
+    match kind {
+        ArgumentKind::Word => add_expr(places, place, argument),
+        ArgumentKind::Array => {
+            add(places, place)?;
+            add(places, place)
+        }
+        ArgumentKind::Object(_) => add(places, place),
+    }
+}
+
+/// Adds the instructions of arguments of these kinds.
+fn add_arguments(
+    places: &mut Vec<usize>,
+    place: usize,
+    kinds: &[ArgumentKind],
+    arguments: &[Expr],
+) -> Result<(), AllocError>
+    ensures { (names : List (List ℕ))
+        → OnOk result
+        (places.new.items
+        ≡ places.old.items
+        ++ spec.arguments_places place kinds.now (exprs_of names arguments.now)) }
+{
+    match (kinds.split_first(), arguments.split_first()) {
+        (Some((kind, kinds)), Some((argument, arguments))) => {
+            add_argument(places, place, *kind, argument)?;
+            add_arguments(places, place, kinds, arguments)
+        }
+        _ => Ok(()),
+    }
 }
 
 /// Adds the instructions of a call of a service.
 fn add_call(
     places: &mut Vec<usize>,
     place: usize,
+    service: Service,
     arguments: &[Expr],
     targets: &[Identifier],
 ) -> Result<(), AllocError>
@@ -148,10 +202,10 @@ fn add_call(
         → OnOk result
         (places.new.items
         ≡ places.old.items
-        ++ spec.call_places place (exprs_of names arguments.now)
+        ++ spec.call_places place service (exprs_of names arguments.now)
         (map (name_of names) targets.now)) }
 {
-    add_exprs(places, place, arguments)?;
+    add_arguments(places, place, service.arguments(), arguments)?;
     add(places, place)?;
     add_targets(places, place, targets)
 }
@@ -198,8 +252,8 @@ fn add_stmt(places: &mut Vec<usize>, text: &[u8], stmt: &Stmt) -> Result<(), All
             add(places, text.len())
         }
         StmtKind::Work(_) => add(places, text.len()),
-        StmtKind::CallService(_, arguments, targets) => {
-            add_call(places, text.len(), arguments, targets)
+        StmtKind::CallService(service, arguments, targets) => {
+            add_call(places, text.len(), *service, arguments, targets)
         }
     }
 }
@@ -292,11 +346,7 @@ fn after_declarations<'a>(text: &'a [u8], declarations: &[Declaration]) -> &'a [
     rest
 }
 
-fn add_kind(
-    places: &mut Vec<usize>,
-    text: &[u8],
-    kind: &DeclarationKind,
-) -> Result<(), AllocError>
+fn add_kind(places: &mut Vec<usize>, text: &[u8], kind: &DeclarationKind) -> Result<(), AllocError>
     ensures { (names : List (List ℕ))
         → OnOk result
         (places.new.items

@@ -214,7 +214,10 @@ impl<'a> Chain<'a> {
             (name_of (texts self.now.source.now.program.now.names.keys) name) value)) }
     {
         let fields = [
-            word("local", text_of(&self.source.program.names, name.name).as_bytes()),
+            word(
+                "local",
+                text_of(&self.source.program.names, name.name).as_bytes(),
+            ),
             number("frame", place as u64),
             word("process", self.own.name),
             Field {
