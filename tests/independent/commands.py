@@ -179,12 +179,12 @@ class Folder:
     def named_state(self, form, only, table, devices, tick, *sources):
         """The table and the sources are read and built first; then the device text is read, and then the tick is judged."""
         table, sources = self.read(table), [self.read(it) for it in sources]
-        programs, road = accept(table, *sources)[1], road_of(build_image(table, sources))
+        road = road_of(build_image(table, sources))
         devices, tick = self.read(devices), number_of(tick)
         if tick > limits.LONGEST_TIME:
             raise Refusal("ticks")
         number = None if only is None else number_of_partition(road.table, only)
-        return NamedState(self.module_before(road, devices, tick), tick, programs, number, form).text()
+        return NamedState(self.module_before(road, devices, tick), tick, sources, number, form).text()
 
     def module_before(self, road, devices, tick):
         """The module after so many ticks: that of the command before, if it is not past this tick."""
