@@ -223,10 +223,12 @@ chain_of partition routines s who place stack = record {
   stack = stack;
 }
 
+abbrev pub chain_rows_on : List ℕ → List RoutineRow → Source → List ℕ → ℕ → MachineControl → List Row
+chain_rows_on partition routines s who place c = chain_rows (chain_of partition routines s who place c.stack) (record { pc = c.pc; fp = c.fp })
+
 abbrev pub chain_rows_if : List ℕ → List RoutineRow → Source → List ℕ → ℕ → Option MachineControl → List Row
 chain_rows_if partition routines s who place None = []
-chain_rows_if partition routines s who place (Some c) =
-    chain_rows (chain_of partition routines s who place c.stack) (record { pc = c.pc; fp = c.fp })
+chain_rows_if partition routines s who place (Some c) = chain_rows_on partition routines s who place c
 
 abbrev pub runner_names : List ℕ → List RoutineRow → Source → List (Option MachineControl) → ℕ → ProcessStatus → List Row
 runner_names partition routines s controls place r = chain_rows_if partition routines s (subject_text r.who) place (control_at controls place)

@@ -1,6 +1,6 @@
 -- Rows with names that a loop writes one after another, and the bodies and frames that they are of.
 use Rattle.std.proofs.Common.{◌≡◌, ◌<◌, ◌≤◌, ℕ, zero, suc, ◌+◌, ◌-◌, ℤ, List, [], ◌∷◌, ◌++◌, Option, Some, None, map, drop, length, refl, ap, sym, ◌∙◌, arith}
-use Rattle.std.specs.Prelude.{slice_get}
+use Rattle.std.specs.Prelude.{OnOk, Result, Ok, Err, slice_get}
 use Rattle.std.specs.Option.{option_map}
 use Rattle.std.proofs.lemmas.Grind.{flat_map-append}
 use Rattle.std.proofs.lemmas.List.{append_assoc, append-nil}
@@ -85,6 +85,11 @@ two form xs ys first second third e f =
     ∙ ap (λ (bytes : List ℕ). bytes ++ rows_in form ys) e
     ∙ append_assoc first (rows_in form xs) (rows_in form ys)
     ∙ ap (λ (bytes : List ℕ). first ++ bytes) (sym (flat_map-append (row_in form) xs ys))
+
+pub two_on : {E : Type 0} (form : Form) (xs ys : List Row) (first second third : List ℕ) (answer : Result (Unit {0}) E)
+    → second ≡ first ++ rows_in form xs → OnOk answer (third ≡ second ++ rows_in form ys) → OnOk answer (third ≡ first ++ rows_in form (xs ++ ys))
+two_on form xs ys first second third (Ok x) e f = two form xs ys first second third e f
+two_on form xs ys first second third (Err fault) e f = f
 
 -- ---- bodies and frames
 

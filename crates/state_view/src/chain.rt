@@ -1,6 +1,6 @@
 //! Where a runner is in its source: its frames, with their parameters and locals.
 
-ghost use Rattle.std.specs.Prelude.{◌≡◌, ◌≤◌, ◌++◌, List, ℕ, OnOk, Some, length, map, option_map, slice_get};
+ghost use Rattle.std.specs.Prelude.{◌≡◌, ◌≤◌, ◌++◌, ◌∷◌, [], List, ℕ, OnOk, Some, length, map, option_map, slice_get};
 ghost use Rattle.machine_meaning.specs.MachineControl.{saved_within};
 ghost use Rattle.pal_base.specs.View.{declaration_of, declared_of, name_of, texts};
 ghost use Rattle.state_rows.specs.Named as meaning;
@@ -209,9 +209,10 @@ impl<'a> Chain<'a> {
         ensures { OnOk result
             (text.new.items
             ≡ text.old.items
-            ++ row_in self.now.of.now.form
+            ++ rows_in self.now.of.now.form
             (meaning.local_row (chain_in self.now) place
-            (name_of (texts self.now.source.now.program.now.names.keys) name) value)) }
+            (name_of (texts self.now.source.now.program.now.names.keys) name) value
+            ∷ [])) }
     {
         let fields = [
             word(
@@ -226,6 +227,25 @@ impl<'a> Chain<'a> {
             },
         ];
         self.of.row(&fields, text)
+    }
+
+    /// The same by its place among these words.
+    fn write_slot(
+        &self,
+        place: usize,
+        words: &[i64],
+        slot: usize,
+        name: Identifier,
+        text: &mut Vec<u8>,
+    ) -> Result<(), AllocError>
+        ensures { OnOk result
+            (text.new.items
+            ≡ text.old.items
+            ++ rows_in self.now.of.now.form
+            (meaning.slot_rows (chain_in self.now) place words.now slot
+            (name_of (texts self.now.source.now.program.now.names.keys) name))) }
+    {
+        self.write_local(place, name, words.get(slot).copied(), text)
     }
 
     /// Appends the rows of parameters or locals of a frame, which have these words.
@@ -245,7 +265,7 @@ impl<'a> Chain<'a> {
             (map (name_of (texts self.now.source.now.program.now.names.keys)) names.now))) }
     {
         for (slot, name) in names.iter().enumerate() {
-            self.write_local(place, *name, words.get(slot).copied(), text)?;
+            self.write_slot(place, words, slot, *name, text)?;
         }
         Ok(())
     }

@@ -1,12 +1,12 @@
 //! The rows that show a partition's state by the names of its source.
 
-ghost use Rattle.std.specs.Prelude.{◌≡◌, ◌++◌, OnOk, map, option_map};
+ghost use Rattle.std.specs.Prelude.{◌≡◌, ◌++◌, List, ℕ, OnOk, map, option_map, slice_get};
 ghost use Rattle.image.specs.Items.{item_of};
 ghost use Rattle.partition.specs.Members.{member_of};
 ghost use Rattle.partition_base.specs.Machines.{controls_of};
 ghost use Rattle.partition_base.specs.Slots.{control_on};
 ghost use Rattle.partition_base.specs.contracts.machine.PartitionProcessorExecutor.TheImpl.{ghosts as machine};
-ghost use Rattle.pal_base.specs.View.{name_of, texts};
+ghost use Rattle.pal_base.specs.View.{name_of, process_of, texts};
 ghost use Rattle.pal_base.specs.WrittenView.{program_of};
 ghost use Rattle.state_rows.specs.Named as meaning;
 ghost use Rattle.state_rows.specs.Rows.{rows_in};
@@ -20,7 +20,7 @@ use crate::source::Source;
 use crate::values::subject_word;
 use apex_types::{ProcessStatus, RoutineRow};
 use image::PartitionItem;
-use pal_base::syntax::{Identifier, Program};
+use pal_base::syntax::{Identifier, Process, Program};
 use partition::Partition;
 use partition_base::PartitionProcessor;
 use processor::Context;
@@ -48,33 +48,46 @@ fn own_locals(program: &Program, place: usize) -> &[Identifier]
             Some(handler) => handler.body.locals.as_slice(),
             None => &[],
         },
-        _ => match program.processes.get(place - 2) {
-            Some(process) => process.body.locals.as_slice(),
-            None => &[],
-        },
+        _ => locals_of(process_at(program.processes.as_slice(), place - 2)),
+    }
+}
+
+fn process_at(processes: &[Process], place: usize) -> Option<&Process>
+    ensures { option_map (λ p. p.now) result ≡ slice_get processes.now place }
+{
+    processes.get(place)
+}
+
+/// The locals of a process, if there is one.
+fn locals_of(process: Option<&Process>) -> &[Identifier]
+    ensures { (names : List (List ℕ))
+        → map (name_of names) result.now
+        ≡ meaning.locals_of_process
+        (option_map (process_of names) (option_map (λ p. p.now) process.entry)) }
+{
+    match process {
+        Some(process) => process.body.locals.as_slice(),
+        None => &[],
     }
 }
 
 impl Names<'_> {
-    /// Appends the rows of the frames of a runner, if it has something left to do.
+    /// Appends the rows of the frames of a runner.
     fn write_chain(
         &self,
         who: &[u8],
         place: usize,
-        control: Option<(&Context, &[i64])>,
+        context: &Context,
+        stack: &[i64],
         text: &mut Vec<u8>,
     ) -> Result<(), AllocError>
         ensures { OnOk result
             (text.new.items
             ≡ text.old.items
             ++ rows_in self.now.of.now.form
-            (meaning.chain_rows_if self.now.of.now.name self.now.routines.now
-            (source_in self.now.source.now) who.now place
-            (option_map (λ c. control_on c.0.now c.1.now) control.entry))) }
+            (meaning.chain_rows_on self.now.of.now.name self.now.routines.now
+            (source_in self.now.source.now) who.now place (control_on context.now stack.now))) }
     {
-        let Some((context, stack)) = control else {
-            return Ok(());
-        };
         let own = BodyNames {
             name: who,
             parameters: &[],
@@ -92,6 +105,28 @@ impl Names<'_> {
             fp: context.fp(),
         };
         chain.write(innermost, text)
+    }
+
+    /// The same, if it has something left to do.
+    fn write_if_any(
+        &self,
+        who: &[u8],
+        place: usize,
+        control: Option<(&Context, &[i64])>,
+        text: &mut Vec<u8>,
+    ) -> Result<(), AllocError>
+        ensures { OnOk result
+            (text.new.items
+            ≡ text.old.items
+            ++ rows_in self.now.of.now.form
+            (meaning.chain_rows_if self.now.of.now.name self.now.routines.now
+            (source_in self.now.source.now) who.now place
+            (option_map (λ c. control_on c.0.now c.1.now) control.entry))) }
+    {
+        match control {
+            Some((context, stack)) => self.write_chain(who, place, context, stack, text),
+            None => Ok(()),
+        }
     }
 
     /// Appends the rows of the frames of all that have something left to do.
@@ -114,7 +149,7 @@ impl Names<'_> {
     {
         for (place, row) in rows.iter().enumerate() {
             let control = processor.control(memory, place);
-            self.write_chain(subject_word(&row.who), place, control, text)?;
+            self.write_if_any(subject_word(&row.who), place, control, text)?;
         }
         Ok(())
     }

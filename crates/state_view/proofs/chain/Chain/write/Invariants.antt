@@ -10,4 +10,4 @@ invariant-loop-place l =
     let chain = chain_in l.self in
     let form = l.self.of.now.form in
     l.text.items ++ rows_in form (frames_from chain (length l.self.stack.now - l.place) l.place (option_map frame_in l.frame))
-    ≡ l.initial.text.items ++ rows_in form (chain_rows chain (frame_in l.innermost))
+    ≡ l.initial.text.items ++ rows_in form (chain_rows chain (frame_in l.fn.innermost))

@@ -1,7 +1,7 @@
 -- the frames of a runner are read from its own body, its source and its stack
-use Rattle.std.proofs.Common.{◌≡◌, ◌++◌, [], ℕ, List, Option, Some, option_map, subst, sym}
+use Rattle.std.proofs.Common.{◌≡◌, ◌++◌, [], ℕ, List, map, subst}
 use Rattle.std.specs.Prelude.{OnOk}
-use Rattle.partition_base.specs.Slots.{control_on}
+use Rattle.pal_base.specs.View.{name_of, texts}
 use Rattle.state_rows.specs.Named.{chain_rows}
 use Rattle.state_rows.specs.Rows.{rows_in}
 use Rattle.state_view.specs.Sources.{source_in}
@@ -16,8 +16,9 @@ returns c =
       own = record { name = c.args.who.now; parameters = []; locals = locals };
       source = source;
       routines = c.args.self.now.routines.now;
-      stack = c.in-Some.stack.now;
+      stack = c.args.stack.now;
     }) (record { pc = pc; fp = fp }))) in
-    subst (λ (locals : List (List ℕ)). is_written locals c.in-Some.context.now.pc c.in-Some.context.now.fp) c.own_locals.ensures
-    (subst (λ (pc : ℕ). is_written _ pc c.in-Some.context.now.fp) c.pc.ensures
-    (subst (λ (fp : ℕ). is_written _ c.pc.result fp) c.fp.ensures c.write.ensures))
+    let mapped = map (name_of (texts c.args.self.now.source.now.program.now.names.keys)) c.own_locals.result.now in
+    subst (λ (locals : List (List ℕ)). is_written locals c.args.context.now.pc c.args.context.now.fp) c.own_locals.ensures
+    (subst (λ (pc : ℕ). is_written mapped pc c.args.context.now.fp) c.pc.ensures
+    (subst (λ (fp : ℕ). is_written mapped c.pc.result fp) c.fp.ensures c.write.ensures))
