@@ -18,7 +18,7 @@ use crate::outcome::Outcome;
 use crate::reading::{build_texts, read_as, read_sources, read_table};
 use crate::refusal::Refusal;
 use command_words::{Failure, number_of};
-use module::{Sources, WantedNames};
+use module::{WantedNames, WrittenSources};
 use pal_base::syntax::Program;
 use std::alloc::Global;
 use streams::{Files, Stream};
@@ -93,7 +93,7 @@ fn show_names_at<F: Files, O: Stream>(
         form: words.form,
         partition: words.partition,
     };
-    let sources = Sources {
+    let sources = WrittenSources {
         texts: built.texts.as_slice(),
         trees: built.trees.as_slice(),
     };

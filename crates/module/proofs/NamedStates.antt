@@ -20,7 +20,7 @@ ok_image image = Ok image
 
 as_named : (read : Result Image Fault) (devices : List ℕ) (n : ℕ) (wanted : Wanted) (sources : List Source) (old : Option (List ℕ)) (v : Result (List DeviceLine) DeviceFault) (f : RunFault) → AreRefused v f → States read devices n wanted old old (Err f) → NamedStates read devices n wanted sources old old (Err f)
 as_named read devices n wanted sources old v (fault.Device f) h r = r
-as_named read devices n wanted sources old v fault.Memory h r = r
+as_named read devices n wanted sources old v fault.Memory h r = refl
 as_named read devices n wanted sources old v fault.Ticks h r = r
 as_named read devices n wanted sources old v (fault.Image f) h r = r
 as_named read devices n wanted sources old v fault.Partition h r = r

@@ -9,13 +9,13 @@ use Rattle.state_rows.specs.Rows.{rows_in}
 use Rattle.state_rows.specs.declared.row.Form.{Form}
 use Rattle.module.specs.NamedStates.{rows_with_names, sources_of}
 use Rattle.module.specs.States.{Last, Wanted, state_before}
-use Rattle.module.specs.declared.naming_states.Sources.{Sources}
+use Rattle.module.specs.declared.naming_states.WrittenSources.{WrittenSources}
 use Rattle.module.specs.declared.naming_states.WantedNames.{WantedNames}
 
 abbrev pub named_in : WantedNames → Wanted
 named_in w = record { form = w.form; partition = option_map (λ s. s.now) w.partition; moments = Last }
 
-abbrev pub written_in : Sources → List Source
+abbrev pub written_in : WrittenSources → List Source
 written_in s = sources_of (map (λ t. t.items) s.texts.now) (map program_of s.trees.now)
 
 -- the text of these rows of the state before tick n

@@ -46,7 +46,7 @@ pub use fault::{BuildAndRunFault, BuildFault, RunFault};
 pub use inputs_fault::InputsFault;
 pub use load_fault::LoadFault;
 pub use machine::{Machine, ticks_isolate_the_partitions, ticks_make_the_trace};
-pub use naming_states::{Sources, WantedNames, named_state};
+pub use naming_states::{WantedNames, WrittenSources, named_state};
 pub use replaying::replay;
 pub use running::{build_and_run, run, run_watched};
 pub use stating::{Moments, WantedStates, a_state_decides_the_rest, states, ticks_make_the_state};

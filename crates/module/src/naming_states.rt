@@ -1,6 +1,6 @@
 //! The state of a module before a tick, with the names of its sources.
 
-ghost use Rattle.std.specs.Prelude.{◌≡◌, ◌≢◌, ◌≤◌, ◌<◌, ◌-◌, ◌^◌, ◌++◌, length, map, option_map, IfErr, IfOk, OnOk, IsErrOf};
+ghost use Rattle.std.specs.Prelude.{◌≡◌, ◌≢◌, ◌≤◌, ◌<◌, ◌+◌, ◌-◌, ◌^◌, ◌++◌, length, map, option_map, IfErr, IfOk, OnOk, IsErrOf};
 ghost use Rattle.apex_types.specs.Limits.{MOST_TICKS};
 ghost use Rattle.image.specs.Items.{items_of};
 ghost use Rattle.image.specs.Views.{image_of};
@@ -37,7 +37,7 @@ use std::alloc::{AllocError, Global};
 /// The sources of a module, in the order of its partitions: their texts, and the programs that these
 /// are.
 #[derive(Clone, Copy)]
-pub struct Sources<'a> {
+pub struct WrittenSources<'a> {
     pub texts: &'a [Vec<u8>],
     pub trees: &'a [Program],
 }
@@ -62,7 +62,7 @@ pub struct WantedNames<'a> {
 pub fn named_state<S: Sink>(
     alloc: Global,
     image: &[u8],
-    sources: Sources<'_>,
+    sources: WrittenSources<'_>,
     wanted: WantedNames<'_>,
     sink: &mut S,
 ) -> Result<(), RunFault>
@@ -91,7 +91,7 @@ pub fn named_state<S: Sink>(
 fn named_text(
     alloc: Global,
     image: Image,
-    sources: Sources<'_>,
+    sources: WrittenSources<'_>,
     only: Option<PartitionId>,
     wanted: WantedNames<'_>,
 ) -> Result<Vec<u8>, RunFault>
