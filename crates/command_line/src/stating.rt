@@ -107,7 +107,7 @@ fn show_state_named<F: Files, O: Stream>(
         form: words.form,
         partition: words.partition,
     };
-    let found = match module::states(alloc, given.image, shown, out) {
+    let found = match module::state(alloc, given.image, shown, out) {
         Ok(found) => found,
         Err(fault) => {
             note.explain_run(alloc, given, &fault);

@@ -15,7 +15,7 @@ use Rattle.state_rows.specs.Rows.{Row}
 
 -- No state before the machine's has such a row. Of n ticks so many are left.
 pub record IsAwaited (words : List (List ℕ)) (only : Option ℕ) (image : Image) (devices lines : List DeviceLine) (n left : ℕ) (m : Machine) (found : Bool) : Type 0 where
-  pub image : m.image ≡ image
+  pub own : m.image ≡ image
   pub sound : m.failed ≡ false
   pub count : m.standing.now + left ≡ n
   pub before : IsBefore image devices m
@@ -30,7 +30,7 @@ awaited_first {words = words} {only = only} {devices = devices} n m found fresh 
     let first : m.standing.now ≡ 0 = ap (λ (x : Machine). x.standing.now) fresh in
     let before = before_first m.image devices m fresh in
     record {
-      image = refl;
+      own = refl;
       sound = ap (λ (x : Machine). x.failed) fresh;
       count = omega (arith, first);
       before = before;
@@ -43,12 +43,12 @@ awaited_first {words = words} {only = only} {devices = devices} n m found fresh 
 -- ---- rows that stay
 
 -- the rows are those of the partitions, whatever the tick is
-same_rows : (only : Option ℕ) (image : Image) (s t : Standing MachineControl) → s.members ≡ t.members → watched_of only image s ≡ watched_of only image t
-same_rows None image s t same = ap (λ ms. watched_of None image (record { members = ms; now = 0; origin = None })) same
-same_rows (Some number) image s t same = ap (λ ms. watched_of (Some number) image (record { members = ms; now = 0; origin = None })) same
+same_rows : (words : List (List ℕ)) (only : Option ℕ) (image : Image) (s t : Standing MachineControl) → s.members ≡ t.members → watched_of words only image s ≡ watched_of words only image t
+same_rows words None image s t same = ap (λ ms. watched_of words None image (record { members = ms; now = 0; origin = None })) same
+same_rows words (Some number) image s t same = ap (λ ms. watched_of words (Some number) image (record { members = ms; now = 0; origin = None })) same
 
 same_watched : (words : List (List ℕ)) (only : Option ℕ) (image : Image) (s t : Standing MachineControl) → s.members ≡ t.members → watches words only image s ≡ watches words only image t
-same_watched words only image s t same = let is = same_rows only image s t same in rw is refl
+same_watched words only image s t same = let is = same_rows words only image s t same in rw is refl
 
 -- k ticks later, if nothing happens in them
 quiet_state : {words : List (List ℕ)} {only : Option ℕ} {image : Image} {devices lines : List DeviceLine} {n left : ℕ} {m : Machine} {found : Bool} (k quiet : ℕ) → IsAwaited words only image devices lines n left m found
@@ -56,7 +56,7 @@ quiet_state : {words : List (List ℕ)} {only : Option ℕ} {image : Image} {dev
     → state_before image devices (m.standing.now + k) ≡ record { members = m.standing.members; now = m.standing.now + k; origin = m.standing.origin }
 quiet_state {image = image} {devices = devices} {lines = lines} {m = m} k quiet i within ahead still_for =
     let all : k ≤ k = omega arith in
-    sym (later_state image m lines devices k i.image i.before i.alike)
+    sym (later_state image m lines devices k i.own i.before i.alike)
     ∙ ap (λ (e : Elapsed MachineControl). e.state)
     (elapse_alike (machine_module m.image).plan lines [] k m.standing (λ u above below. none_before u (m.standing.now + quiet) lines (omega (arith, below, within)) ahead) ∙ still_for k all)
 
@@ -78,7 +78,7 @@ awaited_skipped {words = words} {only = only} {image = image} {devices = devices
     let lower : next.standing.now ≤ m.standing.now + most = omega (arith, now, few) in
     let each : (k : ℕ) → k ≤ count → AreQuiet (machine_module m.image).plan m.standing k = λ k within j h. quiet j (omega (arith, h, within)) in
     record {
-      image = skipped.0 ∙ i.image;
+      own = skipped.0 ∙ i.own;
       sound = skipped.1 ∙ i.sound;
       count = omega (arith, now, i.count, split);
       before = made ∙ sym (quiet_state count most i few ahead quiet) ∙ ap (state_before image devices) (sym now);
@@ -109,17 +109,17 @@ pub awaited_passed : {words : List (List ℕ)} {only : Option ℕ} {image : Imag
     → ((u : ℕ) → next.standing.now ≤ u → of_tick u later ≡ of_tick u lines) → found ≡ watches words only next.image next.standing → left ≡ suc rest
     → IsAwaited words only image devices later n rest next found
 awaited_passed {words = words} {only = only} {image = image} {devices = devices} {lines = lines} {m = m} next later rest found i same sound made order kept is one =
-    let passed = passed_to image m next lines devices 1 i.image i.before i.alike made in
+    let passed = passed_to image m next lines devices 1 i.own i.before i.alike made in
     let now : next.standing.now ≡ m.standing.now + 1 = passed.0 in
     record {
-      image = same ∙ i.image;
+      own = same ∙ i.own;
       sound = sound;
       count = omega (arith, now, i.count, one);
       before = passed.1;
       order = order;
       alike = alike_later m next lines later devices 1 now i.alike kept;
       none = λ u below. earlier u below (cases_lt u m.standing.now) now;
-      here = watched_now words only image devices next found (same ∙ i.image) passed.1 is;
+      here = watched_now words only image devices next found (same ∙ i.own) passed.1 is;
     }
   where
     earlier : (u : ℕ) → u < next.standing.now → (u < m.standing.now) ⊎ (m.standing.now ≤ u) → next.standing.now ≡ m.standing.now + 1 → watches_before words only image devices u ≡ false
@@ -160,6 +160,6 @@ ends_down {words = words} {only = only} {image = image} {devices = devices} {lin
         let k = u - m.standing.now in
         let same : u ≡ m.standing.now + k = omega (arith, later) in
         let stayed : state_before image devices (m.standing.now + k) ≡ record { members = m.standing.members; now = m.standing.now + k; origin = None } =
-        sym (later_state image m lines devices k i.image i.before i.alike) ∙ stays_down (machine_module m.image).plan lines k m.standing.now m.standing.members m.standing.origin (down_origin m.standing.origin down) in
+        sym (later_state image m lines devices k i.own i.before i.alike) ∙ stays_down (machine_module m.image).plan lines k m.standing.now m.standing.members m.standing.origin (down_origin m.standing.origin down) in
         let members = ap (λ (s : Standing MachineControl). s.members) stayed ∙ ap (λ (s : Standing MachineControl). s.members) i.before in
         ap (watches_before words only image devices) same ∙ same_watched words only image (state_before image devices (m.standing.now + k)) (state_before image devices m.standing.now) members ∙ i.here

@@ -133,9 +133,9 @@ skip_ticks plan k n t origin s here from few begun still =
 
 -- nothing happens in any of them
 pub quiet_ticks : {C : Type 0} (plan : Plan) (n t origin : ℕ) (s : Standing C) → t ≡ s.now → s.origin ≡ Some origin → 0 < t → AreStill origin t (t + n) s.members → AreQuiet plan s n
-quiet_ticks plan n t origin s here from begun still k within =
+quiet_ticks plan n t origin s here from begun calm k within =
     let all : k ≤ k = omega arith in
-    (skip_ticks plan k k t origin s here from all begun (λ place x e. still_sooner origin t n k x.world.kernel within (still place x e))).2.2
+    (skip_ticks plan k k t origin s here from all begun (λ place x e. still_sooner origin t n k x.world.kernel within (calm place x e))).2
 
 pub quiet_at_once : {C : Type 0} (plan : Plan) (s : Standing C) → AreQuiet plan s 0
 quiet_at_once plan s k within =

@@ -11,6 +11,7 @@ pub mod Edges
 pub mod Elapsed
 pub mod Sources
 pub mod Headline
+pub mod Heads
 pub mod Isolated
 pub mod Loaded
 pub mod Machines

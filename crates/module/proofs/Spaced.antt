@@ -127,7 +127,7 @@ pub shown_every : (form : Form) (only : Option ℕ) (image : Image) (devices : L
     → AreParted text old new answer → IsShown (Every k) form only image devices n old new answer
 shown_every form only image devices k n old new text (Ok found) is (all, taken) = (text, (all, is), taken)
 shown_every form only image devices k n old new text (Err fault.Write) is part = (text, (refl, is), part)
-shown_every form only image devices k n old new text (Err fault.Memory) is part = inr (tt, text, (refl, is), part)
+shown_every form only image devices k n old new text (Err fault.Memory) is part = inr (tt, (text, (refl, is), part))
 shown_every form only image devices k n old new text (Err fault.Ticks) is part = absurd part
 shown_every form only image devices k n old new text (Err (fault.Image f)) is part = absurd part
 shown_every form only image devices k n old new text (Err fault.Partition) is part = absurd part

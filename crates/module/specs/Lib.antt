@@ -5,6 +5,7 @@ pub mod Collecting
 pub mod Costs
 pub mod Sources
 pub mod Asked
+pub mod Kinds
 pub mod States
 pub mod Stating
 pub mod Standing

@@ -13,10 +13,10 @@ use Rattle.machine_meaning.specs.MachineMeaning.{machine_module}
 use Rattle.module_meaning.specs.Standing.{Standing, at_first, elapse}
 use Rattle.module_meaning.specs.Table.{at_number}
 use Rattle.state_rows.specs.Rows.{Row, rows_in}
-use Rattle.state_rows.specs.States.{member_rows, members_rows, module_rows, state_rows}
+use Rattle.state_rows.specs.States.{member_rows, module_rows, state_rows}
 use Rattle.state_rows.specs.declared.row.Form.{Form}
 use Rattle.state_rows.specs.declared.row.Form.TheVariants as form
-use Rattle.module.specs.Asked.{has_row}
+use Rattle.module.specs.Asked.{asked_rows, has_row}
 use Rattle.module.specs.Replays.{LacksPartition}
 use Rattle.module.specs.Runs.{IsRun, IsDeviceRefusal, IsImageRefusal}
 use Rattle.module.specs.declared.fault.RunFault.{RunFault}
@@ -26,15 +26,15 @@ use Rattle.module.specs.declared.fault.RunFault.TheVariants.{Ticks, Image as NoI
 abbrev pub state_before : Image → List DeviceLine → ℕ → Standing MachineControl
 state_before image lines n = let m = machine_module image in (elapse m.plan lines n (at_first m.members)).state
 
--- the rows of a partition, from its item and its member; none if one of them is missing
-abbrev pub rows_of_both : Option Item → Option (Member MachineControl) → List Row
-rows_of_both (Some item) (Some x) = member_rows item x
-rows_of_both _ _ = []
+-- some rows of a partition, from its item and its member; none if one of them is missing
+abbrev pub rows_of_both : (Item → Member MachineControl → List Row) → Option Item → Option (Member MachineControl) → List Row
+rows_of_both rows (Some item) (Some x) = rows item x
+rows_of_both rows _ _ = []
 
 -- the rows of the module before tick n, and of all partitions or of only the one with a number
 abbrev pub rows_of : Option ℕ → Image → ℕ → Standing MachineControl → List Row
 rows_of None image n s = state_rows image n s
-rows_of (Some number) image n s = module_rows image n s.origin ++ rows_of_both (at_number image.items number) (at_number s.members number)
+rows_of (Some number) image n s = module_rows image n s.origin ++ rows_of_both member_rows (at_number image.items number) (at_number s.members number)
 
 -- Before which ticks of a run of n ticks the state is wanted: only before the last, n; before 0, k, 2k and so on, up to n; or before
 -- the first in whose state a row of a partition begins with some words.
@@ -75,20 +75,25 @@ AreStateTexts wanted image lines [] text = text ≡ []
 AreStateTexts wanted image lines (t ∷ ticks) text =
     (first : List ℕ) × (rest : List ℕ) × IsStateText wanted image lines t first × AreStateTexts wanted image lines ticks rest × (text ≡ first ++ rest)
 
--- the rows of the partitions, or of only the one with a number
-abbrev pub watched_of : Option ℕ → Image → Standing MachineControl → List Row
-watched_of None image s = members_rows image.items s.members
-watched_of (Some number) image s = rows_of_both (at_number image.items number) (at_number s.members number)
+-- some rows of all partitions
+abbrev pub rows_of_all : (Item → Member MachineControl → List Row) → List Item → List (Member MachineControl) → List Row
+rows_of_all rows (item ∷ items) (x ∷ xs) = rows item x ++ rows_of_all rows items xs
+rows_of_all rows _ _ = []
+
+-- the rows that are looked at for one with these words: of the partitions, or of only the one with a number
+abbrev pub watched_of : List (List ℕ) → Option ℕ → Image → Standing MachineControl → List Row
+watched_of words None image s = rows_of_all (asked_rows words) image.items s.members
+watched_of words (Some number) image s = rows_of_both (asked_rows words) (at_number image.items number) (at_number s.members number)
 
 -- the same for a partition that is named; none if there is no partition of that name
-abbrev pub watched_rows : Option (List ℕ) → Image → Standing MachineControl → Option (List Row)
-watched_rows None image s = Some (watched_of None image s)
-watched_rows (Some name) image s = option_map (λ found. watched_of (Some found.0) image s) (numbered image name)
+abbrev pub watched_rows : List (List ℕ) → Option (List ℕ) → Image → Standing MachineControl → Option (List Row)
+watched_rows words None image s = Some (watched_of words None image s)
+watched_rows words (Some name) image s = option_map (λ found. watched_of words (Some found.0) image s) (numbered image name)
 
 -- in the state before tick n a row of a partition begins with these words, or none does
 abbrev pub HasRowAt : Wanted → Image → List DeviceLine → List (List ℕ) → ℕ → Bool → Type 0
 HasRowAt wanted image lines words n found =
-    (rows : List Row) × (watched_rows wanted.partition image (state_before image lines n) ≡ Some rows) × (has_row words (rows_in form.Text rows) ≡ found)
+    (rows : List Row) × (watched_rows words wanted.partition image (state_before image lines n) ≡ Some rows) × (has_row words (rows_in form.Text rows) ≡ found)
 
 -- the text of the first such state up to tick n; or no text, if there is none
 abbrev pub IsFirstText : Wanted → Image → List DeviceLine → List (List ℕ) → ℕ → Bool → List ℕ → Type 0

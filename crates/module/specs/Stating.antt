@@ -30,10 +30,11 @@ wanted_in w = record { form = w.form; partition = option_map (λ s. s.now) w.par
 abbrev pub number_in : Option PartitionId → Option ℕ
 number_in only = option_map (λ p. p.0) only
 
--- the rows of any state that are wanted, and those that are watched, are those of the partition with this number, or of all
+-- the rows of any state that are wanted, and those that are looked at, are those of the partition with this number, or of all
 abbrev pub AreFor : Image → Option (List ℕ) → Option ℕ → Type 0
 AreFor image name only =
-    (n : ℕ) (s : Standing MachineControl) → (wanted_rows name image n s ≡ Some (rows_of only image n s)) × (watched_rows name image s ≡ Some (watched_of only image s))
+    (words : List (List ℕ)) (n : ℕ) (s : Standing MachineControl)
+    → (wanted_rows name image n s ≡ Some (rows_of only image n s)) × (watched_rows words name image s ≡ Some (watched_of words only image s))
 
 -- the partition with this number, or all; or there is no partition of that name
 abbrev pub IsFoundFor : Image → Option (List ℕ) → Result (Option PartitionId) RunFault → Type 0
@@ -53,7 +54,7 @@ texts_before form only image lines ticks = flat_map (text_before form only image
 
 -- a row of these partitions begins with these words, in some state, and in the one before a tick
 abbrev pub watches : List (List ℕ) → Option ℕ → Image → Standing MachineControl → Bool
-watches words only image s = has_row words (rows_in Text (watched_of only image s))
+watches words only image s = has_row words (rows_in Text (watched_of words only image s))
 
 abbrev pub watches_before : List (List ℕ) → Option ℕ → Image → List DeviceLine → ℕ → Bool
 watches_before words only image lines n = watches words only image (state_before image lines n)

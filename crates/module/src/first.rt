@@ -111,26 +111,32 @@ impl Machine {
             (machine_of self.now).standing) }
     {
         text.clear();
-        self.write_watched(only, text)?;
+        self.write_watched(words, only, text)?;
         Ok(has_row(words, text.as_slice()))
     }
 
-    /// Appends the rows of all partitions, or of only the one with a number.
-    fn write_watched(&self, only: Option<PartitionId>, text: &mut Vec<u8>) -> Result<(), AllocError>
+    /// Appends the rows that are looked at for one with these words: of all partitions, or of only the
+    /// one with a number.
+    fn write_watched(
+        &self,
+        words: &[&str],
+        only: Option<PartitionId>,
+        text: &mut Vec<u8>,
+    ) -> Result<(), AllocError>
         ensures { OnOk result
             (text.new.items
             ≡ text.old.items
             ++ rows_in Text
-            (watched_of (number_in only) (machine_of self.now).image
+            (watched_of (map (λ a. a.now) words.now) (number_in only) (machine_of self.now).image
             (machine_of self.now).standing)) }
     {
-        let items = self.module.image.partitions.as_slice();
+        let module = &self.module;
+        let items = module.image.partitions.as_slice();
         match only {
-            None => self.module.members.write_all(Form::Text, items, text),
-            Some(number) => self
-                .module
+            None => module.members.write_all(Form::Text, words, items, text),
+            Some(number) => module
                 .members
-                .write_one(Form::Text, items, number, text),
+                .write_one(Form::Text, words, items, number, text),
         }
     }
 }

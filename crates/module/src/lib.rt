@@ -39,7 +39,7 @@ mod upgrading;
 mod watch;
 mod watching;
 
-pub use asked::stands_for;
+pub use asked::{rows_are_in_their_parts, stands_for};
 pub use building::{accept_table, build, module_has_one_image};
 pub use costing::{AcceptedModule, PartitionCosts, accept_module, costs};
 pub use fault::{BuildAndRunFault, BuildFault, RunFault};
@@ -49,7 +49,7 @@ pub use machine::{Machine, ticks_isolate_the_partitions, ticks_make_the_trace};
 pub use naming_states::{WantedNames, WrittenSources, named_state};
 pub use replaying::replay;
 pub use running::{build_and_run, run, run_watched};
-pub use stating::{Moments, WantedStates, a_state_decides_the_rest, states, ticks_make_the_state};
+pub use stating::{Moments, WantedStates, a_state_decides_the_rest, state, ticks_make_the_state};
 pub use telling::{WantedInputs, inputs, inputs_watched};
 pub use ticks::split_tick;
 pub use upgrading::upgrade;

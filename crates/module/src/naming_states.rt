@@ -52,13 +52,13 @@ pub struct WantedNames<'a> {
     pub partition: Option<&'a str>,
 }
 
-/// Writes what [`states`](crate::states) writes of the last state, and after it the rows with the names of these
+/// Writes what [`state`](crate::state) writes of the last state, and after it the rows with the names of these
 /// sources: the variables, arrays and objects of each partition by their names, and where in its
 /// source each process is.
 ///
 /// # Errors
 ///
-/// Those of [`states`](crate::states).
+/// Those of [`state`](crate::state).
 pub fn named_state<S: Sink>(
     alloc: Global,
     image: &[u8],

@@ -1,6 +1,6 @@
 //! The states of a module before ticks.
 
-ghost use Rattle.std.specs.Prelude.{◌≡◌, ◌≢◌, ◌≤◌, ◌<◌, ◌+◌, ◌-◌, ◌^◌, ◌++◌, ℕ, List, Option, Ok, IfErr, OnOk, IsErrOf, option_map, slice_get};
+ghost use Rattle.std.specs.Prelude.{◌≡◌, ◌≢◌, ◌≤◌, ◌<◌, ◌+◌, ◌-◌, ◌^◌, ◌++◌, ℕ, List, Option, Ok, IfErr, OnOk, IsErrOf, map, option_map, slice_get};
 ghost use Rattle.apex_types.specs.Limits.{MOST_TICKS};
 ghost use Rattle.apex_types.specs.declared.device.DeviceLine.{DeviceLine};
 ghost use Rattle.image.specs.Items.{items_of};
@@ -12,14 +12,15 @@ ghost use Rattle.module_meaning.specs.Standing.{lines_of};
 ghost use Rattle.module_meaning.specs.Table.{at_number};
 ghost use Rattle.partition_base.specs.contracts.machine.PartitionProcessorExecutor.TheImpl.{ghosts as machine};
 ghost use Rattle.state_rows.specs.Rows.{rows_in};
-ghost use Rattle.state_rows.specs.States.{members_rows};
+ghost use Rattle.module.specs.Asked.{asked_rows};
 ghost use Rattle.module.specs.Machines as machines;
 ghost use Rattle.module.specs.Machines.{HaveTicked, fresh_machine, machine_of};
-ghost use Rattle.module.specs.States.{Last, States, rows_of, rows_of_both, state_before};
+ghost use Rattle.module.specs.States.{Last, States, rows_of, rows_of_all, rows_of_both, state_before};
 ghost use Rattle.module.specs.Stating.{IsFoundFor, IsPut, IsShown, number_in, wanted_in};
 ghost use Rattle.module.specs.Views.{members_in};
 ghost use Rattle.module.specs.Written.{AreFrom};
 
+use crate::asked::write_asked;
 use crate::fault::RunFault;
 use crate::first::{Wait, put_first};
 use crate::machine::Machine;
@@ -33,7 +34,6 @@ use apex_types::{DeviceLine, PartitionId, Sink, put_all};
 use image::{Image, PartitionItem, load_image};
 use partition_base::PartitionProcessor;
 use state_rows::Form;
-use state_view::write_member;
 use std::alloc::{AllocError, Global};
 
 /// Before which ticks of a run the state is wanted.
@@ -72,7 +72,7 @@ pub struct WantedStates<'a> {
 /// In this order: a tick above 2^40; bytes that are no image; a name of no partition; the lowest
 /// rule that the first wrong line of the device text breaks. Out of memory may come before or after
 /// any of these.
-pub fn states<S: Sink>(
+pub fn state<S: Sink>(
     alloc: Global,
     image: &[u8],
     wanted: WantedStates<'_>,
@@ -98,7 +98,14 @@ pub fn states<S: Sink>(
         only,
     };
     let mut text = Vec::new(alloc);
-    put_wanted(&mut machine, &lines, wanted, shown, &mut text, sink)
+    put_wanted(
+        &mut machine,
+        lines.as_slice(),
+        wanted,
+        shown,
+        &mut text,
+        sink,
+    )
 }
 
 /// The number of the partition with this name, if a name is given.
@@ -233,35 +240,40 @@ impl Machine {
         let items = module.image.partitions.as_slice();
         write_module(form, &module.image, module.now, module.origin, text)?;
         match only {
-            None => module.members.write_all(form, items, text),
-            Some(number) => module.members.write_one(form, items, number, text),
+            None => module.members.write_all(form, &[], items, text),
+            Some(number) => module.members.write_one(form, &[], items, number, text),
         }
     }
 }
 
 impl Members<PartitionProcessor> {
-    /// Appends the rows of all partitions, which have these items.
+    /// Appends the rows of all partitions, which have these items, among which one with these words is
+    /// looked for: with no words all.
     pub(crate) fn write_all(
         &self,
         form: Form,
+        asked: &[&str],
         items: &[PartitionItem],
         text: &mut Vec<u8>,
     ) -> Result<(), AllocError>
         ensures { OnOk result
             (text.new.items
             ≡ text.old.items
-            ++ rows_in form (members_rows (items_of items.now) (members_in machine self.now))) }
+            ++ rows_in form
+            (rows_of_all (asked_rows (map (λ a. a.now) asked.now)) (items_of items.now)
+            (members_in machine self.now))) }
     {
         for place in 0..items.len() {
-            self.write_at(form, items, place, text)?;
+            self.write_at(form, asked, items, place, text)?;
         }
         Ok(())
     }
 
-    /// Appends the rows of the partition with this number, if there is one.
+    /// Appends such rows of the partition with this number, if there is one.
     pub(crate) fn write_one(
         &self,
         form: Form,
+        asked: &[&str],
         items: &[PartitionItem],
         number: PartitionId,
         text: &mut Vec<u8>,
@@ -270,19 +282,21 @@ impl Members<PartitionProcessor> {
             (text.new.items
             ≡ text.old.items
             ++ rows_in form
-            (rows_of_both (at_number (items_of items.now) number.0)
+            (rows_of_both (asked_rows (map (λ a. a.now) asked.now))
+            (at_number (items_of items.now) number.0)
             (at_number (members_in machine self.now) number.0))) }
     {
         match number.place() {
-            Some(place) => self.write_at(form, items, usize::from(place), text),
+            Some(place) => self.write_at(form, asked, items, usize::from(place), text),
             None => Ok(()),
         }
     }
 
-    /// Appends the rows of the partition at a place, if there is one.
+    /// Appends such rows of the partition at a place, if there is one.
     fn write_at(
         &self,
         form: Form,
+        asked: &[&str],
         items: &[PartitionItem],
         place: usize,
         text: &mut Vec<u8>,
@@ -291,7 +305,8 @@ impl Members<PartitionProcessor> {
             (text.new.items
             ≡ text.old.items
             ++ rows_in form
-            (rows_of_both (slice_get (items_of items.now) place)
+            (rows_of_both (asked_rows (map (λ a. a.now) asked.now))
+            (slice_get (items_of items.now) place)
             (slice_get (members_in machine self.now) place))) }
     {
         if place >= items.len() {
@@ -301,7 +316,8 @@ impl Members<PartitionProcessor> {
             return Ok(());
         }
         let memory = self.memory.part(number_at(place));
-        write_member(form, &items[place], &self.partitions[place], memory, text)
+        let partition = &self.partitions[place];
+        write_asked(form, asked, &items[place], partition, memory, text)
     }
 }
 

@@ -10,6 +10,7 @@ mod member;
 mod mode;
 mod names;
 mod objects;
+mod parts;
 mod port_rows;
 mod processes;
 mod runners;
@@ -20,4 +21,5 @@ mod words;
 
 pub use member::write_member;
 pub use names::write_names;
+pub use parts::{Part, part_with, write_part};
 pub use source::Source;

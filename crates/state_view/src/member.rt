@@ -40,7 +40,11 @@ fn write_kernel(of: &Heading, kernel: &Kernel, text: &mut Vec<u8>) -> Result<(),
 }
 
 /// Appends the rows of the data.
-fn write_data(of: &Heading, memory: &PartitionMem, text: &mut Vec<u8>) -> Result<(), AllocError>
+pub(crate) fn write_data(
+    of: &Heading,
+    memory: &PartitionMem,
+    text: &mut Vec<u8>,
+) -> Result<(), AllocError>
     ensures { OnOk result
         (text.new.items
         ≡ text.old.items

@@ -24,11 +24,11 @@ returns-in-Err g c =
     c.in_ok-image.ensures.unchanged c.as_slice.ensures.value c.as_slice-2.ensures.value c.in_ok-image.ensures.held c.in_ok-devices.ensures.held in
     let same = c.in_ok-devices.ensures.unchanged ∙ c.in_ok-image.ensures.unchanged in (
       (
-        failed_by (out c.args.out.now) (out c.states.new.sink) (Err c.in-Err.fault) c.in-Err.ensures.write c.in-Err.ensures.quiet,
+        failed_by (out c.args.out.now) (out c.state.new.sink) (Err c.in-Err.fault) c.in-Err.ensures.write c.in-Err.ensures.quiet,
         same,
         given.given,
-        state_of_whole given (wanted_in words) c.args.wanted.ticks (taken c.args.out.now) (taken c.states.new.sink) (Err c.in-Err.fault)
-            (wanted_so (image_at c.as_slice.result.now) c.as_slice-2.result.now c.args.wanted.ticks (wanted_in words) (moments_in c.args.moments) (taken c.args.out.now) (taken c.states.new.sink) (Err c.in-Err.fault) c.requires.meant c.in-Err.ensures.text),
+        state_of_whole given (wanted_in words) c.args.wanted.ticks (taken c.args.out.now) (taken c.state.new.sink) (Err c.in-Err.fault)
+            (wanted_so (image_at c.as_slice.result.now) c.as_slice-2.result.now c.args.wanted.ticks (wanted_in words) (moments_in c.args.moments) (taken c.args.out.now) (taken c.state.new.sink) (Err c.in-Err.fault) c.requires.meant c.in-Err.ensures.text),
       ),
       c.in_ok-devices.ensures.noted ∙ c.in_ok-image.ensures.noted,
     )
@@ -47,7 +47,7 @@ returns-in_err-flush g c =
     c.in_ok-image.ensures.unchanged c.as_slice.ensures.value c.as_slice-2.ensures.value c.in_ok-image.ensures.held c.in_ok-devices.ensures.held in
     let same = c.in_ok-devices.ensures.unchanged ∙ c.in_ok-image.ensures.unchanged in
     let outcome = of_found found in
-    let written = wanted_so read text n (wanted_in words) (moments_in c.args.moments) (taken c.args.out.now) (taken c.states.new.sink) (Ok found) c.requires.meant c.in-Ok.ensures.text in
+    let written = wanted_so read text n (wanted_in words) (moments_in c.args.moments) (taken c.args.out.now) (taken c.state.new.sink) (Ok found) c.requires.meant c.in-Ok.ensures.text in
     refused_as (EndsState words.image.now words.devices.now (wanted_in words) n (at c.args.files.now c.args.out.now) (at c.read_as-2.new.files c.flush.new.self)) Write c.from_residual-in_err-flush.result c.from_residual-in_err-flush.ensures (
       (
         c.in_err-flush.ensures.failed ∙ ap (λ (n : ℕ). n + 1) c.in-Ok.ensures.ok,
@@ -56,7 +56,7 @@ returns-in_err-flush g c =
           same,
           given.given,
           state_of_whole given (wanted_in words) n (taken c.args.out.now) (taken c.flush.new.self) (Ok (not (is_remarkable outcome)))
-              (kept_state read text n (wanted_in words) found outcome (taken c.args.out.now) (taken c.states.new.sink) (taken c.flush.new.self) (is_of_found found) written c.in_err-flush.ensures.kept),
+              (kept_state read text n (wanted_in words) found outcome (taken c.args.out.now) (taken c.state.new.sink) (taken c.flush.new.self) (is_of_found found) written c.in_err-flush.ensures.kept),
         ),
       ),
       c.in_ok-devices.ensures.noted ∙ c.in_ok-image.ensures.noted,
@@ -74,12 +74,12 @@ returns g c =
     let given = given_from files (g.F.Files.contents c.read_as.new.files) words.image.now words.devices.now c.in_ok-image.image.items c.in_ok-devices.devices.items c.as_slice.result.now c.as_slice-2.result.now
     c.in_ok-image.ensures.unchanged c.as_slice.ensures.value c.as_slice-2.ensures.value c.in_ok-image.ensures.held c.in_ok-devices.ensures.held in
     let same = c.in_ok-devices.ensures.unchanged ∙ c.in_ok-image.ensures.unchanged in
-    let written = wanted_so read text n (wanted_in words) (moments_in c.args.moments) (taken c.args.out.now) (taken c.states.new.sink) (Ok found) c.requires.meant c.in-Ok.ensures.text in (
+    let written = wanted_so read text n (wanted_in words) (moments_in c.args.moments) (taken c.args.out.now) (taken c.state.new.sink) (Ok found) c.requires.meant c.in-Ok.ensures.text in (
       (
         same,
         given.given,
         state_of_whole given (wanted_in words) n (taken c.args.out.now) (taken c.flush.new.self) (Ok (not (is_remarkable c.of_wait.result)))
-            (kept_state read text n (wanted_in words) found c.of_wait.result (taken c.args.out.now) (taken c.states.new.sink) (taken c.flush.new.self) c.of_wait.ensures written c.in_ok-flush.ensures.kept),
+            (kept_state read text n (wanted_in words) found c.of_wait.result (taken c.args.out.now) (taken c.state.new.sink) (taken c.flush.new.self) c.of_wait.ensures written c.in_ok-flush.ensures.kept),
       ),
       ((c.in_ok-flush.ensures.quiet ∙ c.in-Ok.ensures.ok, c.in_ok-flush.ensures.flushed), c.in_ok-devices.ensures.noted ∙ c.in_ok-image.ensures.noted),
     )

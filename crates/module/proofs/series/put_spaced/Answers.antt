@@ -52,8 +52,8 @@ pass_over-requires-clause-ticks g c =
     let split : left * k ≡ k + (left - 1) * k = one_distance left (left - 1) k one in
     omega (arith, i.few, split)
 
-pub from_tick-requires : goal.from_tick-requires
-from_tick-requires g c = from_first _ c.loop-left.lines.now c.loop-left.invariant.order
+pub from_tick-lines-requires : goal.from_tick-lines-requires
+from_tick-lines-requires g c = from_first _ c.loop-left.lines.now c.loop-left.invariant.order
 
 pub returns-in_err-put_state-2-clause-text : goal.returns-in_err-put_state-2-clause-text
 returns-in_err-put_state-2-clause-text g c =
@@ -69,7 +69,7 @@ returns-in_err-put_state-2-clause-text g c =
     let one : left ≡ suc (left - 1) = omega (arith, c.loop-left-test.true) in
     let passed = passed_to image m next c.loop-left.lines.now devices k i.image i.before i.alike c.in_ok-pass_over.ensures.state in
     let own = rows_now form only image devices next (c.in_ok-pass_over.ensures.image ∙ i.image) passed.1 ∙ ap (text_before form only image devices) passed.0 in
-    none_more form only image devices k (m.standing.now + k) left (left - 1) (g.S.Sink.taken c.args.sink.now) (g.S.Sink.taken c.loop-left.sink) (g.S.Sink.taken c.put_state-2.new.sink) _ _ c.in_err-put_state-2.field-0.0 _ (search rules) one i.text own c.in_err-put_state-2.ensures.text
+    none_more form only image devices k (m.standing.now + k) left (left - 1) (g.S.Sink.taken c.args.sink.now) (g.S.Sink.taken c.loop-left.sink) (g.S.Sink.taken c.put_state-in-loop-left.new.sink) _ _ c.in_err-put_state-2.field-0.0 _ (search rules) one i.text own c.in_err-put_state-2.ensures.text
 
 pub loop-left-preserved : goal.loop-left-preserved
 loop-left-preserved g c =
@@ -87,17 +87,17 @@ loop-left-preserved g c =
     let passed = passed_to image m next c.loop-left.lines.now devices k i.image i.before i.alike c.in_ok-pass_over.ensures.state in
     let same = c.in_ok-pass_over.ensures.image ∙ i.image in
     let now = c.now.ensures in
-    let later = c.from_tick.result.now in
+    let later = c.from_tick-lines.result.now in
     let own = rows_now form only image devices next same passed.1 ∙ ap (text_before form only image devices) passed.0 in
     let further : next.standing.now + k ≡ (m.standing.now + k) + k = ap (λ t. t + k) passed.0 in
     record {
       image = same;
       failed = c.in_ok-pass_over.ensures.sound;
       before = passed.1;
-      order = subst (λ t. AreFrom t later) now c.from_tick.ensures.order;
-      alike = alike_later m next c.loop-left.lines.now later devices k passed.0 i.alike (λ u above. c.from_tick.ensures.kept u (subst (λ t. t ≤ u) (sym now) above));
+      order = subst (λ t. AreFrom t later) now c.from_tick-lines.ensures.order;
+      alike = alike_later m next c.loop-left.lines.now later devices k passed.0 i.alike (λ u above. c.from_tick-lines.ensures.kept u (subst (λ t. t ≤ u) (sym now) above));
       few = omega (arith, i.few, split, passed.0);
-      text = one_more form only image devices k (m.standing.now + k) (next.standing.now + k) left (left - 1) (g.S.Sink.taken c.args.sink.now) (g.S.Sink.taken c.loop-left.sink) (g.S.Sink.taken c.put_state-2.new.sink) _ _ one further i.text own c.in_ok-put_state-2.ensures.text;
+      text = one_more form only image devices k (m.standing.now + k) (next.standing.now + k) left (left - 1) (g.S.Sink.taken c.args.sink.now) (g.S.Sink.taken c.loop-left.sink) (g.S.Sink.taken c.put_state-in-loop-left.new.sink) _ _ one further i.text own c.in_ok-put_state-2.ensures.text;
       quiet = c.in_ok-put_state-2.ensures.ok ∙ i.quiet;
     }
 

@@ -3,7 +3,7 @@ use Rattle.std.proofs.Common.{subst}
 use Rattle.module.specs.States.{States}
 use Rattle.module.specs.Stating.{IsShown, number_in, wanted_in}
 use Rattle.module.proofs.Stated.{none_found, shown_states, text_refused}
-use Rattle.module.proofs.stating.states.Goals as goal
+use Rattle.module.proofs.stating.state.Goals as goal
 
 pub returns-in_err-only-clause-text : goal.returns-in_err-only-clause-text
 returns-in_err-only-clause-text g c =
@@ -40,5 +40,6 @@ returns-clause-text g c =
     let same : (machine_of c.in_ok-machine.machine).image ≡ loaded = ap (λ (x : Machine). x.image) c.in_ok-machine.ensures in
     let taken = subst (λ (i : Image). verdict_for i wanted.devices.now ≡ Ok lines) same c.in_ok-lines.ensures.taken in
     let only = number_in c.in_ok-only.only in
-    let shown = subst (λ (i : Image). IsShown (wanted_in wanted).moments wanted.form only i lines wanted.tick old new c.put_wanted.result) same c.put_wanted.ensures.text in
+    let shown = subst (λ (i : Image). IsShown (wanted_in wanted).moments wanted.form only i lines wanted.tick old new c.put_wanted.result) same
+    (subst (λ (ls : List DeviceLine). IsShown (wanted_in wanted).moments wanted.form only (machine_of c.in_ok-machine.machine).image ls wanted.tick old new c.put_wanted.result) c.as_slice.ensures.value c.put_wanted.ensures.text) in
     shown_states read loaded wanted.devices.now lines wanted.tick (wanted_in wanted) only old new c.put_wanted.result c.in_ok-image.ensures taken few c.in_ok-only.ensures shown
