@@ -52,9 +52,9 @@ pub struct WantedNames<'a> {
     pub partition: Option<&'a str>,
 }
 
-/// Writes what [`state`](crate::state) writes of the last state, and after it the rows with the names of these
-/// sources: the variables, arrays and objects of each partition by their names, and where in its
-/// source each process is.
+/// Writes what [`state`](crate::state) writes of the last state, and after it the rows with the
+/// names of these sources: the variables, arrays and objects of each partition by their names, and
+/// where in its source each process is.
 ///
 /// # Errors
 ///
