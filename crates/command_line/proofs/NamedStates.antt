@@ -1,9 +1,9 @@
 -- The states that were written with the names of their sources.
-use Rattle.std.proofs.Common.{◌≡◌, inl, inr, ℕ, ◌-◌, ◌^◌, List, [], ◌∷◌, ◌++◌, Option, Result, Ok, Err, refl, sym, ap, subst, ◌∙◌, min}
+use Rattle.std.proofs.Common.{◌≡◌, inl, inr, ℕ, ◌-◌, ◌^◌, List, [], ◌∷◌, ◌++◌, Option, Some, None, Result, Ok, Err, refl, sym, ap, subst, ◌∙◌, min}
 use Rattle.std.specs.Prelude.{string_bytes}
 use Rattle.std.specs.Io.KnownBytes.{Keeps}
 use Rattle.std.proofs.KnownBytes.{Appends-kept}
-use Rattle.std.specs.Str.Parse.{IsNumeral, digits_value}
+use Rattle.std.specs.Str.Parse.{digits_value}
 use Rattle.machine_meaning.specs.Image.{Image}
 use Rattle.machine_meaning.specs.ImageReading.{Fault, image_at}
 use Rattle.machine_meaning.specs.MachineMeaning.{verdict_for}
@@ -18,10 +18,10 @@ use Rattle.pal_meaning.specs.Program.{Program}
 use Rattle.streams.specs.Beginnings.{HoldsFrom}
 use Rattle.streams.specs.Contents.{Contents, HoldAll}
 use Rattle.text_beginnings.specs.Settled.{settles_inputs}
-use Rattle.command_line.specs.Done.{IsBuiltIn, IsNamedStateDone, IsNamedStateOf, ModuleAndText, is_ok}
+use Rattle.command_line.specs.Done.{AreNamedNumbers, AreOnlyLast, IsBuiltIn, IsNamedStateDone, IsNamedStateOf, ModuleAndText, is_ok}
 use Rattle.command_line.specs.Ends.{Ends, EndsNamed}
 use Rattle.command_line.specs.Linting.{HaveTrees}
-use Rattle.command_line.specs.Orders.{ShowNames}
+use Rattle.command_line.specs.Orders.{ShowNames, moments_of}
 use Rattle.command_line.specs.Reading.{IsUnread}
 use Rattle.command_line.specs.Refusals.{IsFirstUnread, IsNamedStateRefused, IsNotBuilt}
 use Rattle.command_line.specs.States.{IsUntouched, State}
@@ -155,6 +155,23 @@ named_refused_by table sources devices wanted n v before after (refusal.Replay f
 named_refused_by table sources devices wanted n v before after (refusal.Inputs fault) is h = absurd h
 
 -- a state that is shown with names is an order that is done
-pub names_end : (table : List ℕ) (sources : List (List ℕ)) (devices tick : List ℕ) (wanted : Wanted) (n : ℕ) (before after : State) (outcome : Outcome) → IsNumeral 10 tick → n ≡ min (digits_value 10 tick) (2 ^ 64 - 1) → EndsNamed table sources devices wanted n before after (Ok outcome) → Ends (ShowNames table sources devices tick wanted) before after (Ok outcome)
-names_end table sources devices tick wanted n before after Usual digits is (done, well) = ((digits, named_done_by table sources devices wanted n (digits_value 10 tick) before after is done), well)
-names_end table sources devices tick wanted n before after Remarkable digits is h = absurd h
+pub names_end : (table : List ℕ) (sources : List (List ℕ)) (devices tick : List ℕ) (wanted : Wanted) (n : ℕ) (before after : State) (outcome : Outcome) → AreNamedNumbers tick wanted → n ≡ min (digits_value 10 tick) (2 ^ 64 - 1) → EndsNamed table sources devices wanted n before after (Ok outcome) → Ends (ShowNames table sources devices tick wanted) before after (Ok outcome)
+names_end table sources devices tick wanted n before after Usual right is (done, well) = ((right, named_done_by table sources devices wanted n (digits_value 10 tick) before after is done), well)
+names_end table sources devices tick wanted n before after Remarkable right is h = absurd h
+
+-- ---- only the last state
+
+pub no_moments : (every : Option (List ℕ)) (until : List (List ℕ)) → every ≡ None → until ≡ [] → AreOnlyLast (moments_of every until)
+no_moments None [] none empty = tt
+no_moments (Some word) until none empty = absurd cc
+no_moments None (w ∷ ws) none empty = absurd cc
+
+pub spaced : (every : Option (List ℕ)) (until : List (List ℕ)) → (every ≡ None → ⊥) → AreOnlyLast (moments_of every until) → ⊥
+spaced None until some h = some refl
+spaced (Some word) [] some h = h
+spaced (Some word) (w ∷ ws) some h = h
+
+pub awaited : (every : Option (List ℕ)) (until : List (List ℕ)) → (until ≡ [] → ⊥) → AreOnlyLast (moments_of every until) → ⊥
+awaited every [] some h = some refl
+awaited None (w ∷ ws) some h = h
+awaited (Some word) (w ∷ ws) some h = h

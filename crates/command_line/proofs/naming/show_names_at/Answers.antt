@@ -6,6 +6,11 @@ use Rattle.pal_base.specs.declared.syntax.Program.{Program}
 use Rattle.command_line.specs.declared.refusal.Refusal.TheVariants.{Write}
 use Rattle.command_line.specs.Done.{IsBuiltIn, is_ok}
 use Rattle.command_line.specs.Ends.{EndsNamed}
+use Rattle.command_line.specs.Made.{made_in}
+use Rattle.command_line.specs.Reading.{texts_of}
+use Rattle.module.specs.NamedStates.{sources_of}
+use Rattle.std.specs.Prelude.{Vec}
+use Rattle.std.specs.declared.alloc.Global.{Global}
 use Rattle.command_line.specs.Meant.{wanted_in}
 use Rattle.command_line.specs.States.{state}
 use Rattle.command_line.specs.Told.{IsOfFailed}
@@ -33,12 +38,14 @@ returns-in-Err g c =
     let words = c.args.wanted.words.state in
     let sources = map (λ s. s.now) c.args.wanted.words.sources.now in
     let image = c.as_slice.result.now in
-    let trees = map program_of c.as_slice-trees.result.now in
-    let of_image : IsBuiltIn files words.image.now sources image (map program_of c.in_ok-built.built.trees.items) =
-    subst (λ (i : List ℕ). IsBuiltIn files words.image.now sources i (map program_of c.in_ok-built.built.trees.items)) (sym c.as_slice.ensures.value) c.in_ok-built.ensures.built in
-    let built : IsBuiltIn files words.image.now sources image trees =
-    subst (λ (ts : List Program). IsBuiltIn files words.image.now sources image (map program_of ts)) (sym c.as_slice-trees.ensures.value) of_image in
-    let given = given_module files (g.F.Files.contents c.module_named.new.files) words.image.now sources words.devices.now image trees c.in_ok-devices.devices.items c.as_slice-2.result.now
+    let made = sources_of (texts_of c.as_slice-3.result.now) (map program_of c.as_slice-4.result.now) in
+    let of_image : IsBuiltIn files words.image.now sources image (made_in c.in_ok-built.built) =
+    subst (λ (i : List ℕ). IsBuiltIn files words.image.now sources i (made_in c.in_ok-built.built)) (sym c.as_slice.ensures.value) c.in_ok-built.ensures.built in
+    let of_texts : IsBuiltIn files words.image.now sources image (sources_of (texts_of c.as_slice-3.result.now) (map program_of c.in_ok-built.built.trees.items)) =
+    subst (λ (ts : List (Vec ℕ Global)). IsBuiltIn files words.image.now sources image (sources_of (texts_of ts) (map program_of c.in_ok-built.built.trees.items))) (sym c.as_slice-3.ensures.value) of_image in
+    let built : IsBuiltIn files words.image.now sources image made =
+    subst (λ (ts : List Program). IsBuiltIn files words.image.now sources image (sources_of (texts_of c.as_slice-3.result.now) (map program_of ts))) (sym c.as_slice-4.ensures.value) of_texts in
+    let given = given_module files (g.F.Files.contents c.module_named.new.files) words.image.now sources words.devices.now image made c.in_ok-devices.devices.items c.as_slice-2.result.now
     c.in_ok-built.ensures.unchanged c.as_slice-2.ensures.value built c.in_ok-devices.ensures.held in
     let same = c.in_ok-devices.ensures.unchanged ∙ c.in_ok-built.ensures.unchanged in (
       (
@@ -58,12 +65,14 @@ returns-in_err-flush g c =
     let words = c.args.wanted.words.state in
     let sources = map (λ s. s.now) c.args.wanted.words.sources.now in
     let image = c.as_slice.result.now in
-    let trees = map program_of c.as_slice-trees.result.now in
-    let of_image : IsBuiltIn files words.image.now sources image (map program_of c.in_ok-built.built.trees.items) =
-    subst (λ (i : List ℕ). IsBuiltIn files words.image.now sources i (map program_of c.in_ok-built.built.trees.items)) (sym c.as_slice.ensures.value) c.in_ok-built.ensures.built in
-    let built : IsBuiltIn files words.image.now sources image trees =
-    subst (λ (ts : List Program). IsBuiltIn files words.image.now sources image (map program_of ts)) (sym c.as_slice-trees.ensures.value) of_image in
-    let given = given_module files (g.F.Files.contents c.module_named.new.files) words.image.now sources words.devices.now image trees c.in_ok-devices.devices.items c.as_slice-2.result.now
+    let made = sources_of (texts_of c.as_slice-3.result.now) (map program_of c.as_slice-4.result.now) in
+    let of_image : IsBuiltIn files words.image.now sources image (made_in c.in_ok-built.built) =
+    subst (λ (i : List ℕ). IsBuiltIn files words.image.now sources i (made_in c.in_ok-built.built)) (sym c.as_slice.ensures.value) c.in_ok-built.ensures.built in
+    let of_texts : IsBuiltIn files words.image.now sources image (sources_of (texts_of c.as_slice-3.result.now) (map program_of c.in_ok-built.built.trees.items)) =
+    subst (λ (ts : List (Vec ℕ Global)). IsBuiltIn files words.image.now sources image (sources_of (texts_of ts) (map program_of c.in_ok-built.built.trees.items))) (sym c.as_slice-3.ensures.value) of_image in
+    let built : IsBuiltIn files words.image.now sources image made =
+    subst (λ (ts : List Program). IsBuiltIn files words.image.now sources image (sources_of (texts_of c.as_slice-3.result.now) (map program_of ts))) (sym c.as_slice-4.ensures.value) of_texts in
+    let given = given_module files (g.F.Files.contents c.module_named.new.files) words.image.now sources words.devices.now image made c.in_ok-devices.devices.items c.as_slice-2.result.now
     c.in_ok-built.ensures.unchanged c.as_slice-2.ensures.value built c.in_ok-devices.ensures.held in
     let same = c.in_ok-devices.ensures.unchanged ∙ c.in_ok-built.ensures.unchanged in
     refused_as (EndsNamed words.image.now sources words.devices.now (wanted_in words) c.args.wanted.ticks (at c.args.files.now c.args.out.now) (at c.read_as.new.files c.flush.new.self)) Write c.from_residual-in_err-flush.result c.from_residual-in_err-flush.ensures (
@@ -72,7 +81,7 @@ returns-in_err-flush g c =
         (
           same,
           given.given,
-          names_of_whole given (wanted_in words) c.args.wanted.ticks (taken c.args.out.now) (taken c.flush.new.self) is_ok (kept_names (image_at image) c.as_slice-2.result.now c.args.wanted.ticks (wanted_in words) trees (taken c.args.out.now) (taken c.named_state.new.sink) (taken c.flush.new.self) c.in_default.ensures.text c.in_err-flush.ensures.kept),
+          names_of_whole given (wanted_in words) c.args.wanted.ticks (taken c.args.out.now) (taken c.flush.new.self) is_ok (kept_names (image_at image) c.as_slice-2.result.now c.args.wanted.ticks (wanted_in words) made (taken c.args.out.now) (taken c.named_state.new.sink) (taken c.flush.new.self) c.in_default.ensures.text c.in_err-flush.ensures.kept),
         ),
       ),
       c.in_ok-devices.ensures.noted ∙ c.in_ok-built.ensures.noted,
@@ -85,18 +94,20 @@ returns g c =
     let words = c.args.wanted.words.state in
     let sources = map (λ s. s.now) c.args.wanted.words.sources.now in
     let image = c.as_slice.result.now in
-    let trees = map program_of c.as_slice-trees.result.now in
-    let of_image : IsBuiltIn files words.image.now sources image (map program_of c.in_ok-built.built.trees.items) =
-    subst (λ (i : List ℕ). IsBuiltIn files words.image.now sources i (map program_of c.in_ok-built.built.trees.items)) (sym c.as_slice.ensures.value) c.in_ok-built.ensures.built in
-    let built : IsBuiltIn files words.image.now sources image trees =
-    subst (λ (ts : List Program). IsBuiltIn files words.image.now sources image (map program_of ts)) (sym c.as_slice-trees.ensures.value) of_image in
-    let given = given_module files (g.F.Files.contents c.module_named.new.files) words.image.now sources words.devices.now image trees c.in_ok-devices.devices.items c.as_slice-2.result.now
+    let made = sources_of (texts_of c.as_slice-3.result.now) (map program_of c.as_slice-4.result.now) in
+    let of_image : IsBuiltIn files words.image.now sources image (made_in c.in_ok-built.built) =
+    subst (λ (i : List ℕ). IsBuiltIn files words.image.now sources i (made_in c.in_ok-built.built)) (sym c.as_slice.ensures.value) c.in_ok-built.ensures.built in
+    let of_texts : IsBuiltIn files words.image.now sources image (sources_of (texts_of c.as_slice-3.result.now) (map program_of c.in_ok-built.built.trees.items)) =
+    subst (λ (ts : List (Vec ℕ Global)). IsBuiltIn files words.image.now sources image (sources_of (texts_of ts) (map program_of c.in_ok-built.built.trees.items))) (sym c.as_slice-3.ensures.value) of_image in
+    let built : IsBuiltIn files words.image.now sources image made =
+    subst (λ (ts : List Program). IsBuiltIn files words.image.now sources image (sources_of (texts_of c.as_slice-3.result.now) (map program_of ts))) (sym c.as_slice-4.ensures.value) of_texts in
+    let given = given_module files (g.F.Files.contents c.module_named.new.files) words.image.now sources words.devices.now image made c.in_ok-devices.devices.items c.as_slice-2.result.now
     c.in_ok-built.ensures.unchanged c.as_slice-2.ensures.value built c.in_ok-devices.ensures.held in
     let same = c.in_ok-devices.ensures.unchanged ∙ c.in_ok-built.ensures.unchanged in (
       (
         same,
         given.given,
-        names_of_whole given (wanted_in words) c.args.wanted.ticks (taken c.args.out.now) (taken c.flush.new.self) is_ok (kept_names (image_at image) c.as_slice-2.result.now c.args.wanted.ticks (wanted_in words) trees (taken c.args.out.now) (taken c.named_state.new.sink) (taken c.flush.new.self) c.in_default.ensures.text c.in_ok-flush.ensures.kept),
+        names_of_whole given (wanted_in words) c.args.wanted.ticks (taken c.args.out.now) (taken c.flush.new.self) is_ok (kept_names (image_at image) c.as_slice-2.result.now c.args.wanted.ticks (wanted_in words) made (taken c.args.out.now) (taken c.named_state.new.sink) (taken c.flush.new.self) c.in_default.ensures.text c.in_ok-flush.ensures.kept),
       ),
       ((c.in_ok-flush.ensures.quiet ∙ c.in_default.ensures.ok, c.in_ok-flush.ensures.flushed), c.in_ok-devices.ensures.noted ∙ c.in_ok-built.ensures.noted),
     )
@@ -111,4 +122,4 @@ returns-in_err-devices g c =
     let r = c.in_err-devices.field-0.0 in
     let same = c.in_err-devices.ensures.unchanged ∙ c.in_ok-built.ensures.unchanged in
     refused_as (EndsNamed words.image.now sources words.devices.now (wanted_in words) c.args.wanted.ticks before after) r c.from_residual-in_err-devices.result c.from_residual-in_err-devices.ensures
-    (not_read words.image.now sources words.devices.now (wanted_in words) c.args.wanted.ticks before after r c.in_ok-built.built.image.items (map program_of c.in_ok-built.built.trees.items) (same, (refl, refl)) c.in_ok-built.ensures.built c.in_err-devices.ensures.refused, subst (λ (old : List (List ℕ)). IsOfFailed old (g.F.Files.failed c.read_as.new.files) r) c.in_ok-built.ensures.noted c.in_err-devices.ensures.named)
+    (not_read words.image.now sources words.devices.now (wanted_in words) c.args.wanted.ticks before after r c.in_ok-built.built.image.items (made_in c.in_ok-built.built) (same, (refl, refl)) c.in_ok-built.ensures.built c.in_err-devices.ensures.refused, subst (λ (old : List (List ℕ)). IsOfFailed old (g.F.Files.failed c.read_as.new.files) r) c.in_ok-built.ensures.noted c.in_err-devices.ensures.named)
