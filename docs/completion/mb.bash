@@ -8,7 +8,7 @@ _mb() {
         run) options=' --explain --explain-json --progress --until -h --help' ;;
         replay) options=' --explain --explain-json -h --help' ;;
         inputs) options=' --explain --explain-json --progress -h --help' ;;
-        state) options=' --explain --explain-json --json --partition --every --until -h --help' ;;
+        state) options=' --explain --explain-json --json --partition --every --until --sources -h --help' ;;
         cost) options=' --explain --explain-json -h --help' ;;
         dis) options=' --explain --explain-json -h --help' ;;
         upgrade) options=' --explain --explain-json -h --help' ;;

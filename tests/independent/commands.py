@@ -11,6 +11,7 @@ from image import NEWEST, load_image, write_image
 from kernel.partition import Partition
 from meaning import SourceEngine
 from module import LonePartition, Module, Trace
+from named import NamedState
 from pal.grammar import number_of
 from pal.judge import objects_of, process_rows, read_source
 from processor import INSTRUCTIONS, Machine, ticks_of
@@ -146,7 +147,7 @@ class Folder:
         return "".join(module.inputs).encode("ascii")
 
     def state(self, *words):
-        form, only, every, until, files = text_row, None, None, [], []
+        form, only, every, is_named, until, files = text_row, None, None, False, [], []
         words = iter(words)
         for word in words:
             if word == "--json":
@@ -157,8 +158,12 @@ class Folder:
                 every = number_of(next(words))
             elif word.startswith("--until="):
                 until.append(word.removeprefix("--until="))
+            elif word == "--sources":
+                is_named = True
             else:
                 files.append(word)
+        if is_named or len(files) > 3:
+            return self.named_state(form, only, *files)
         road, devices, tick = self.begin(*files)
         number = None if only is None else number_of_partition(road.table, only)
         read_devices(devices, road.table)
@@ -170,6 +175,16 @@ class Folder:
         if ticks == [None]:
             return NOTHING_FOUND
         return b"".join(State(self.module_before(road, devices, n), n, number, form).text() for n in ticks)
+
+    def named_state(self, form, only, table, devices, tick, *sources):
+        """The table and the sources are read and built first; then the device text is read, and then the tick is judged."""
+        table, sources = self.read(table), [self.read(it) for it in sources]
+        road = road_of(build_image(table, sources))
+        devices, tick = self.read(devices), number_of(tick)
+        if tick > limits.LONGEST_TIME:
+            raise Refusal("ticks")
+        number = None if only is None else number_of_partition(road.table, only)
+        return NamedState(self.module_before(road, devices, tick), tick, sources, number, form).text()
 
     def module_before(self, road, devices, tick):
         """The module after so many ticks: that of the command before, if it is not past this tick."""

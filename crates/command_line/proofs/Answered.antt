@@ -17,7 +17,7 @@ use Rattle.command_line.specs.Ends.{Answers, AnswersWords, Ends, NotesAsked, as_
 use Rattle.command_line.specs.Lines.{line_of}
 use Rattle.command_line.specs.declared.outcome.Outcome.{Outcome}
 use Rattle.command_line.specs.declared.outcome.Outcome.TheVariants.{Usual, Remarkable}
-use Rattle.command_line.specs.Orders.{Order, First, Check, Build, Run, Replay, Inputs, ShowState, Cost, Dis, Upgrade, Load, Lint, Dashed}
+use Rattle.command_line.specs.Orders.{Order, First, Check, Build, Run, Replay, Inputs, ShowState, ShowNames, Cost, Dis, Upgrade, Load, Lint, Dashed}
 use Rattle.command_line.specs.Refusals.{IsRefused, HasWrongWord}
 use Rattle.command_line.specs.States.{IsSilent, State, state_of}
 use Rattle.command_line.specs.Words.{mb_app}
@@ -42,6 +42,7 @@ memory_refused (Run image devices ticks until) s = (inr refl, (refl, (refl, refl
 memory_refused (Replay image partition text ticks) s = (inr refl, (refl, (refl, refl)))
 memory_refused (Inputs image partition devices ticks) s = (inr refl, (refl, (refl, refl)))
 memory_refused (ShowState image devices tick every wanted) s = (inr refl, (refl, (refl, refl)))
+memory_refused (ShowNames table sources devices tick wanted) s = (inr refl, (refl, (refl, refl)))
 memory_refused (Cost table sources) s = ((refl, (refl, refl)), tt)
 memory_refused (Dis image) s = ((refl, (refl, refl)), tt)
 memory_refused (Upgrade old new) s = ((refl, refl), inl (refl, tt))

@@ -178,7 +178,7 @@ taken_alike : (Takes : Option (List ℕ) → Option (List ℕ) → List ℕ → 
 taken_alike Takes read devices whole n wanted old new found same (image, lines, r, text, is, out) =
     (image, lines, record { loaded = r.loaded; taken = same image ∙ r.taken; few = r.few }, text, is, out)
 
-states_alike : (read : Result Image Fault) (devices whole : List ℕ) (n : ℕ) (wanted : Wanted) (old new : Option (List ℕ)) (answer : Result Bool RunFault)
+pub states_alike : (read : Result Image Fault) (devices whole : List ℕ) (n : ℕ) (wanted : Wanted) (old new : Option (List ℕ)) (answer : Result Bool RunFault)
     → ((i : Image) → verdict_for i whole ≡ verdict_for i devices) → States read devices n wanted old new answer → States read whole n wanted old new answer
 states_alike read devices whole n wanted old new (Ok found) same h = taken_alike Appends read devices whole n wanted old new found same h
 states_alike read devices whole n wanted old new (Err run.Write) same h = taken_alike TakesBeginning read devices whole n wanted old new true same h

@@ -26,6 +26,7 @@ use Rattle.module.specs.Refusals.{IsFirstRefused, IsRefusal, IsRefusedWith, IsSo
 use Rattle.module.specs.declared.costing.PartitionCosts.{PartitionCosts}
 use Rattle.module.specs.declared.fault.BuildFault.{BuildFault}
 use Rattle.module.specs.declared.fault.BuildFault.TheVariants as fault
+use Rattle.state_rows.specs.Named.{Source}
 use Rattle.streams.specs.Beginnings.{HoldsFrom, IsBeginningOf}
 use Rattle.streams.specs.Contents.{Contents, HoldAll}
 use Rattle.text_beginnings.specs.Settled.{settles_source, settles_table}
@@ -140,6 +141,14 @@ all_trees (w ∷ ws) (b ∷ bs) [] begun h = absurd h
 all_trees [] (b ∷ bs) ps begun h = absurd begun
 all_trees (w ∷ ws) [] ps begun h = absurd begun
 
+-- sources that are programs were read to their end
+all_same : (wholes texts : List (List ℕ)) (ps : List written.Program) → AllBegun wholes texts → AreTrees texts ps → wholes ≡ texts
+all_same [] [] ps begun h = refl
+all_same (w ∷ ws) (b ∷ bs) (p ∷ ps) begun h = ap (λ (x : List ℕ). x ∷ ws) (exact_source w b begun.0 h.0.0) ∙ ap (λ (xs : List (List ℕ)). b ∷ xs) (all_same ws bs ps begun.1 h.1)
+all_same (w ∷ ws) (b ∷ bs) [] begun h = absurd h
+all_same [] (b ∷ bs) ps begun h = absurd begun
+all_same (w ∷ ws) [] ps begun h = absurd begun
+
 -- ---- a module
 
 module _ (table : List ℕ) (wholes texts : List (List ℕ)) (all : AllBegun wholes texts) where
@@ -186,6 +195,9 @@ module _ (table : List ℕ) (wholes texts : List (List ℕ)) (all : AllBegun who
     trees = all_trees wholes texts (map program_of m.trees.items) all h.trees;
   }
 
+  named_whole : (image : List ℕ) (made : List Source) → done.IsBuiltWith table texts image made → done.IsBuiltWith table wholes image made
+  named_whole image made h = subst (λ (ts : List (List ℕ)). done.IsBuiltWith table ts image made) (sym (all_same wholes texts h.trees all h.are_trees)) h
+
   load_whole : (shown : Shown) → AreLoaded table texts shown → AreLoaded table wholes shown
   load_whole shown h = record { rows = h.rows; accepted = h.accepted; given = h.given; programs = all_sources h.rows.partitions wholes texts h.given all h.programs; loaded = h.loaded }
 
@@ -224,6 +236,12 @@ module _ (files now : Option Contents) (table : List ℕ) (names : List (List �
     unfolding texts_of_files own_sources
     read_of_files (Ok m) h = record { texts = texts_of_files; read = module_whole given own_sources.0 texts own_sources.2 m h }
     read_of_files (Err e) h = tt
+
+    pub named_of_files : {A E : Type 0} (image : A → List ℕ) (made : A → List Source) (answer : Result A E)
+        → IfOk answer (λ m. done.IsBuiltWith given texts (image m) (made m)) → IfOk answer (λ m. done.IsBuiltIn files table names (image m) (made m))
+    unfolding texts_of_files own_sources
+    named_of_files image made (Ok m) h = record { texts = texts_of_files; of_texts = named_whole given own_sources.0 texts own_sources.2 (image m) (made m) h }
+    named_of_files image made (Err e) h = tt
 
     pub loaded_of_files : (shown : Shown) → AreLoaded given texts shown → (whole : Texts files table names) × AreLoaded whole.table_text whole.source_texts shown
     unfolding texts_of_files own_sources

@@ -10,6 +10,7 @@ pub mod Read
 pub mod Replayed
 pub mod Shown
 pub mod Spelled
+pub mod NamedStates
 pub mod Stated
 pub mod Watched
 pub mod WholeLines

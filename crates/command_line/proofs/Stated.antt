@@ -52,7 +52,7 @@ taken_by : (Takes : Option (List ℕ) → Option (List ℕ) → List ℕ → Typ
     → HasTaken Takes read devices n wanted old new found → HasTaken Takes read devices v wanted old new found
 taken_by Takes read devices n v wanted old new found is h = subst (λ k. HasTaken Takes read devices k wanted old new found) (few_same n v is h.2.few) h
 
-states_by : (read : Result Image Fault) (devices : List ℕ) (n v : ℕ) (wanted : Wanted) (old new : Option (List ℕ)) (answer : Result Bool RunFault) → n ≡ min v (2 ^ 64 - 1) → States read devices n wanted old new answer → States read devices v wanted old new answer
+pub states_by : (read : Result Image Fault) (devices : List ℕ) (n v : ℕ) (wanted : Wanted) (old new : Option (List ℕ)) (answer : Result Bool RunFault) → n ≡ min v (2 ^ 64 - 1) → States read devices n wanted old new answer → States read devices v wanted old new answer
 states_by read devices n v wanted old new (Ok found) is h = taken_by Appends read devices n v wanted old new found is h
 states_by read devices n v wanted old new (Err Write) is h = taken_by TakesBeginning read devices n v wanted old new true is h
 states_by read devices n v wanted old new (Err Ticks) is h = (many_same n v is h.0, h.1)

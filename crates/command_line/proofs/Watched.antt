@@ -1,7 +1,7 @@
 -- What a watcher of a command is told.
 use Rattle.std.proofs.Common.{◌≡◌, ◌≤◌, ◌-◌, ◌^◌, inl, inr, ℕ, refl, sym, subst, arith, min}
 use Rattle.module.specs.Watched.{IsFollowed, Told}
-use Rattle.command_line.specs.Orders.{Order, First, Check, Build, Run, Replay, Inputs, ShowState, Cost, Dis, Upgrade, Load, Lint, Dashed}
+use Rattle.command_line.specs.Orders.{Order, First, Check, Build, Run, Replay, Inputs, ShowState, ShowNames, Cost, Dis, Upgrade, Load, Lint, Dashed}
 use Rattle.command_line.specs.StopSteps.{IsReported}
 use Rattle.command_line.specs.Watched.{IsWatched}
 use Rattle.command_line.proofs.Ran.{few_same}
@@ -14,6 +14,7 @@ not_watched (Run image devices ticks until) told = inl refl
 not_watched (Replay image partition inputs ticks) told = refl
 not_watched (Inputs image partition devices ticks) told = inl refl
 not_watched (ShowState image devices tick every wanted) told = refl
+not_watched (ShowNames table sources devices tick wanted) told = refl
 not_watched (Cost table sources) told = refl
 not_watched (Dis image) told = refl
 not_watched (Upgrade old new) told = refl

@@ -6,27 +6,30 @@ use Rattle.std.specs.Str.Parse.{IsNumeral, digits_value}
 use Rattle.apex_types.specs.Limits.{MOST_TICKS}
 use Rattle.machine_meaning.specs.Image.{Image}
 use Rattle.machine_meaning.specs.ImageReading.{Fault, image_at}
+use Rattle.pal_meaning.specs.Syntax as written
 use Rattle.command_line.specs.Code.{code_text}
 use Rattle.command_line.specs.Costs.{costs_text}
 use Rattle.module.specs.Building.{IsImageOf}
 use Rattle.module.specs.Costs.{AreCosts}
 use Rattle.module.specs.Promises.{Means}
+use Rattle.module.specs.NamedStates.{NamedStates, sources_of}
 use Rattle.module.specs.Replays.{Replays}
 use Rattle.module.specs.Runs.{Runs}
-use Rattle.module.specs.States.{Every, Moments, States, Wanted}
+use Rattle.module.specs.States.{Every, Last, Moments, States, Wanted}
 use Rattle.module.specs.Telling.{Tells}
 use Rattle.module.specs.Upgrades.{IsUpgraded}
 use Rattle.module.specs.declared.costing.PartitionCosts.{PartitionCosts}
 use Rattle.module.specs.declared.fault.BuildAndRunFault.{BuildAndRunFault}
 use Rattle.module.specs.declared.inputs_fault.InputsFault.{InputsFault}
 use Rattle.module.specs.declared.fault.RunFault.{RunFault}
+use Rattle.state_rows.specs.Named.{Source}
 use Rattle.streams.specs.Contents.{Contents, Holds, HoldAll, Spares}
 use Rattle.streams.specs.Reads.{IsUnread, Reads}
 use Rattle.text_beginnings.specs.declared.beginning.TheConstants.{MOST_TABLE_BYTES}
 use Rattle.command_line.specs.Stops.{RunsUntil}
-use Rattle.command_line.specs.Orders.{Order, First, Check, Build, Run, Replay, Inputs, ShowState, Cost, Dis, Upgrade, Load, Lint, Dashed}
+use Rattle.command_line.specs.Orders.{Order, First, Check, Build, Run, Replay, Inputs, ShowState, ShowNames, Cost, Dis, Upgrade, Load, Lint, Dashed}
 use Rattle.command_line.specs.Loading.{AreLoaded, IsLoadOfText, IsTextOf, Shown}
-use Rattle.command_line.specs.Linting.{AreFound, IsReadModule}
+use Rattle.command_line.specs.Linting.{AreFound, AreTrees, IsReadModule}
 use Rattle.command_line.specs.declared.linting.ReadModule.{ReadModule}
 use Rattle.command_line.specs.Outcomes.{is_remarkable}
 use Rattle.command_line.specs.declared.outcome.Outcome.{Outcome}
@@ -103,6 +106,26 @@ pub record ImageAndText (files : Option Contents) (image text : List ℕ) : Type
   pub in_image : Holds files image image_bytes
   pub in_text : Holds files text text_bytes
 
+-- A table and its sources are accepted, with this image, and the sources are the texts of programs.
+pub record IsBuiltWith (table : List ℕ) (sources : List (List ℕ)) (image : List ℕ) (made : List Source) : Type 0 where
+  pub built : IsImageOf table sources image
+  pub trees : List written.Program
+  pub are_trees : AreTrees sources trees
+  pub of_trees : made ≡ sources_of sources trees
+
+-- The same of texts in files.
+pub record IsBuiltIn (files : Option Contents) (table : List ℕ) (sources : List (List ℕ)) (image : List ℕ) (made : List Source) : Type 0 where
+  pub texts : Texts files table sources
+  pub of_texts : IsBuiltWith texts.table_text texts.source_texts image made
+
+-- A module that is built and a text of inputs from outside, in the files of these names.
+pub record ModuleAndText (files : Option Contents) (table : List ℕ) (sources : List (List ℕ)) (text : List ℕ) : Type 0 where
+  pub image : List ℕ
+  pub made : List Source
+  pub built : IsBuiltIn files table sources image made
+  pub text_bytes : List ℕ
+  pub in_text : Holds files text text_bytes
+
 -- ---- what is written
 
 abbrev pub accepted_text : List ℕ
@@ -145,6 +168,10 @@ AreInputsOf given partition n old new answer = Tells (image_at given.image_bytes
 abbrev pub IsStateOf : {files : Option Contents} {image devices : List ℕ} → ImageAndText files image devices → Wanted → ℕ → Option (List ℕ) → Option (List ℕ) → Result Bool RunFault → Type 0
 IsStateOf given wanted n old new answer = States (image_at given.image_bytes) given.text_bytes n wanted old new answer
 
+-- the same with the names of the sources
+abbrev pub IsNamedStateOf : {files : Option Contents} {table : List ℕ} {sources : List (List ℕ)} {devices : List ℕ} → ModuleAndText files table sources devices → Wanted → ℕ → Option (List ℕ) → Option (List ℕ) → Result (Unit {0}) RunFault → Type 0
+IsNamedStateOf given wanted n old new answer = NamedStates (image_at given.image) given.text_bytes n wanted given.made old new answer
+
 -- the output of the run of the stored module with this result
 abbrev pub IsFirstRun : Option (List ℕ) → Option (List ℕ) → Result (Unit {0}) BuildAndRunFault → Type 0
 IsFirstRun old new answer = Means TABLE.now (SOURCE.now ∷ []) [] TICKS old new answer
@@ -178,9 +205,23 @@ IsSpacing None moments = Unit {0}
 IsSpacing (Some word) (Every k) = IsNumeral 10 word × (0 < k) × (k ≤ MOST_TICKS)
 IsSpacing (Some word) moments = ⊥
 
+-- only the last state is shown with the names of sources: no ticks between states are given, and no words of a row
+abbrev pub AreOnlyLast : Moments → Type 0
+AreOnlyLast Last = Unit {0}
+AreOnlyLast moments = ⊥
+
 -- the words of `mb state` that are numbers are right
 abbrev pub AreStateNumbers : List ℕ → Option (List ℕ) → Wanted → Type 0
 AreStateNumbers tick every wanted = IsNumeral 10 tick × IsSpacing every wanted.moments
+
+abbrev pub AreNamedNumbers : List ℕ → Wanted → Type 0
+AreNamedNumbers tick wanted = IsNumeral 10 tick × AreOnlyLast wanted.moments
+
+-- the state was written that a module has before tick n, with the names of its sources
+abbrev pub IsNamedStateDone : List ℕ → List (List ℕ) → List ℕ → Wanted → ℕ → State → State → Type 0
+IsNamedStateDone table sources devices wanted n before after =
+    (after.files ≡ before.files)
+    × (given : ModuleAndText before.files table sources devices) × IsNamedStateOf given wanted n before.out.taken after.out.taken is_ok
 
 -- An image was built and written as the file of this name, and no other file was touched. This file is none of those that were
 -- read by then, the table and the sources among them.
@@ -207,6 +248,7 @@ IsDone (Run image devices ticks until) before after = IsNumeral 10 ticks × IsRu
 IsDone (Replay image partition inputs ticks) before after = IsNumeral 10 ticks × IsReplayDone image partition inputs (digits_value 10 ticks) before after
 IsDone (Inputs image partition devices ticks) before after = IsNumeral 10 ticks × AreInputsDone image partition devices (digits_value 10 ticks) before after
 IsDone (ShowState image devices tick every wanted) before after = AreStateNumbers tick every wanted × IsStateDone image devices wanted (digits_value 10 tick) Usual before after
+IsDone (ShowNames table sources devices tick wanted) before after = AreNamedNumbers tick wanted × IsNamedStateDone table sources devices wanted (digits_value 10 tick) before after
 IsDone (Cost table sources) before after =
     (after.files ≡ before.files) × (costs : List PartitionCosts) × AreCosted before.files table sources costs × Appends before.out.taken after.out.taken (costs_text costs)
 IsDone (Dis name) before after =

@@ -8,9 +8,9 @@ use Rattle.command_words.specs.declared.failure.Failure.{Failure}
 use Rattle.command_words.specs.declared.failure.Failure.TheVariants.{Refused, Usage}
 use Rattle.module.specs.States.{Wanted}
 use Rattle.streams.specs.States.{IsFlushed}
-use Rattle.command_line.specs.Done.{AreInputsDone, IsDoneWith, IsReplayDone, IsRunDone, IsStateDone}
+use Rattle.command_line.specs.Done.{AreInputsDone, IsDoneWith, IsReplayDone, IsNamedStateDone, IsRunDone, IsStateDone}
 use Rattle.command_line.specs.Orders.{Order}
-use Rattle.command_line.specs.Refusals.{AreInputsRefused, HasWrongWord, IsRefused, IsReplayRefused, IsRunRefused, IsStateRefused}
+use Rattle.command_line.specs.Refusals.{AreInputsRefused, HasWrongWord, IsRefused, IsReplayRefused, IsNamedStateRefused, IsRunRefused, IsStateRefused}
 use Rattle.command_line.specs.States.{IsUntouched, State}
 use Rattle.command_line.specs.Told.{IsOfFailed}
 use Rattle.command_line.specs.declared.outcome.Outcome.{Outcome}
@@ -45,6 +45,11 @@ EndsInputs image partition devices n before after (Err r) = AreInputsRefused ima
 abbrev pub EndsState : List ℕ → List ℕ → Wanted → ℕ → State → State → Result Outcome Refusal → Type 0
 EndsState image devices wanted n before after (Ok outcome) = IsStateDone image devices wanted n outcome before after × IsWell before after
 EndsState image devices wanted n before after (Err r) = IsStateRefused image devices wanted n before after r × IsOfFailed before.failed after.failed r
+
+abbrev pub EndsNamed : List ℕ → List (List ℕ) → List ℕ → Wanted → ℕ → State → State → Result Outcome Refusal → Type 0
+EndsNamed table sources devices wanted n before after (Ok Usual) = IsNamedStateDone table sources devices wanted n before after × IsWell before after
+EndsNamed table sources devices wanted n before after (Ok Remarkable) = ⊥
+EndsNamed table sources devices wanted n before after (Err r) = IsNamedStateRefused table sources devices wanted n before after r × IsOfFailed before.failed after.failed r
 
 -- ---- words
 

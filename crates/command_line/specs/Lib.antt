@@ -6,6 +6,7 @@ pub mod Lines
 pub mod Linting
 pub mod Loaded
 pub mod Loading
+pub mod Made
 pub mod Meant
 pub mod Outcomes
 pub mod Orders

@@ -6,6 +6,7 @@ use Rattle.module.specs.Stating.{moments_in}
 use Rattle.module.specs.declared.stating.Moments.{Moments as Code}
 use Rattle.command_line.specs.Done.{IsSpacing}
 use Rattle.command_line.specs.declared.order.InputsWords.{InputsWords}
+use Rattle.command_line.specs.declared.order.NamedStateWords.{NamedStateWords}
 use Rattle.command_line.specs.declared.order.ReplayWords.{ReplayWords}
 use Rattle.command_line.specs.declared.order.RunWords.{RunWords}
 use Rattle.command_line.specs.declared.order.StateWords.{StateWords}
@@ -36,6 +37,10 @@ ReadsMoments every moments (Some read) = IsSpacing every moments × (moments_in 
 abbrev pub state_meant : StateWords → asked.Order
 state_meant words = asked.ShowState words.image.now words.devices.now words.tick.now (option_map (λ s. s.now) words.every) (wanted_in words)
 
+abbrev pub names_meant : NamedStateWords → asked.Order
+names_meant words =
+    asked.ShowNames words.state.image.now (map (λ s. s.now) words.sources.now) words.state.devices.now words.state.tick.now (wanted_in words.state)
+
 abbrev pub meant : Order → asked.Order
 meant order.First = asked.First
 meant (order.Check names) = asked.Check names.table.now (map (λ s. s.now) names.sources.now)
@@ -44,6 +49,7 @@ meant (order.Run words is_watched) = run_meant words
 meant (order.Replay words) = replay_meant words
 meant (order.Inputs words is_watched) = inputs_meant words
 meant (order.State words) = state_meant words
+meant (order.NamedState words) = names_meant words
 meant (order.Cost names) = asked.Cost names.table.now (map (λ s. s.now) names.sources.now)
 meant (order.Dis image) = asked.Dis image.now
 meant (order.Upgrade old new) = asked.Upgrade old.now new.now

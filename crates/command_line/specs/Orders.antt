@@ -1,5 +1,5 @@
 -- The command that the words of a command line ask for.
-use Rattle.std.specs.Prelude.{◌||◌, ℕ, Bool, false, List, [], ◌∷◌, Option, Some, None, if◌then◌else◌, codes}
+use Rattle.std.specs.Prelude.{◌||◌, ℕ, Bool, true, false, List, [], ◌∷◌, Option, Some, None, if◌then◌else◌, codes}
 use Rattle.std.specs.List.{list_any}
 use Rattle.std.specs.Str.{bytes_eq}
 use Rattle.std.specs.Str.Parse.{digits_value}
@@ -24,6 +24,7 @@ pub data Order : Type 0 where
   Replay : (image : List ℕ) (partition : List ℕ) (inputs : List ℕ) (ticks : List ℕ) → Order
   Inputs : (image : List ℕ) (partition : List ℕ) (devices : List ℕ) (ticks : List ℕ) → Order
   ShowState : (image : List ℕ) (devices : List ℕ) (tick : List ℕ) (every : Option (List ℕ)) (wanted : Wanted) → Order
+  ShowNames : (table : List ℕ) (sources : List (List ℕ)) (devices : List ℕ) (tick : List ℕ) (wanted : Wanted) → Order
   Cost : (table : List ℕ) (sources : List (List ℕ)) → Order
   Dis : (image : List ℕ) → Order
   Upgrade : (old : List ℕ) (new : List ℕ) → Order
@@ -82,8 +83,22 @@ wanted_of rows = record {
   moments = moments_of (first_of (codes "every") rows) (words_at (codes "until") rows);
 }
 
+abbrev pub image_state_of : List Row → Order
+image_state_of rows = ShowState (word_at (codes "IMAGE") rows) (word_at (codes "DEVICES") rows) (word_at (codes "TICK") rows) (wanted_of rows)
+
+-- the word for the image is that of a table, with a flag or if there are sources
+abbrev pub names_of : List Row → Order
+names_of rows = ShowNames (word_at (codes "IMAGE") rows) (words_at (codes "SOURCE") rows) (word_at (codes "DEVICES") rows) (word_at (codes "TICK") rows) (wanted_of rows)
+
+abbrev pub are_any : List (List ℕ) → Bool
+are_any [] = false
+are_any (word ∷ words) = true
+
+abbrev pub has_sources : List Row → Bool
+has_sources rows = is_flagged (codes "sources") rows || are_any (words_at (codes "SOURCE") rows)
+
 abbrev pub state_of : List Row → Order
-state_of rows = ShowState (word_at (codes "IMAGE") rows) (word_at (codes "DEVICES") rows) (word_at (codes "TICK") rows) (first_of (codes "every") rows) (wanted_of rows)
+state_of rows = if has_sources rows then names_of rows else image_state_of rows
 
 abbrev pub load_of : List Row → Order
 load_of rows = Load (form_of rows) (word_at (codes "TABLE") rows) (words_at (codes "SOURCE") rows)

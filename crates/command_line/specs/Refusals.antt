@@ -1,5 +1,5 @@
 -- Why a command is refused, and the state after that.
-use Rattle.std.specs.Prelude.{◌≡◌, ◌⊎◌, ℕ, List, [], ◌∷◌, Option, Err, string_bytes}
+use Rattle.std.specs.Prelude.{◌≡◌, ◌⊎◌, ℕ, List, [], ◌∷◌, ◌++◌, Option, Err, string_bytes}
 use Rattle.std.specs.Str.Parse.{IsNumeral, digits_value}
 use Rattle.streams.specs.States.{HasFailed, Seen}
 use Rattle.apex_types.specs.Line.{TakesBeginning}
@@ -19,8 +19,8 @@ use Rattle.module.specs.declared.inputs_fault.InputsFault.TheVariants as input_f
 use Rattle.module.specs.declared.fault.RunFault.{RunFault}
 use Rattle.module.specs.declared.fault.RunFault.TheVariants as faults
 use Rattle.streams.specs.Contents.{Contents, Holds, Spares}
-use Rattle.command_line.specs.Done.{Texts, IsTableIn, IsLongTable, IsBuilt, AreCosted, AreFoundIn, IsLoadIn, IsImageIn, IsImageWritten, IsUpgradedIn, ImageAndText, IsRunOf, IsRunDone, IsReplayOf, IsReplayDone, AreInputsOf, AreInputsDone, IsStateOf, IsStateDone, AreStateNumbers, IsFirstRun, is_ok}
-use Rattle.command_line.specs.Orders.{Order, First as first, Check as check, Build as build, Run as run, Replay as replay, Inputs as inputs, ShowState as show_state, Cost as cost, Dis as dis, Upgrade as upgrade, Load as load, Lint as lint, Dashed as dashed}
+use Rattle.command_line.specs.Done.{Texts, IsTableIn, IsLongTable, IsBuilt, AreCosted, AreFoundIn, IsLoadIn, IsImageIn, IsImageWritten, IsUpgradedIn, ImageAndText, IsRunOf, IsRunDone, IsReplayOf, IsReplayDone, AreInputsOf, AreInputsDone, IsStateOf, IsStateDone, AreStateNumbers, ModuleAndText, IsNamedStateOf, IsNamedStateDone, AreNamedNumbers, IsFirstRun, is_ok}
+use Rattle.command_line.specs.Orders.{Order, First as first, Check as check, Build as build, Run as run, Replay as replay, Inputs as inputs, ShowState as show_state, ShowNames as show_names, Cost as cost, Dis as dis, Upgrade as upgrade, Load as load, Lint as lint, Dashed as dashed}
 use Rattle.command_line.specs.Loading.{IsRefusedTable, Shown}
 use Rattle.lint.specs.Sentences.{findings_text}
 use Rattle.lint.specs.declared.report.PartitionFindings.{PartitionFindings}
@@ -159,6 +159,19 @@ IsStateRefused image devices wanted n before after Memory = IsUntouched before a
 IsStateRefused image devices wanted n before after Write = HasFailed before.out after.out × (outcome : Outcome) × IsStateDone image devices wanted n outcome before after
 IsStateRefused image devices wanted n before after _ = ⊥
 
+-- why the state before tick n with the names of the sources is refused
+abbrev pub IsNamedStateRefused : List ℕ → List (List ℕ) → List ℕ → Wanted → ℕ → State → State → Refusal → Type 0
+IsNamedStateRefused table sources devices wanted n before after (File name reason) =
+    IsUntouched before after × IsFirstUnread before.files (table ∷ sources ++ devices ∷ []) (string_bytes name)
+IsNamedStateRefused table sources devices wanted n before after (LongTable name) = IsUntouched before after × IsNotBuilt before.files table sources (LongTable name)
+IsNamedStateRefused table sources devices wanted n before after (Build fault) = IsUntouched before after × IsNotBuilt before.files table sources (Build fault)
+IsNamedStateRefused table sources devices wanted n before after (Run fault) =
+    HasFailedBy fault before.out after.out × (after.files ≡ before.files)
+    × (given : ModuleAndText before.files table sources devices) × IsNamedStateOf given wanted n before.out.taken after.out.taken (Err fault)
+IsNamedStateRefused table sources devices wanted n before after Memory = IsUntouched before after
+IsNamedStateRefused table sources devices wanted n before after Write = HasFailed before.out after.out × IsNamedStateDone table sources devices wanted n before after
+IsNamedStateRefused table sources devices wanted n before after _ = ⊥
+
 -- why the run of the stored module is refused, over standard output
 abbrev pub IsStoredRefused : Seen → Seen → Refusal → Type 0
 IsStoredRefused old new (Build fault) = (new.failures ≡ old.failures) × IsFirstRun old.taken new.taken (Err (both.Build fault))
@@ -215,6 +228,8 @@ IsRefused (inputs image partition devices ticks) before after r =
     (IsNumeral 10 ticks ⊎ (r ≡ Memory)) × AreInputsRefused image partition devices (digits_value 10 ticks) before after r
 IsRefused (show_state image devices tick every wanted) before after r =
     (AreStateNumbers tick every wanted ⊎ (r ≡ Memory)) × IsStateRefused image devices wanted (digits_value 10 tick) before after r
+IsRefused (show_names table sources devices tick wanted) before after r =
+    (AreNamedNumbers tick wanted ⊎ (r ≡ Memory)) × IsNamedStateRefused table sources devices wanted (digits_value 10 tick) before after r
 IsRefused dashed before after r = IsUntouched before after × (r ≡ Memory)
 
 -- ---- the words
@@ -225,5 +240,6 @@ HasWrongWord (run image devices ticks until) = IsNumeral 10 ticks → ⊥
 HasWrongWord (replay image partition text ticks) = IsNumeral 10 ticks → ⊥
 HasWrongWord (inputs image partition devices ticks) = IsNumeral 10 ticks → ⊥
 HasWrongWord (show_state image devices tick every wanted) = AreStateNumbers tick every wanted → ⊥
+HasWrongWord (show_names table sources devices tick wanted) = AreNamedNumbers tick wanted → ⊥
 HasWrongWord dashed = Unit {0}
 HasWrongWord _ = ⊥

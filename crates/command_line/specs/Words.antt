@@ -47,8 +47,11 @@ abbrev pub state_flags_app : App
 state_flags_app =
     with_rule (with_rule (with_rule (with_rule (explained_app (codes "state")) (flag_rule (codes "json"))) (option_rule (codes "partition"))) (option_rule (codes "every"))) (sequence_rule (codes "until"))
 
+abbrev pub state_words_app : App
+state_words_app = with_rule (with_rule (with_rule (with_rule state_flags_app (flag_rule (codes "sources"))) (word_rule (codes "IMAGE"))) (word_rule (codes "DEVICES"))) (word_rule (codes "TICK"))
+
 abbrev pub state_app : App
-state_app = with_rule (with_rule (with_rule state_flags_app (word_rule (codes "IMAGE"))) (word_rule (codes "DEVICES"))) (word_rule (codes "TICK"))
+state_app = with_rule state_words_app (any_words_rule (codes "SOURCE"))
 
 abbrev pub cost_app : App
 cost_app = with_rule (with_rule (explained_app (codes "cost")) (word_rule (codes "TABLE"))) (words_rule (codes "SOURCE"))

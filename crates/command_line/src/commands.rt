@@ -18,6 +18,7 @@ use crate::explaining::{Note, Noted, Style};
 use crate::grammar::{grammar, lone_dash};
 use crate::linting::lint;
 use crate::loading::load;
+use crate::naming::show_names;
 use crate::order::{ModuleNames, Order, is_flagged, order_by_name};
 use crate::outcome::Outcome;
 use crate::reading::{build_named, upgrade_named};
@@ -173,6 +174,7 @@ fn obey_order<F: Files, O: Stream, W: Watch>(
             inputs(alloc, words, files, out, watch, note)
         }
         Order::State { words } => show_state(alloc, words, files, out, note),
+        Order::NamedState { words } => show_names(alloc, words, files, out, note),
         Order::Cost { names } => ended(cost(alloc, names, files, out, note)),
         Order::Dis { image } => ended(dis(alloc, image, files, out, note)),
         Order::Upgrade { old, new } => ended(upgrade(alloc, old, new, files, out, note)),

@@ -145,12 +145,17 @@ const STATE: CommandRow = CommandRow {
             value: "WORD",
             help: "Writes the first state with a row that begins with these words, `_` for any one, `..` for any",
         },
+        Argument::Flag {
+            name: "sources",
+            help: "IMAGE is a module table: builds it with the sources, and writes their names, too",
+        },
         IMAGE,
         DEVICES,
         Argument::Word {
             name: "TICK",
             help: "The tick before which the state is shown, or the last one, at most 1099511627776",
         },
+        ANY_SOURCES,
     ],
 };
 
@@ -202,10 +207,7 @@ const LOAD: CommandRow = CommandRow {
             help: "Writes a picture of the frame",
         },
         TABLE,
-        Argument::AnyWords {
-            name: "SOURCE",
-            help: "The file of each partition's source, in the order of the table",
-        },
+        ANY_SOURCES,
     ],
 };
 
@@ -237,6 +239,11 @@ const TABLE: Argument = Argument::Word {
 };
 
 const SOURCES: Argument = Argument::Words {
+    name: "SOURCE",
+    help: "The file of each partition's source, in the order of the table",
+};
+
+const ANY_SOURCES: Argument = Argument::AnyWords {
     name: "SOURCE",
     help: "The file of each partition's source, in the order of the table",
 };
@@ -295,6 +302,17 @@ pub fn bad_spacing(alloc: Global, word: &str) -> Result<Error, AllocError>
         "invalid value '{word}' for '--every <K>': one or more digits, 1 to 1099511627776, without --until"
     )?;
     PROGRAM.usage_error(alloc, "state", message.as_str())
+}
+
+/// The usage error of ticks between states, or of words of a row, where sources are given.
+pub fn bad_moments(alloc: Global) -> Result<Error, AllocError>
+    ensures { IfOk result (λ error. kind_of error ≡ ValueValidation) }
+{
+    PROGRAM.usage_error(
+        alloc,
+        "state",
+        "'--every <K>' and '--until <WORD>...' are for an IMAGE, without sources",
+    )
 }
 
 /// The usage error of a word for an argument that is no number.

@@ -27,6 +27,7 @@ mod grammar;
 mod linting;
 mod listing;
 mod loading;
+mod naming;
 mod order;
 mod outcome;
 mod pages;

@@ -137,7 +137,11 @@ fn tree_of(alloc: Global, source: &[u8]) -> Result<Program, PalFault>
 }
 
 /// Adds sources that have trees as they are written.
-fn add_trees(alloc: Global, sources: &[Vec<u8>], trees: &mut Vec<Program>) -> Result<(), AllocError>
+pub fn add_trees(
+    alloc: Global,
+    sources: &[Vec<u8>],
+    trees: &mut Vec<Program>,
+) -> Result<(), AllocError>
     requires { HaveTrees (texts_of sources.now) }
     ensures { OnOk result (AddsTrees (texts_of sources.now) trees.old.items trees.new.items) }
 {

@@ -61,6 +61,13 @@ pub struct StateWords<'a> {
     pub until: &'a [&'a str],
 }
 
+/// The words of `mb state` with sources: `image` is the name of the table.
+#[derive(Clone, Copy)]
+pub struct NamedStateWords<'a> {
+    pub state: StateWords<'a>,
+    pub sources: &'a [&'a str],
+}
+
 /// The words of a command, and the number in its word for ticks.
 #[derive(Clone, Copy)]
 pub struct Timed<W> {
@@ -93,6 +100,9 @@ pub enum Order<'a> {
     },
     State {
         words: StateWords<'a>,
+    },
+    NamedState {
+        words: NamedStateWords<'a>,
     },
     Cost {
         names: ModuleNames<'a>,
@@ -146,9 +156,7 @@ fn order_named<'a, 'w: 'a>(name: &str, found: &'a ArgMatches<'w>) -> Order<'a>
             words: inputs_words(found),
             is_watched: is_flagged(found, "progress"),
         },
-        "state" => Order::State {
-            words: state_words(found),
-        },
+        "state" => state_order(found),
         "cost" => Order::Cost {
             names: module_names(found),
         },
@@ -221,7 +229,7 @@ fn inputs_words<'a, 'w: 'a>(found: &'a ArgMatches<'w>) -> InputsWords<'a>
 
 /// The words of `mb state`.
 fn state_words<'a, 'w: 'a>(found: &'a ArgMatches<'w>) -> StateWords<'a>
-    ensures { state_meant result ≡ spec.state_of (rows_of (found_of found.now)) }
+    ensures { state_meant result ≡ spec.image_state_of (rows_of (found_of found.now)) }
 {
     StateWords {
         image: word(found, "IMAGE"),
@@ -231,6 +239,20 @@ fn state_words<'a, 'w: 'a>(found: &'a ArgMatches<'w>) -> StateWords<'a>
         partition: word_if_any(found, "partition"),
         every: word_if_any(found, "every"),
         until: words(found, "until"),
+    }
+}
+
+/// What `mb state` asks for: the state of an image or, with sources, of a module with their names.
+fn state_order<'a, 'w: 'a>(found: &'a ArgMatches<'w>) -> Order<'a>
+    ensures { meant result ≡ spec.state_of (rows_of (found_of found.now)) }
+{
+    let state = state_words(found);
+    let sources = words(found, "SOURCE");
+    if is_flagged(found, "sources") || !sources.is_empty() {
+        let words = NamedStateWords { state, sources };
+        Order::NamedState { words }
+    } else {
+        Order::State { words: state }
     }
 }
 

@@ -138,7 +138,7 @@ pub fn build_named<F: Files>(
 }
 
 /// The image of a table and its sources.
-fn build_texts(
+pub fn build_texts(
     alloc: Global,
     names: ModuleNames<'_>,
     table: &[u8],

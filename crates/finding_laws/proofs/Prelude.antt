@@ -43,7 +43,7 @@ pub use Rattle.source_findings.specs.Tally.{Tally, counted, counted as tallied, 
 pub use Rattle.source_findings.specs.Texts.{is_above, or_too_long, strays, text_wrongs}
 pub use Rattle.source_findings.specs.Walk.{all_given, block, comma, expr, exprs, given, links, service_call, stmt, targets, used}
 pub use Rattle.source_findings.specs.What.{NoAscii, State, What, Wrong, noted, pushed, step}
-pub use Rattle.source_findings.specs.Words.{first_word, next_word}
+pub use Rattle.source_places.specs.Words.{first_word, next_word}
 pub use Rattle.source_findings.specs.declared.finding.Many.{Many}
 pub use Rattle.source_findings.specs.declared.finding.Thing.{Thing}
 pub use Rattle.source_findings.specs.declared.roles.Role.{Role}

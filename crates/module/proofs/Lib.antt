@@ -19,6 +19,7 @@ pub mod Members
 pub mod Parts
 pub mod Moves
 pub mod Named
+pub mod NamedStates
 pub mod SameTraces
 pub mod Starting
 pub mod Told

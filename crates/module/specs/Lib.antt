@@ -24,3 +24,5 @@ pub mod Upgrades
 pub mod Views
 pub mod Watched
 pub mod Written
+pub mod NamedStates
+pub mod Naming

@@ -15,6 +15,8 @@ mod scope;
 mod table;
 mod verdict;
 
+pub use meanings::Counts;
 pub use pal_base::checked::Checked;
 pub use report::{BodyCost, BodyName, cost_report};
+pub use table::text_of;
 pub use verdict::check;

@@ -99,7 +99,7 @@ impl Counts {
     };
 
     /// The meaning of the name in a declaration, after the counts `self` of earlier declarations.
-    fn meaning(&self, kind: &DeclarationKind, ports: &[PortRow], name: &str) -> Denotation
+    pub fn meaning(&self, kind: &DeclarationKind, ports: &[PortRow], name: &str) -> Denotation
         ensures { (names : List (List ℕ))
             → result
             ≡ declared_meaning ports.now (counts_of self.now) name.now

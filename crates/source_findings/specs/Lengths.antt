@@ -8,7 +8,7 @@ use Rattle.pal.specs.declared.report.BodyName.TheVariants as body
 use Rattle.pal_meaning.specs.Lines.{from_word}
 use Rattle.source_findings.specs.Frames.{held}
 use Rattle.source_findings.specs.What.{Instructions, Wrong}
-use Rattle.source_findings.specs.Words.{first_word, next_word}
+use Rattle.source_places.specs.Words.{first_word, next_word}
 
 -- The bodies of a program are in the order in which `mb cost` lists them, each with its number of instructions.
 

@@ -9,4 +9,3 @@ pub mod Texts
 pub mod Views
 pub mod Walk
 pub mod What
-pub mod Words

@@ -1,7 +1,7 @@
 -- What is wrong with a source, and the walk through its words.
 use Rattle.std.specs.Prelude.{ℕ, Bool, nat_lt, if◌then◌else◌, List, [], ◌∷◌, ◌++◌, length, Option, Some, None}
 use Rattle.apex_types.specs.declared.service.Service.{Service}
-use Rattle.source_findings.specs.Words.{next_word}
+use Rattle.source_places.specs.Words.{next_word}
 use Rattle.source_findings.specs.declared.finding.Many.{Many}
 use Rattle.source_findings.specs.declared.finding.Thing.{Thing}
 use Rattle.source_findings.specs.declared.roles.Role.{Role}

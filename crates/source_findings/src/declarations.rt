@@ -17,7 +17,7 @@ use crate::judge::{
 };
 use crate::roles::{Entry, declaration_entry, declared_entries, own_entry, process_entry, text_of};
 use crate::tally::{Tally, one_more};
-use crate::text_words::from_word;
+use source_places::from_word;
 use crate::walk::Walk;
 use apex_types::limits::{
     GREATEST_PRIORITY, MOST_DEPTH, MOST_PARAMETERS, MOST_PROCESSES, MOST_SEMAPHORE_VALUE,

@@ -6,7 +6,7 @@ ghost use Rattle.source_findings.specs.Lengths as spec;
 ghost use Rattle.source_findings.specs.Views.{wrongs_of};
 
 use crate::finding::{What, Wrong};
-use crate::text_words::{first_word, from_word, next_word};
+use source_places::{first_word, from_word, next_word};
 use apex_types::limits::MOST_INSTRUCTIONS;
 use pal::{BodyCost, BodyName};
 use pal_base::mark::Mark;

@@ -19,7 +19,6 @@ mod roles;
 mod spot;
 mod suggestion;
 mod tally;
-mod text_words;
 mod texts;
 mod unfit;
 mod walk;

@@ -1,7 +1,7 @@
 //! The words around the place where a text leaves the grammar, and what they advise.
 
 use crate::habits::{foreign_advice, misplaced_advice, sign_advice, standard_value};
-use crate::text_words::{first_word, from_word, next_word};
+use source_places::{first_word, from_word, next_word};
 use apex_types::SERVICES;
 use finding_lines::{Place, Shown, place_of};
 use pal_base::looking::{LookedFor, WordKind};

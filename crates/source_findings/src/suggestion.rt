@@ -1,6 +1,6 @@
 //! Which of the words that fit is suggested where a text leaves the grammar.
 
-use crate::text_words::{first_word, from_word};
+use source_places::{first_word, from_word};
 use apex_types::SERVICES;
 use finding_lines::nearest;
 use pal_base::looking::{LookedFor, WordKind};

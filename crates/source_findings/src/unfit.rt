@@ -9,7 +9,7 @@ use crate::choices::wanted_at;
 use crate::habits::foreign_advice;
 use crate::spot::Spot;
 use crate::suggestion::suggested;
-use crate::text_words::from_word;
+use source_places::from_word;
 use finding_lines::{DidYouMean, Report, Shown, lines_at};
 use pal_base::looking::LookedFor;
 use std::alloc::{AllocError, Global};

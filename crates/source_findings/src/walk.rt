@@ -13,7 +13,7 @@ use crate::judge::{
     targets_wrong, value_of,
 };
 use crate::roles::{Role, text_of};
-use crate::text_words::next_word;
+use source_places::next_word;
 use apex_types::limits::MOST_WORK_TICKS;
 use apex_types::{ArgumentKind, Service};
 use pal_base::fault::Refusal;

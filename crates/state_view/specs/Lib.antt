@@ -1,2 +1,4 @@
 pub mod Chosen
+pub mod Chains
+pub mod Sources
 pub mod Parts

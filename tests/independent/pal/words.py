@@ -8,7 +8,7 @@ from refusal import Refusal
 from services import BY_NAME
 
 # `kind` is "name", "nat", "SERVICE", "wrong", "end", or the word itself.
-Word = namedtuple("Word", "kind text line")
+Word = namedtuple("Word", "kind text line place")
 
 GRAMMAR_WORDS = frozenset(
     "var array semaphore event buffer blackboard port proc fifo priority init stack handler process period capacity local"
@@ -47,13 +47,13 @@ def words_of(text):
     while place < len(text):
         found = FORM.match(text, place)
         if found is None:
-            yield Word("wrong", text[place], line)
+            yield Word("wrong", text[place], line, place)
             return
         if found.lastgroup != "blank":
             yield word_of(found, line)
         line += text.count("\n", place, found.end())
         place = found.end()
-    yield Word("end", "", line)
+    yield Word("end", "", line, place)
 
 
 def word_of(found, line):
@@ -62,4 +62,4 @@ def word_of(found, line):
         kind = text
     elif kind == "SERVICE" and text not in BY_NAME:
         kind = "wrong"
-    return Word(kind, text, line)
+    return Word(kind, text, line, found.start())

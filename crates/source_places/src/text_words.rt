@@ -6,7 +6,7 @@ ghost use Rattle.pal_meaning.specs.Grammar as grammar;
 ghost use Rattle.pal_meaning.specs.Grammar.{behind_blanks, in_name, in_service, is_lower, is_upper, word_at};
 ghost use Rattle.pal_meaning.specs.Lines.{from_word};
 ghost use Rattle.engine_meaning.specs.Digits.{is_digit};
-ghost use Rattle.source_findings.specs.Words as spec;
+ghost use Rattle.source_places.specs.Words as spec;
 
 use pal_base::mark::{Mark, SIGNS};
 

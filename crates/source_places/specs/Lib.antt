@@ -1,0 +1,3 @@
+pub mod Passing
+pub mod Places
+pub mod Words
