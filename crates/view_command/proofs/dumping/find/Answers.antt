@@ -1,0 +1,10 @@
+use Rattle.view_command.specs.Summed.{AreLinesIn}
+use Rattle.view_command.specs.Windows.{windows_known}
+use Rattle.view_command.proofs.Made.{dump_in}
+use Rattle.view_laws.proofs.OfWindows.{machines_owned, modules_owned}
+use Rattle.view_command.proofs.dumping.find.Goals as goal
+
+pub returns-in-Ok-clause-dump : goal.returns-in-Ok-clause-dump
+returns-in-Ok-clause-dump g c =
+    dump_in (g.R.Read.remaining c.args.text.reader) c.args.request.now.kept c.args.request.now.from c.args.request.now.to (windows_known c.args.table) c.in_ok-first.first c.in_ok-last.last c.in-Ok.found.0
+    c.in_ok-first.ensures.shown c.in_ok-first.ensures.windows c.in_ok-last.ensures.taken c.in-Ok.ensures
