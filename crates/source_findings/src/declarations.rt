@@ -17,7 +17,6 @@ use crate::judge::{
 };
 use crate::roles::{Entry, declaration_entry, declared_entries, own_entry, process_entry, text_of};
 use crate::tally::{Tally, one_more};
-use source_places::from_word;
 use crate::walk::Walk;
 use apex_types::limits::{
     GREATEST_PRIORITY, MOST_DEPTH, MOST_PARAMETERS, MOST_PROCESSES, MOST_SEMAPHORE_VALUE,
@@ -26,6 +25,7 @@ use apex_types::limits::{
 use indexmap::IndexSet;
 use pal_base::fault::Refusal;
 use pal_base::syntax::{Body, Declaration, DeclarationKind, Identifier, Numeral, Process, Program};
+use source_places::from_word;
 use std::alloc::{AllocError, Global};
 
 /// Passes a number, with or without a minus sign, at which something may be wrong.

@@ -6,10 +6,10 @@ ghost use Rattle.source_findings.specs.Lengths as spec;
 ghost use Rattle.source_findings.specs.Views.{wrongs_of};
 
 use crate::finding::{What, Wrong};
-use source_places::{first_word, from_word, next_word};
 use apex_types::limits::MOST_INSTRUCTIONS;
 use pal::{BodyCost, BodyName};
 use pal_base::mark::Mark;
+use source_places::{first_word, from_word, next_word};
 use std::alloc::{AllocError, Global};
 
 /// The body with which a program of this text is too long, if it is: the first that has more

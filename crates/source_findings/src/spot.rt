@@ -1,11 +1,11 @@
 //! The words around the place where a text leaves the grammar, and what they advise.
 
 use crate::habits::{foreign_advice, misplaced_advice, sign_advice, standard_value};
-use source_places::{first_word, from_word, next_word};
 use apex_types::SERVICES;
 use finding_lines::{Place, Shown, place_of};
 use pal_base::looking::{LookedFor, WordKind};
 use pal_base::mark::{GRAMMAR_WORDS, Mark};
+use source_places::{first_word, from_word, next_word};
 use std::alloc::{AllocError, Global};
 
 /// A place in a text, and the words around it.

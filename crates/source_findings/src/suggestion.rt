@@ -1,10 +1,10 @@
 //! Which of the words that fit is suggested where a text leaves the grammar.
 
-use source_places::{first_word, from_word};
 use apex_types::SERVICES;
 use finding_lines::nearest;
 use pal_base::looking::{LookedFor, WordKind};
 use pal_base::mark::GRAMMAR_WORDS;
+use source_places::{first_word, from_word};
 use std::alloc::{AllocError, Global};
 
 /// The word that fits at a place of a text and is nearest to the word there, if one is near.

@@ -9,9 +9,9 @@ use crate::choices::wanted_at;
 use crate::habits::foreign_advice;
 use crate::spot::Spot;
 use crate::suggestion::suggested;
-use source_places::from_word;
 use finding_lines::{DidYouMean, Report, Shown, lines_at};
 use pal_base::looking::LookedFor;
+use source_places::from_word;
 use std::alloc::{AllocError, Global};
 
 /// The lines of the place where a text leaves the grammar.

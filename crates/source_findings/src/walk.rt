@@ -13,11 +13,11 @@ use crate::judge::{
     targets_wrong, value_of,
 };
 use crate::roles::{Role, text_of};
-use source_places::next_word;
 use apex_types::limits::MOST_WORK_TICKS;
 use apex_types::{ArgumentKind, Service};
 use pal_base::fault::Refusal;
 use pal_base::syntax::{Expr, Identifier, Link, Numeral, Stmt, StmtKind};
+use source_places::next_word;
 use std::alloc::{AllocError, Global};
 
 /// No more findings than these are kept.

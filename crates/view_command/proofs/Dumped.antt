@@ -5,24 +5,12 @@ use Rattle.streams.specs.Contents.{Contents}
 use Rattle.streams.specs.States.{Seen}
 use Rattle.view_command.specs.Answers.{IsCutShort, IsRefused}
 use Rattle.view_command.specs.Dumping.{IsCut, IsCutAgain}
-use Rattle.view_command.specs.Faults.{IsUnopened, of_view}
+use Rattle.view_command.specs.Faults.{IsUnopened}
 use Rattle.view_command.specs.Lines.{called}
-use Rattle.view_command.specs.States.{IsUntouched, State}
+use Rattle.view_command.specs.States.{State}
 use Rattle.view_command.specs.Texts.{IsTraceIn}
 use Rattle.view_command.specs.declared.refusal.Refusal.{Refusal}
 use Rattle.view_command.specs.declared.refusal.Refusal.TheVariants.{Open, Read, Line, Late, TooMany, Crowded, Table, NoRow, Foreign, Unknown, Memory, Write}
-use Rattle.view_command.specs.declared.views.ViewFault.{ViewFault}
-use Rattle.view_command.specs.declared.views.ViewFault.TheVariants as view
-
--- what was found makes no dump
-pub not_taken : (name : List ℕ) (before after : State) (f : ViewFault) (r : Refusal) → r ≡ of_view f → IsUntouched before after → IsCutAgain name before after r
-not_taken name before after f r told same = subst (IsCutAgain name before after) (sym told) (go f)
-  where
-    go : (f : ViewFault) → IsCutAgain name before after (of_view f)
-    go view.Memory = (same.0, ap (λ (s : Seen). s.failures) same.1)
-    go view.TooMany = same
-    go (view.Crowded excess) = same
-    go (view.Foreign partition) = same
 
 -- it is not opened again
 pub unopened_again : {A : Type 0} (name : List ℕ) (before after : State) (r : Refusal) (answer : Result A Refusal)
@@ -71,11 +59,11 @@ short texts ran name before after (Open s) trace h = inl h
 short texts ran name before after (Read s) trace h = inr (h.0, h.1, h.2, trace)
 short texts ran name before after (Line number s) trace h = absurd h
 short texts ran name before after (Late number s) trace h = absurd h
-short texts ran name before after TooMany trace h = inl h
-short texts ran name before after (Crowded shapes from until elements) trace h = inl h
+short texts ran name before after TooMany trace h = absurd h
+short texts ran name before after (Crowded shapes from until elements) trace h = absurd h
 short texts ran name before after (Table fault s) trace h = absurd h
 short texts ran name before after (NoRow number s) trace h = absurd h
-short texts ran name before after (Foreign partition) trace h = inl h
+short texts ran name before after (Foreign partition) trace h = absurd h
 short texts ran name before after (Unknown line) trace h = absurd h
 short texts ran name before after Memory trace h = inr (h.0, h.1, trace)
 short texts ran name before after Write trace h = inl (h.0, h.1, trace)

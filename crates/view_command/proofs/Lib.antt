@@ -6,3 +6,4 @@ pub mod Tables
 pub mod Taken
 pub mod Sketched
 pub mod Dumped
+pub mod Made

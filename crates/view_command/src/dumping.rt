@@ -1,20 +1,25 @@
 //! A trace is read to its end, and then again while its dump is written.
 
-ghost use Rattle.std.specs.Prelude.{◌≡◌, ◌⊎◌, ◌-◌, ◌^◌, ◌<◌, IfErr, OnOk, string_bytes};
+ghost use Rattle.std.specs.Prelude.{◌≡◌, ◌⊎◌, ◌-◌, ◌^◌, ◌<◌, IfErr, IfOk, OnOk, string_bytes};
 ghost use Rattle.streams.specs.States.{IsFlushed, seen};
-ghost use Rattle.view_command.specs.Answers.{IsCutShort, IsRefused, IsTableRefused};
-ghost use Rattle.view_command.specs.Dumping.{IsCut, IsCutAgain, IsCutBy, unread_of_dump, unread_of_stream};
+ghost use Rattle.trace_stays.specs.Shown.{shown_from, with_read};
+ghost use Rattle.trace_windows.specs.Whole.{HaveBegun};
+ghost use Rattle.view_command.specs.Answers.{IsCutShort, IsRefused, IsTableRefused, IsUnread};
+ghost use Rattle.view_command.specs.Dumping.{HasFound, IsCut, IsCutAgain, IsCutBy, IsDumpIn, IsMadeOf, unread_of_dump, unread_of_stream};
 ghost use Rattle.view_command.specs.declared.dumping.Cut.TheVariants as cut;
 ghost use Rattle.view_command.specs.declared.dumping.Unread.TheVariants as unread;
 ghost use Rattle.view_command.specs.Orders.{asked_text, number_of};
 ghost use Rattle.view_command.specs.States.{state};
-ghost use Rattle.view_command.specs.Texts.{IsTableAsked, IsTraceIn};
+ghost use Rattle.view_command.specs.Summed.{AreLinesIn};
+ghost use Rattle.view_command.specs.Texts.{IsTableAsked, IsTraceIn, IsTraceOf};
+ghost use Rattle.view_command.specs.Windows.{windows_known};
+ghost use Rattle.view_laws.specs.Windowed.{OwnersOfMachines, OwnersOfModules};
 
-use crate::naming::{Named, Names};
+use crate::naming::Names;
 use crate::opening::{Opened, called, open_text};
 use crate::refusal::Refusal;
 use crate::request::Showing;
-use crate::showing::{of_view, read_all};
+use crate::showing::{of_view, read_named};
 use crate::views::{Outcome, TakeEvents, ViewFault, read_windows};
 use crate::windows::{table_asked, windows_of};
 use apex_types::{Event, SinkFault, Ticks, put_all};
@@ -50,7 +55,13 @@ impl Found {
         request: &Showing,
         table: Option<ModuleTable>,
         is_file: bool,
-    ) -> Result<Found, MemoryFull> {
+    ) -> Result<Found, MemoryFull>
+        ensures shown { IfOk result
+            (λ found. found.wires.shown ≡ shown_from request.now.from request.now.to) }
+        ensures windows { IfOk result
+            (λ found. HaveBegun (windows_known table) request.now.from.0 request.now.to
+            found.windows) }
+    {
         let (from, to) = (request.from, request.to);
         let lines = if is_file {
             None
@@ -64,8 +75,23 @@ impl Found {
         })
     }
 
+    /// Finds what a line shows, and keeps the line if the trace cannot be read again.
+    fn add(&mut self, event: &Event) -> Result<(), MemoryFull>
+        ensures shown { self.new.wires.shown ≡ with_read event.now.tick.0 self.old.wires.shown }
+        ensures windows { self.new.windows ≡ self.old.windows }
+    {
+        if self.wires.add(event)? {
+            if let Some(lines) = &mut self.lines {
+                lines.add(event)?;
+            }
+        }
+        Ok(())
+    }
+
     /// The dump of what is found, and the lines that were kept.
-    fn into_dump(self, alloc: Global) -> Result<(Dump, Option<Listing>), ViewFault> {
+    fn into_dump(self, alloc: Global) -> Result<(Dump, Option<Listing>), ViewFault>
+        ensures { IfOk result (λ made. IsMadeOf self made.0) }
+    {
         let Found {
             wires,
             mut windows,
@@ -79,12 +105,13 @@ impl Found {
 }
 
 impl TakeEvents for Found {
+    ghost takes = { HasFound };
+
+    /// Only the windows go by all lines.
     fn take(&mut self, kept: &Filter, event: &Event) -> Result<(), ViewFault> {
         read_windows(&mut self.windows, event)?;
-        if kept.shows(event) && self.wires.add(event)? {
-            if let Some(lines) = &mut self.lines {
-                lines.add(event)?;
-            }
+        if kept.shows(event) {
+            self.add(event)?;
         }
         Ok(())
     }
@@ -153,26 +180,52 @@ pub fn dump<F: Sources, O: Stream>(
     let table = table_asked(alloc, &request.table, sources)?;
     let trace = request.trace.as_str();
     let text = open_text(alloc, trace, sources)?;
-    let names = Names::of_view(alloc, &request.kept, request.is_strict, &table)?;
-    let taker = Found::new(alloc, request, table, sources.is_file(trace))?;
-    let mut named = Named { taker, names };
-    read_all(alloc, text, request.ran, &request.kept, &mut named)?;
-    let Named {
-        taker: found,
-        names,
-    } = named;
-    if let Some(line) = names.unknown(alloc)? {
-        return Err(Refusal::Unknown(line));
-    }
-    read_again(alloc, request, found, sources, out)?;
+    let found = find(alloc, text, table, request, sources.is_file(trace))?;
+    let (dump, lines) = found;
+    read_again(alloc, request, dump, lines, sources, out)?;
     Ok(Outcome::Shown)
 }
 
-/// Reads the trace again, or the lines that were kept, and writes the dump of what was found.
+/// Reads the trace to its end, and makes its dump, with the lines if they were kept. If the words ask for
+/// all its lines, the windows of the dump are those of its lines; and if these are the lines of a run,
+/// they are the kernel's.
+fn find<R: Read + Drop>(
+    alloc: Global,
+    text: Opened<R>,
+    table: Option<ModuleTable>,
+    request: &Showing,
+    is_file: bool,
+) -> Result<(Dump, Option<Listing>), Refusal>
+    ensures trace { OnOk result
+        (IsTraceOf (R.remaining text.reader) (number_of request.now.ran)) }
+    ensures dump { IfOk result
+        (λ found. IsDumpIn (R.remaining text.reader) request.now.kept request.now.from
+        request.now.to (windows_known table) found.0) }
+    ensures machines { IfOk result
+        (λ found. OwnersOfMachines (AreLinesIn (R.remaining text.reader) request.now.kept)
+        request.now.from.0 found.0.until.0 (windows_known table) found.0.windows) }
+    ensures modules { IfOk result
+        (λ found. OwnersOfModules (AreLinesIn (R.remaining text.reader) request.now.kept)
+        request.now.from.0 found.0.until.0 (windows_known table) found.0.windows) }
+    ensures refused { IfErr result
+        (λ r. IsUnread (R.remaining text.reader) (number_of request.now.ran)
+        (string_bytes text.name) r) }
+{
+    let names = Names::of_view(alloc, &request.kept, request.is_strict, &table)?;
+    let first = Found::new(alloc, request, table, is_file)?;
+    let last = read_named(alloc, text, request, names, first)?;
+    match last.into_dump(alloc) {
+        Ok(found) => Ok(found),
+        Err(fault) => Err(of_view(fault)),
+    }
+}
+
+/// Reads the trace again, or the lines that were kept, and writes the dump.
 fn read_again<F: Sources, O: Stream>(
     alloc: Global,
     request: &Showing,
-    found: Found,
+    dump: Dump,
+    lines: Option<Listing>,
     sources: &mut F,
     out: &mut O,
 ) -> Result<(), Refusal>
@@ -186,10 +239,6 @@ fn read_again<F: Sources, O: Stream>(
         (state (F.unopened sources.old) (seen O.taken O.failures O.is_flushed out.old))
         (state (F.unopened sources.new) (seen O.taken O.failures O.is_flushed out.new)) r) }
 {
-    let (dump, lines) = match found.into_dump(alloc) {
-        Ok(all) => all,
-        Err(fault) => return Err(of_view(fault)),
-    };
     let trace = request.trace.as_str();
     let Some(lines) = lines else {
         let text = open_text(alloc, trace, sources)?;

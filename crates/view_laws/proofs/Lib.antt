@@ -21,3 +21,4 @@ pub mod StatesOfRuns
 pub mod ModeTallies
 pub mod ModesCounted
 pub mod Begun
+pub mod OfWindows

@@ -7,3 +7,4 @@ pub mod Starts
 pub mod Counted
 pub mod Reports
 pub mod Drawn
+pub mod Windowed

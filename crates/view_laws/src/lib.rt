@@ -6,4 +6,5 @@ pub mod drawings;
 pub mod reports;
 pub mod states;
 pub mod uses;
+pub mod windowed;
 pub mod words;

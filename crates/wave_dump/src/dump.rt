@@ -1,6 +1,7 @@
 //! The text of a dump, written line by line.
 
-ghost use Rattle.std.specs.Prelude.{◌≤◌, length};
+ghost use Rattle.std.specs.Prelude.{◌≡◌, ◌≤◌, length};
+ghost use Rattle.trace_stays.specs.Shown.{shown_ticks};
 
 use crate::change::{Change, in_order, push_pulse, push_window};
 use crate::fault::DumpFault;
@@ -50,7 +51,10 @@ pub struct Dump {
 impl Dump {
     /// The dump of a trace with these variables, and with the windows of a module table, if one is
     /// given: each partition of the table has a wire that is 1 in its windows.
-    pub fn new(alloc: Global, mut wires: Wires, windows: Option<Windows>) -> Dump {
+    pub fn new(alloc: Global, mut wires: Wires, windows: Option<Windows>) -> Dump
+        ensures windows { result.windows ≡ windows }
+        ensures until { result.until ≡ (shown_ticks wires.shown).until }
+    {
         let (size, sum, span) = (wires.size(), wires.sum, wires.shown.span());
         wires.sum = 0;
         Dump {
