@@ -29,6 +29,7 @@ use window_table::Span;
 impl<E: Executor<Mem = PartitionMem>> Members<E> {
     /// How many of `most` ticks, from `moment` on, pass in which nothing happens in any partition;
     /// 0 if something may.
+    #[inline(always)]
     fn still_ticks(&self, moment: Moment, most: u32) -> u32
         ensures within { result ≤ most }
         ensures still { 0 < result
