@@ -31,7 +31,7 @@ kept_state read devices n wanted false Remarkable old mid new same (image, lines
 kept_state read devices n wanted true Remarkable old mid new same h kept = absurd cc
 kept_state read devices n wanted false Usual old mid new same h kept = absurd cc
 
-pub of_found : Bool → Outcome
+abbrev pub of_found : Bool → Outcome
 of_found true = Usual
 of_found false = Remarkable
 

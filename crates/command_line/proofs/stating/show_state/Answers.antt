@@ -20,11 +20,11 @@ returns-in_err-show_state_named g c =
     let r = c.in_err-show_state_named.field-0.0 in
     let ended = c.in_err-show_state_named.ensures in
     refused_as (Answers (ShowState words.image.now words.devices.now words.tick.now every (wanted_in words)) before after) (Refused r) c.from_residual-in_err-show_state_named.result c.from_residual-in_err-show_state_named.ensures
-    ((inl (c.in-Some.ensures.0, c.in-Some-moments.ensures.0), state_refused_by words.image.now words.devices.now (wanted_in words) c.in-Some.ticks (digits_value 10 words.tick.now) before after r c.in-Some.ensures.1 ended.0), ended.1)
+    ((inl (c.in-Some.ensures.0, c.in-Some-moments_of.ensures.0), state_refused_by words.image.now words.devices.now (wanted_in words) c.in-Some.ticks (digits_value 10 words.tick.now) before after r c.in-Some.ensures.1 ended.0), ended.1)
 
 pub returns : goal.returns
 returns g c =
     let at = state g.F.Files.contents g.F.Files.failed g.F.Files.reads g.O.Sink.taken g.O.Sink.failures g.O.Stream.is_flushed in
     let words = c.args.words in
     let every = option_map (λ s. s.now) words.every in
-    state_ends words.image.now words.devices.now words.tick.now every (wanted_in words) c.in-Some.ticks (at c.args.files.now c.args.out.now) (at c.show_state_named.new.files c.show_state_named.new.out) c.in_ok-show_state_named.field-0 (c.in-Some.ensures.0, c.in-Some-moments.ensures.0) c.in-Some.ensures.1 c.in_ok-show_state_named.ensures
+    state_ends words.image.now words.devices.now words.tick.now every (wanted_in words) c.in-Some.ticks (at c.args.files.now c.args.out.now) (at c.show_state_named.new.files c.show_state_named.new.out) c.in_ok-show_state_named.field-0 (c.in-Some.ensures.0, c.in-Some-moments_of.ensures.0) c.in-Some.ensures.1 c.in_ok-show_state_named.ensures
