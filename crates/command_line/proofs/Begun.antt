@@ -49,7 +49,7 @@ settled suffices judge law whole bytes (rest, is, inr enough) = ap judge is ∙ 
 pub image_settled : (whole bytes : List ℕ) → IsBeginningOf settles_image whole bytes → image_at whole ≡ image_at bytes
 image_settled = settled settles_image image_at no_image
 
-devices_settled : (whole bytes : List ℕ) → IsBeginningOf settles_inputs whole bytes → (image : Image) → verdict_for image whole ≡ verdict_for image bytes
+pub devices_settled : (whole bytes : List ℕ) → IsBeginningOf settles_inputs whole bytes → (image : Image) → verdict_for image whole ≡ verdict_for image bytes
 devices_settled whole bytes begun image = settled settles_inputs (verdict_for image) (same_device_text _ image.channels) whole bytes begun
 
 replay_settled : (whole bytes : List ℕ) → IsBeginningOf settles_inputs whole bytes → (row : Partition) → replay_verdict row whole ≡ replay_verdict row bytes

@@ -161,17 +161,10 @@ names_end table sources devices tick wanted n before after Remarkable right is h
 
 -- ---- only the last state
 
-pub no_moments : (every : Option (List ℕ)) (until : List (List ℕ)) → every ≡ None → until ≡ [] → AreOnlyLast (moments_of every until)
-no_moments None [] none empty = tt
-no_moments (Some word) until none empty = absurd cc
-no_moments None (w ∷ ws) none empty = absurd cc
+pub with_spaces : (word : List ℕ) (until : List (List ℕ)) → AreOnlyLast (moments_of (Some word) until) → ⊥
+with_spaces word [] h = h
+with_spaces word (w ∷ ws) h = h
 
-pub spaced : (every : Option (List ℕ)) (until : List (List ℕ)) → (every ≡ None → ⊥) → AreOnlyLast (moments_of every until) → ⊥
-spaced None until some h = some refl
-spaced (Some word) [] some h = h
-spaced (Some word) (w ∷ ws) some h = h
-
-pub awaited : (every : Option (List ℕ)) (until : List (List ℕ)) → (until ≡ [] → ⊥) → AreOnlyLast (moments_of every until) → ⊥
-awaited every [] some h = some refl
-awaited None (w ∷ ws) some h = h
-awaited (Some word) (w ∷ ws) some h = h
+pub with_row : (every : Option (List ℕ)) (word : List ℕ) (words : List (List ℕ)) → AreOnlyLast (moments_of every (word ∷ words)) → ⊥
+with_row None word words h = h
+with_row (Some number) word words h = h

@@ -84,7 +84,7 @@ wanted_of rows = record {
 }
 
 abbrev pub image_state_of : List Row → Order
-image_state_of rows = ShowState (word_at (codes "IMAGE") rows) (word_at (codes "DEVICES") rows) (word_at (codes "TICK") rows) (wanted_of rows)
+image_state_of rows = ShowState (word_at (codes "IMAGE") rows) (word_at (codes "DEVICES") rows) (word_at (codes "TICK") rows) (first_of (codes "every") rows) (wanted_of rows)
 
 -- the word for the image is that of a table, with a flag or if there are sources
 abbrev pub names_of : List Row → Order

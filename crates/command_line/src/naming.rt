@@ -1,7 +1,7 @@
 //! The state of a module before a tick, with the names of its sources.
 
-ghost use Rattle.std.specs.Prelude.{◌-◌, ◌^◌, ◌<◌, ◌≡◌, map, IfOk, IfErr, OnOk};
-ghost use Rattle.command_line.specs.Done.{IsBuiltIn, IsBuiltWith};
+ghost use Rattle.std.specs.Prelude.{◌-◌, ◌^◌, ◌<◌, ◌≡◌, ◌↔◌, map, IfOk, IfErr, IsTrue, OnOk};
+ghost use Rattle.command_line.specs.Done.{AreOnlyLast, IsBuiltIn, IsBuiltWith};
 ghost use Rattle.command_line.specs.Ends.{Answers, EndsNamed};
 ghost use Rattle.command_line.specs.Made.{made_in};
 ghost use Rattle.command_line.specs.Meant.{names_meant, wanted_in};
@@ -13,7 +13,7 @@ ghost use Rattle.command_line.specs.Told.{IsOfFailed};
 use crate::explaining::{Note, RunFiles};
 use crate::grammar::{bad_moments, bad_tick};
 use crate::linting::add_trees;
-use crate::order::{ModuleNames, NamedStateWords, Timed};
+use crate::order::{ModuleNames, NamedStateWords, StateWords, Timed};
 use crate::outcome::Outcome;
 use crate::reading::{build_texts, read_as, read_sources, read_table};
 use crate::refusal::Refusal;
@@ -50,10 +50,22 @@ pub fn show_names<F: Files, O: Stream>(
     let Some(ticks) = number_of(words.state.tick) else {
         return Err(Failure::Usage(bad_tick(alloc, words.state.tick)?));
     };
-    if words.state.every.is_some() || !words.state.until.is_empty() {
+    if !are_last(words.state) {
         return Err(Failure::Usage(bad_moments(alloc)?));
     }
     Ok(show_names_at(alloc, Timed { words, ticks }, files, out, note)?)
+}
+
+/// Returns true if the words ask for the last state only.
+#[tactic(auto, using(crate::proofs::NamedStates::with_spaces, crate::proofs::NamedStates::with_row))]
+fn are_last(words: StateWords<'_>) -> bool
+    ensures { IsTrue result ↔ AreOnlyLast (wanted_in words.entry).moments }
+{
+    match (words.every, words.until) {
+        (Some(_), _) => false,
+        (None, [_, ..]) => false,
+        (None, []) => true,
+    }
 }
 
 /// Shows the state of a module after so many ticks, with the names of its sources. A refusal is

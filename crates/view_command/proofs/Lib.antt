@@ -7,3 +7,4 @@ pub mod Taken
 pub mod Sketched
 pub mod Dumped
 pub mod Made
+pub mod Asked

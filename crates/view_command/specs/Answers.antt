@@ -106,12 +106,12 @@ IsRefusedOf texts entered before after r =
 
 -- Both traces were read to their ends, if they were compared; else the trace was, with no line after the end of its
 -- run, and the other one if the summaries of two are shown. So was the module table, if one is asked for, and so were the
--- states, which no dump shows.
+-- states, which only one trace that is no dump is shown with.
 abbrev pub AreTracesIn : Option Contents → Entered → Type 0
 AreTracesIn texts entered =
     (IsDiff entered → IsTraceIn texts None (trace_of entered) × IsTraceIn texts None (other_of entered) × IsTableAsked texts (table_of entered))
     × ((IsDiff entered → ⊥) → IsTraceIn texts (ran_of entered) (trace_of entered) × IsTableAsked texts (table_of entered)
-    × (IsDump entered ⊎ AreStatesAsked texts (states_of entered)))
+    × (IsDump entered ⊎ IsOfBoth entered ⊎ AreStatesAsked texts (states_of entered)))
     × (IsOfBoth entered → IsTraceIn texts (ran_of entered) (other_of entered))
 
 -- ---- the words, for which the library of command lines reports these errors

@@ -140,7 +140,7 @@ IsAsked entered showing =
 
 -- the request that the words found make
 abbrev pub IsRequest : Entered → Request → Type 0
-IsRequest entered (Show view showing) = IsAsked entered showing
+IsRequest entered (Show view showing) = IsAsked entered showing × (IsOfBoth entered → ⊥)
 IsRequest entered (Dump showing) = IsDump entered × IsAsked entered showing
 IsRequest entered (Summaries both) = IsOfBoth entered × IsAsked entered both.showing × (string_bytes both.other ≡ other_of entered)
 IsRequest entered (Compare pair) =

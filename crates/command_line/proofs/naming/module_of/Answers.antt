@@ -1,7 +1,8 @@
-use Rattle.std.proofs.Common.{rules, ◌≡◌, ℕ, List, map, refl, subst}
+use Rattle.std.proofs.Common.{rules, ◌≡◌, ◌∙◌, ℕ, List, map, refl, subst, sym}
 use Rattle.std.specs.Prelude.{Vec}
+use Rattle.std.specs.declared.alloc.Global.{Global}
 use Rattle.pal_base.specs.WrittenView.{program_of}
-use Rattle.command_line.specs.Linting.{AreTrees}
+use Rattle.command_line.specs.Linting.{AreTrees, HaveTrees}
 use Rattle.command_line.specs.Reading.{texts_of}
 use Rattle.command_line.proofs.Linted.{all_trees}
 use Rattle.command_line.proofs.NamedStates.{built_have_trees}
@@ -20,4 +21,5 @@ returns-clause-built c = record {
 pub add_trees-requires : goal.add_trees-requires
 add_trees-requires c =
     let built = c.in_ok-image.ensures.built in
-    built_have_trees built.rows.partitions (texts_of c.as_slice.result.now) built.programs built.accepted.accepted
+    subst (λ (ts : List (Vec ℕ Global)). HaveTrees (texts_of ts)) (c.as_slice.ensures.value ∙ sym c.as_slice-2.ensures.value)
+    (built_have_trees built.rows.partitions (texts_of c.as_slice.result.now) built.programs built.accepted.accepted)

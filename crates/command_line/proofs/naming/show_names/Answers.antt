@@ -1,13 +1,13 @@
-use Rattle.std.proofs.Common.{rules, ◌≡◌, None, [], inl, map}
-use Rattle.std.specs.Prelude.{option_map}
+use Rattle.std.proofs.Common.{rules, inl, map}
 use Rattle.std.specs.Str.Parse.{digits_value}
 use Rattle.command_words.specs.declared.failure.Failure.TheVariants.{Refused}
+use Rattle.command_line.specs.Done.{AreOnlyLast}
 use Rattle.command_line.specs.Ends.{Answers}
 use Rattle.command_line.specs.Meant.{wanted_in}
 use Rattle.command_line.specs.Orders.{ShowNames}
 use Rattle.command_line.specs.States.{state}
 use Rattle.command_line.proofs.Answered.{refused_as}
-use Rattle.command_line.proofs.NamedStates.{named_refused_by, names_end, no_moments}
+use Rattle.command_line.proofs.NamedStates.{named_refused_by, names_end}
 use Rattle.command_line.proofs.naming.show_names.Goals as goal
 
 pub returns-in_err-show_names_at : goal.returns-in_err-show_names_at
@@ -16,9 +16,7 @@ returns-in_err-show_names_at g c =
     let before = at c.args.files.now c.args.out.now in
     let after = at c.show_names_at.new.files c.show_names_at.new.out in
     let words = c.args.words.state in
-    let every : option_map (λ s. s.now) words.every ≡ None = search rules in
-    let until : map (λ s. s.now) words.until.now ≡ [] = search rules in
-    let last = no_moments (option_map (λ s. s.now) words.every) (map (λ s. s.now) words.until.now) every until in
+    let last : AreOnlyLast (wanted_in words).moments = search rules in
     let sources = map (λ s. s.now) c.args.words.sources.now in
     let r = c.in_err-show_names_at.field-0.0 in
     let ended = c.in_err-show_names_at.ensures in
@@ -29,7 +27,5 @@ pub returns : goal.returns
 returns g c =
     let at = state g.F.Files.contents g.F.Files.failed g.F.Files.reads g.O.Sink.taken g.O.Sink.failures g.O.Stream.is_flushed in
     let words = c.args.words.state in
-    let every : option_map (λ s. s.now) words.every ≡ None = search rules in
-    let until : map (λ s. s.now) words.until.now ≡ [] = search rules in
-    let last = no_moments (option_map (λ s. s.now) words.every) (map (λ s. s.now) words.until.now) every until in
+    let last : AreOnlyLast (wanted_in words).moments = search rules in
     names_end words.image.now (map (λ s. s.now) c.args.words.sources.now) words.devices.now words.tick.now (wanted_in words) c.in-Some.ticks (at c.args.files.now c.args.out.now) (at c.show_names_at.new.files c.show_names_at.new.out) c.in_ok-show_names_at.field-0 (c.in-Some.ensures.0, last) c.in-Some.ensures.1 c.in_ok-show_names_at.ensures

@@ -28,7 +28,7 @@ returns-in_err-built g c =
     let before = at c.args.files.now c.args.out.now in
     let after = at c.module_named.new.files c.args.out.now in
     let r = c.in_err-built.field-0.0 in
-    refused_as (EndsNamed words.image.now sources words.devices.now (wanted_in words) c.args.wanted.ticks before after) r c.from_residual-in_err-built.result c.from_residual-in_err-built.ensures
+    refused_as (EndsNamed words.image.now sources words.devices.now (wanted_in words) c.args.wanted.ticks before after) r c.from_residual.result c.from_residual.ensures
     (not_built words.image.now sources words.devices.now (wanted_in words) c.args.wanted.ticks before after r (c.in_err-built.ensures.unchanged, (refl, refl)) c.in_err-built.ensures.refused, c.in_err-built.ensures.named)
 
 pub returns-in-Err : goal.returns-in-Err
