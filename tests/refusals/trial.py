@@ -82,7 +82,7 @@ def commands(sources, partition, ticks):
         "state": ["state", "image", "devices", str(ticks)],
         "state of one": ["state", "--json", "--partition", partition, "image", "devices", str(ticks)],
         "states": ["state", "--every", str(ticks // 3 + 1), "image", "devices", str(ticks)],
-        "first state": ["state", "image", "devices", str(ticks), "--until", partition, "mode", "NORMAL"],
+        "first state": ["state", "image", "devices", str(ticks), "--until", partition, "mode"],
     }
 
 

@@ -9,6 +9,7 @@ import tempfile
 import tomllib
 from collections.abc import Iterator
 from pathlib import Path
+from typing import NamedTuple
 
 from .rows import State
 
@@ -30,6 +31,13 @@ def program() -> str:
     return found
 
 
+class Source(NamedTuple):
+    """The source of a partition."""
+
+    name: str
+    lines: list[str]
+
+
 class Module:
     """A module with a device text. All are copies, so that a session shows one run, whatever becomes of the files."""
 
@@ -40,8 +48,7 @@ class Module:
         self.told("build", "--explain", table, self.image, *sources)
         self.told("run", "--explain", self.image, devices, "0")
         self.table, self.devices, *self.sources = (shutil.copy(it, f"{self.image}_{place}") for place, it in enumerate([table, devices, *sources]))
-        # An `mb` that knows the names of sources writes them into its states.
-        self.has_names = "--sources" in self.told("help", "state")
+        self.names = [Path(it).name for it in sources]
         self.state = functools.lru_cache(maxsize=1024)(self._state)
         top = tomllib.loads(Path(table).read_text())
         self.frame = top["frame"]
@@ -60,10 +67,7 @@ class Module:
     def _state(self, tick: int, partition: str | None = None) -> State:
         """The state before a tick, of all partitions or of one."""
         words = ["state", "--json", *(["--partition", partition] if partition else [])]
-        if self.has_names:
-            text = self.told(*words, "--sources", self.table, self.devices, str(tick), *self.sources)
-        else:
-            text = self.told(*words, self.image, self.devices, str(tick))
+        text = self.told(*words, "--sources", self.table, self.devices, str(tick), *self.sources)
         return State([json.loads(it) for it in text.splitlines()])
 
     def lines(self, begin: int, end: int) -> Iterator[tuple[int, str]]:
@@ -91,13 +95,7 @@ class Module:
         return next(at for frame in (begun, begun + self.frame) for it in self.edges if (at := frame + it) > tick)
 
     @functools.cached_property
-    def code(self) -> dict[str, list[str]]:
-        """The instructions of each partition, as `mb dis` lists them."""
-        found: dict[str, list[str]] = {}
-        for line in self.told("dis", self.image).splitlines():
-            first, _, rest = line.partition(" ")
-            if first == "partition":
-                last = found.setdefault(rest, [])
-            else:
-                last.append(rest)
-        return found
+    def source(self) -> dict[str, Source]:
+        """The source of each partition, by its name."""
+        partitions = (it["name"] for it in tomllib.loads(Path(self.table).read_text())["partition"])
+        return {it: Source(name, Path(text).read_text().split("\n")) for it, name, text in zip(partitions, self.names, self.sources)}

@@ -7,26 +7,27 @@ from typing import Any
 from .module import Module
 from .rows import State, differences, has, words_of
 from .searching import Changes, Exhausted, Lines, Watch, first_stop, last_stop
-from .showing import DATA, HIDDEN, header_of, of_code, of_partition
+from .showing import DATA, HIDDEN, header_of, of_partition, of_source
 
 MOST_LINES, MOST_CHANGES, MOST_TICKS = 12, 10, 1 << 40
 HELP = """\
 tick [N]          t   on by N ticks, by one without a number
 line [WORD..]     l   on to the next line of the trace, or to one that has these words behind its tick; _ is any word
-step [PROCESS]    s   on until the process is at another instruction: one of this name, or the one that is shown
+step [PROCESS]    s   on until the process is in another line of its source: one of this name, or the one that is shown
+inst [PROCESS]    i   the same until it is at another instruction
 until WORD..      u   on until a row of the state begins with these words; _ is any word, .. are any words
 watch WORD..      w   watches the rows that begin with these words, or only the words for which _ stands; without words lists what is watched
 drop N                no longer watches number N
 run               r   on until something that is watched changes
 to TICK           g   to the state before this tick
-back COMMAND      b   back by one of tick, line, step, until and run, as they go on; back alone: to the state shown before
+back COMMAND      b   back by one of tick, line, step, inst, until and run, as they go on; back alone: to the state shown before
 rows [WORD..]         all rows of the state, or those that begin with these words
 changes           c   all that changed since the state shown before
 help              h   these lines
 quit              q   ends
 An empty line repeats the last command."""
-SHORT = {"t": "tick", "l": "line", "s": "step", "u": "until", "w": "watch", "r": "run", "g": "to", "b": "back", "c": "changes", "h": "help", "q": "quit"}
-MOVING = ("tick", "line", "step", "until", "run", "to", "back")
+SHORT = {"t": "tick", "l": "line", "s": "step", "i": "inst", "u": "until", "w": "watch", "r": "run", "g": "to", "b": "back", "c": "changes", "h": "help", "q": "quit"}
+MOVING = ("tick", "line", "step", "inst", "until", "run", "to", "back")
 
 
 class Wrong(Exception):
@@ -62,7 +63,7 @@ class Session:
         if name not in COMMANDS:
             raise Wrong(f"there is no command `{name}`; `help` lists them")
         self.last = words
-        if name in MOVING and "step" not in (SHORT.get(it, it) for it in words[:2]):
+        if name in MOVING and not {"step", "inst"} & {SHORT.get(it, it) for it in words[:2]}:
             self.process = None
         return COMMANDS[name](self, rest)
 
@@ -104,12 +105,19 @@ class Session:
         return self.search(Lines(self.module, words), back)
 
     def step(self, words: list[str], back: bool = False) -> list[str]:
+        return self.follow(words, ("body", "line"), back)
+
+    def inst(self, words: list[str], back: bool = False) -> list[str]:
+        return self.follow(words, ("pc",), back)
+
+    def follow(self, words: list[str], keys: tuple[str, ...], back: bool) -> list[str]:
+        """Goes on until something is different in the innermost frame of a process."""
         self.process = self.named(words)
         partition, name = self.process
 
         def place(state: State) -> Any:
-            runner = state.one("runner", partition, name)
-            return runner and runner["pc"]
+            frame = next((it for it in state.of("frame", partition) if it["process"] == name), None)
+            return frame and [frame[it] for it in keys]
 
         return self.search(Changes(self.module, partition, place), back)
 
@@ -138,14 +146,14 @@ class Session:
             return self.view()
         name, *rest = words
         name = SHORT.get(name, name)
-        if name not in ("tick", "line", "step", "until", "run"):
-            raise Wrong("back, or back with tick, line, step, until or run")
+        if name not in ("tick", "line", "step", "inst", "until", "run"):
+            raise Wrong("back, or back with tick, line, step, inst, until or run")
         return COMMANDS[name](self, rest, True)
 
     # ---- words
 
     def judge_partition(self, words: list[str]) -> None:
-        known = ["-", "_", *self.module.code]
+        known = ["-", "_", *self.module.source]
         if any(it not in known for it in words):
             raise Wrong(f"the first word is a partition: {', '.join(known)}")
 
@@ -158,7 +166,7 @@ class Session:
             raise Wrong("`tick` and `spent` change with every tick")
 
     def partition_in(self, words: list[str]) -> str | None:
-        return words[0] if words[0] in self.module.code else self.partition
+        return words[0] if words[0] in self.module.source else self.partition
 
     def named(self, words: list[str]) -> tuple[str, str]:
         """The process of these words: its name, with its partition before it if several have one of this name."""
@@ -211,7 +219,7 @@ class Session:
         for mode in state.of("mode"):
             shown += of_partition(state, mode)
         if focus := self.focus():
-            shown += of_code(state, self.module.code, *focus)
+            shown += of_source(state, self.module.source[focus[0]], *focus)
         return shown + self.changed(before)
 
     def trace(self, since: int) -> list[str]:
@@ -229,9 +237,8 @@ class Session:
 
     def changed(self, before: int) -> list[str]:
         """What changed since another state, data first, and then objects and ports."""
-        hidden = (*HIDDEN, "data") if self.module.has_names else HIDDEN
         differs = sorted(differences(self.state(before), self.state()), key=lambda it: it[0] not in DATA)
-        found = [f"  {it}" for kind, it in differs if kind not in hidden]
+        found = [f"  {it}" for kind, it in differs if kind not in HIDDEN]
         if not found:
             return []
         more = [f"  {len(found) - MOST_CHANGES} more; `changes` shows them"] if len(found) > MOST_CHANGES else []
@@ -249,6 +256,7 @@ COMMANDS: dict[str, Callable[..., list[str]]] = {
     "tick": Session.tick,
     "line": Session.line,
     "step": Session.step,
+    "inst": Session.inst,
     "until": Session.until,
     "watch": Session.watch_rows,
     "drop": Session.drop,

@@ -2,12 +2,13 @@
 
 from collections.abc import Iterator
 
+from .module import Source
 from .rows import Row, State
 
 # Rows that are shown in another way than as a change, or of which only `changes` speaks.
-HIDDEN = ("owner", "mode", "process", "waits", "ready", "runner", "stack", "frame", "local")
+HIDDEN = ("owner", "mode", "process", "waits", "ready", "runner", "stack", "frame", "local", "data")
 # Rows of what a program has written.
-DATA = ("data", "variable", "array")
+DATA = ("variable", "array")
 NEAR = 2
 
 
@@ -50,15 +51,15 @@ def of_instruction(runner: Row) -> str:
     return " ".join(str(it) for it in (f"{runner['pc']}:", runner["opcode"], runner.get("x"), runner.get("v")) if it is not None)
 
 
-def of_code(state: State, code: dict[str, list[str]], partition: str, name: str) -> list[str]:
-    """The instructions around the one where a process is, and if names are known, from where it was called, and what the names stand for there."""
-    runner = state.one("runner", partition, name)
-    if not runner:
+def of_source(state: State, source: Source, partition: str, name: str) -> list[str]:
+    """The lines of the source around the one where a process is, from where it was called, and the values of its parameters and locals there."""
+    frames = [it for it in state.of("frame", partition) if it["process"] == name]
+    if not frames:
         return [f"{partition} {name} has nothing left to do"]
-    at, listed = runner["pc"], code[partition]
-    near = range(max(at - NEAR, 0), min(at + NEAR + 1, len(listed)))
-    bodies = [it["body"] for it in state.of("frame", partition) if it["process"] == name]
-    chain = f", in {', called by '.join(bodies)}" if len(bodies) > 1 else ""
+    at = frames[0]["line"]
+    near = range(max(at - NEAR, 1), min(at + NEAR, len(source.lines)) + 1)
+    chain = ", called by ".join([frames[0]["body"], *(f"{it['body']} in line {it['line']}" for it in frames[1:])])
     known = [f"{it['local']} {it['value']}" for it in state.of("local", partition) if it["process"] == name and it["frame"] == 0]
-    shown = [f"code of {partition} {name}{chain}:", *(f"{'>' if it == at else ' ':>3} {it:5} {listed[it]}" for it in near)]
+    shown = [f"{source.name}, line {at}, {partition} {name}{f', in {chain}' if chain != name else ''}:"]
+    shown += [f"{'>' if it == at else ' ':>3} {it:5} {source.lines[it - 1]}".rstrip() for it in near]
     return [*shown, f"    {', '.join(known)}"] if known else shown
