@@ -21,11 +21,11 @@ diff_is_no_summary (Some e) diff both = let h : 4 ≡ 7 = ap length (sym diff �
 -- ---- the trace and the table
 
 trace_asked : (texts : Option Contents) (entered : Entered) (showing : Showing) → IsAsked entered showing → IsTraceIn texts (number_of showing.ran) (string_bytes showing.trace) → IsTraceIn texts (ran_of entered) (trace_of entered)
-trace_asked texts entered showing (no, trace, table, ticks, names, states) read =
+trace_asked texts entered showing (single, trace, table, ticks, names, states) read =
     subst (λ (n : List ℕ). IsTraceIn texts (ran_of entered) n) trace (subst (λ (k : Option ℕ). IsTraceIn texts k (string_bytes showing.trace)) ticks.run read)
 
 table_asked : (texts : Option Contents) (entered : Entered) (showing : Showing) → IsAsked entered showing → IsTableAsked texts (asked_text showing.table) → IsTableAsked texts (table_of entered)
-table_asked texts entered showing (no, trace, table, ticks, names, states) known = subst (λ (n : Option (List ℕ)). IsTableAsked texts n) table known
+table_asked texts entered showing (single, trace, table, ticks, names, states) known = subst (λ (n : Option (List ℕ)). IsTableAsked texts n) table known
 
 pub view_read : (texts : Option Contents) (entered : Entered) (showing : Showing) → IsAsked entered showing → (IsOfBoth entered → ⊥) → IsTraceIn texts (number_of showing.ran) (string_bytes showing.trace) → IsTableAsked texts (asked_text showing.table)
     → AreStatesAsked texts (asked_text showing.states) → AreTracesIn texts entered
@@ -47,7 +47,9 @@ pub pair_read : (texts : Option Contents) (entered : Entered) (pair : Pair) → 
     → IsTraceIn texts None (string_bytes pair.first) → IsTraceIn texts None (string_bytes pair.second) → IsTableAsked texts (asked_text pair.table) → AreTracesIn texts entered
 pair_read texts entered pair (diff, first, second, table) one other known = (
   λ is. (
-    subst (λ (n : List ℕ). IsTraceIn texts None n) first one, subst (λ (n : List ℕ). IsTraceIn texts None n) second other, subst (λ (n : Option (List ℕ)). IsTableAsked texts n) table known,
+    subst (λ (n : List ℕ). IsTraceIn texts None n) first one,
+    subst (λ (n : List ℕ). IsTraceIn texts None n) second other,
+    subst (λ (n : Option (List ℕ)). IsTableAsked texts n) table known,
   ),
   λ none. absurd (none diff),
   λ both. absurd (diff_is_no_summary entered diff both),
