@@ -31,7 +31,7 @@ pub view_read : (texts : Option Contents) (entered : Entered) (showing : Showing
     → AreStatesAsked texts (asked_text showing.states) → AreTracesIn texts entered
 view_read texts entered showing asked single read table states = (
   λ diff. absurd (asked.0 diff),
-  λ none. (trace_asked texts entered showing asked read, table_asked texts entered showing asked table, inr (inr (subst (λ (n : Option (List ℕ)). AreStatesAsked texts n) asked.2.2.2.2 states))),
+  λ none. (trace_asked texts entered showing asked read, table_asked texts entered showing asked table, inr (inr (subst (λ (n : Option (List ℕ)). AreStatesAsked texts n) asked.5 states))),
   λ both. absurd (single both),
 )
 
@@ -60,5 +60,5 @@ pub both_read : (texts : Option Contents) (entered : Entered) (showing : Showing
 both_read texts entered showing other (both, asked, named) read second table = (
   λ diff. absurd (asked.0 diff),
   λ none. (trace_asked texts entered showing asked read, table_asked texts entered showing asked table, inr (inl both)),
-  λ is. subst (λ (n : List ℕ). IsTraceIn texts (ran_of entered) n) named (subst (λ (k : Option ℕ). IsTraceIn texts k other) asked.2.2.2.0.run second),
+  λ is. subst (λ (n : List ℕ). IsTraceIn texts (ran_of entered) n) named (subst (λ (k : Option ℕ). IsTraceIn texts k other) asked.3.run second),
 )
